@@ -1,0 +1,1 @@
+// The whole change of an operation along the pages that it holds.

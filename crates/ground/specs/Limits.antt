@@ -1,0 +1,40 @@
+-- The numbers that document 01 fixes, each by name and once. What is proved rests on the names and on the few
+-- facts about them that stand in `proofs/Limits.antt`.
+use Prim.Native.Nat.{ℕ}
+
+-- "k is 1 to 16."
+unfoldable pub largestK : ℕ
+largestK = 16
+
+-- "The pool has N pages, 1 to 1,024, numbered from 0"
+unfoldable pub largestN : ℕ
+largestN = 1024
+
+-- "h is at most 10"; "level 1 to 10"
+unfoldable pub tallest : ℕ
+tallest = 10
+
+-- "There are 16 slots, 0 to 15."
+unfoldable pub slotCount : ℕ
+slotCount = 16
+
+-- "a search holds at most 1 page, an insertion at most 10, a deletion at most 10 on its path and 9 siblings"
+unfoldable pub searchHolds : ℕ
+searchHolds = 1
+
+unfoldable pub pathHolds : ℕ
+pathHolds = 10
+
+unfoldable pub siblingHolds : ℕ
+siblingHolds = 9
+
+-- Keys and information are 32-bit unsigned numbers: all of them are below this.
+unfoldable pub wordRange : ℕ
+wordRange = 4294967296
+
+-- "So at most 19 a slot, and 16 × 19 = 304."
+unfoldable pub slotGrants : ℕ
+slotGrants = 19
+
+unfoldable pub roundsEnough : ℕ
+roundsEnough = 304

@@ -1,0 +1,7 @@
+// The ground: the limits of document 01, by name, and the folds that every rule is written with. It has no functions.
+
+// There are 16 slots.
+pub const SLOTS: usize = 16;
+
+// A path has at most 10 pages. Siblings, of which a slot holds fewer, stand in arrays of the same length.
+pub const HELD: usize = 10;

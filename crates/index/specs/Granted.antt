@@ -1,0 +1,90 @@
+-- What a granted step does, from the pages as they stand. "Slots, locks and steps" of document 01, "On a grant".
+-- A slot's path is given from the top downward, its siblings from the leaf's upward.
+use Prim.Native.Nat.{ℕ, _*_}
+use mathlib.Core.Bool.{Bool, true, false, cond}
+use mathlib.Core.List.{List, [], _∷_, _++_, reverse}
+use lib.Dec.{ltb}
+use lib.ListN.{length}
+use Rattle.page.specs.Words.{Page, μ, isLeaf}
+use Rattle.page.specs.Place.{route, has, information}
+use Rattle.pool.specs.Pool.{Write}
+use Rattle.change.specs.Insertion.{room, insertion}
+use Rattle.change.specs.Deletion.{Need, nothing, sibling, astray, needs, deletion}
+use Rattle.slots.specs.declared.Op.{Op}
+use Rattle.slots.specs.declared.Op.the-variants.{Search, Insert, Delete}
+use Rattle.slots.specs.declared.Answer.{Answer}
+use Rattle.slots.specs.declared.Answer.the-variants.{Found, NotFound, Inserted, AlreadyThere, Deleted, NoSuchKey, NoRoom}
+use Rattle.slots.specs.Parts.{keyOf}
+
+-- What a granted step comes to: the pages are not sound for it; the slot goes on, holding this path and these siblings
+-- and wanting this page; or the operation ends with this answer, and these pages are written.
+pub data Verdict : Type 0 where
+  broken : Verdict
+  goes : List ℕ → List ℕ → ℕ → Verdict
+  ends : Answer → List Write → Verdict
+
+-- "Search gives up the father." "Insertion: if the page has μ < 2k, all its ancestors are given up." "Deletion: the
+-- same with μ > k, for pages other than 0": page 0 has no ancestors. On such a page an operation holds that page alone.
+abbrev pub isSafe : Op → ℕ → Page → Bool
+isSafe (Search x) k P = true
+isSafe (Insert x v) k P = ltb (μ P) (2 * k)
+isSafe (Delete x) k P = ltb k (μ P)
+
+-- the path after page p is granted
+abbrev pub kept : Op → ℕ → (ℕ → Page) → List ℕ → ℕ → List ℕ
+kept op k memory path p = cond (isSafe op k (memory p)) (p ∷ []) (path ++ p ∷ [])
+
+-- A deletion of x that stands at its leaf and holds these siblings. "If the leaf would be short, and is not page 0, the
+-- slot wants its sibling, then .. the father's sibling, and so on up. When no more is needed, the whole change is made
+-- in that step."
+unfoldable pub deletes : ℕ → (ℕ → Page) → ℕ → List ℕ → ℕ → List ℕ → List ℕ → Verdict
+deletes k memory x path leaf fathers siblings =
+    elim (needs k memory x leaf fathers siblings)
+    [ nothing ↦ ends (Deleted (information x (memory leaf .entries))) (deletion k memory x leaf fathers siblings)
+    | sibling s ↦ goes path siblings s
+    | astray ↦ broken ]
+
+-- At the leaf, with its path upward held: the leaf and its fathers.
+-- "Search .. At a leaf it answers". "Insertion .. At the leaf: a key already there is answered so; then room is counted;
+-- then the whole change is made." "Deletion .. At the leaf: a missing key is answered so."
+unfoldable pub atLeaf : Op → ℕ → (ℕ → Page) → List ℕ → List ℕ → ℕ → List ℕ → Verdict
+atLeaf (Search x) k memory free path leaf fathers =
+    ends (cond (has x (memory leaf .entries)) (Found (information x (memory leaf .entries))) NotFound) []
+atLeaf (Insert x v) k memory free path leaf fathers =
+    cond (has x (memory leaf .entries))
+    (ends AlreadyThere [])
+    (cond (ltb (length free) (room k memory leaf path))
+    (ends NoRoom [])
+    (ends Inserted (insertion k memory x v free leaf fathers)))
+atLeaf (Delete x) k memory free path leaf fathers =
+    cond (has x (memory leaf .entries)) (deletes k memory x path leaf fathers []) (ends NoSuchKey [])
+
+-- the path upward: its lowest page and the pages above that
+abbrev pub upward : Op → ℕ → (ℕ → Page) → List ℕ → List ℕ → List ℕ → Verdict
+upward op k memory free path [] = broken
+upward op k memory free path (leaf ∷ fathers) = atLeaf op k memory free path leaf fathers
+
+-- Coming down, page p is granted: above the leaves the next want is the route from it.
+unfoldable pub comesDown : Op → ℕ → (ℕ → Page) → List ℕ → List ℕ → ℕ → Verdict
+comesDown op k memory free path p =
+    cond (isLeaf (memory p))
+    (upward op k memory free (kept op k memory path p) (reverse (kept op k memory path p)))
+    (goes (kept op k memory path p) [] (route (keyOf op) (memory p)))
+
+-- Standing at its leaf, a deletion is granted the sibling p.
+unfoldable pub besides : Op → ℕ → (ℕ → Page) → List ℕ → List ℕ → ℕ → Verdict
+besides op k memory path siblings p = fromLeaf (reverse path)
+  where
+    fromLeaf : List ℕ → Verdict
+    fromLeaf [] = broken
+    fromLeaf (leaf ∷ fathers) = deletes k memory (keyOf op) path leaf fathers (siblings ++ p ∷ [])
+
+-- the lowest page of a path is a leaf
+abbrev pub atItsLeaf : (ℕ → Page) → List ℕ → Bool
+atItsLeaf memory [] = false
+atItsLeaf memory (p ∷ up) = isLeaf (memory p)
+
+-- What the step comes to in which a slot with this operation, path and siblings is granted its want.
+unfoldable pub granted : Op → ℕ → (ℕ → Page) → List ℕ → List ℕ → List ℕ → ℕ → Verdict
+granted op k memory free path siblings want =
+    cond (atItsLeaf memory (reverse path)) (besides op k memory path siblings want) (comesDown op k memory free path want)

@@ -1,0 +1,1 @@
+// The index: the calls that a house makes.

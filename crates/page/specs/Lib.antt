@@ -1,0 +1,5 @@
+pub mod Words
+pub mod Place
+pub mod Sound
+pub mod Splits
+pub mod Short

@@ -1,0 +1,1 @@
+// One page: its words, its value, and how it changes.

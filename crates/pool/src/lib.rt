@@ -1,0 +1,1 @@
+// The pool: pages in the lent words.

@@ -1,0 +1,1 @@
+// What is promised of the rules: the bench, and later the three demands.

@@ -1,0 +1,27 @@
+-- When a step grants a want. "Slots, locks and steps" of document 01.
+use Prim.Native.Nat.{ℕ}
+use mathlib.Core.Bool.{Bool, true, false, cond, not, _&&_, _||_}
+use mathlib.Core.List.{List, [], _∷_}
+use lib.Dec.{eqb}
+use Rattle.ground.specs.Limits.{slotCount}
+use Rattle.ground.specs.Tests.{all, allBelow}
+use Rattle.slots.specs.declared.State.{State}
+use Rattle.slots.specs.Parts.{wantAt, holdsAt, waitingOrder}
+use Rattle.slots.specs.Locks.{lockAt, clash}
+
+-- the slots whose wants are older than slot s's
+unfoldable pub olderThan : ℕ → List ℕ → List ℕ
+olderThan s [] = []
+olderThan s (t ∷ ts) = cond (eqb t s) [] (t ∷ olderThan s ts)
+
+-- "no other slot holds a clashing lock on that page"
+unfoldable pub noClash : State → ℕ → Bool
+noClash st s = allBelow slotCount (λ (t : ℕ). eqb t s || not (holdsAt st t (wantAt st s) && clash (lockAt st t) (lockAt st s)))
+
+-- "no older want is for the same page"
+unfoldable pub noOlder : State → ℕ → Bool
+noOlder st s = all (λ (t : ℕ). not (eqb (wantAt st t) (wantAt st s))) (olderThan s (waitingOrder st))
+
+-- "A step grants the want when no other slot holds a clashing lock on that page and no older want is for the same page."
+abbrev pub grants : State → ℕ → Bool
+grants st s = noClash st s && noOlder st s

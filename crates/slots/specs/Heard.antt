@@ -1,0 +1,36 @@
+-- What the caller hears: number and values of each answer. "What the caller hears" of document 01.
+-- Refusals have the numbers of 01's table. The other answers are numbered in the order in which 01 names them, from 32.
+use Prim.Native.Nat.{ℕ}
+use mathlib.Core.List.{List, [], _∷_}
+use Rattle.slots.specs.declared.Lock.{Lock}
+use Rattle.slots.specs.declared.Lock.the-variants.{None, Rho, Xi}
+use Rattle.slots.specs.declared.Answer.{Answer}
+use Rattle.slots.specs.declared.Answer.the-variants.{Waiting, Moved, Found, NotFound, Inserted, AlreadyThere, Deleted, NoSuchKey, NoRoom, Begun, Made, Reported, BadState, BadPool, BadSlot, SlotBusy, SlotIdle, Damaged, BadPage}
+
+-- none, ρ, ξ
+abbrev pub lockNumber : Lock → ℕ
+lockNumber None = 0
+lockNumber Rho = 1
+lockNumber Xi = 2
+
+-- the number, and behind it the values
+abbrev pub heard : Answer → List ℕ
+heard BadState = 1 ∷ []
+heard BadPool = 2 ∷ []
+heard BadSlot = 3 ∷ []
+heard SlotBusy = 4 ∷ []
+heard SlotIdle = 5 ∷ []
+heard Damaged = 6 ∷ []
+heard BadPage = 7 ∷ []
+heard Waiting = 32 ∷ []
+heard Moved = 33 ∷ []
+heard (Found v) = 34 ∷ v ∷ []
+heard NotFound = 35 ∷ []
+heard Inserted = 36 ∷ []
+heard AlreadyThere = 37 ∷ []
+heard (Deleted v) = 38 ∷ v ∷ []
+heard NoSuchKey = 39 ∷ []
+heard NoRoom = 40 ∷ []
+heard Begun = 41 ∷ []
+heard Made = 42 ∷ []
+heard (Reported kind holders lowest) = 43 ∷ lockNumber kind ∷ holders ∷ lowest ∷ []

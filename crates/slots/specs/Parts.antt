@@ -1,0 +1,74 @@
+-- What a slot and a state are made of, read off as lists, and one maker for each. "Slots, locks and steps" of document 01.
+use Prim.Native.Nat.{ℕ}
+use mathlib.Core.Bool.{Bool, true, false}
+use mathlib.Core.List.{List, [], _∷_, _++_}
+use lib.ListN.{length, getD, take, replicate}
+use Rattle.ground.specs.Limits.{pathHolds, slotCount}
+use Rattle.ground.specs.Tests.{member, padded}
+use Rattle.slots.specs.declared.Op.{Op}
+use Rattle.slots.specs.declared.Op.the-variants.{Search, Insert, Delete}
+use Rattle.slots.specs.declared.Task.{Task}
+use Rattle.slots.specs.declared.Task.the-variants.{Closed, Open}
+use Rattle.slots.specs.declared.Slot.{Slot}
+use Rattle.slots.specs.declared.State.{State}
+
+-- the key of an operation
+abbrev pub keyOf : Op → ℕ
+keyOf (Search x) = x
+keyOf (Insert x v) = x
+keyOf (Delete x) = x
+
+abbrev pub isSearch : Op → Bool
+isSearch (Search x) = true
+isSearch (Insert x v) = false
+isSearch (Delete x) = false
+
+abbrev pub isDelete : Op → Bool
+isDelete (Search x) = false
+isDelete (Insert x v) = false
+isDelete (Delete x) = true
+
+abbrev pub isOpen : Task → Bool
+isOpen Closed = false
+isOpen (Open op) = true
+
+-- "An open slot holds pages and wants exactly one more."
+-- A slot of this operation, want, path and siblings; cells behind a length are 0.
+abbrev pub openSlot : Op → ℕ → List ℕ → List ℕ → Slot
+openSlot op want path siblings = record { task = Open op; want = want; path = padded pathHolds path; depth = length path; siblings = padded pathHolds siblings; beside = length siblings }
+
+-- "a closed slot holds nothing"; its cells are 0
+abbrev pub closedSlot : Slot
+closedSlot = record { task = Closed; want = 0; path = padded pathHolds []; depth = 0; siblings = padded pathHolds []; beside = 0 }
+
+-- the pages of a slot's path, from the top downward, its siblings, from the leaf's upward, and all that it holds
+unfoldable pub pathOf : Slot → List ℕ
+pathOf s = take (s .depth) (s .path)
+
+unfoldable pub siblingsOf : Slot → List ℕ
+siblingsOf s = take (s .beside) (s .siblings)
+
+abbrev pub held : Slot → List ℕ
+held s = pathOf s ++ siblingsOf s
+
+-- slot i of a state
+abbrev pub slotAt : State → ℕ → Slot
+slotAt st i = getD (st .slots) i closedSlot
+
+abbrev pub openAt : State → ℕ → Bool
+openAt st i = isOpen (slotAt st i .task)
+
+abbrev pub wantAt : State → ℕ → ℕ
+wantAt st i = slotAt st i .want
+
+-- slot i holds page p
+abbrev pub holdsAt : State → ℕ → ℕ → Bool
+holdsAt st i p = member p (held (slotAt st i))
+
+-- "Wants stand in a waiting order, oldest first."
+unfoldable pub waitingOrder : State → List ℕ
+waitingOrder st = take (st .waiting) (st .order)
+
+-- a state with every slot closed
+abbrev pub idleState : ℕ → ℕ → State
+idleState k n = record { k = k; n = n; slots = replicate slotCount closedSlot; order = replicate slotCount 0; waiting = 0 }

@@ -1,0 +1,34 @@
+-- The lock report for a page, for every argument. "What the caller hears" of document 01.
+use Prim.Native.Nat.{ℕ}
+use mathlib.Core.Bool.{Bool, cond, not, _&&_}
+use lib.Dec.{ltb, eqb}
+use Rattle.ground.specs.Limits.{slotCount}
+use Rattle.ground.specs.Tests.{anyBelow, countBelow, firstBelow}
+use Rattle.slots.specs.declared.State.{State}
+use Rattle.slots.specs.declared.Lock.{Lock}
+use Rattle.slots.specs.declared.Lock.the-variants.{None, Rho, Xi}
+use Rattle.slots.specs.declared.Answer.{Answer}
+use Rattle.slots.specs.declared.Answer.the-variants.{Reported, BadState, BadPage}
+use Rattle.slots.specs.Parts.{holdsAt}
+use Rattle.slots.specs.Locks.{lockAt, isXi}
+use Rattle.slots.specs.Sound.{sound}
+
+-- "how many slots hold the page"
+abbrev pub holders : State → ℕ → ℕ
+holders st p = countBelow slotCount (λ (s : ℕ). holdsAt st s p)
+
+-- "the lowest-numbered holder; with no holder: .. 16"
+abbrev pub lowestHolder : State → ℕ → ℕ
+lowestHolder st p = firstBelow slotCount (λ (s : ℕ). holdsAt st s p)
+
+-- "the lock kind .. with no holder: none"
+abbrev pub lockKind : State → ℕ → Lock
+lockKind st p =
+    cond (eqb (holders st p) 0) None (cond (anyBelow slotCount (λ (s : ℕ). holdsAt st s p && isXi (lockAt st s))) Xi Rho)
+
+-- "Report: 1, 7."
+unfoldable pub reported : State → ℕ → Answer
+reported st p =
+    cond (not (sound st))
+    BadState
+    (cond (not (ltb p (st .n))) BadPage (Reported (lockKind st p) (holders st p) (lowestHolder st p)))

@@ -1,0 +1,59 @@
+-- When a state is sound. "What the caller hears" of document 01.
+use Prim.Native.Nat.{ℕ}
+use mathlib.Core.Bool.{Bool, true, false, not, _&&_, _||_}
+use mathlib.Core.List.{List, [], _∷_}
+use lib.Dec.{leb, ltb, eqb}
+use Rattle.ground.specs.Limits.{largestK, largestN, slotCount, searchHolds, pathHolds, siblingHolds}
+use Rattle.ground.specs.Tests.{all, allBelow, member, distinct, apart}
+use Rattle.slots.specs.declared.Op.{Op}
+use Rattle.slots.specs.declared.Op.the-variants.{Search, Insert, Delete}
+use Rattle.slots.specs.declared.Task.{Task}
+use Rattle.slots.specs.declared.Task.the-variants.{Closed, Open}
+use Rattle.slots.specs.declared.Slot.{Slot}
+use Rattle.slots.specs.declared.State.{State}
+use Rattle.slots.specs.Parts.{held, slotAt, openAt, waitingOrder}
+use Rattle.slots.specs.Locks.{lockAt, isXi}
+
+-- "A state is sound if k and N are in range"
+abbrev pub numbersInRange : State → Bool
+numbersInRange st = leb 1 (st .k) && leb (st .k) largestK && leb 1 (st .n) && leb (st .n) largestN
+
+-- "the waiting order names each open slot once and no other"
+unfoldable pub orderSound : State → Bool
+orderSound st =
+    leb (st .waiting) slotCount
+    && all (λ (s : ℕ). ltb s slotCount && openAt st s) (waitingOrder st)
+    && distinct (waitingOrder st)
+    && allBelow slotCount (λ (s : ℕ). not (openAt st s) || member s (waitingOrder st))
+
+-- "a search holds at most 1 page, an insertion at most 10, a deletion at most 10 on its path and 9 siblings, with no
+-- siblings or fewer of them than path pages; siblings only in deletions; a closed slot holds nothing"
+abbrev pub withinLimits : Task → ℕ → ℕ → Bool
+withinLimits Closed depth beside = eqb depth 0 && eqb beside 0
+withinLimits (Open (Search x)) depth beside = leb depth searchHolds && eqb beside 0
+withinLimits (Open (Insert x v)) depth beside = leb depth pathHolds && eqb beside 0
+withinLimits (Open (Delete x)) depth beside =
+    leb depth pathHolds && leb beside siblingHolds && (eqb beside 0 || ltb beside depth)
+
+-- "all pages named are below N; no slot holds a page twice or wants one it holds". A closed slot names none.
+abbrev pub pagesSound : ℕ → Slot → Bool
+pagesSound n s = all (λ (p : ℕ). ltb p n) (s .want ∷ held s) && distinct (s .want ∷ held s)
+
+abbrev pub ifOpen : Task → Bool → Bool
+ifOpen Closed test = true
+ifOpen (Open op) test = test
+
+unfoldable pub slotSound : ℕ → Slot → Bool
+slotSound n s = withinLimits (s .task) (s .depth) (s .beside) && ifOpen (s .task) (pagesSound n s)
+
+-- "no ξ-held page is held by another slot"
+unfoldable pub noClashingHolds : State → Bool
+noClashingHolds st =
+    allBelow slotCount (λ (s : ℕ). allBelow slotCount (λ (t : ℕ). eqb s t || not (isXi (lockAt st s)) || apart (held (slotAt st s)) (held (slotAt st t))))
+
+unfoldable pub sound : State → Bool
+sound st =
+    numbersInRange st
+    && orderSound st
+    && allBelow slotCount (λ (s : ℕ). slotSound (st .n) (slotAt st s))
+    && noClashingHolds st

@@ -1,0 +1,75 @@
+// Slots and locks: who holds what, who waits for whom. The state and what the caller hears.
+use ground::{HELD, SLOTS};
+
+// What a buyer asks for. Keys and information are any 32-bit unsigned numbers.
+pub enum Op {
+    Search(u32),
+    // key, information
+    Insert(u32, u32),
+    Delete(u32),
+}
+
+// A slot is closed, or open with an operation.
+pub enum Task {
+    Closed,
+    Open(Op),
+}
+
+// An open slot holds the pages of its path, from the top downward, and siblings, from the leaf's upward,
+// and wants exactly one more page. Cells behind a length are not looked at.
+pub struct Slot {
+    pub task: Task,
+    pub want: u32,
+    pub path: [u32; HELD],
+    pub depth: usize,
+    pub siblings: [u32; HELD],
+    pub beside: usize,
+}
+
+// k, the number of pages, the slots, and the waiting order, oldest first.
+pub struct State {
+    pub k: usize,
+    pub n: usize,
+    pub slots: [Slot; SLOTS],
+    pub order: [usize; SLOTS],
+    pub waiting: usize,
+}
+
+// Kinds of lock, as a report gives them.
+pub enum Lock {
+    None,
+    Rho,
+    Xi,
+}
+
+// What the caller hears: answers, then refusals in the order of their numbers.
+pub enum Answer {
+    Waiting,
+    Moved,
+    // information
+    Found(u32),
+    NotFound,
+    Inserted,
+    AlreadyThere,
+    // information
+    Deleted(u32),
+    NoSuchKey,
+    NoRoom,
+    Begun,
+    Made,
+    // kind, number of holders, lowest-numbered holder
+    Reported(Lock, u32, u32),
+    BadState,
+    BadPool,
+    BadSlot,
+    SlotBusy,
+    SlotIdle,
+    Damaged,
+    BadPage,
+}
+
+// What a call that may change the state gives back.
+pub struct Outcome {
+    pub answer: Answer,
+    pub state: State,
+}
