@@ -5,11 +5,11 @@ use mathlib.Core.List.{List, [], _∷_}
 use lib.Dec.{leb, eqb}
 use lib.ListN.{getD}
 use Rattle.ground.specs.Tests.{count}
-use Rattle.page.specs.Words.{Entry, Page, pointers}
+use Rattle.page.specs.Words.{Keyed, Entry, Page, pointers}
 
 -- "how many reference keys are at most the key". In a leaf: how many keys are, which is where a new key goes.
-unfoldable pub place : ℕ → List Entry → ℕ
-place x es = count (λ (e : Entry). leb (e .key) x) es
+unfoldable pub place : {A : Type 0} → ℕ → List (Keyed A) → ℕ
+place {A} x es = count (λ (e : Keyed A). leb (e .key) x) es
 
 -- pi
 abbrev pub pointer : ℕ → Page → ℕ

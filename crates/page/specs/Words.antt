@@ -9,10 +9,14 @@ use lib.ListN.{length, getD, drop, replicate}
 abbrev pub size : ℕ → ℕ
 size k = 4 * k + 3
 
--- A pair of a leaf: key and information. A pair above the leaves: reference key ri and pointer pi.
-pub record Entry : Type 0 where
+-- A pair of a key and what stands behind it.
+pub record Keyed (A : Type 0) : Type 0 where
   pub key : ℕ
-  pub value : ℕ
+  pub value : A
+
+-- A pair of a leaf: key and information. A pair above the leaves: reference key ri and pointer pi.
+abbrev pub Entry : Type 0
+Entry = Keyed ℕ
 
 abbrev pub entry : ℕ → ℕ → Entry
 entry x v = record { key = x; value = v }
