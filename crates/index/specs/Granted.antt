@@ -39,10 +39,11 @@ kept op k memory path p = cond (isSafe op k (memory p)) (p ∷ []) (path ++ p �
 -- in that step."
 unfoldable pub deletes : ℕ → (ℕ → Page) → ℕ → List ℕ → ℕ → List ℕ → List ℕ → Verdict
 deletes k memory x path leaf fathers siblings =
-    elim (needs k memory x leaf fathers siblings)
-    [ nothing ↦ ends (Deleted (information x (memory leaf .entries))) (deletion k memory x leaf fathers siblings)
-    | sibling s ↦ goes path siblings s
-    | astray ↦ broken ]
+    elim (needs k memory x leaf fathers siblings) [
+      | nothing ↦ ends (Deleted (information x (memory leaf .entries))) (deletion k memory x leaf fathers siblings)
+      | sibling s ↦ goes path siblings s
+      | astray ↦ broken
+    ]
 
 -- At the leaf, with its path upward held: the leaf and its fathers.
 -- "Search .. At a leaf it answers". "Insertion .. At the leaf: a key already there is answered so; then room is counted;

@@ -1,5 +1,6 @@
 // Slots and locks: who holds what, who waits for whom. The state and what the caller hears.
-use ground::{HELD, SLOTS};
+use ground::HELD;
+use ground::SLOTS;
 
 // What a buyer asks for. Keys and information are any 32-bit unsigned numbers.
 pub enum Op {
