@@ -76,10 +76,16 @@ nextIsNew broken = false
 nextIsNew (goes path siblings want) = not (member want (path ++ siblings))
 nextIsNew (ends answer writes) = true
 
+-- "Pages are sound for a step if": all of these together
+unfoldable pub soundForStep : Op → ℕ → ℕ → List ℕ → List ℕ → List ℕ → ℕ → Bool
+soundForStep op k n ws path siblings want =
+    pagesSound k n ws (path ++ siblings ++ want ∷ [])
+    && fitting op k (pageAt k ws) path siblings want
+    && nextIsNew (granted op k (pageAt k ws) (freePages k n ws) path siblings want)
+
 -- What a granted step comes to, damage included: what the rules say where the pages are sound for the step.
 unfoldable pub verdict : Op → ℕ → ℕ → List ℕ → List ℕ → List ℕ → ℕ → Verdict
 verdict op k n ws path siblings want =
-    let outcome = granted op k (pageAt k ws) (freePages k n ws) path siblings want in
-    cond (pagesSound k n ws (path ++ siblings ++ want ∷ []) && fitting op k (pageAt k ws) path siblings want && nextIsNew outcome)
-    outcome
+    cond (soundForStep op k n ws path siblings want)
+    (granted op k (pageAt k ws) (freePages k n ws) path siblings want)
     broken

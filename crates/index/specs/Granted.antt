@@ -34,16 +34,20 @@ isSafe (Delete x) k P = ltb k (μ P)
 abbrev pub kept : Op → ℕ → (ℕ → Page) → List ℕ → ℕ → List ℕ
 kept op k memory path p = cond (isSafe op k (memory p)) (p ∷ []) (path ++ p ∷ [])
 
+-- what a deletion does by what it needs: the whole change, one more page wanted, or nothing at all
+abbrev pub byNeed : List ℕ → List ℕ → Verdict → Need → Verdict
+byNeed path siblings whole nothing = whole
+byNeed path siblings whole (sibling s) = goes path siblings s
+byNeed path siblings whole astray = broken
+
 -- A deletion of x that stands at its leaf and holds these siblings. "If the leaf would be short, and is not page 0, the
 -- slot wants its sibling, then .. the father's sibling, and so on up. When no more is needed, the whole change is made
 -- in that step."
 unfoldable pub deletes : ℕ → (ℕ → Page) → ℕ → List ℕ → ℕ → List ℕ → List ℕ → Verdict
 deletes k memory x path leaf fathers siblings =
-    elim (needs k memory x leaf fathers siblings) [
-      | nothing ↦ ends (Deleted (information x (memory leaf .entries))) (deletion k memory x leaf fathers siblings)
-      | sibling s ↦ goes path siblings s
-      | astray ↦ broken
-    ]
+    byNeed path siblings
+    (ends (Deleted (information x (memory leaf .entries))) (deletion k memory x leaf fathers siblings))
+    (needs k memory x leaf fathers siblings)
 
 -- At the leaf, with its path upward held: the leaf and its fathers.
 -- "Search .. At a leaf it answers". "Insertion .. At the leaf: a key already there is answered so; then room is counted;
@@ -60,25 +64,25 @@ atLeaf (Insert x v) k memory free path leaf fathers =
 atLeaf (Delete x) k memory free path leaf fathers =
     cond (has x (memory leaf .entries)) (deletes k memory x path leaf fathers []) (ends NoSuchKey [])
 
--- the path upward: its lowest page and the pages above that
-abbrev pub upward : Op → ℕ → (ℕ → Page) → List ℕ → List ℕ → List ℕ → Verdict
-upward op k memory free path [] = broken
-upward op k memory free path (leaf ∷ fathers) = atLeaf op k memory free path leaf fathers
+-- the lowest page of a path, given upward, and the pages above it
+abbrev pub fromLeaf : (ℕ → List ℕ → Verdict) → List ℕ → Verdict
+fromLeaf act [] = broken
+fromLeaf act (leaf ∷ fathers) = act leaf fathers
 
 -- Coming down, page p is granted: above the leaves the next want is the route from it.
 unfoldable pub comesDown : Op → ℕ → (ℕ → Page) → List ℕ → List ℕ → ℕ → Verdict
 comesDown op k memory free path p =
+    let path′ = kept op k memory path p in
     cond (isLeaf (memory p))
-    (upward op k memory free (kept op k memory path p) (reverse (kept op k memory path p)))
-    (goes (kept op k memory path p) [] (route (keyOf op) (memory p)))
+    (fromLeaf (λ (leaf : ℕ) (fathers : List ℕ). atLeaf op k memory free path′ leaf fathers) (reverse path′))
+    (goes path′ [] (route (keyOf op) (memory p)))
 
 -- Standing at its leaf, a deletion is granted the sibling p.
 unfoldable pub besides : Op → ℕ → (ℕ → Page) → List ℕ → List ℕ → ℕ → Verdict
-besides op k memory path siblings p = fromLeaf (reverse path)
-  where
-    fromLeaf : List ℕ → Verdict
-    fromLeaf [] = broken
-    fromLeaf (leaf ∷ fathers) = deletes k memory (keyOf op) path leaf fathers (siblings ++ p ∷ [])
+besides op k memory path siblings p =
+    fromLeaf
+    (λ (leaf : ℕ) (fathers : List ℕ). deletes k memory (keyOf op) path leaf fathers (siblings ++ p ∷ []))
+    (reverse path)
 
 -- the lowest page of a path is a leaf
 abbrev pub atItsLeaf : (ℕ → Page) → List ℕ → Bool

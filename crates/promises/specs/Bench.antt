@@ -1,34 +1,105 @@
-use Prim.Native.Nat.{ℕ, _+_, _*_, _-_}
-use mathlib.Core.Bool.{Bool}
-use mathlib.Core.Path.{_≡_, refl}
+-- Lots on the bench: the cases A to I that document 01 marks to be proved of the rules, as one table.
+-- A row has what the rules give and what 01 says, each as lists of numbers: answers as they are heard, and words.
+use Prim.Native.Nat.{ℕ, zero, suc}
+use mathlib.Core.Path.{_≡_}
 use mathlib.Core.List.{List, [], _∷_, _++_}
-use Rattle.ground.specs.Limits.{largestK, largestN, tallest, slotCount, searchHolds, pathHolds, siblingHolds}
-use Rattle.ground.specs.Tests.{all, count, member, distinct, apart, allBelow, anyBelow, countBelow, listBelow, firstBelow, padded}
-use Rattle.page.specs.Words.{flat, encode, pairs, view}
-use Rattle.page.specs.Place.{place, has, information, without}
-use Rattle.page.specs.Sound.{risesFrom, rises, soundByItself}
-use Rattle.page.specs.Splits.{put, split}
-use Rattle.page.specs.Short.{neighbour, betweenAt, fromRight, fromLeft, joined, lessKey, rekeyed}
-use Rattle.pool.specs.Pool.{poolLength, start, wordsOf, pageAt, written, applied, isFree, freePages, fresh}
-use Rattle.change.specs.Insertion.{room, settled, insertion}
-use Rattle.change.specs.Deletion.{needs, shares, shrunk, deletion}
-use Rattle.slots.specs.Parts.{pathOf, siblingsOf, waitingOrder}
-use Rattle.slots.specs.Grant.{olderThan, noClash, noOlder}
-use Rattle.slots.specs.Book.{leaving, begins, goesOn, closes}
-use Rattle.slots.specs.Sound.{orderSound, slotSound, noClashingHolds, sound}
-use Rattle.slots.specs.Begin.{begun}
-use Rattle.slots.specs.Report.{reported}
-use Rattle.index.specs.Granted.{deletes, atLeaf, comesDown, besides, granted}
-use Rattle.index.specs.Fitting.{pagesSound, descends, sameLevels, fitting, verdict}
-use Rattle.index.specs.Step.{stepped}
-use Rattle.index.specs.Make.{made}
+use lib.ListN.{length}
+use Rattle.pool.specs.Pool.{wordsOf, pageAt, freePages}
+use Rattle.change.specs.Insertion.{room}
 use Rattle.slots.specs.declared.Op.{Op}
 use Rattle.slots.specs.declared.Op.the-variants.{Search, Insert, Delete}
-use Rattle.promises.specs.Run.{Call, begin, step, report, run, runFresh, called}
+use Rattle.slots.specs.declared.Answer.the-variants.{Waiting, Moved, Found, NotFound, Inserted, AlreadyThere, Deleted, NoSuchKey, NoRoom, Begun}
+use Rattle.slots.specs.Heard.{heard}
+use Rattle.slots.specs.Parts.{wantAt}
+use Rattle.promises.specs.Run.{Call, begin, step, Told, run, runFresh}
 
-abbrev pub inserts : ℕ → ℕ → List Call
-inserts s x = begin s (Insert x 7) ∷ step s ∷ []
+pub record Row : Type 0 where
+  pub given : List (List ℕ)
+  pub said : List (List ℕ)
 
-a : runFresh 1 3 (inserts 0 10 ++ inserts 0 20 ++ inserts 0 30) .words ≡ 2 ∷ 1 ∷ 1 ∷ 20 ∷ 2 ∷ 0 ∷ 0 ∷ 1 ∷ 1 ∷ 10 ∷ 7 ∷ 0 ∷ 0 ∷ 0 ∷ 1 ∷ 2 ∷ 20 ∷ 7 ∷ 30 ∷ 7 ∷ 0 ∷ []
-unfolding largestK largestN tallest slotCount searchHolds pathHolds siblingHolds all count member distinct apart allBelow anyBelow countBelow listBelow firstBelow padded flat encode pairs view place has information without risesFrom rises soundByItself put split neighbour betweenAt fromRight fromLeft joined lessKey rekeyed poolLength start wordsOf pageAt written applied isFree freePages fresh room settled insertion needs shares shrunk deletion pathOf siblingsOf waitingOrder olderThan noClash noOlder leaving begins goesOn closes orderSound slotSound noClashingHolds sound begun reported deletes atLeaf comesDown besides granted pagesSound descends sameLevels fitting verdict stepped made run runFresh called
-a = refl
+abbrev pub row : List (List ℕ) → List (List ℕ) → Row
+row g s = record { given = g; said = s }
+
+-- the one claim: in every row the rules give what is said
+abbrev pub Holds : List Row → Type 0
+Holds [] = Unit {0}
+Holds (r ∷ rows) = (r .given ≡ r .said) × Holds rows
+
+-- an operation begun in slot s and stepped n times
+abbrev pub steps : ℕ → ℕ → List Call
+steps s zero = []
+steps s (suc n) = step s ∷ steps s n
+
+abbrev pub runs : ℕ → Op → ℕ → List Call
+runs s op n = begin s op ∷ steps s n
+
+-- "information 7 throughout"
+abbrev pub puts : ℕ → List Call
+puts x = runs 0 (Insert x 7) 1
+
+-- 10 and 20 inserted, then 30
+abbrev pub two : List Call
+two = puts 10 ++ puts 20
+
+abbrev pub three : List Call
+three = two ++ puts 30
+
+-- k = 1: the run of some calls from a fresh pool of n pages; the run of more calls from there
+abbrev pub pool : ℕ → List Call → Told
+pool n cs = runFresh 1 n cs
+
+abbrev pub after : Told → List Call → Told
+after t cs = run cs (t .state) (t .words)
+
+-- case E and the deletions that follow it
+abbrev pub caseE : Told
+caseE = pool 3 three
+
+abbrev pub delete10 : List Call
+delete10 = runs 0 (Delete 10) 3
+
+abbrev pub delete20 : List Call
+delete20 = runs 0 (Delete 20) 3
+
+-- the words of pages 0, 1 and 2
+abbrev pub pages : Told → List (List ℕ)
+pages t = wordsOf 1 0 (t .words) ∷ wordsOf 1 1 (t .words) ∷ wordsOf 1 2 (t .words) ∷ []
+
+-- how many pages an insertion into the root leaf needs, and how many of n pages are free
+abbrev pub needed : Told → ℕ
+needed t = room 1 (pageAt 1 (t .words)) 0 (0 ∷ [])
+
+abbrev pub free : ℕ → Told → ℕ
+free n t = length (freePages 1 n (t .words))
+
+-- A to I, in 01's order. "k = 1 unless said; information 7 throughout."
+abbrev pub bench : List Row
+bench =
+    -- "A: fresh, N = 1: words 1,0,0,0,0,0,0."
+    row (pool 1 [] .words ∷ []) ((1 ∷ 0 ∷ 0 ∷ 0 ∷ 0 ∷ 0 ∷ 0 ∷ []) ∷ [])
+    -- "B: search 5 in A: NotFound in one grant."
+    ∷ row (pool 1 (runs 0 (Search 5) 1) .answers) (heard Begun ∷ heard NotFound ∷ [])
+    -- "C: insert 10, 20: page 0 is 1,2,10,7,20,7,0."
+    ∷ row (pool 1 two .words ∷ []) ((1 ∷ 2 ∷ 10 ∷ 7 ∷ 20 ∷ 7 ∷ 0 ∷ []) ∷ [])
+    -- "D: then 30, N = 2: NoRoom (needs 2, free 1)."
+    ∷ row
+    ((needed (pool 2 two) ∷ free 2 (pool 2 two) ∷ []) ∷ after (pool 2 two) (puts 30) .answers)
+    ((2 ∷ 1 ∷ []) ∷ heard Begun ∷ heard NoRoom ∷ [])
+    -- "E: then 30, N = 3: page 0 is 2,1,1,20,2,0,0; page 1 is 1,1,10,7,0,0,0; page 2 is 1,2,20,7,30,7,0."
+    ∷ row (pages (pool 3 three))
+    ((2 ∷ 1 ∷ 1 ∷ 20 ∷ 2 ∷ 0 ∷ 0 ∷ []) ∷ (1 ∷ 1 ∷ 10 ∷ 7 ∷ 0 ∷ 0 ∷ 0 ∷ []) ∷ (1 ∷ 2 ∷ 20 ∷ 7 ∷ 30 ∷ 7 ∷ 0 ∷ []) ∷ [])
+    -- "F: in E, search 20: Found 7, by page 2, two grants."
+    ∷ row
+    ((wantAt (after caseE (runs 0 (Search 20) 1) .state) 0 ∷ []) ∷ after caseE (runs 0 (Search 20) 2) .answers)
+    ((2 ∷ []) ∷ heard Begun ∷ heard Moved ∷ heard (Found 7) ∷ [])
+    -- "G: in E, delete 10: three grants; page 0 is 2,1,1,30,2,0,0; page 1 holds 20, page 2 holds 30."
+    ∷ row (after caseE delete10 .answers ++ pages (after caseE delete10))
+    (heard Begun ∷ heard Moved ∷ heard Moved ∷ heard (Deleted 7)
+    ∷ (2 ∷ 1 ∷ 1 ∷ 30 ∷ 2 ∷ 0 ∷ 0 ∷ []) ∷ (1 ∷ 1 ∷ 20 ∷ 7 ∷ 0 ∷ 0 ∷ 0 ∷ []) ∷ (1 ∷ 1 ∷ 30 ∷ 7 ∷ 0 ∷ 0 ∷ 0 ∷ []) ∷ [])
+    -- "H: in G, delete 20: page 0 is 1,1,30,7,0,0,0; pages 1 and 2 all zero."
+    ∷ row (pages (after (after caseE delete10) delete20))
+    ((1 ∷ 1 ∷ 30 ∷ 7 ∷ 0 ∷ 0 ∷ 0 ∷ []) ∷ (0 ∷ 0 ∷ 0 ∷ 0 ∷ 0 ∷ 0 ∷ 0 ∷ []) ∷ (0 ∷ 0 ∷ 0 ∷ 0 ∷ 0 ∷ 0 ∷ 0 ∷ []) ∷ [])
+    -- "I: in E, insert 20: AlreadyThere, words unchanged."
+    ∷ row (after caseE (runs 0 (Insert 20 7) 2) .answers ++ pages (after caseE (runs 0 (Insert 20 7) 2)))
+    (heard Begun ∷ heard Moved ∷ heard AlreadyThere ∷ pages caseE)
+    ∷ []

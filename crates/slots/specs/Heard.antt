@@ -1,7 +1,10 @@
 -- What the caller hears: number and values of each answer. "What the caller hears" of document 01.
 -- Refusals have the numbers of 01's table. The other answers are numbered in the order in which 01 names them, from 32.
 use Prim.Native.Nat.{ℕ}
+use mathlib.Core.Bool.{Bool}
 use mathlib.Core.List.{List, [], _∷_}
+use lib.Dec.{leb}
+use lib.ListN.{getD}
 use Rattle.slots.specs.declared.Lock.{Lock}
 use Rattle.slots.specs.declared.Lock.the-variants.{None, Rho, Xi}
 use Rattle.slots.specs.declared.Answer.{Answer}
@@ -34,3 +37,15 @@ heard NoRoom = 40 ∷ []
 heard Begun = 41 ∷ []
 heard Made = 42 ∷ []
 heard (Reported kind holders lowest) = 43 ∷ lockNumber kind ∷ holders ∷ lowest ∷ []
+
+-- the number alone
+abbrev pub numberOf : Answer → ℕ
+numberOf a = getD (heard a) 0 0
+
+-- the refusals of 01's table, numbers 1 to 7
+abbrev pub refuses : Answer → Bool
+refuses a = leb (numberOf a) 7
+
+-- after a refusal, and after Waiting, everything is as given
+abbrev pub changesNothing : Answer → Bool
+changesNothing a = leb (numberOf a) 32

@@ -1,0 +1,79 @@
+-- The bench holds: the rules, computed.
+use Prim.Native.Nat.{ℕ}
+use mathlib.Core.Bool.{Bool, true, false, _&&_, false≢true}
+use mathlib.Core.Path.{_≡_, refl, ap, ap₂}
+use mathlib.Core.List.{List, [], _∷_}
+use lib.Dec.{eqb}
+use borrow.Author.Tests.{eqb-true}
+use Rattle.ground.specs.Limits.{largestK, largestN, tallest, slotCount, searchHolds, pathHolds, siblingHolds}
+use Rattle.ground.specs.Tests.{all, count, member, distinct, apart, allBelow, anyBelow, countBelow, listBelow, firstBelow, padded}
+use Rattle.page.specs.Words.{flat, encode, pairs, view}
+use Rattle.page.specs.Place.{place, has, information, without}
+use Rattle.page.specs.Sound.{risesFrom, rises, soundByItself}
+use Rattle.page.specs.Splits.{put, split}
+use Rattle.page.specs.Short.{neighbour, betweenAt, fromRight, fromLeft, joined, lessKey, rekeyed}
+use Rattle.pool.specs.Pool.{poolLength, start, wordsOf, pageAt, written, applied, isFree, freePages, fresh}
+use Rattle.change.specs.Insertion.{room, settled, insertion}
+use Rattle.change.specs.Deletion.{needs, shares, shrunk, deletion}
+use Rattle.slots.specs.Parts.{pathOf, siblingsOf, waitingOrder}
+use Rattle.slots.specs.Grant.{olderThan, noClash, noOlder}
+use Rattle.slots.specs.Book.{leaving, begins, goesOn, closes}
+use Rattle.slots.specs.Sound.{orderSound, slotSound, noClashingHolds, sound}
+use Rattle.slots.specs.Begin.{begun}
+use Rattle.slots.specs.Report.{reported}
+use Rattle.index.specs.Granted.{deletes, atLeaf, comesDown, besides, granted}
+use Rattle.index.specs.Fitting.{pagesSound, descends, sameLevels, fitting, soundForStep, verdict}
+use Rattle.index.specs.Step.{stepped}
+use Rattle.index.specs.Make.{made}
+use Rattle.promises.specs.Run.{called, run, runFresh}
+use Rattle.promises.specs.Bench.{Row, Holds, bench}
+
+-- Two lists are compared number by number, so that the prover computes a test and compares no terms.
+same : List ℕ → List ℕ → Bool
+same [] [] = true
+same [] (y ∷ ys) = false
+same (x ∷ xs) [] = false
+same (x ∷ xs) (y ∷ ys) = eqb x y && same xs ys
+
+sames : List (List ℕ) → List (List ℕ) → Bool
+sames [] [] = true
+sames [] (y ∷ ys) = false
+sames (x ∷ xs) [] = false
+sames (x ∷ xs) (y ∷ ys) = same x y && sames xs ys
+
+agree : List Row → Bool
+agree [] = true
+agree (r ∷ rows) = sames (r .given) (r .said) && agree rows
+
+both : (a b : Bool) → (a && b) ≡ true → (a ≡ true) × (b ≡ true)
+both true b h = (refl, h)
+both false b h = absurd (false≢true h)
+
+same-is : (xs ys : List ℕ) → same xs ys ≡ true → xs ≡ ys
+unfolding same
+same-is [] [] h = refl
+same-is [] (y ∷ ys) h = absurd (false≢true h)
+same-is (x ∷ xs) [] h = absurd (false≢true h)
+same-is (x ∷ xs) (y ∷ ys) h =
+    let (e, t) = both (eqb x y) (same xs ys) h in
+    ap₂ _∷_ (eqb-true x y e) (same-is xs ys t)
+
+sames-is : (xs ys : List (List ℕ)) → sames xs ys ≡ true → xs ≡ ys
+unfolding sames
+sames-is [] [] h = refl
+sames-is [] (y ∷ ys) h = absurd (false≢true h)
+sames-is (x ∷ xs) [] h = absurd (false≢true h)
+sames-is (x ∷ xs) (y ∷ ys) h =
+    let (e, t) = both (same x y) (sames xs ys) h in
+    ap₂ _∷_ (same-is x y e) (sames-is xs ys t)
+
+agree-holds : (rows : List Row) → agree rows ≡ true → Holds rows
+unfolding agree
+agree-holds [] h = tt
+agree-holds (r ∷ rows) h =
+    let (e, t) = both (sames (r .given) (r .said)) (agree rows) h in
+    (sames-is (r .given) (r .said) e, agree-holds rows t)
+
+pub bench-holds : Holds bench
+unfolding largestK largestN tallest slotCount searchHolds pathHolds siblingHolds all count member distinct apart allBelow anyBelow countBelow listBelow firstBelow padded flat encode pairs view place has information without risesFrom rises soundByItself put split neighbour betweenAt fromRight fromLeft joined lessKey rekeyed poolLength start wordsOf pageAt written applied isFree freePages fresh room settled insertion needs shares shrunk deletion pathOf siblingsOf waitingOrder olderThan noClash noOlder leaving begins goesOn closes orderSound slotSound noClashingHolds sound begun reported deletes atLeaf comesDown besides granted pagesSound descends sameLevels fitting soundForStep verdict stepped made called run runFresh same sames agree
+bench-holds = agree-holds bench refl

@@ -1,0 +1,84 @@
+-- No second outcome satisfies the statement of a call on slots: what is heard fixes the answer.
+use Prim.Native.Nat.{ℕ}
+use mathlib.Core.Bool.{cond}
+use mathlib.Core.Path.{_≡_, refl, sym, ap, _∙_}
+use mathlib.Core.List.{List, [], _∷_}
+use lib.Dec.{eqb}
+use lib.ListN.{getD}
+use Rattle.slots.specs.declared.Op.{Op}
+use Rattle.slots.specs.declared.State.{State}
+use Rattle.slots.specs.declared.Outcome.{Outcome}
+use Rattle.slots.specs.declared.Lock.{Lock}
+use Rattle.slots.specs.declared.Lock.the-variants.{None, Rho, Xi}
+use Rattle.slots.specs.declared.Answer.{Answer}
+use Rattle.slots.specs.declared.Answer.the-variants.{Waiting, Moved, Found, NotFound, Inserted, AlreadyThere, Deleted, NoSuchKey, NoRoom, Begun, Made, Reported, BadState, BadPool, BadSlot, SlotBusy, SlotIdle, Damaged, BadPage}
+use Rattle.slots.specs.Heard.{heard, lockNumber}
+use Rattle.slots.specs.Statements.{BeginSays, ReportSays}
+
+-- the lock kind of a number, and the answer of a number with its values
+abbrev lockNamed : ℕ → Lock
+lockNamed i = cond (eqb i 0) None (cond (eqb i 1) Rho Xi)
+
+lock-back : (l : Lock) → lockNamed (lockNumber l) ≡ l
+lock-back None = refl
+lock-back Rho = refl
+lock-back Xi = refl
+
+abbrev numbered : ℕ → List ℕ → Answer
+numbered i vs =
+    cond (eqb i 1) BadState
+    (cond (eqb i 2) BadPool
+    (cond (eqb i 3) BadSlot
+    (cond (eqb i 4) SlotBusy
+    (cond (eqb i 5) SlotIdle
+    (cond (eqb i 6) Damaged
+    (cond (eqb i 7) BadPage
+    (cond (eqb i 32) Waiting
+    (cond (eqb i 33) Moved
+    (cond (eqb i 34) (Found (getD vs 0 0))
+    (cond (eqb i 35) NotFound
+    (cond (eqb i 36) Inserted
+    (cond (eqb i 37) AlreadyThere
+    (cond (eqb i 38) (Deleted (getD vs 0 0))
+    (cond (eqb i 39) NoSuchKey
+    (cond (eqb i 40) NoRoom
+    (cond (eqb i 41) Begun
+    (cond (eqb i 42) Made (Reported (lockNamed (getD vs 0 0)) (getD vs 1 0) (getD vs 2 0)))))))))))))))))))
+
+abbrev said : List ℕ → Answer
+said [] = BadState
+said (i ∷ vs) = numbered i vs
+
+said-heard : (a : Answer) → said (heard a) ≡ a
+said-heard BadState = refl
+said-heard BadPool = refl
+said-heard BadSlot = refl
+said-heard SlotBusy = refl
+said-heard SlotIdle = refl
+said-heard Damaged = refl
+said-heard BadPage = refl
+said-heard Waiting = refl
+said-heard Moved = refl
+said-heard (Found v) = refl
+said-heard NotFound = refl
+said-heard Inserted = refl
+said-heard AlreadyThere = refl
+said-heard (Deleted v) = refl
+said-heard NoSuchKey = refl
+said-heard NoRoom = refl
+said-heard Begun = refl
+said-heard Made = refl
+said-heard (Reported l n i) = ap (λ (m : Lock). Reported m n i) (lock-back l)
+
+-- two answers that are heard alike are the same
+pub heard-once : (a b : Answer) → heard a ≡ heard b → a ≡ b
+heard-once a b e = sym (said-heard a) ∙ ap said e ∙ said-heard b
+
+pub begin-once : (st : State) (s : ℕ) (op : Op) (r r′ : Outcome) → BeginSays st s op r → BeginSays st s op r′ → r ≡ r′
+begin-once st s op r r′ h h′ =
+    let a : r .answer ≡ r′ .answer = heard-once (r .answer) (r′ .answer) (h .answer ∙ sym (h′ .answer)) in
+    let s : r .state ≡ r′ .state = h .state ∙ sym (h′ .state) in
+    λ i. record { answer = a i; state = s i }
+
+pub report-once : (st : State) (p : ℕ) (r r′ : Answer) → ReportSays st p r → ReportSays st p r′ → r ≡ r′
+report-once st p r r′ h h′ = heard-once r r′ (h .answer ∙ sym (h′ .answer))
