@@ -1,15 +1,15 @@
 -- A page's words and a page's value, each from the other. `encode` and `view` undo each other on pages that fit.
-use Prim.Native.Nat.{ℕ, zero, suc, _+_, _-_, _*_, _≤_, _<_}
+use Prim.Native.Nat.{ℕ, zero, suc, _+_, _-_, _*_, _≤_}
 use mathlib.Core.Bool.{Bool, true, false, cond}
 use mathlib.Core.List.{List, [], _∷_, _++_}
-use mathlib.Core.Path.{_≡_, refl, sym, ap, _∙_, subst}
+use mathlib.Core.Path.{_≡_, refl, sym, ap, _∙_}
 use native.Mathlib.Omega.{arith}
 use lib.Dec.{eqb}
 use lib.ListN.{length, getD, take, drop, replicate, length-append, length-replicate, take-append-drop, length-drop}
 use lib.Seq.{length-take-le}
 use Rattle.ground.specs.Tests.{all}
 use Rattle.ground.proofs.Bools.{and-first, and-second}
-use Rattle.page.specs.Words.{Entry, Page, page, entry, μ, isLeaf, freePage, flat, used, encode, pairs, pairsFrom, view, size}
+use Rattle.page.specs.Words.{Entry, Page, page, μ, isLeaf, freePage, flat, used, encode, pairs, pairsFrom, view, size}
 use Rattle.page.proofs.Fits.{Fits}
 use borrow.Author.Tests.{eqb-true}
 
