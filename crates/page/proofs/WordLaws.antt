@@ -6,7 +6,7 @@ use mathlib.Core.Path.{_≡_, refl, sym, ap, _∙_}
 use native.Mathlib.Omega.{arith}
 use lib.Dec.{eqb}
 use lib.ListN.{length, getD, take, drop, replicate, length-append, length-replicate, take-append-drop, length-drop}
-use lib.Seq.{length-take-le}
+use lib.Seq.{length-take-le, drop-at}
 use Rattle.ground.specs.Tests.{all}
 use Rattle.ground.proofs.Bools.{and-first, and-second}
 use Rattle.page.specs.Words.{Entry, Page, page, μ, isLeaf, freePage, flat, used, encode, pairs, pairsFrom, view, size}
@@ -119,6 +119,18 @@ used-view [] three h = absurd (omega arith)
 used-view (l ∷ []) three h = absurd (omega arith)
 used-view (l ∷ (m ∷ [])) three h = absurd (omega arith)
 used-view (l ∷ (m ∷ (f ∷ rest))) three h = used-again (eqb l 1) l m f rest h
+
+-- word 1 is the number of pairs of the page that some words stand for, where μ is in range
+pub view-μ : (k : ℕ) (ws : List ℕ) → length ws ≡ size k → getD ws 1 0 ≤ 2 * k → μ (view ws) ≡ getD ws 1 0
+unfolding view
+view-μ k ws len inRange =
+    let most = pairsFrom-most (getD ws 0 0) in
+    length-pairs (getD ws 1 0) (drop (pairsFrom (getD ws 0 0)) ws) (omega (arith, length-drop (pairsFrom (getD ws 0 0)) ws))
+
+-- the words behind a page's pairs are 0
+pub encode-behind : (k : ℕ) (P : Page) → drop (pairsFrom (P .level) + 2 * μ P) (encode k P) ≡ replicate (size k - length (used P)) 0
+unfolding encode
+encode-behind k P = drop-at (used P) (replicate (size k - length (used P)) 0) (pairsFrom (P .level) + 2 * μ P) (length-used P)
 
 -- words that are all 0 by test are all 0
 pub all-zero : (ws : List ℕ) → all (λ (w : ℕ). eqb w 0) ws ≡ true → ws ≡ replicate (length ws) 0

@@ -31,7 +31,10 @@ length-applied k (w ∷ rest) ws = length-applied k rest (written k w ws) ∙ le
 -- a stretch that was stored is read back
 read-stored : (l : List ℕ) (i n : ℕ) (vs : List ℕ) → length vs ≡ n → i + n ≤ length l → take n (drop i (sets l i vs)) ≡ vs
 read-stored l i n vs len inside =
-    rw (sets-eq vs l i (omega arith), append-assoc (take i l) vs (drop (i + length vs) l), drop-at (take i l) (vs ++ drop (i + length vs) l) i (length-take-le i l (omega arith)), take-at vs (drop (i + length vs) l) n len)
+    let rest : List ℕ = drop (i + length vs) l in
+    ap (λ (r : List ℕ). take n (drop i r)) (sets-eq vs l i (omega arith) ∙ append-assoc (take i l) vs rest)
+    ∙ ap (λ (r : List ℕ). take n r) (drop-at (take i l) (vs ++ rest) i (length-take-le i l (omega arith)))
+    ∙ take-at vs rest n len
 
 -- a store behind a stretch leaves the stretch
 read-before-store : (l : List ℕ) (j n i a : ℕ) → j + n ≤ i → take n (drop j (set l i a)) ≡ take n (drop j l)
