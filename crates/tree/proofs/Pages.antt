@@ -1,0 +1,123 @@
+-- What the rules' page functions do to the pages of a tree: an upper page is the row of its children, a leaf the row of
+-- its entries, and each rule is a cut, a join or a small change of rows.
+use Prim.Native.Nat.{ℕ, zero, suc, _+_, _-_, _*_, _≤_, _<_}
+use native.Mathlib.Omega.{arith}
+use mathlib.Core.Bool.{Bool, true, false, cond}
+use mathlib.Core.Path.{_≡_, refl, sym, ap, _∙_, subst}
+use mathlib.Core.List.{List, [], _∷_, _++_, map, map-append, map-map, append-assoc}
+use lib.Dec.{eqb, leb, ltb}
+use lib.ListN.{length, getD, take, drop, length-append, length-map}
+use lib.Seq.{append-snoc, take-at, drop-at, getD-at}
+use borrow.Author.Tests.{lt-ltb, le-ltb, le-leb, lt-leb, ne-eqb}
+use Rattle.ground.specs.Tests.{count}
+use Rattle.page.specs.Words.{Keyed, Entry, Page, entry, page, μ, isLeaf, valueOf, pointers}
+use Rattle.page.specs.Place.{place, pointer, route}
+use Rattle.tree.specs.Rows.{headKey, Span, topPointer, references, rowPage}
+
+-- a page of level 2 or more is no leaf
+pub noLeaf : (l : ℕ) → eqb (suc (suc l)) 1 ≡ false
+noLeaf l = ne-eqb (suc (suc l)) 1 (λ e. omega arith)
+
+module _ {C : Type 0} where
+  -- in a Span, no key behind x's end is at most x
+  none-below : (P : C → ℕ → ℕ → Type 0) (at : C → ℕ) (ys : List (Keyed C)) (hi x : ℕ)
+      → Span P ys hi → x < headKey ys hi → place x (references at ys) ≡ 0
+  unfolding place count
+  none-below P at [] hi x s h = refl
+  none-below P at (e ∷ ys) hi x s h =
+      let r : e .key < headKey ys hi = s .0 in
+      rw (lt-leb (e .key) x h) (none-below P at ys hi x (s .2) (omega arith))
+
+  -- in a Span, the first key is at most any other
+  head-least : (P : C → ℕ → ℕ → Type 0) (xs : List (Keyed C)) (d : Keyed C) (ys : List (Keyed C)) (hi : ℕ)
+      → Span P (xs ++ d ∷ ys) hi → headKey (xs ++ d ∷ ys) hi ≤ d .key
+  head-least P [] d ys hi s = omega arith
+  head-least P (y ∷ xs) d ys hi s =
+      let r : y .key < headKey (xs ++ d ∷ ys) hi = s .0 in
+      let t : headKey (xs ++ d ∷ ys) hi ≤ d .key = head-least P xs d ys hi (s .2) in
+      omega arith
+
+  -- in a Span, the keys at most x are those up to the thing to which x belongs
+  all-below : (P : C → ℕ → ℕ → Type 0) (at : C → ℕ) (xs : List (Keyed C)) (d : Keyed C) (ys : List (Keyed C)) (hi x : ℕ)
+      → Span P (xs ++ d ∷ ys) hi → d .key ≤ x → x < headKey ys hi → place x (references at (xs ++ d ∷ ys)) ≡ suc (length xs)
+  unfolding place count
+  all-below P at [] d ys hi x s a b = rw (le-leb (d .key) x a) (ap suc (none-below P at ys hi x (s .2) b))
+  all-below P at (y ∷ xs) d ys hi x s a b =
+      let r : y .key < headKey (xs ++ d ∷ ys) hi = s .0 in
+      let t : headKey (xs ++ d ∷ ys) hi ≤ d .key = head-least P xs d ys hi (s .2) in
+      let u : y .key ≤ x = omega arith in
+      rw (le-leb (y .key) x u) (ap suc (all-below P at xs d ys hi x (s .2) a b))
+
+  -- the place of x in a page is the number of children before the one to which x belongs
+  pub rowPage-place : (P : C → ℕ → ℕ → Type 0) (lv : ℕ) (at : C → ℕ) (xs : List (Keyed C)) (d : Keyed C) (ys : List (Keyed C)) (hi x : ℕ)
+      → Span P (xs ++ d ∷ ys) hi → d .key ≤ x → x < headKey ys hi → place x (rowPage lv at (xs ++ d ∷ ys) .entries) ≡ length xs
+  rowPage-place P lv at [] d ys hi x s a b = none-below P at ys hi x (s .2) b
+  rowPage-place P lv at (y ∷ xs) d ys hi x s a b = all-below P at xs d ys hi x (s .2) a b
+
+  -- a page has one reference key less than children
+  pub rowPage-μ : (lv : ℕ) (at : C → ℕ) (d : Keyed C) (ds : List (Keyed C)) → μ (rowPage lv at (d ∷ ds)) ≡ length ds
+  rowPage-μ lv at d ds = length-map ds (λ (c : Keyed C). entry (c .key) (at (c .value)))
+
+  -- ---- where a page leads
+
+  -- the pointers of a page are the page numbers of the children, in order
+  pub rowPage-pointers : (lv : ℕ) (at : C → ℕ) (d : Keyed C) (ds : List (Keyed C))
+      → pointers (rowPage lv at (d ∷ ds)) ≡ at (d .value) ∷ map (λ (c : Keyed C). at (c .value)) ds
+  rowPage-pointers lv at d ds =
+      ap (λ (ps : List ℕ). at (d .value) ∷ ps) (map-map valueOf (λ (c : Keyed C). entry (c .key) (at (c .value))) ds)
+
+  pointers-split : (lv : ℕ) (at : C → ℕ) (xs : List (Keyed C)) (d : Keyed C) (ys : List (Keyed C))
+      → pointers (rowPage lv at (xs ++ d ∷ ys))
+      ≡ map (λ (c : Keyed C). at (c .value)) xs ++ at (d .value) ∷ map (λ (c : Keyed C). at (c .value)) ys
+  pointers-split lv at [] d ys = rowPage-pointers lv at d ys
+  pointers-split lv at (y ∷ xs) d ys =
+      rowPage-pointers lv at y (xs ++ d ∷ ys)
+      ∙ ap (λ (ps : List ℕ). at (y .value) ∷ ps) (map-append (λ (c : Keyed C). at (c .value)) xs (d ∷ ys))
+
+  -- a pointer is the page number of the child with as many children before it
+  pub rowPage-pointer : (lv : ℕ) (at : C → ℕ) (xs : List (Keyed C)) (d : Keyed C) (ys : List (Keyed C))
+      → pointer (length xs) (rowPage lv at (xs ++ d ∷ ys)) ≡ at (d .value)
+  rowPage-pointer lv at xs d ys =
+      ap (λ (ps : List ℕ). getD ps (length xs) 0) (pointers-split lv at xs d ys)
+      ∙ getD-at (map (λ (c : Keyed C). at (c .value)) xs) (at (d .value)) (map (λ (c : Keyed C). at (c .value)) ys) 0 (length xs)
+      (length-map xs (λ (c : Keyed C). at (c .value)))
+
+  -- the route for x leads to the child to which x belongs
+  pub rowPage-route : (P : C → ℕ → ℕ → Type 0) (lv : ℕ) (at : C → ℕ) (xs : List (Keyed C)) (d : Keyed C) (ys : List (Keyed C)) (hi x : ℕ)
+      → Span P (xs ++ d ∷ ys) hi → d .key ≤ x → x < headKey ys hi → route x (rowPage lv at (xs ++ d ∷ ys)) ≡ at (d .value)
+  rowPage-route P lv at xs d ys hi x s a b =
+      ap (λ (i : ℕ). pointer i (rowPage lv at (xs ++ d ∷ ys))) (rowPage-place P lv at xs d ys hi x s a b)
+      ∙ rowPage-pointer lv at xs d ys
+
+  -- ---- changes of a father
+
+  -- a page, cut behind the child d: the reference keys up to d's, as many as children before d, and the others
+  keysTo : (C → ℕ) → List (Keyed C) → Keyed C → List Entry
+  keysTo at xs d = references at (drop 1 (xs ++ d ∷ []))
+
+  keysTo-length : (at : C → ℕ) (xs : List (Keyed C)) (d : Keyed C) → length (keysTo at xs d) ≡ length xs
+  unfolding keysTo
+  keysTo-length at [] d = refl
+  keysTo-length at (y ∷ xs) d =
+      length-map (xs ++ d ∷ []) (λ (c : Keyed C). entry (c .key) (at (c .value))) ∙ length-append xs (d ∷ []) ∙ omega arith
+
+  behind : (lv : ℕ) (at : C → ℕ) (xs : List (Keyed C)) (d : Keyed C) (ys : List (Keyed C))
+      → rowPage lv at (xs ++ d ∷ ys) ≡ page lv (topPointer at (xs ++ d ∷ [])) (keysTo at xs d ++ references at ys)
+  unfolding keysTo
+  behind lv at [] d ys = refl
+  behind lv at (y ∷ xs) d ys =
+      ap (λ (es : List Entry). page lv (at (y .value)) es)
+      (ap (λ (ds : List (Keyed C)). references at ds) (sym (append-snoc xs d ys))
+      ∙ map-append (λ (c : Keyed C). entry (c .key) (at (c .value))) (xs ++ d ∷ []) ys)
+
+  references-same : (at : C → ℕ) (xs : List (Keyed C)) (d d′ : Keyed C) (ys : List (Keyed C))
+      → d′ .key ≡ d .key → at (d′ .value) ≡ at (d .value) → references at (xs ++ d′ ∷ ys) ≡ references at (xs ++ d ∷ ys)
+  references-same at [] d d′ ys p q = rw (p, q)
+  references-same at (y ∷ xs) d d′ ys p q =
+      ap (λ (es : List Entry). entry (y .key) (at (y .value)) ∷ es) (references-same at xs d d′ ys p q)
+
+  -- another child behind the same key and at the same page number leaves the page as it was
+  pub rowPage-same : (lv : ℕ) (at : C → ℕ) (xs : List (Keyed C)) (d d′ : Keyed C) (ys : List (Keyed C))
+      → d′ .key ≡ d .key → at (d′ .value) ≡ at (d .value) → rowPage lv at (xs ++ d′ ∷ ys) ≡ rowPage lv at (xs ++ d ∷ ys)
+  rowPage-same lv at [] d d′ ys p q = ap (λ (n : ℕ). page lv n (references at ys)) q
+  rowPage-same lv at (y ∷ xs) d d′ ys p q = ap (λ (es : List Entry). page lv (at (y .value)) es) (references-same at xs d d′ ys p q)
