@@ -12,11 +12,37 @@ use borrow.Author.Tests.{lt-ltb, le-ltb, le-leb, lt-leb, ne-eqb}
 use Rattle.ground.specs.Tests.{count}
 use Rattle.page.specs.Words.{Keyed, Entry, Page, entry, page, μ, isLeaf, valueOf, pointers}
 use Rattle.page.specs.Place.{place, pointer, route}
+use Rattle.page.specs.Splits.{Parted, parted, withEntries, entryAt, put, split, raised}
+use Rattle.page.specs.Short.{hasRight, neighbour, betweenAt, keyBetween, fromRight, fromLeft, joined, lessKey, rekeyed}
 use Rattle.tree.specs.Rows.{headKey, Span, topPointer, references, rowPage}
 
 -- a page of level 2 or more is no leaf
 pub noLeaf : (l : ℕ) → eqb (suc (suc l)) 1 ≡ false
 noLeaf l = ne-eqb (suc (suc l)) 1 (λ e. omega arith)
+
+-- behind a list and one element more
+drop-past : {A : Type 0} (es : List A) (a : A) (fs : List A) (n : ℕ) → length es ≡ n → drop (suc n) (es ++ a ∷ fs) ≡ fs
+drop-past {A} es a fs n e =
+    subst (λ (k : ℕ). drop (suc k) (es ++ a ∷ fs) ≡ fs) e (seam es)
+  where
+    seam : (xs : List A) → drop (suc (length xs)) (xs ++ a ∷ fs) ≡ fs
+    seam [] = refl
+    seam (x ∷ xs) = seam xs
+
+-- a pair put in, taken out and given another key at a known place
+put-at : (lv p n : ℕ) (e : Entry) (es fs : List Entry) → length es ≡ n → put n e (page lv p (es ++ fs)) ≡ page lv p (es ++ e ∷ fs)
+unfolding put
+put-at lv p n e es fs h = rw (take-at es fs n h, drop-at es fs n h)
+
+less-at : (lv p n : ℕ) (es : List Entry) (e : Entry) (fs : List Entry)
+    → length es ≡ n → lessKey n (page lv p (es ++ e ∷ fs)) ≡ page lv p (es ++ fs)
+unfolding lessKey
+less-at lv p n es e fs h = rw (take-at es (e ∷ fs) n h, drop-past es e fs n h)
+
+rekeyed-at : (lv p n r : ℕ) (es : List Entry) (e : Entry) (fs : List Entry)
+    → length es ≡ n → rekeyed n r (page lv p (es ++ e ∷ fs)) ≡ page lv p (es ++ entry r (e .value) ∷ fs)
+unfolding rekeyed
+rekeyed-at lv p n r es e fs h = rw (take-at es (e ∷ fs) n h, drop-past es e fs n h, getD-at es e fs (entry 0 0) n h)
 
 module _ {C : Type 0} where
   -- in a Span, no key behind x's end is at most x
@@ -121,3 +147,42 @@ module _ {C : Type 0} where
       → d′ .key ≡ d .key → at (d′ .value) ≡ at (d .value) → rowPage lv at (xs ++ d′ ∷ ys) ≡ rowPage lv at (xs ++ d ∷ ys)
   rowPage-same lv at [] d d′ ys p q = ap (λ (n : ℕ). page lv n (references at ys)) q
   rowPage-same lv at (y ∷ xs) d d′ ys p q = ap (λ (es : List Entry). page lv (at (y .value)) es) (references-same at xs d d′ ys p q)
+
+  -- a father with one reference key more: the new child e stands just right of d
+  pub rowPage-put : (lv : ℕ) (at : C → ℕ) (xs : List (Keyed C)) (d d′ e : Keyed C) (ys : List (Keyed C)) (r a : ℕ)
+      → d′ .key ≡ d .key
+      → at (d′ .value) ≡ at (d .value)
+      → e .key ≡ r
+      → at (e .value) ≡ a
+      → put (length xs) (entry r a) (rowPage lv at (xs ++ d ∷ ys)) ≡ rowPage lv at (xs ++ d′ ∷ e ∷ ys)
+  rowPage-put lv at xs d d′ e ys r a p q u v =
+      ap (put (length xs) (entry r a)) (behind lv at xs d ys)
+      ∙ put-at lv (topPointer at (xs ++ d ∷ [])) (length xs) (entry r a) (keysTo at xs d) (references at ys) (keysTo-length at xs d)
+      ∙ rw (← u, ← v) (sym (behind lv at xs d (e ∷ ys)))
+      ∙ sym (rowPage-same lv at xs d d′ (e ∷ ys) p q)
+
+  -- a father with one reference key less: s, the child right of d, is gone
+  pub rowPage-lessKey : (lv : ℕ) (at : C → ℕ) (xs : List (Keyed C)) (d d′ s : Keyed C) (ys : List (Keyed C))
+      → d′ .key ≡ d .key
+      → at (d′ .value) ≡ at (d .value)
+      → lessKey (length xs) (rowPage lv at (xs ++ d ∷ s ∷ ys)) ≡ rowPage lv at (xs ++ d′ ∷ ys)
+  rowPage-lessKey lv at xs d d′ s ys p q =
+      ap (lessKey (length xs)) (behind lv at xs d (s ∷ ys))
+      ∙ less-at lv (topPointer at (xs ++ d ∷ [])) (length xs) (keysTo at xs d) (entry (s .key) (at (s .value))) (references at ys)
+      (keysTo-length at xs d)
+      ∙ sym (behind lv at xs d ys)
+      ∙ sym (rowPage-same lv at xs d d′ ys p q)
+
+  -- a father with another reference key between d and s, the child right of it
+  pub rowPage-rekeyed : (lv : ℕ) (at : C → ℕ) (xs : List (Keyed C)) (d d′ s s′ : Keyed C) (ys : List (Keyed C)) (r : ℕ)
+      → d′ .key ≡ d .key
+      → at (d′ .value) ≡ at (d .value)
+      → s′ .key ≡ r
+      → at (s′ .value) ≡ at (s .value)
+      → rekeyed (length xs) r (rowPage lv at (xs ++ d ∷ s ∷ ys)) ≡ rowPage lv at (xs ++ d′ ∷ s′ ∷ ys)
+  rowPage-rekeyed lv at xs d d′ s s′ ys r p q u v =
+      ap (rekeyed (length xs) r) (behind lv at xs d (s ∷ ys))
+      ∙ rekeyed-at lv (topPointer at (xs ++ d ∷ [])) (length xs) r (keysTo at xs d) (entry (s .key) (at (s .value))) (references at ys)
+      (keysTo-length at xs d)
+      ∙ rw (← u, ← v) (sym (behind lv at xs d (s′ ∷ ys)))
+      ∙ sym (rowPage-same lv at xs d d′ (s′ ∷ ys) p q)
