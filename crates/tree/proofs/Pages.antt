@@ -44,6 +44,60 @@ rekeyed-at : (lv p n r : ℕ) (es : List Entry) (e : Entry) (fs : List Entry)
 unfolding rekeyed
 rekeyed-at lv p n r es e fs h = rw (take-at es (e ∷ fs) n h, drop-past es e fs n h, getD-at es e fs (entry 0 0) n h)
 
+-- a leaf with 2k + 1 entries splits behind its first k
+pub leaf-split : (k : ℕ) (L : List Entry) (e : Entry) (R : List Entry)
+    → length L ≡ k → split k (page 1 0 (L ++ e ∷ R)) ≡ parted (page 1 0 L) (e .key) (page 1 0 (e ∷ R))
+unfolding split
+leaf-split k L e R h = rw (take-at L (e ∷ R) k h, drop-at L (e ∷ R) k h, getD-at L e R (entry 0 0) k h)
+
+upper-split : (l p k : ℕ) (L : List Entry) (e : Entry) (R : List Entry)
+    → length L ≡ k
+    → split k (page (suc (suc l)) p (L ++ e ∷ R))
+    ≡ parted (page (suc (suc l)) p L) (e .key) (page (suc (suc l)) (e .value) R)
+unfolding split
+upper-split l p k L e R h = rw (noLeaf l, take-at L (e ∷ R) k h, drop-past L e R k h, getD-at L e R (entry 0 0) k h)
+
+-- two leaves join as their entries do
+pub leaf-joined : (r : ℕ) (L R : List Entry) → joined r (page 1 0 L) (page 1 0 R) ≡ page 1 0 (L ++ R)
+unfolding joined
+leaf-joined r L R = refl
+
+-- the first entry of the right leaf moves over to the left one
+pub leaf-fromRight : (r : ℕ) (L : List Entry) (e f : Entry) (R : List Entry)
+    → fromRight r (page 1 0 L) (page 1 0 (e ∷ f ∷ R)) ≡ parted (page 1 0 (L ++ e ∷ [])) (f .key) (page 1 0 (f ∷ R))
+unfolding fromRight
+leaf-fromRight r L e f R = refl
+
+last-at : (L : List Entry) (e : Entry) → length L ≡ length (L ++ e ∷ []) - 1
+last-at L e = rw (length-append L (e ∷ [])) (omega arith)
+
+-- the last entry of the left leaf moves over to the right one
+pub leaf-fromLeft : (r : ℕ) (L : List Entry) (e : Entry) (R : List Entry)
+    → fromLeft r (page 1 0 (L ++ e ∷ [])) (page 1 0 R) ≡ parted (page 1 0 L) (e .key) (page 1 0 (e ∷ R))
+unfolding fromLeft
+leaf-fromLeft r L e R =
+    let h : length L ≡ length (L ++ e ∷ []) - 1 = last-at L e in
+    rw (take-at L (e ∷ []) (length (L ++ e ∷ []) - 1) h, getD-at L e [] (entry 0 0) (length (L ++ e ∷ []) - 1) h)
+
+upper-joined : (l r p q : ℕ) (L R : List Entry)
+    → joined r (page (suc (suc l)) p L) (page (suc (suc l)) q R) ≡ page (suc (suc l)) p (L ++ entry r q ∷ R)
+unfolding joined
+upper-joined l r p q L R = rw (noLeaf l)
+
+upper-fromRight : (l r p q : ℕ) (L : List Entry) (e : Entry) (R : List Entry)
+    → fromRight r (page (suc (suc l)) p L) (page (suc (suc l)) q (e ∷ R))
+    ≡ parted (page (suc (suc l)) p (L ++ entry r q ∷ [])) (e .key) (page (suc (suc l)) (e .value) R)
+unfolding fromRight
+upper-fromRight l r p q L e R = rw (noLeaf l)
+
+upper-fromLeft : (l r p q : ℕ) (L : List Entry) (e : Entry) (R : List Entry)
+    → fromLeft r (page (suc (suc l)) p (L ++ e ∷ [])) (page (suc (suc l)) q R)
+    ≡ parted (page (suc (suc l)) p L) (e .key) (page (suc (suc l)) (e .value) (entry r q ∷ R))
+unfolding fromLeft
+upper-fromLeft l r p q L e R =
+    let h : length L ≡ length (L ++ e ∷ []) - 1 = last-at L e in
+    rw (noLeaf l, take-at L (e ∷ []) (length (L ++ e ∷ []) - 1) h, getD-at L e [] (entry 0 0) (length (L ++ e ∷ []) - 1) h)
+
 module _ {C : Type 0} where
   -- in a Span, no key behind x's end is at most x
   none-below : (P : C → ℕ → ℕ → Type 0) (at : C → ℕ) (ys : List (Keyed C)) (hi x : ℕ)
@@ -186,3 +240,52 @@ module _ {C : Type 0} where
       (keysTo-length at xs d)
       ∙ rw (← u, ← v) (sym (behind lv at xs d (s′ ∷ ys)))
       ∙ sym (rowPage-same lv at xs d d′ (s′ ∷ ys) p q)
+
+  -- ---- cuts and joins above the leaves
+
+  references-append : (at : C → ℕ) (L R : List (Keyed C)) → references at (L ++ R) ≡ references at L ++ references at R
+  references-append at L R = map-append (λ (c : Keyed C). entry (c .key) (at (c .value))) L R
+
+  -- an upper page with 2k + 2 children splits behind its first k + 1
+  pub rowPage-split : (l : ℕ) (at : C → ℕ) (k : ℕ) (L : List (Keyed C)) (e : Keyed C) (R : List (Keyed C))
+      → length L ≡ suc k
+      → split k (rowPage (suc (suc l)) at (L ++ e ∷ R))
+      ≡ parted (rowPage (suc (suc l)) at L) (e .key) (rowPage (suc (suc l)) at (e ∷ R))
+  rowPage-split l at k [] e R h = absurd (omega arith)
+  rowPage-split l at k (y ∷ L) e R h =
+      ap (λ (es : List Entry). split k (page (suc (suc l)) (at (y .value)) es)) (references-append at L (e ∷ R))
+      ∙ upper-split l (at (y .value)) k (references at L) (entry (e .key) (at (e .value))) (references at R)
+      (length-map L (λ (c : Keyed C). entry (c .key) (at (c .value))) ∙ omega arith)
+
+  -- two upper pages join as their rows do: the father's key r comes down before the right page's first child
+  pub rowPage-joined : (l : ℕ) (at : C → ℕ) (r : ℕ) (L : List (Keyed C)) (e : Keyed C) (R : List (Keyed C))
+      → 0 < length L
+      → e .key ≡ r
+      → joined r (rowPage (suc (suc l)) at L) (rowPage (suc (suc l)) at (e ∷ R)) ≡ rowPage (suc (suc l)) at (L ++ e ∷ R)
+  rowPage-joined l at r [] e R h u = absurd (omega arith)
+  rowPage-joined l at r (y ∷ L) e R h u =
+      upper-joined l r (at (y .value)) (at (e .value)) (references at L) (references at R)
+      ∙ rw (← u) (ap (λ (es : List Entry). page (suc (suc l)) (at (y .value)) es) (sym (references-append at L (e ∷ R))))
+
+  -- the first child e of the right page moves over to the left one
+  pub rowPage-fromRight : (l : ℕ) (at : C → ℕ) (r : ℕ) (L : List (Keyed C)) (e f : Keyed C) (R : List (Keyed C))
+      → 0 < length L
+      → e .key ≡ r
+      → fromRight r (rowPage (suc (suc l)) at L) (rowPage (suc (suc l)) at (e ∷ f ∷ R))
+      ≡ parted (rowPage (suc (suc l)) at (L ++ e ∷ [])) (f .key) (rowPage (suc (suc l)) at (f ∷ R))
+  rowPage-fromRight l at r [] e f R h u = absurd (omega arith)
+  rowPage-fromRight l at r (y ∷ L) e f R h u =
+      upper-fromRight l r (at (y .value)) (at (e .value)) (references at L) (entry (f .key) (at (f .value))) (references at R)
+      ∙ rw (← u) (ap (λ (es : List Entry). parted (page (suc (suc l)) (at (y .value)) es) (f .key) (rowPage (suc (suc l)) at (f ∷ R))) (sym (references-append at L (e ∷ []))))
+
+  -- the last child e of the left page moves over to the right one
+  pub rowPage-fromLeft : (l : ℕ) (at : C → ℕ) (r : ℕ) (L : List (Keyed C)) (e f : Keyed C) (R : List (Keyed C))
+      → 0 < length L
+      → f .key ≡ r
+      → fromLeft r (rowPage (suc (suc l)) at (L ++ e ∷ [])) (rowPage (suc (suc l)) at (f ∷ R))
+      ≡ parted (rowPage (suc (suc l)) at L) (e .key) (rowPage (suc (suc l)) at (e ∷ f ∷ R))
+  rowPage-fromLeft l at r [] e f R h u = absurd (omega arith)
+  rowPage-fromLeft l at r (y ∷ L) e f R h u =
+      ap (λ (es : List Entry). fromLeft r (page (suc (suc l)) (at (y .value)) es) (rowPage (suc (suc l)) at (f ∷ R))) (references-append at L (e ∷ []))
+      ∙ upper-fromLeft l r (at (y .value)) (at (f .value)) (references at L) (entry (e .key) (at (e .value))) (references at R)
+      ∙ rw (← u)
