@@ -6,11 +6,11 @@ use mathlib.Core.Bool.{Bool, true, false, cond}
 use mathlib.Core.Path.{_≡_, refl, sym, ap, _∙_, subst}
 use mathlib.Core.List.{List, [], _∷_, _++_, map, map-append, map-map, append-assoc}
 use lib.Dec.{eqb, leb, ltb}
-use lib.ListN.{length, getD, take, drop, length-append, length-map}
-use lib.Seq.{append-snoc, take-at, drop-at, getD-at}
+use lib.ListN.{length, getD, take, drop, length-append, length-map, take-append-drop, length-drop}
+use lib.Seq.{length-take-le, append-snoc, take-at, drop-at, getD-at}
 use borrow.Author.Tests.{lt-ltb, le-ltb, le-leb, lt-leb, ne-eqb}
 use Rattle.ground.specs.Tests.{count}
-use Rattle.page.specs.Words.{Keyed, Entry, Page, entry, page, μ, isLeaf, valueOf, pointers}
+use Rattle.page.specs.Words.{Keyed, Entry, Page, entry, page, μ, isLeaf, keyOf, valueOf, pointers}
 use Rattle.page.specs.Place.{place, pointer, route}
 use Rattle.page.specs.Splits.{Parted, parted, withEntries, entryAt, put, split, raised}
 use Rattle.page.specs.Short.{hasRight, neighbour, betweenAt, keyBetween, fromRight, fromLeft, joined, lessKey, rekeyed}
@@ -289,3 +289,115 @@ module _ {C : Type 0} where
       ap (λ (es : List Entry). fromLeft r (page (suc (suc l)) (at (y .value)) es) (rowPage (suc (suc l)) at (f ∷ R))) (references-append at L (e ∷ []))
       ∙ upper-fromLeft l r (at (y .value)) (at (f .value)) (references at L) (entry (e .key) (at (e .value))) (references at R)
       ∙ rw (← u)
+
+  split-cut : (l : ℕ) (at : C → ℕ) (k : ℕ) (L R : List (Keyed C))
+      → length L ≡ suc k
+      → 0 < length R
+      → split k (rowPage (suc (suc l)) at (L ++ R))
+      ≡ parted (rowPage (suc (suc l)) at L) (headKey R 0) (rowPage (suc (suc l)) at R)
+  split-cut l at k L [] h z = absurd (omega arith)
+  split-cut l at k L (e ∷ R) h z = rowPage-split l at k L e R h
+
+  -- the same, where the row is not cut yet
+  pub rowPage-split-at : (l : ℕ) (at : C → ℕ) (k : ℕ) (row : List (Keyed C))
+      → length row ≡ 2 * k + 2
+      → split k (rowPage (suc (suc l)) at row)
+      ≡ parted (rowPage (suc (suc l)) at (take (suc k) row)) (headKey (drop (suc k) row) 0) (rowPage (suc (suc l)) at (drop (suc k) row))
+  rowPage-split-at l at k row h =
+      ap (λ (ds : List (Keyed C)). split k (rowPage (suc (suc l)) at ds)) (sym (take-append-drop (suc k) row))
+      ∙ split-cut l at k (take (suc k) row) (drop (suc k) row)
+          (length-take-le (suc k) row (omega arith))
+          (rw (length-drop (suc k) row) (omega arith))
+
+  -- the root over its two halves: d, where the range begins, and e
+  pub rowPage-raised : (l : ℕ) (at : C → ℕ) (Q : Page) (d e : Keyed C) (a r b : ℕ)
+      → Q .level ≡ suc l
+      → at (d .value) ≡ a
+      → e .key ≡ r
+      → at (e .value) ≡ b
+      → raised Q a r b ≡ rowPage (suc (suc l)) at (d ∷ e ∷ [])
+  rowPage-raised l at Q d e a r b h p u v =
+      let n : Q .level + 1 ≡ suc (suc l) = omega arith in
+      rw (n, ← p, ← u, ← v)
+
+  -- ---- a short page, its neighbour and the reference key between them, in their father
+
+  -- reference keys, counted around a child
+  pub rowPage-μ-around : (lv : ℕ) (at : C → ℕ) (xs : List (Keyed C)) (d : Keyed C) (ys : List (Keyed C))
+      → μ (rowPage lv at (xs ++ d ∷ ys)) ≡ length xs + length ys
+  rowPage-μ-around lv at [] d ys = rowPage-μ lv at d ys ∙ omega arith
+  rowPage-μ-around lv at (y ∷ xs) d ys = rowPage-μ lv at y (xs ++ d ∷ ys) ∙ length-append xs (d ∷ ys) ∙ omega arith
+
+  -- the pointer and the reference key just right of the child d
+  pub rowPage-pointer-next : (lv : ℕ) (at : C → ℕ) (xs : List (Keyed C)) (d s : Keyed C) (ys : List (Keyed C))
+      → pointer (suc (length xs)) (rowPage lv at (xs ++ d ∷ s ∷ ys)) ≡ at (s .value)
+  rowPage-pointer-next lv at xs d s ys =
+      let n : suc (length xs) ≡ length (xs ++ d ∷ []) = rw (length-append xs (d ∷ [])) (omega arith) in
+      ap (λ (i : ℕ). pointer i (rowPage lv at (xs ++ d ∷ s ∷ ys))) n
+      ∙ ap (λ (ds : List (Keyed C)). pointer (length (xs ++ d ∷ [])) (rowPage lv at ds)) (sym (append-snoc xs d (s ∷ ys)))
+      ∙ rowPage-pointer lv at (xs ++ d ∷ []) s ys
+
+  pub rowPage-key-next : (lv : ℕ) (at : C → ℕ) (xs : List (Keyed C)) (d s : Keyed C) (ys : List (Keyed C))
+      → entryAt (length xs) (rowPage lv at (xs ++ d ∷ s ∷ ys) .entries) .key ≡ s .key
+  rowPage-key-next lv at xs d s ys =
+      ap (λ (Q : Page). entryAt (length xs) (Q .entries) .key) (behind lv at xs d (s ∷ ys))
+      ∙ ap keyOf
+          (getD-at (keysTo at xs d) (entry (s .key) (at (s .value))) (references at ys) (entry 0 0) (length xs) (keysTo-length at xs d))
+
+  -- x belongs to d, which has a right neighbour s
+  module _ (P : C → ℕ → ℕ → Type 0) (lv : ℕ) (at : C → ℕ) (xs : List (Keyed C)) (d s : Keyed C) (ys : List (Keyed C)) (hi x : ℕ)
+    (span : Span P (xs ++ d ∷ s ∷ ys) hi) (low : d .key ≤ x) (high : x < s .key) where
+    -- d has a right neighbour
+    pub right-hasRight : hasRight x (rowPage lv at (xs ++ d ∷ s ∷ ys)) ≡ true
+    right-hasRight =
+        rw (rowPage-place P lv at xs d (s ∷ ys) hi x span low high, rowPage-μ-around lv at xs d (s ∷ ys))
+          (lt-ltb (length xs) (length xs + suc (length ys)) (omega arith))
+
+    -- it is s
+    pub right-neighbour : neighbour x (rowPage lv at (xs ++ d ∷ s ∷ ys)) ≡ at (s .value)
+    unfolding neighbour
+    right-neighbour =
+        rw right-hasRight (rw (rowPage-place P lv at xs d (s ∷ ys) hi x span low high) (rowPage-pointer-next lv at xs d s ys))
+
+    -- the key between them is the one behind as many others as children stand before d
+    pub right-betweenAt : betweenAt x (rowPage lv at (xs ++ d ∷ s ∷ ys)) ≡ length xs
+    unfolding betweenAt
+    right-betweenAt = rw right-hasRight (rowPage-place P lv at xs d (s ∷ ys) hi x span low high)
+
+    -- it is the key before s
+    pub right-keyBetween : keyBetween x (rowPage lv at (xs ++ d ∷ s ∷ ys)) ≡ s .key
+    right-keyBetween =
+        ap (λ (i : ℕ). entryAt i (rowPage lv at (xs ++ d ∷ s ∷ ys) .entries) .key) right-betweenAt ∙ rowPage-key-next lv at xs d s ys
+
+  -- x belongs to d, the last child, which has a left neighbour s
+  module _ (P : C → ℕ → ℕ → Type 0) (lv : ℕ) (at : C → ℕ) (xs : List (Keyed C)) (s d : Keyed C) (hi x : ℕ)
+    (span : Span P (xs ++ s ∷ d ∷ []) hi) (low : d .key ≤ x) (high : x < hi) where
+    -- the place of x is behind all keys
+    pub left-place : place x (rowPage lv at (xs ++ s ∷ d ∷ []) .entries) ≡ suc (length xs)
+    left-place =
+        let e : (xs ++ s ∷ []) ++ d ∷ [] ≡ xs ++ s ∷ d ∷ [] = append-snoc xs s (d ∷ []) in
+        rw (← e)
+          (rowPage-place P lv at (xs ++ s ∷ []) d [] hi x (rw e span) low high ∙ length-append xs (s ∷ []) ∙ omega arith)
+
+    -- d has no right neighbour
+    pub left-hasRight : hasRight x (rowPage lv at (xs ++ s ∷ d ∷ [])) ≡ false
+    left-hasRight =
+        rw (left-place, rowPage-μ-around lv at xs s (d ∷ []))
+          (le-ltb (suc (length xs)) (length xs + 1) (omega arith))
+
+    -- its neighbour is s
+    pub left-neighbour : neighbour x (rowPage lv at (xs ++ s ∷ d ∷ [])) ≡ at (s .value)
+    unfolding neighbour
+    left-neighbour =
+        let n : suc (length xs) - 1 ≡ length xs = omega arith in
+        rw left-hasRight (rw (left-place, n) (rowPage-pointer lv at xs s (d ∷ [])))
+
+    -- the key between them is the last one
+    pub left-betweenAt : betweenAt x (rowPage lv at (xs ++ s ∷ d ∷ [])) ≡ length xs
+    unfolding betweenAt
+    left-betweenAt = rw left-hasRight (rw left-place (omega arith))
+
+    -- it is the key before d
+    pub left-keyBetween : keyBetween x (rowPage lv at (xs ++ s ∷ d ∷ [])) ≡ d .key
+    left-keyBetween =
+        ap (λ (i : ℕ). entryAt i (rowPage lv at (xs ++ s ∷ d ∷ []) .entries) .key) left-betweenAt ∙ rowPage-key-next lv at xs s d []
