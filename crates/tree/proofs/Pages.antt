@@ -1,19 +1,20 @@
 -- What the rules' page functions do to the pages of a tree: an upper page is the row of its children, a leaf the row of
 -- its entries, and each rule is a cut, a join or a small change of rows.
-use Prim.Native.Nat.{ℕ, zero, suc, _+_, _-_, _*_, _≤_, _<_}
+use Prim.Native.Nat.{ℕ, suc, _+_, _-_, _*_, _≤_, _<_}
 use native.Mathlib.Omega.{arith}
-use mathlib.Core.Bool.{Bool, true, false, cond}
+use mathlib.Core.Bool.{true, false}
 use mathlib.Core.Path.{_≡_, refl, sym, ap, _∙_, subst}
-use mathlib.Core.List.{List, [], _∷_, _++_, map, map-append, map-map, append-assoc}
-use lib.Dec.{eqb, leb, ltb}
+use mathlib.Core.List.{List, [], _∷_, _++_, map, map-append, map-map}
+use lib.Dec.{eqb}
 use lib.ListN.{length, getD, take, drop, length-append, length-map, take-append-drop, length-drop}
 use lib.Seq.{length-take-le, append-snoc, take-at, drop-at, getD-at}
 use borrow.Author.Tests.{lt-ltb, le-ltb, le-leb, lt-leb, ne-eqb}
 use Rattle.ground.specs.Tests.{count}
+use Rattle.ground.proofs.Choice.{cond-true, cond-false}
 use Rattle.page.specs.Words.{Keyed, Entry, Page, entry, page, μ, isLeaf, keyOf, valueOf, pointers}
 use Rattle.page.specs.Place.{place, pointer, route}
-use Rattle.page.specs.Splits.{Parted, parted, withEntries, entryAt, put, split, raised}
-use Rattle.page.specs.Short.{hasRight, neighbour, betweenAt, keyBetween, fromRight, fromLeft, joined, lessKey, rekeyed}
+use Rattle.page.specs.Splits.{parted, entryAt, put, split, raised}
+use Rattle.page.specs.Short.{hasRight, neighbour, betweenAt, keyBetween, fromRight, fromLeft, joined, lessKey, rekeyed, moved, merged}
 use Rattle.tree.specs.Rows.{headKey, Span, topPointer, references, rowPage}
 
 -- a page of level 2 or more is no leaf
@@ -98,7 +99,28 @@ upper-fromLeft l r p q L e R =
     let h : length L ≡ length (L ++ e ∷ []) - 1 = last-at L e in
     rw (noLeaf l, take-at L (e ∷ []) (length (L ++ e ∷ []) - 1) h, getD-at L e [] (entry 0 0) (length (L ++ e ∷ []) - 1) h)
 
+-- a leaf is a leaf
+pub leaf-isLeaf : (es : List Entry) → isLeaf (page 1 0 es) ≡ true
+leaf-isLeaf es = refl
+
+leaf-split-cut : (k : ℕ) (L R : List Entry)
+    → length L ≡ k → 0 < length R → split k (page 1 0 (L ++ R)) ≡ parted (page 1 0 L) (headKey R 0) (page 1 0 R)
+leaf-split-cut k L [] h z = absurd (omega arith)
+leaf-split-cut k L (e ∷ R) h z = leaf-split k L e R h
+
+-- the split of a leaf whose entries are not cut yet
+pub leaf-split-at : (k : ℕ) (es : List Entry)
+    → length es ≡ 2 * k + 1
+    → split k (page 1 0 es) ≡ parted (page 1 0 (take k es)) (headKey (drop k es) 0) (page 1 0 (drop k es))
+leaf-split-at k es h =
+    ap (λ (fs : List Entry). split k (page 1 0 fs)) (sym (take-append-drop k es))
+    ∙ leaf-split-cut k (take k es) (drop k es) (length-take-le k es (omega arith)) (rw (length-drop k es) (omega arith))
+
 module _ {C : Type 0} where
+  -- an upper page is no leaf
+  pub rowPage-isLeaf : (l : ℕ) (at : C → ℕ) (row : List (Keyed C)) → isLeaf (rowPage (suc (suc l)) at row) ≡ false
+  rowPage-isLeaf l at row = noLeaf l
+
   -- in a Span, no key behind x's end is at most x
   none-below : (P : C → ℕ → ℕ → Type 0) (at : C → ℕ) (ys : List (Keyed C)) (hi x : ℕ)
       → Span P ys hi → x < headKey ys hi → place x (references at ys) ≡ 0
@@ -306,8 +328,8 @@ module _ {C : Type 0} where
   rowPage-split-at l at k row h =
       ap (λ (ds : List (Keyed C)). split k (rowPage (suc (suc l)) at ds)) (sym (take-append-drop (suc k) row))
       ∙ split-cut l at k (take (suc k) row) (drop (suc k) row)
-          (length-take-le (suc k) row (omega arith))
-          (rw (length-drop (suc k) row) (omega arith))
+      (length-take-le (suc k) row (omega arith))
+      (rw (length-drop (suc k) row) (omega arith))
 
   -- the root over its two halves: d, where the range begins, and e
   pub rowPage-raised : (l : ℕ) (at : C → ℕ) (Q : Page) (d e : Keyed C) (a r b : ℕ)
@@ -342,16 +364,16 @@ module _ {C : Type 0} where
   rowPage-key-next lv at xs d s ys =
       ap (λ (Q : Page). entryAt (length xs) (Q .entries) .key) (behind lv at xs d (s ∷ ys))
       ∙ ap keyOf
-          (getD-at (keysTo at xs d) (entry (s .key) (at (s .value))) (references at ys) (entry 0 0) (length xs) (keysTo-length at xs d))
+      (getD-at (keysTo at xs d) (entry (s .key) (at (s .value))) (references at ys) (entry 0 0) (length xs) (keysTo-length at xs d))
 
   -- x belongs to d, which has a right neighbour s
   module _ (P : C → ℕ → ℕ → Type 0) (lv : ℕ) (at : C → ℕ) (xs : List (Keyed C)) (d s : Keyed C) (ys : List (Keyed C)) (hi x : ℕ)
-    (span : Span P (xs ++ d ∷ s ∷ ys) hi) (low : d .key ≤ x) (high : x < s .key) where
+      (span : Span P (xs ++ d ∷ s ∷ ys) hi) (low : d .key ≤ x) (high : x < s .key) where
     -- d has a right neighbour
     pub right-hasRight : hasRight x (rowPage lv at (xs ++ d ∷ s ∷ ys)) ≡ true
     right-hasRight =
         rw (rowPage-place P lv at xs d (s ∷ ys) hi x span low high, rowPage-μ-around lv at xs d (s ∷ ys))
-          (lt-ltb (length xs) (length xs + suc (length ys)) (omega arith))
+        (lt-ltb (length xs) (length xs + suc (length ys)) (omega arith))
 
     -- it is s
     pub right-neighbour : neighbour x (rowPage lv at (xs ++ d ∷ s ∷ ys)) ≡ at (s .value)
@@ -369,21 +391,32 @@ module _ {C : Type 0} where
     right-keyBetween =
         ap (λ (i : ℕ). entryAt i (rowPage lv at (xs ++ d ∷ s ∷ ys) .entries) .key) right-betweenAt ∙ rowPage-key-next lv at xs d s ys
 
+    -- what moves over comes from s; a join takes s in
+    pub right-moved : (Q S : Page) → moved x (rowPage lv at (xs ++ d ∷ s ∷ ys)) Q S ≡ fromRight (s .key) Q S
+    right-moved Q S =
+        cond-true (fromRight (keyBetween x (rowPage lv at (xs ++ d ∷ s ∷ ys))) Q S) (fromLeft (keyBetween x (rowPage lv at (xs ++ d ∷ s ∷ ys))) S Q) right-hasRight
+        ∙ ap (λ (r : ℕ). fromRight r Q S) right-keyBetween
+
+    pub right-merged : (Q S : Page) → merged x (rowPage lv at (xs ++ d ∷ s ∷ ys)) Q S ≡ joined (s .key) Q S
+    right-merged Q S =
+        cond-true (joined (keyBetween x (rowPage lv at (xs ++ d ∷ s ∷ ys))) Q S) (joined (keyBetween x (rowPage lv at (xs ++ d ∷ s ∷ ys))) S Q) right-hasRight
+        ∙ ap (λ (r : ℕ). joined r Q S) right-keyBetween
+
   -- x belongs to d, the last child, which has a left neighbour s
   module _ (P : C → ℕ → ℕ → Type 0) (lv : ℕ) (at : C → ℕ) (xs : List (Keyed C)) (s d : Keyed C) (hi x : ℕ)
-    (span : Span P (xs ++ s ∷ d ∷ []) hi) (low : d .key ≤ x) (high : x < hi) where
+      (span : Span P (xs ++ s ∷ d ∷ []) hi) (low : d .key ≤ x) (high : x < hi) where
     -- the place of x is behind all keys
     pub left-place : place x (rowPage lv at (xs ++ s ∷ d ∷ []) .entries) ≡ suc (length xs)
     left-place =
         let e : (xs ++ s ∷ []) ++ d ∷ [] ≡ xs ++ s ∷ d ∷ [] = append-snoc xs s (d ∷ []) in
         rw (← e)
-          (rowPage-place P lv at (xs ++ s ∷ []) d [] hi x (rw e span) low high ∙ length-append xs (s ∷ []) ∙ omega arith)
+        (rowPage-place P lv at (xs ++ s ∷ []) d [] hi x (rw e span) low high ∙ length-append xs (s ∷ []) ∙ omega arith)
 
     -- d has no right neighbour
     pub left-hasRight : hasRight x (rowPage lv at (xs ++ s ∷ d ∷ [])) ≡ false
     left-hasRight =
         rw (left-place, rowPage-μ-around lv at xs s (d ∷ []))
-          (le-ltb (suc (length xs)) (length xs + 1) (omega arith))
+        (le-ltb (suc (length xs)) (length xs + 1) (omega arith))
 
     -- its neighbour is s
     pub left-neighbour : neighbour x (rowPage lv at (xs ++ s ∷ d ∷ [])) ≡ at (s .value)
@@ -401,3 +434,14 @@ module _ {C : Type 0} where
     pub left-keyBetween : keyBetween x (rowPage lv at (xs ++ s ∷ d ∷ [])) ≡ d .key
     left-keyBetween =
         ap (λ (i : ℕ). entryAt i (rowPage lv at (xs ++ s ∷ d ∷ []) .entries) .key) left-betweenAt ∙ rowPage-key-next lv at xs s d []
+
+    -- what moves over comes from s; a join is into s
+    pub left-moved : (Q S : Page) → moved x (rowPage lv at (xs ++ s ∷ d ∷ [])) Q S ≡ fromLeft (d .key) S Q
+    left-moved Q S =
+        cond-false (fromRight (keyBetween x (rowPage lv at (xs ++ s ∷ d ∷ []))) Q S) (fromLeft (keyBetween x (rowPage lv at (xs ++ s ∷ d ∷ []))) S Q) left-hasRight
+        ∙ ap (λ (r : ℕ). fromLeft r S Q) left-keyBetween
+
+    pub left-merged : (Q S : Page) → merged x (rowPage lv at (xs ++ s ∷ d ∷ [])) Q S ≡ joined (d .key) S Q
+    left-merged Q S =
+        cond-false (joined (keyBetween x (rowPage lv at (xs ++ s ∷ d ∷ []))) Q S) (joined (keyBetween x (rowPage lv at (xs ++ s ∷ d ∷ []))) S Q) left-hasRight
+        ∙ ap (λ (r : ℕ). joined r S Q) left-keyBetween
