@@ -1,3 +1,4 @@
 pub mod Rows
 pub mod Tree
 pub mod Sorted
+pub mod Change
