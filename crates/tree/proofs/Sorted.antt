@@ -35,6 +35,7 @@ span-widen [] a b h s = tt
 span-widen (e ∷ []) a b h s = (omega (arith, s .0), tt, tt)
 span-widen (e ∷ (f ∷ fs)) a b h s = (s .0, tt, span-widen (f ∷ fs) a b h (s .2))
 
+-- a list begins no earlier for a greater end
 headKey-widen : (es : List Entry) (a b : ℕ) → a ≤ b → headKey es a ≤ headKey es b
 headKey-widen [] a b h = h
 headKey-widen (e ∷ es) a b h = omega arith
@@ -123,33 +124,37 @@ unfolding without
 without-lacks x [] h = refl
 without-lacks x (e ∷ es) h = cond-false _ _ (ne-eqb (e .key) x (h .0)) ∙ ap (λ (l : List Entry). e ∷ l) (without-lacks x es (h .1))
 
--- A key that the first of two lists lacks is looked up in the second, and taken out of it.
+-- a key that the first of two lists lacks is sought in the second,
 pub has-second : (x : ℕ) (xs ys : List Entry) → Lacks x xs → has x (xs ++ ys) ≡ has x ys
 unfolding has
 has-second x [] ys h = refl
 has-second x (e ∷ es) ys h = ap (λ (b : Bool). b || has x (es ++ ys)) (ne-eqb (e .key) x (h .0)) ∙ has-second x es ys (h .1)
 
+-- its information is found there,
 pub information-second : (x : ℕ) (xs ys : List Entry) → Lacks x xs → information x (xs ++ ys) ≡ information x ys
 unfolding information
 information-second x [] ys h = refl
 information-second x (e ∷ es) ys h = cond-false _ _ (ne-eqb (e .key) x (h .0)) ∙ information-second x es ys (h .1)
 
+-- and it is taken out there
 pub without-second : (x : ℕ) (xs ys : List Entry) → Lacks x xs → without x (xs ++ ys) ≡ xs ++ without x ys
 unfolding without
 without-second x [] ys h = refl
 without-second x (e ∷ es) ys h = cond-false _ _ (ne-eqb (e .key) x (h .0)) ∙ ap (λ (l : List Entry). e ∷ l) (without-second x es ys (h .1))
 
--- A key that the second of two lists lacks is looked up in the first, and taken out of it.
+-- a key that the second of two lists lacks is sought in the first,
 pub has-first : (x : ℕ) (xs ys : List Entry) → Lacks x ys → has x (xs ++ ys) ≡ has x xs
 unfolding has
 has-first x [] ys h = has-lacks x ys h
 has-first x (e ∷ es) ys h = ap (λ (b : Bool). eqb (e .key) x || b) (has-first x es ys h)
 
+-- its information is found there,
 pub information-first : (x : ℕ) (xs ys : List Entry) → Lacks x ys → information x (xs ++ ys) ≡ information x xs
 unfolding information
 information-first x [] ys h = information-lacks x ys h
 information-first x (e ∷ es) ys h = ap (λ (n : ℕ). cond (eqb (e .key) x) (e .value) n) (information-first x es ys h)
 
+-- and it is taken out there
 pub without-first : (x : ℕ) (xs ys : List Entry) → Lacks x ys → without x (xs ++ ys) ≡ without x xs ++ ys
 unfolding without
 without-first x [] ys h = without-lacks x ys h
@@ -164,20 +169,23 @@ unfolding place count
 place-most x [] = omega arith
 place-most x (d ∷ ds) = let ih = place-most x ds in cond-ind (λ n. n ≤ suc (length ds)) (leb (d .key) x) (λ t. omega arith) (λ t. omega arith)
 
--- Three parts of a list: one that ends at or before x, one with x in its range, and one that begins behind x. A key
--- is looked up, taken out and inserted in the middle part.
+-- Three parts of a list: one that ends at or before x, one with x in its range, and one that begins behind x.
 module _ (x lo a b hi : ℕ) (A B C : List Entry) (first : Within lo A a) (last : Within b C hi) (from : a ≤ x) (to : x < b) where
+  -- x stands in the list if it stands in the middle part,
   pub has-parts : has x (A ++ (B ++ C)) ≡ has x B
   has-parts = has-second x A (B ++ C) (lacks-behind x lo a A first from) ∙ has-first x B C (lacks-before x b hi C last to)
 
+  -- with the information that it has there;
   pub information-parts : information x (A ++ (B ++ C)) ≡ information x B
   information-parts = information-second x A (B ++ C) (lacks-behind x lo a A first from) ∙ information-first x B C (lacks-before x b hi C last to)
 
+  -- it is taken out of the middle part,
   pub without-parts : without x (A ++ (B ++ C)) ≡ A ++ (without x B ++ C)
   without-parts =
       without-second x A (B ++ C) (lacks-behind x lo a A first from)
       ∙ ap (λ (l : List Entry). A ++ l) (without-first x B C (lacks-before x b hi C last to))
 
+  -- its place is in the middle part,
   place-parts : place x (A ++ (B ++ C)) ≡ length A + place x B
   place-parts =
       let outer : place x (A ++ (B ++ C)) ≡ place x A + place x (B ++ C) = place-append x A (B ++ C) in
@@ -186,6 +194,7 @@ module _ (x lo a b hi : ℕ) (A B C : List Entry) (first : Within lo A a) (last 
       let right : place x C ≡ 0 = place-before Anything x C hi (last .1) (omega (arith, last .0)) in
       omega arith
 
+  -- and it is inserted there
   pub inserted-parts : (v : ℕ) → inserted x v (A ++ (B ++ C)) ≡ A ++ (inserted x v B ++ C)
   unfolding inserted
   inserted-parts v =
@@ -237,6 +246,7 @@ length-inserted x v es =
     = length-append (take (place x es) es) (drop (place x es) es) in
     length-append (take (place x es) es) (entry x v ∷ drop (place x es) es) ∙ omega arith
 
+-- a key stands in a list that has its entry
 has-middle : (x v : ℕ) (l r : List Entry) → has x (l ++ entry x v ∷ r) ≡ true
 unfolding has
 has-middle x v [] r = ap (λ (b : Bool). b || has x r) (eq-eqb x x refl)
@@ -271,6 +281,7 @@ length-without x (e ∷ es) h =
     ap (λ (l : List Entry). suc (length l)) (cond-false es (e ∷ without x es) t)
     ∙ ap suc (length-without x es (sym (ap (λ (b : Bool). b || has x es) t) ∙ h)))
 
+-- a list lacks a key that was taken out of it
 lacks-without : (x lo hi : ℕ) (es : List Entry) → Within lo es hi → Lacks x (without x es)
 unfolding without
 lacks-without x lo hi [] w = tt
@@ -284,6 +295,7 @@ lacks-without x lo hi (e ∷ es) w =
 pub has-without : (x lo hi : ℕ) (es : List Entry) → Within lo es hi → has x (without x es) ≡ false
 has-without x lo hi es w = has-lacks x (without x es) (lacks-without x lo hi es w)
 
+-- keys in a range rise from a number before them
 risesFrom-span : (x hi : ℕ) (es : List Entry) → x < headKey es hi → Span Anything es hi → risesFrom x es ≡ true
 unfolding risesFrom
 risesFrom-span x hi [] h s = refl
@@ -295,6 +307,7 @@ unfolding rises
 rises-within lo hi [] w = refl
 rises-within lo hi (e ∷ es) w = risesFrom-span (e .key) hi es (w .1 .0) (w .1 .2)
 
+-- keys that rise from a number are in the range behind it
 within-risesFrom : (x hi : ℕ) (es : List Entry) → risesFrom x es ≡ true → x < hi → Keys (λ k. k < hi) es → Within (suc x) es hi
 unfolding risesFrom
 within-risesFrom x hi [] r h k = (h, tt)
