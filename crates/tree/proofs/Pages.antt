@@ -68,10 +68,10 @@ unfolding split
 leaf-split k L e R h = rw (take-at L (e ∷ R) k h, drop-at L (e ∷ R) k h, getD-at L e R (entry 0 0) k h)
 
 -- the same, where the right part is not taken apart
-leaf-split-cut : (k : ℕ) (L R : List Entry)
-    → length L ≡ k → 0 < length R → split k (page 1 0 (L ++ R)) ≡ parted (page 1 0 L) (headKey R 0) (page 1 0 R)
-leaf-split-cut k L [] h z = absurd (omega arith)
-leaf-split-cut k L (e ∷ R) h z = leaf-split k L e R h
+pub leaf-split-cut : (k hi : ℕ) (L R : List Entry)
+    → length L ≡ k → 0 < length R → split k (page 1 0 (L ++ R)) ≡ parted (page 1 0 L) (headKey R hi) (page 1 0 R)
+leaf-split-cut k hi L [] h z = absurd (omega arith)
+leaf-split-cut k hi L (e ∷ R) h z = leaf-split k L e R h
 
 -- the split of a leaf whose entries are not cut yet
 pub leaf-split-at : (k : ℕ) (es : List Entry)
@@ -79,7 +79,7 @@ pub leaf-split-at : (k : ℕ) (es : List Entry)
     → split k (page 1 0 es) ≡ parted (page 1 0 (take k es)) (headKey (drop k es) 0) (page 1 0 (drop k es))
 leaf-split-at k es h =
     ap (λ (fs : List Entry). split k (page 1 0 fs)) (sym (take-append-drop k es))
-    ∙ leaf-split-cut k (take k es) (drop k es) (length-take-le k es (omega arith)) (rw (length-drop k es) (omega arith))
+    ∙ leaf-split-cut k 0 (take k es) (drop k es) (length-take-le k es (omega arith)) (rw (length-drop k es) (omega arith))
 
 -- two leaves join as their entries do
 pub leaf-joined : (r : ℕ) (L R : List Entry) → joined r (page 1 0 L) (page 1 0 R) ≡ page 1 0 (L ++ R)
@@ -99,6 +99,23 @@ unfolding fromLeft
 leaf-fromLeft r L e R =
     let h : length L ≡ length (L ++ e ∷ []) - 1 = last-at L e in
     rw (take-at L (e ∷ []) (length (L ++ e ∷ []) - 1) h, getD-at L e [] (entry 0 0) (length (L ++ e ∷ []) - 1) h)
+
+-- the same from the right, where the entry that moves is a part B and the others are not taken apart
+pub leaf-fromRight-cut : (r hi : ℕ) (L B R : List Entry)
+    → length B ≡ 1
+    → 0 < length R
+    → fromRight r (page 1 0 L) (page 1 0 (B ++ R)) ≡ parted (page 1 0 (L ++ B)) (headKey R hi) (page 1 0 R)
+leaf-fromRight-cut r hi L [] R h z = absurd (omega arith)
+leaf-fromRight-cut r hi L (e ∷ (f ∷ B)) R h z = absurd (omega arith)
+leaf-fromRight-cut r hi L (e ∷ []) [] h z = absurd (omega arith)
+leaf-fromRight-cut r hi L (e ∷ []) (f ∷ R) h z = leaf-fromRight r L e f R
+
+-- the same from the left
+pub leaf-fromLeft-cut : (r hi : ℕ) (L B R : List Entry)
+    → length B ≡ 1 → fromLeft r (page 1 0 (L ++ B)) (page 1 0 R) ≡ parted (page 1 0 L) (headKey B hi) (page 1 0 (B ++ R))
+leaf-fromLeft-cut r hi L [] R h = absurd (omega arith)
+leaf-fromLeft-cut r hi L (e ∷ (f ∷ B)) R h = absurd (omega arith)
+leaf-fromLeft-cut r hi L (e ∷ []) R h = leaf-fromLeft r L e R
 
 -- ---- pages above the leaves, by their pairs
 
@@ -320,6 +337,26 @@ module _ {C : Type 0} where
       ∙ upper-split l (at (y .value)) k (references at L) (entry (e .key) (at (e .value))) (references at R)
       (length-map L (λ (c : Keyed C). entry (c .key) (at (c .value))) ∙ omega arith)
 
+  -- the same, where the right part is not taken apart
+  pub rowPage-split-cut : (l : ℕ) (at : C → ℕ) (k hi : ℕ) (L R : List (Keyed C))
+      → length L ≡ suc k
+      → 0 < length R
+      → split k (rowPage (suc (suc l)) at (L ++ R))
+      ≡ parted (rowPage (suc (suc l)) at L) (headKey R hi) (rowPage (suc (suc l)) at R)
+  rowPage-split-cut l at k hi L [] h z = absurd (omega arith)
+  rowPage-split-cut l at k hi L (e ∷ R) h z = rowPage-split l at k L e R h
+
+  -- the split of an upper page whose row is not cut yet
+  pub rowPage-split-at : (l : ℕ) (at : C → ℕ) (k : ℕ) (row : List (Keyed C))
+      → length row ≡ 2 * k + 2
+      → split k (rowPage (suc (suc l)) at row)
+      ≡ parted (rowPage (suc (suc l)) at (take (suc k) row)) (headKey (drop (suc k) row) 0) (rowPage (suc (suc l)) at (drop (suc k) row))
+  rowPage-split-at l at k row h =
+      ap (λ (ds : List (Keyed C)). split k (rowPage (suc (suc l)) at ds)) (sym (take-append-drop (suc k) row))
+      ∙ rowPage-split-cut l at k 0 (take (suc k) row) (drop (suc k) row)
+      (length-take-le (suc k) row (omega arith))
+      (rw (length-drop (suc k) row) (omega arith))
+
   -- two upper pages join as their rows do: the father's key r comes down before the right page's first child
   pub rowPage-joined : (l : ℕ) (at : C → ℕ) (r : ℕ) (L : List (Keyed C)) (e : Keyed C) (R : List (Keyed C))
       → 0 < length L
@@ -353,25 +390,40 @@ module _ {C : Type 0} where
       ∙ upper-fromLeft l r (at (y .value)) (at (f .value)) (references at L) (entry (e .key) (at (e .value))) (references at R)
       ∙ rw (← u)
 
-  -- the same, where the right part is not taken apart
-  split-cut : (l : ℕ) (at : C → ℕ) (k : ℕ) (L R : List (Keyed C))
-      → length L ≡ suc k
+  -- the same join, where the right page's row is not taken apart
+  pub rowPage-joined-cut : (l : ℕ) (at : C → ℕ) (r hi : ℕ) (L R : List (Keyed C))
+      → 0 < length L
       → 0 < length R
-      → split k (rowPage (suc (suc l)) at (L ++ R))
-      ≡ parted (rowPage (suc (suc l)) at L) (headKey R 0) (rowPage (suc (suc l)) at R)
-  split-cut l at k L [] h z = absurd (omega arith)
-  split-cut l at k L (e ∷ R) h z = rowPage-split l at k L e R h
+      → headKey R hi ≡ r
+      → joined r (rowPage (suc (suc l)) at L) (rowPage (suc (suc l)) at R) ≡ rowPage (suc (suc l)) at (L ++ R)
+  rowPage-joined-cut l at r hi L [] h z u = absurd (omega arith)
+  rowPage-joined-cut l at r hi L (e ∷ R) h z u = rowPage-joined l at r L e R h u
 
-  -- the split of an upper page whose row is not cut yet
-  pub rowPage-split-at : (l : ℕ) (at : C → ℕ) (k : ℕ) (row : List (Keyed C))
-      → length row ≡ 2 * k + 2
-      → split k (rowPage (suc (suc l)) at row)
-      ≡ parted (rowPage (suc (suc l)) at (take (suc k) row)) (headKey (drop (suc k) row) 0) (rowPage (suc (suc l)) at (drop (suc k) row))
-  rowPage-split-at l at k row h =
-      ap (λ (ds : List (Keyed C)). split k (rowPage (suc (suc l)) at ds)) (sym (take-append-drop (suc k) row))
-      ∙ split-cut l at k (take (suc k) row) (drop (suc k) row)
-      (length-take-le (suc k) row (omega arith))
-      (rw (length-drop (suc k) row) (omega arith))
+  -- the same move from the right, where the child that moves is a part B and the others are not taken apart
+  pub rowPage-fromRight-cut : (l : ℕ) (at : C → ℕ) (r hi : ℕ) (L B R : List (Keyed C))
+      → 0 < length L
+      → length B ≡ 1
+      → 0 < length R
+      → headKey B hi ≡ r
+      → fromRight r (rowPage (suc (suc l)) at L) (rowPage (suc (suc l)) at (B ++ R))
+      ≡ parted (rowPage (suc (suc l)) at (L ++ B)) (headKey R hi) (rowPage (suc (suc l)) at R)
+  rowPage-fromRight-cut l at r hi L [] R g h z u = absurd (omega arith)
+  rowPage-fromRight-cut l at r hi L (e ∷ (f ∷ B)) R g h z u = absurd (omega arith)
+  rowPage-fromRight-cut l at r hi L (e ∷ []) [] g h z u = absurd (omega arith)
+  rowPage-fromRight-cut l at r hi L (e ∷ []) (f ∷ R) g h z u = rowPage-fromRight l at r L e f R g u
+
+  -- the same from the left
+  pub rowPage-fromLeft-cut : (l : ℕ) (at : C → ℕ) (r hi : ℕ) (L B R : List (Keyed C))
+      → 0 < length L
+      → length B ≡ 1
+      → 0 < length R
+      → headKey R hi ≡ r
+      → fromLeft r (rowPage (suc (suc l)) at (L ++ B)) (rowPage (suc (suc l)) at R)
+      ≡ parted (rowPage (suc (suc l)) at L) (headKey B hi) (rowPage (suc (suc l)) at (B ++ R))
+  rowPage-fromLeft-cut l at r hi L [] R g h z u = absurd (omega arith)
+  rowPage-fromLeft-cut l at r hi L (e ∷ (f ∷ B)) R g h z u = absurd (omega arith)
+  rowPage-fromLeft-cut l at r hi L (e ∷ []) [] g h z u = absurd (omega arith)
+  rowPage-fromLeft-cut l at r hi L (e ∷ []) (f ∷ R) g h z u = rowPage-fromLeft l at r L e f R g u
 
   -- the root over its two halves: d, where the range begins, and e
   pub rowPage-raised : (l : ℕ) (at : C → ℕ) (Q : Page) (d e : Keyed C) (a r b : ℕ)
