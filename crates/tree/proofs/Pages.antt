@@ -16,10 +16,9 @@ use Rattle.page.specs.Place.{place, pointer, route}
 use Rattle.page.specs.Splits.{parted, entryAt, put, split, raised}
 use Rattle.page.specs.Short.{hasRight, neighbour, betweenAt, keyBetween, fromRight, fromLeft, joined, lessKey, rekeyed, moved, merged}
 use Rattle.tree.specs.Rows.{headKey, Span, topPointer, references, rowPage}
+use Rattle.tree.specs.Sorted.{inserted}
 
--- a page of level 2 or more is no leaf
-pub noLeaf : (l : ℕ) → eqb (suc (suc l)) 1 ≡ false
-noLeaf l = ne-eqb (suc (suc l)) 1 (λ e. omega arith)
+-- ---- pairs at a known place
 
 -- behind a list and one element more
 drop-past : {A : Type 0} (es : List A) (a : A) (fs : List A) (n : ℕ) → length es ≡ n → drop (suc n) (es ++ a ∷ fs) ≡ fs
@@ -30,20 +29,37 @@ drop-past {A} es a fs n e =
     seam [] = refl
     seam (x ∷ xs) = seam xs
 
--- a pair put in, taken out and given another key at a known place
+-- a pair put in
 put-at : (lv p n : ℕ) (e : Entry) (es fs : List Entry) → length es ≡ n → put n e (page lv p (es ++ fs)) ≡ page lv p (es ++ e ∷ fs)
 unfolding put
 put-at lv p n e es fs h = rw (take-at es fs n h, drop-at es fs n h)
 
+-- a pair taken out
 less-at : (lv p n : ℕ) (es : List Entry) (e : Entry) (fs : List Entry)
     → length es ≡ n → lessKey n (page lv p (es ++ e ∷ fs)) ≡ page lv p (es ++ fs)
 unfolding lessKey
 less-at lv p n es e fs h = rw (take-at es (e ∷ fs) n h, drop-past es e fs n h)
 
+-- a pair given another key
 rekeyed-at : (lv p n r : ℕ) (es : List Entry) (e : Entry) (fs : List Entry)
     → length es ≡ n → rekeyed n r (page lv p (es ++ e ∷ fs)) ≡ page lv p (es ++ entry r (e .value) ∷ fs)
 unfolding rekeyed
 rekeyed-at lv p n r es e fs h = rw (take-at es (e ∷ fs) n h, drop-past es e fs n h, getD-at es e fs (entry 0 0) n h)
+
+-- the place of the last pair
+last-at : (L : List Entry) (e : Entry) → length L ≡ length (L ++ e ∷ []) - 1
+last-at L e = rw (length-append L (e ∷ [])) (omega arith)
+
+-- ---- leaves
+
+-- a leaf is a leaf
+pub leaf-isLeaf : (es : List Entry) → isLeaf (page 1 0 es) ≡ true
+leaf-isLeaf es = refl
+
+-- an entry put into a leaf where its key belongs
+pub leaf-put : (x v : ℕ) (es : List Entry) → put (place x es) (entry x v) (page 1 0 es) ≡ page 1 0 (inserted x v es)
+unfolding put inserted
+leaf-put x v es = refl
 
 -- a leaf with 2k + 1 entries splits behind its first k
 pub leaf-split : (k : ℕ) (L : List Entry) (e : Entry) (R : List Entry)
@@ -51,12 +67,19 @@ pub leaf-split : (k : ℕ) (L : List Entry) (e : Entry) (R : List Entry)
 unfolding split
 leaf-split k L e R h = rw (take-at L (e ∷ R) k h, drop-at L (e ∷ R) k h, getD-at L e R (entry 0 0) k h)
 
-upper-split : (l p k : ℕ) (L : List Entry) (e : Entry) (R : List Entry)
-    → length L ≡ k
-    → split k (page (suc (suc l)) p (L ++ e ∷ R))
-    ≡ parted (page (suc (suc l)) p L) (e .key) (page (suc (suc l)) (e .value) R)
-unfolding split
-upper-split l p k L e R h = rw (noLeaf l, take-at L (e ∷ R) k h, drop-past L e R k h, getD-at L e R (entry 0 0) k h)
+-- the same, where the right part is not taken apart
+pub leaf-split-cut : (k hi : ℕ) (L R : List Entry)
+    → length L ≡ k → 0 < length R → split k (page 1 0 (L ++ R)) ≡ parted (page 1 0 L) (headKey R hi) (page 1 0 R)
+leaf-split-cut k hi L [] h z = absurd (omega arith)
+leaf-split-cut k hi L (e ∷ R) h z = leaf-split k L e R h
+
+-- the split of a leaf whose entries are not cut yet
+pub leaf-split-at : (k : ℕ) (es : List Entry)
+    → length es ≡ 2 * k + 1
+    → split k (page 1 0 es) ≡ parted (page 1 0 (take k es)) (headKey (drop k es) 0) (page 1 0 (drop k es))
+leaf-split-at k es h =
+    ap (λ (fs : List Entry). split k (page 1 0 fs)) (sym (take-append-drop k es))
+    ∙ leaf-split-cut k 0 (take k es) (drop k es) (length-take-le k es (omega arith)) (rw (length-drop k es) (omega arith))
 
 -- two leaves join as their entries do
 pub leaf-joined : (r : ℕ) (L R : List Entry) → joined r (page 1 0 L) (page 1 0 R) ≡ page 1 0 (L ++ R)
@@ -69,9 +92,6 @@ pub leaf-fromRight : (r : ℕ) (L : List Entry) (e f : Entry) (R : List Entry)
 unfolding fromRight
 leaf-fromRight r L e f R = refl
 
-last-at : (L : List Entry) (e : Entry) → length L ≡ length (L ++ e ∷ []) - 1
-last-at L e = rw (length-append L (e ∷ [])) (omega arith)
-
 -- the last entry of the left leaf moves over to the right one
 pub leaf-fromLeft : (r : ℕ) (L : List Entry) (e : Entry) (R : List Entry)
     → fromLeft r (page 1 0 (L ++ e ∷ [])) (page 1 0 R) ≡ parted (page 1 0 L) (e .key) (page 1 0 (e ∷ R))
@@ -80,17 +100,51 @@ leaf-fromLeft r L e R =
     let h : length L ≡ length (L ++ e ∷ []) - 1 = last-at L e in
     rw (take-at L (e ∷ []) (length (L ++ e ∷ []) - 1) h, getD-at L e [] (entry 0 0) (length (L ++ e ∷ []) - 1) h)
 
+-- the same from the right, where the entry that moves is a part B and the others are not taken apart
+pub leaf-fromRight-cut : (r hi : ℕ) (L B R : List Entry)
+    → length B ≡ 1
+    → 0 < length R
+    → fromRight r (page 1 0 L) (page 1 0 (B ++ R)) ≡ parted (page 1 0 (L ++ B)) (headKey R hi) (page 1 0 R)
+leaf-fromRight-cut r hi L [] R h z = absurd (omega arith)
+leaf-fromRight-cut r hi L (e ∷ (f ∷ B)) R h z = absurd (omega arith)
+leaf-fromRight-cut r hi L (e ∷ []) [] h z = absurd (omega arith)
+leaf-fromRight-cut r hi L (e ∷ []) (f ∷ R) h z = leaf-fromRight r L e f R
+
+-- the same from the left
+pub leaf-fromLeft-cut : (r hi : ℕ) (L B R : List Entry)
+    → length B ≡ 1 → fromLeft r (page 1 0 (L ++ B)) (page 1 0 R) ≡ parted (page 1 0 L) (headKey B hi) (page 1 0 (B ++ R))
+leaf-fromLeft-cut r hi L [] R h = absurd (omega arith)
+leaf-fromLeft-cut r hi L (e ∷ (f ∷ B)) R h = absurd (omega arith)
+leaf-fromLeft-cut r hi L (e ∷ []) R h = leaf-fromLeft r L e R
+
+-- ---- pages above the leaves, by their pairs
+
+-- a page of level 2 or more is no leaf
+pub noLeaf : (l : ℕ) → eqb (suc (suc l)) 1 ≡ false
+noLeaf l = ne-eqb (suc (suc l)) 1 (λ e. omega arith)
+
+-- the middle pair's key goes up, and its pointer leads the right page
+upper-split : (l p k : ℕ) (L : List Entry) (e : Entry) (R : List Entry)
+    → length L ≡ k
+    → split k (page (suc (suc l)) p (L ++ e ∷ R))
+    ≡ parted (page (suc (suc l)) p L) (e .key) (page (suc (suc l)) (e .value) R)
+unfolding split
+upper-split l p k L e R h = rw (noLeaf l, take-at L (e ∷ R) k h, drop-past L e R k h, getD-at L e R (entry 0 0) k h)
+
+-- the key r comes down before the right page's first pointer
 upper-joined : (l r p q : ℕ) (L R : List Entry)
     → joined r (page (suc (suc l)) p L) (page (suc (suc l)) q R) ≡ page (suc (suc l)) p (L ++ entry r q ∷ R)
 unfolding joined
 upper-joined l r p q L R = rw (noLeaf l)
 
+-- r comes down with the right page's first pointer, and the first pair's key goes up
 upper-fromRight : (l r p q : ℕ) (L : List Entry) (e : Entry) (R : List Entry)
     → fromRight r (page (suc (suc l)) p L) (page (suc (suc l)) q (e ∷ R))
     ≡ parted (page (suc (suc l)) p (L ++ entry r q ∷ [])) (e .key) (page (suc (suc l)) (e .value) R)
 unfolding fromRight
 upper-fromRight l r p q L e R = rw (noLeaf l)
 
+-- r comes down before the right page's first pointer, and the last pair of the left page goes over
 upper-fromLeft : (l r p q : ℕ) (L : List Entry) (e : Entry) (R : List Entry)
     → fromLeft r (page (suc (suc l)) p (L ++ e ∷ [])) (page (suc (suc l)) q R)
     ≡ parted (page (suc (suc l)) p L) (e .key) (page (suc (suc l)) (e .value) (entry r q ∷ R))
@@ -99,22 +153,7 @@ upper-fromLeft l r p q L e R =
     let h : length L ≡ length (L ++ e ∷ []) - 1 = last-at L e in
     rw (noLeaf l, take-at L (e ∷ []) (length (L ++ e ∷ []) - 1) h, getD-at L e [] (entry 0 0) (length (L ++ e ∷ []) - 1) h)
 
--- a leaf is a leaf
-pub leaf-isLeaf : (es : List Entry) → isLeaf (page 1 0 es) ≡ true
-leaf-isLeaf es = refl
-
-leaf-split-cut : (k : ℕ) (L R : List Entry)
-    → length L ≡ k → 0 < length R → split k (page 1 0 (L ++ R)) ≡ parted (page 1 0 L) (headKey R 0) (page 1 0 R)
-leaf-split-cut k L [] h z = absurd (omega arith)
-leaf-split-cut k L (e ∷ R) h z = leaf-split k L e R h
-
--- the split of a leaf whose entries are not cut yet
-pub leaf-split-at : (k : ℕ) (es : List Entry)
-    → length es ≡ 2 * k + 1
-    → split k (page 1 0 es) ≡ parted (page 1 0 (take k es)) (headKey (drop k es) 0) (page 1 0 (drop k es))
-leaf-split-at k es h =
-    ap (λ (fs : List Entry). split k (page 1 0 fs)) (sym (take-append-drop k es))
-    ∙ leaf-split-cut k (take k es) (drop k es) (length-take-le k es (omega arith)) (rw (length-drop k es) (omega arith))
+-- ---- pages above the leaves, by their children
 
 module _ {C : Type 0} where
   -- an upper page is no leaf
@@ -168,6 +207,7 @@ module _ {C : Type 0} where
   rowPage-pointers lv at d ds =
       ap (λ (ps : List ℕ). at (d .value) ∷ ps) (map-map valueOf (λ (c : Keyed C). entry (c .key) (at (c .value))) ds)
 
+  -- the same, around one child
   pointers-split : (lv : ℕ) (at : C → ℕ) (xs : List (Keyed C)) (d : Keyed C) (ys : List (Keyed C))
       → pointers (rowPage lv at (xs ++ d ∷ ys))
       ≡ map (λ (c : Keyed C). at (c .value)) xs ++ at (d .value) ∷ map (λ (c : Keyed C). at (c .value)) ys
@@ -193,16 +233,18 @@ module _ {C : Type 0} where
 
   -- ---- changes of a father
 
-  -- a page, cut behind the child d: the reference keys up to d's, as many as children before d, and the others
+  -- the reference keys up to the child d's
   keysTo : (C → ℕ) → List (Keyed C) → Keyed C → List Entry
   keysTo at xs d = references at (drop 1 (xs ++ d ∷ []))
 
+  -- they are as many as the children before d
   keysTo-length : (at : C → ℕ) (xs : List (Keyed C)) (d : Keyed C) → length (keysTo at xs d) ≡ length xs
   unfolding keysTo
   keysTo-length at [] d = refl
   keysTo-length at (y ∷ xs) d =
       length-map (xs ++ d ∷ []) (λ (c : Keyed C). entry (c .key) (at (c .value))) ∙ length-append xs (d ∷ []) ∙ omega arith
 
+  -- a page, cut behind the child d
   behind : (lv : ℕ) (at : C → ℕ) (xs : List (Keyed C)) (d : Keyed C) (ys : List (Keyed C))
       → rowPage lv at (xs ++ d ∷ ys) ≡ page lv (topPointer at (xs ++ d ∷ [])) (keysTo at xs d ++ references at ys)
   unfolding keysTo
@@ -212,6 +254,7 @@ module _ {C : Type 0} where
       (ap (λ (ds : List (Keyed C)). references at ds) (sym (append-snoc xs d ys))
       ∙ map-append (λ (c : Keyed C). entry (c .key) (at (c .value))) (xs ++ d ∷ []) ys)
 
+  -- the same key and the same page number give the same pair
   references-same : (at : C → ℕ) (xs : List (Keyed C)) (d d′ : Keyed C) (ys : List (Keyed C))
       → d′ .key ≡ d .key → at (d′ .value) ≡ at (d .value) → references at (xs ++ d′ ∷ ys) ≡ references at (xs ++ d ∷ ys)
   references-same at [] d d′ ys p q = rw (p, q)
@@ -236,6 +279,20 @@ module _ {C : Type 0} where
       ∙ put-at lv (topPointer at (xs ++ d ∷ [])) (length xs) (entry r a) (keysTo at xs d) (references at ys) (keysTo-length at xs d)
       ∙ rw (← u, ← v) (sym (behind lv at xs d (e ∷ ys)))
       ∙ sym (rowPage-same lv at xs d d′ (e ∷ ys) p q)
+
+  -- the same at the place of an x that belongs to d
+  pub rowPage-put-place : (P : C → ℕ → ℕ → Type 0) (lv : ℕ) (at : C → ℕ) (xs : List (Keyed C)) (d d′ e : Keyed C) (ys : List (Keyed C)) (hi x r a : ℕ)
+      → Span P (xs ++ d ∷ ys) hi
+      → d .key ≤ x
+      → x < headKey ys hi
+      → d′ .key ≡ d .key
+      → at (d′ .value) ≡ at (d .value)
+      → e .key ≡ r
+      → at (e .value) ≡ a
+      → put (place x (rowPage lv at (xs ++ d ∷ ys) .entries)) (entry r a) (rowPage lv at (xs ++ d ∷ ys)) ≡ rowPage lv at (xs ++ d′ ∷ e ∷ ys)
+  rowPage-put-place P lv at xs d d′ e ys hi x r a sp b c p q u v =
+      ap (λ (i : ℕ). put i (entry r a) (rowPage lv at (xs ++ d ∷ ys))) (rowPage-place P lv at xs d ys hi x sp b c)
+      ∙ rowPage-put lv at xs d d′ e ys r a p q u v
 
   -- a father with one reference key less: s, the child right of d, is gone
   pub rowPage-lessKey : (lv : ℕ) (at : C → ℕ) (xs : List (Keyed C)) (d d′ s : Keyed C) (ys : List (Keyed C))
@@ -265,6 +322,7 @@ module _ {C : Type 0} where
 
   -- ---- cuts and joins above the leaves
 
+  -- the pairs of a row, cut in two
   references-append : (at : C → ℕ) (L R : List (Keyed C)) → references at (L ++ R) ≡ references at L ++ references at R
   references-append at L R = map-append (λ (c : Keyed C). entry (c .key) (at (c .value))) L R
 
@@ -278,6 +336,26 @@ module _ {C : Type 0} where
       ap (λ (es : List Entry). split k (page (suc (suc l)) (at (y .value)) es)) (references-append at L (e ∷ R))
       ∙ upper-split l (at (y .value)) k (references at L) (entry (e .key) (at (e .value))) (references at R)
       (length-map L (λ (c : Keyed C). entry (c .key) (at (c .value))) ∙ omega arith)
+
+  -- the same, where the right part is not taken apart
+  pub rowPage-split-cut : (l : ℕ) (at : C → ℕ) (k hi : ℕ) (L R : List (Keyed C))
+      → length L ≡ suc k
+      → 0 < length R
+      → split k (rowPage (suc (suc l)) at (L ++ R))
+      ≡ parted (rowPage (suc (suc l)) at L) (headKey R hi) (rowPage (suc (suc l)) at R)
+  rowPage-split-cut l at k hi L [] h z = absurd (omega arith)
+  rowPage-split-cut l at k hi L (e ∷ R) h z = rowPage-split l at k L e R h
+
+  -- the split of an upper page whose row is not cut yet
+  pub rowPage-split-at : (l : ℕ) (at : C → ℕ) (k : ℕ) (row : List (Keyed C))
+      → length row ≡ 2 * k + 2
+      → split k (rowPage (suc (suc l)) at row)
+      ≡ parted (rowPage (suc (suc l)) at (take (suc k) row)) (headKey (drop (suc k) row) 0) (rowPage (suc (suc l)) at (drop (suc k) row))
+  rowPage-split-at l at k row h =
+      ap (λ (ds : List (Keyed C)). split k (rowPage (suc (suc l)) at ds)) (sym (take-append-drop (suc k) row))
+      ∙ rowPage-split-cut l at k 0 (take (suc k) row) (drop (suc k) row)
+      (length-take-le (suc k) row (omega arith))
+      (rw (length-drop (suc k) row) (omega arith))
 
   -- two upper pages join as their rows do: the father's key r comes down before the right page's first child
   pub rowPage-joined : (l : ℕ) (at : C → ℕ) (r : ℕ) (L : List (Keyed C)) (e : Keyed C) (R : List (Keyed C))
@@ -312,24 +390,40 @@ module _ {C : Type 0} where
       ∙ upper-fromLeft l r (at (y .value)) (at (f .value)) (references at L) (entry (e .key) (at (e .value))) (references at R)
       ∙ rw (← u)
 
-  split-cut : (l : ℕ) (at : C → ℕ) (k : ℕ) (L R : List (Keyed C))
-      → length L ≡ suc k
+  -- the same join, where the right page's row is not taken apart
+  pub rowPage-joined-cut : (l : ℕ) (at : C → ℕ) (r hi : ℕ) (L R : List (Keyed C))
+      → 0 < length L
       → 0 < length R
-      → split k (rowPage (suc (suc l)) at (L ++ R))
-      ≡ parted (rowPage (suc (suc l)) at L) (headKey R 0) (rowPage (suc (suc l)) at R)
-  split-cut l at k L [] h z = absurd (omega arith)
-  split-cut l at k L (e ∷ R) h z = rowPage-split l at k L e R h
+      → headKey R hi ≡ r
+      → joined r (rowPage (suc (suc l)) at L) (rowPage (suc (suc l)) at R) ≡ rowPage (suc (suc l)) at (L ++ R)
+  rowPage-joined-cut l at r hi L [] h z u = absurd (omega arith)
+  rowPage-joined-cut l at r hi L (e ∷ R) h z u = rowPage-joined l at r L e R h u
 
-  -- the same, where the row is not cut yet
-  pub rowPage-split-at : (l : ℕ) (at : C → ℕ) (k : ℕ) (row : List (Keyed C))
-      → length row ≡ 2 * k + 2
-      → split k (rowPage (suc (suc l)) at row)
-      ≡ parted (rowPage (suc (suc l)) at (take (suc k) row)) (headKey (drop (suc k) row) 0) (rowPage (suc (suc l)) at (drop (suc k) row))
-  rowPage-split-at l at k row h =
-      ap (λ (ds : List (Keyed C)). split k (rowPage (suc (suc l)) at ds)) (sym (take-append-drop (suc k) row))
-      ∙ split-cut l at k (take (suc k) row) (drop (suc k) row)
-      (length-take-le (suc k) row (omega arith))
-      (rw (length-drop (suc k) row) (omega arith))
+  -- the same move from the right, where the child that moves is a part B and the others are not taken apart
+  pub rowPage-fromRight-cut : (l : ℕ) (at : C → ℕ) (r hi : ℕ) (L B R : List (Keyed C))
+      → 0 < length L
+      → length B ≡ 1
+      → 0 < length R
+      → headKey B hi ≡ r
+      → fromRight r (rowPage (suc (suc l)) at L) (rowPage (suc (suc l)) at (B ++ R))
+      ≡ parted (rowPage (suc (suc l)) at (L ++ B)) (headKey R hi) (rowPage (suc (suc l)) at R)
+  rowPage-fromRight-cut l at r hi L [] R g h z u = absurd (omega arith)
+  rowPage-fromRight-cut l at r hi L (e ∷ (f ∷ B)) R g h z u = absurd (omega arith)
+  rowPage-fromRight-cut l at r hi L (e ∷ []) [] g h z u = absurd (omega arith)
+  rowPage-fromRight-cut l at r hi L (e ∷ []) (f ∷ R) g h z u = rowPage-fromRight l at r L e f R g u
+
+  -- the same from the left
+  pub rowPage-fromLeft-cut : (l : ℕ) (at : C → ℕ) (r hi : ℕ) (L B R : List (Keyed C))
+      → 0 < length L
+      → length B ≡ 1
+      → 0 < length R
+      → headKey R hi ≡ r
+      → fromLeft r (rowPage (suc (suc l)) at (L ++ B)) (rowPage (suc (suc l)) at R)
+      ≡ parted (rowPage (suc (suc l)) at L) (headKey B hi) (rowPage (suc (suc l)) at (B ++ R))
+  rowPage-fromLeft-cut l at r hi L [] R g h z u = absurd (omega arith)
+  rowPage-fromLeft-cut l at r hi L (e ∷ (f ∷ B)) R g h z u = absurd (omega arith)
+  rowPage-fromLeft-cut l at r hi L (e ∷ []) [] g h z u = absurd (omega arith)
+  rowPage-fromLeft-cut l at r hi L (e ∷ []) (f ∷ R) g h z u = rowPage-fromLeft l at r L e f R g u
 
   -- the root over its two halves: d, where the range begins, and e
   pub rowPage-raised : (l : ℕ) (at : C → ℕ) (Q : Page) (d e : Keyed C) (a r b : ℕ)
@@ -350,7 +444,7 @@ module _ {C : Type 0} where
   rowPage-μ-around lv at [] d ys = rowPage-μ lv at d ys ∙ omega arith
   rowPage-μ-around lv at (y ∷ xs) d ys = rowPage-μ lv at y (xs ++ d ∷ ys) ∙ length-append xs (d ∷ ys) ∙ omega arith
 
-  -- the pointer and the reference key just right of the child d
+  -- the pointer just right of the child d's
   pub rowPage-pointer-next : (lv : ℕ) (at : C → ℕ) (xs : List (Keyed C)) (d s : Keyed C) (ys : List (Keyed C))
       → pointer (suc (length xs)) (rowPage lv at (xs ++ d ∷ s ∷ ys)) ≡ at (s .value)
   rowPage-pointer-next lv at xs d s ys =
@@ -359,6 +453,7 @@ module _ {C : Type 0} where
       ∙ ap (λ (ds : List (Keyed C)). pointer (length (xs ++ d ∷ [])) (rowPage lv at ds)) (sym (append-snoc xs d (s ∷ ys)))
       ∙ rowPage-pointer lv at (xs ++ d ∷ []) s ys
 
+  -- the reference key just right of the child d's pointer
   pub rowPage-key-next : (lv : ℕ) (at : C → ℕ) (xs : List (Keyed C)) (d s : Keyed C) (ys : List (Keyed C))
       → entryAt (length xs) (rowPage lv at (xs ++ d ∷ s ∷ ys) .entries) .key ≡ s .key
   rowPage-key-next lv at xs d s ys =
@@ -391,16 +486,35 @@ module _ {C : Type 0} where
     right-keyBetween =
         ap (λ (i : ℕ). entryAt i (rowPage lv at (xs ++ d ∷ s ∷ ys) .entries) .key) right-betweenAt ∙ rowPage-key-next lv at xs d s ys
 
-    -- what moves over comes from s; a join takes s in
+    -- what moves over comes from s
     pub right-moved : (Q S : Page) → moved x (rowPage lv at (xs ++ d ∷ s ∷ ys)) Q S ≡ fromRight (s .key) Q S
     right-moved Q S =
         cond-true (fromRight (keyBetween x (rowPage lv at (xs ++ d ∷ s ∷ ys))) Q S) (fromLeft (keyBetween x (rowPage lv at (xs ++ d ∷ s ∷ ys))) S Q) right-hasRight
         ∙ ap (λ (r : ℕ). fromRight r Q S) right-keyBetween
 
+    -- a join takes s in
     pub right-merged : (Q S : Page) → merged x (rowPage lv at (xs ++ d ∷ s ∷ ys)) Q S ≡ joined (s .key) Q S
     right-merged Q S =
         cond-true (joined (keyBetween x (rowPage lv at (xs ++ d ∷ s ∷ ys))) Q S) (joined (keyBetween x (rowPage lv at (xs ++ d ∷ s ∷ ys))) S Q) right-hasRight
         ∙ ap (λ (r : ℕ). joined r Q S) right-keyBetween
+
+    -- the father less s
+    pub right-lessKey : (d′ : Keyed C)
+        → d′ .key ≡ d .key
+        → at (d′ .value) ≡ at (d .value)
+        → lessKey (betweenAt x (rowPage lv at (xs ++ d ∷ s ∷ ys))) (rowPage lv at (xs ++ d ∷ s ∷ ys)) ≡ rowPage lv at (xs ++ d′ ∷ ys)
+    right-lessKey d′ p q =
+        ap (λ (i : ℕ). lessKey i (rowPage lv at (xs ++ d ∷ s ∷ ys))) right-betweenAt ∙ rowPage-lessKey lv at xs d d′ s ys p q
+
+    -- the father with another key between d and s
+    pub right-rekeyed : (d′ s′ : Keyed C) (r : ℕ)
+        → d′ .key ≡ d .key
+        → at (d′ .value) ≡ at (d .value)
+        → s′ .key ≡ r
+        → at (s′ .value) ≡ at (s .value)
+        → rekeyed (betweenAt x (rowPage lv at (xs ++ d ∷ s ∷ ys))) r (rowPage lv at (xs ++ d ∷ s ∷ ys)) ≡ rowPage lv at (xs ++ d′ ∷ s′ ∷ ys)
+    right-rekeyed d′ s′ r p q u v =
+        ap (λ (i : ℕ). rekeyed i r (rowPage lv at (xs ++ d ∷ s ∷ ys))) right-betweenAt ∙ rowPage-rekeyed lv at xs d d′ s s′ ys r p q u v
 
   -- x belongs to d, the last child, which has a left neighbour s
   module _ (P : C → ℕ → ℕ → Type 0) (lv : ℕ) (at : C → ℕ) (xs : List (Keyed C)) (s d : Keyed C) (hi x : ℕ)
@@ -435,13 +549,32 @@ module _ {C : Type 0} where
     left-keyBetween =
         ap (λ (i : ℕ). entryAt i (rowPage lv at (xs ++ s ∷ d ∷ []) .entries) .key) left-betweenAt ∙ rowPage-key-next lv at xs s d []
 
-    -- what moves over comes from s; a join is into s
+    -- what moves over comes from s
     pub left-moved : (Q S : Page) → moved x (rowPage lv at (xs ++ s ∷ d ∷ [])) Q S ≡ fromLeft (d .key) S Q
     left-moved Q S =
         cond-false (fromRight (keyBetween x (rowPage lv at (xs ++ s ∷ d ∷ []))) Q S) (fromLeft (keyBetween x (rowPage lv at (xs ++ s ∷ d ∷ []))) S Q) left-hasRight
         ∙ ap (λ (r : ℕ). fromLeft r S Q) left-keyBetween
 
+    -- a join is into s
     pub left-merged : (Q S : Page) → merged x (rowPage lv at (xs ++ s ∷ d ∷ [])) Q S ≡ joined (d .key) S Q
     left-merged Q S =
         cond-false (joined (keyBetween x (rowPage lv at (xs ++ s ∷ d ∷ []))) Q S) (joined (keyBetween x (rowPage lv at (xs ++ s ∷ d ∷ []))) S Q) left-hasRight
         ∙ ap (λ (r : ℕ). joined r S Q) left-keyBetween
+
+    -- the father less d
+    pub left-lessKey : (s′ : Keyed C)
+        → s′ .key ≡ s .key
+        → at (s′ .value) ≡ at (s .value)
+        → lessKey (betweenAt x (rowPage lv at (xs ++ s ∷ d ∷ []))) (rowPage lv at (xs ++ s ∷ d ∷ [])) ≡ rowPage lv at (xs ++ s′ ∷ [])
+    left-lessKey s′ p q =
+        ap (λ (i : ℕ). lessKey i (rowPage lv at (xs ++ s ∷ d ∷ []))) left-betweenAt ∙ rowPage-lessKey lv at xs s s′ d [] p q
+
+    -- the father with another key between s and d
+    pub left-rekeyed : (s′ d′ : Keyed C) (r : ℕ)
+        → s′ .key ≡ s .key
+        → at (s′ .value) ≡ at (s .value)
+        → d′ .key ≡ r
+        → at (d′ .value) ≡ at (d .value)
+        → rekeyed (betweenAt x (rowPage lv at (xs ++ s ∷ d ∷ []))) r (rowPage lv at (xs ++ s ∷ d ∷ [])) ≡ rowPage lv at (xs ++ s′ ∷ d′ ∷ [])
+    left-rekeyed s′ d′ r p q u v =
+        ap (λ (i : ℕ). rekeyed i r (rowPage lv at (xs ++ s ∷ d ∷ []))) left-betweenAt ∙ rowPage-rekeyed lv at xs s s′ d d′ [] r p q u v
