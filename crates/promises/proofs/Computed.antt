@@ -27,6 +27,12 @@ use Rattle.index.specs.Step.{stepped}
 use Rattle.index.specs.Make.{made}
 use Rattle.promises.specs.Run.{called, run, runFresh}
 use Rattle.promises.specs.Bench.{Row, Holds, bench}
+use Rattle.promises.specs.MoreRows.{more}
+
+-- Everything that a call unfolds to: who unfolds this unfolds all of it.
+calls : Unit {0}
+unfolding largestK largestN tallest slotCount searchHolds pathHolds siblingHolds all count member distinct apart allBelow anyBelow countBelow listBelow firstBelow padded flat encode pairs view place has information without risesFrom rises soundByItself put split neighbour betweenAt fromRight fromLeft joined lessKey rekeyed poolLength start wordsOf pageAt written applied isFree freePages fresh room settled insertion needs shares shrunk deletion pathOf siblingsOf waitingOrder olderThan noClash noOlder leaving begins goesOn closes orderSound slotSound noClashingHolds sound begun reported deletes atLeaf comesDown besides granted pagesSound descends sameLevels fitting soundForStep verdict stepped made called run runFresh
+calls = tt
 
 -- Two lists are compared number by number, so that the prover computes a test and compares no terms.
 same : List ℕ → List ℕ → Bool
@@ -75,5 +81,9 @@ agree-holds (r ∷ rows) h =
     (sames-is (r .given) (r .said) e, agree-holds rows t)
 
 pub bench-holds : Holds bench
-unfolding largestK largestN tallest slotCount searchHolds pathHolds siblingHolds all count member distinct apart allBelow anyBelow countBelow listBelow firstBelow padded flat encode pairs view place has information without risesFrom rises soundByItself put split neighbour betweenAt fromRight fromLeft joined lessKey rekeyed poolLength start wordsOf pageAt written applied isFree freePages fresh room settled insertion needs shares shrunk deletion pathOf siblingsOf waitingOrder olderThan noClash noOlder leaving begins goesOn closes orderSound slotSound noClashingHolds sound begun reported deletes atLeaf comesDown besides granted pagesSound descends sameLevels fitting soundForStep verdict stepped made called run runFresh same sames agree
+unfolding calls same sames agree
 bench-holds = agree-holds bench refl
+
+pub more-holds : Holds more
+unfolding calls same sames agree
+more-holds = agree-holds more refl
