@@ -1,3 +1,4 @@
 pub mod Fits
 pub mod SoundPage
 pub mod WordLaws
+pub mod SmallRows
