@@ -360,6 +360,17 @@ module _ (p : ℕ → Bool) where
   pub countBelow-skips : (n : ℕ) → p n ≡ false → countBelow (suc n) p ≡ countBelow n p
   countBelow-skips n f = countBelow-more n ∙ cond-false (suc (countBelow n p)) (countBelow n p) f
 
+  -- each number below n passes, so n pass
+  pub countBelow-all : (n : ℕ) → ((i : ℕ) → i < n → p i ≡ true) → countBelow n p ≡ n
+  countBelow-all zero f = countBelow-none
+  countBelow-all (suc n) f =
+      countBelow-passes n (f n (omega arith)) ∙ ap suc (countBelow-all n (λ i h. f i (omega arith)))
+
+  -- each number below n fails, so none passes
+  pub countBelow-fails : (n : ℕ) → ((i : ℕ) → i < n → p i ≡ false) → countBelow n p ≡ 0
+  countBelow-fails zero f = countBelow-none
+  countBelow-fails (suc n) f = countBelow-skips n (f n (omega arith)) ∙ countBelow-fails n (λ i h. f i (omega arith))
+
   -- at most all numbers below n pass
   pub countBelow-most : (n : ℕ) → countBelow n p ≤ n
   unfolding countBelow
