@@ -290,12 +290,12 @@ module _ (p : ℕ → Bool) where
   allBelow-stops n i h f = false-if-not-true (allBelow n p) (λ t. not-both (allBelow-at n t i h) f)
 
   -- not every number below n passes, so one fails
-  pub allBelow-fails : (n : ℕ) → allBelow n p ≡ false → (i : ℕ) × (i < n) × (p i ≡ false)
+  pub allBelow-false-at : (n : ℕ) → allBelow n p ≡ false → (i : ℕ) × (i < n) × (p i ≡ false)
   unfolding allBelow
-  allBelow-fails zero f = absurd (true≢false f)
-  allBelow-fails (suc n) f =
+  allBelow-false-at zero f = absurd (true≢false f)
+  allBelow-false-at (suc n) f =
       ⊎-elim
-      (λ b. let found = allBelow-fails n b in (found .0, omega arith, found .2))
+      (λ b. let found = allBelow-false-at n b in (found .0, omega arith, found .2))
       (λ a. (n, omega arith, a))
       (and-fails (allBelow n p) (p n) f)
 
@@ -332,12 +332,12 @@ module _ (p : ℕ → Bool) where
       (eq-or-lt-of-le (le-of-suc-le-suc h))
 
   -- no number below n passes, so each fails
-  pub anyBelow-fails : (n : ℕ) → anyBelow n p ≡ false → (i : ℕ) → i < n → p i ≡ false
-  anyBelow-fails n f i h = false-if-not-true (p i) (λ t. not-both (anyBelow-from n i h t) f)
+  pub anyBelow-false-at : (n : ℕ) → anyBelow n p ≡ false → (i : ℕ) → i < n → p i ≡ false
+  anyBelow-false-at n f i h = false-if-not-true (p i) (λ t. not-both (anyBelow-from n i h t) f)
 
   -- each number below n fails, so none passes
-  pub anyBelow-stays : (n : ℕ) → ((i : ℕ) → i < n → p i ≡ false) → anyBelow n p ≡ false
-  anyBelow-stays n f =
+  pub anyBelow-fails : (n : ℕ) → ((i : ℕ) → i < n → p i ≡ false) → anyBelow n p ≡ false
+  anyBelow-fails n f =
       false-if-not-true (anyBelow n p) (λ t. let found = anyBelow-at n t in not-both (found .2) (f (found .0) (found .1)))
 
   -- ---- how many numbers below n pass, and which
@@ -595,9 +595,9 @@ module _ (p q : ℕ → Bool) where
       ap₂ (λ (a : ℕ) (b : Bool). cond (ltb a n) a (cond b n (suc n))) (firstBelow-same n (λ i h. f i (omega arith))) (f n (omega arith))
 
 -- no number below n passes, so the list is empty
-pub listBelow-empty : (p : ℕ → Bool) (n : ℕ) → ((i : ℕ) → i < n → p i ≡ false) → listBelow n p ≡ []
-listBelow-empty p zero f = listBelow-none p
-listBelow-empty p (suc n) f = listBelow-skips p n (f n (omega arith)) ∙ listBelow-empty p n (λ i h. f i (omega arith))
+pub listBelow-fails : (p : ℕ → Bool) (n : ℕ) → ((i : ℕ) → i < n → p i ≡ false) → listBelow n p ≡ []
+listBelow-fails p zero f = listBelow-none p
+listBelow-fails p (suc n) f = listBelow-skips p n (f n (omega arith)) ∙ listBelow-fails p n (λ i h. f i (omega arith))
 
 -- ---- a test with one passing number taken out: q is p, but that a fails
 
@@ -623,7 +623,7 @@ module _ (p q : ℕ → Bool) (a : ℕ) (passed : p a ≡ true) (fails : q a ≡
   listBelow-less zero h first same = absurd (not-suc-le-zero h)
   listBelow-less (suc n) h first same =
       ⊎-elim
-      (λ e. let none = listBelow-empty p n (λ i l. first i (omega arith)) in
+      (λ e. let none = listBelow-fails p n (λ i l. first i (omega arith)) in
       let was : listBelow (suc n) p ≡ n ∷ [] = listBelow-passes p n (sym (ap p e) ∙ passed) ∙ ap (λ (xs : List ℕ). xs ++ n ∷ []) none in
       listBelow-skips q n (sym (ap q e) ∙ fails)
       ∙ listBelow-same q p n (λ i l. same i (omega arith) (omega arith))

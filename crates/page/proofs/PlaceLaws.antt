@@ -155,16 +155,18 @@ has-place x es t y =
     let back : place x es - 1 ≡ i = omega arith in
     (omega arith, ap (λ (j : ℕ). keyAt j es) back ∙ found .2)
 
+-- a key stands that is the key just before its place
+pub place-has : (x : ℕ) (es : List Entry) → 0 < place x es → keyAt (place x es - 1) es ≡ x → has x es ≡ true
+place-has x es some e = let most = place-most x es in has-from x es (place x es - 1) (omega arith) e
+
 -- On rising keys one look tells whether a key stands: at the entry just before its place.
 pub has-test : (x : ℕ) (es : List Entry) → rises es ≡ true → has x es ≡ ltb 0 (place x es) && eqb (keyAt (place x es - 1) es) x
 has-test x es t =
     let some : Bool = ltb 0 (place x es) in
-    let same : Bool = eqb (keyAt (place x es - 1) es) x in
-    let most = place-most x es in
-    same-if-true-together (has x es) (some && same)
-    (λ y. let there = has-place x es t y in and-both (lt-ltb 0 (place x es) (there .0)) (eq-eqb (keyAt (place x es - 1) es) x (there .1)))
-    (λ y. let positive = ltb-true 0 (place x es) (and-first some same y) in
-    has-from x es (place x es - 1) (omega arith) (eqb-true (keyAt (place x es - 1) es) x (and-second some same y)))
+    let last : ℕ = keyAt (place x es - 1) es in
+    same-if-true-together (has x es) (some && eqb last x)
+    (λ y. let there = has-place x es t y in and-both (lt-ltb 0 (place x es) (there .0)) (eq-eqb last x (there .1)))
+    (λ y. place-has x es (ltb-true 0 (place x es) (and-first some (eqb last x) y)) (eqb-true last x (and-second some (eqb last x) y)))
 
 -- ---- information
 
