@@ -72,7 +72,8 @@ rises-from (e ∷ es) f =
 
 -- a key that is not lower than the next, so the keys do not rise
 pub rises-stops : (es : List Entry) (i : ℕ) → suc i < length es → keyAt (suc i) es ≤ keyAt i es → rises es ≡ false
-rises-stops es i h l = false-if-not-true (rises es) (λ t. let up = rises-at es t i (suc i) (omega arith) h in absurd (omega arith))
+rises-stops es i h l =
+    false-if-not-true (rises es) (λ t. let up = rises-at es t i (suc i) (omega arith) h in absurd (omega arith))
 
 -- the first n of rising keys rise
 pub rises-take : (n : ℕ) (es : List Entry) → rises es ≡ true → rises (take n es) ≡ true
@@ -151,7 +152,8 @@ rises-longer es i h t up = rises-from (take (suc (suc i)) es) next
         (keyAt-take (suc i) es (suc j) (omega arith))
         (rises-at (take (suc i) es) t j (suc j) (omega arith) (omega (arith, length-take-le (suc i) es (omega arith))))
 
-    next : (j : ℕ) → suc j < length (take (suc (suc i)) es) → keyAt j (take (suc (suc i)) es) < keyAt (suc j) (take (suc (suc i)) es)
+    next : (j : ℕ) → suc j < length (take (suc (suc i)) es)
+        → keyAt j (take (suc (suc i)) es) < keyAt (suc j) (take (suc (suc i)) es)
     next j l =
         let long = length-take-le (suc (suc i)) es h in
         rw (keyAt-take (suc (suc i)) es j (omega arith), keyAt-take (suc (suc i)) es (suc j) (omega arith))

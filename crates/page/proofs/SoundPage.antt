@@ -114,7 +114,9 @@ sound-test k n p P s =
     (and-both (le-leb 1 (P .level) (s .lowest)) (le-leb (P .level) tallest (s .highest)))
     (and-both (le-leb (least k p (isLeaf P)) (μ P) (s .enough)) (le-leb (μ P) (2 * k) (s .room))))
     (s .rising))
-    (cond-ind (λ (b : Bool). b ≡ true) (isLeaf P) (λ leaf. refl) (λ upper. and-both (s .pointersApart upper) (s .pointersInPool upper))))
+    (cond-ind (λ (b : Bool). b ≡ true) (isLeaf P)
+    (λ leaf. refl)
+    (λ upper. and-both (s .pointersApart upper) (s .pointersInPool upper))))
     (rw (encode-behind k P) (zeros-pass (size k - length (used P)))))
 
 -- In a sound page above the leaves each pointer is a page of the pool other than page 0.

@@ -45,7 +45,8 @@ flat-pairs (suc m) (x ∷ (v ∷ ws)) h =
     rw twice (ap (λ (r : List ℕ). x ∷ v ∷ r) (flat-pairs m ws (omega arith)))
 
 -- the words behind word 1, counted with the two before them
-length-behind-two : (leaf : Bool) (f : ℕ) (es : List Entry) → 2 + length (cond leaf (flat es) (f ∷ flat es)) ≡ cond leaf 2 3 + 2 * length es
+length-behind-two : (leaf : Bool) (f : ℕ) (es : List Entry)
+    → 2 + length (cond leaf (flat es) (f ∷ flat es)) ≡ cond leaf 2 3 + 2 * length es
 length-behind-two true f es = let h = length-flat es in omega arith
 length-behind-two false f es = let h = length-flat es in omega arith
 
@@ -129,7 +130,8 @@ view-μ k ws len inRange =
     length-pairs (getD ws 1 0) (drop (pairsFrom (getD ws 0 0)) ws) (omega (arith, length-drop (pairsFrom (getD ws 0 0)) ws))
 
 -- the words behind a page's pairs are 0
-pub encode-behind : (k : ℕ) (P : Page) → drop (pairsFrom (P .level) + 2 * μ P) (encode k P) ≡ replicate (size k - length (used P)) 0
+pub encode-behind : (k : ℕ) (P : Page)
+    → drop (pairsFrom (P .level) + 2 * μ P) (encode k P) ≡ replicate (size k - length (used P)) 0
 unfolding encode
 encode-behind k P = drop-at (used P) (replicate (size k - length (used P)) 0) (pairsFrom (P .level) + 2 * μ P) (length-used P)
 

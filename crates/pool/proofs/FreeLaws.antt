@@ -62,7 +62,9 @@ module _ (k n : ℕ) (ws : List ℕ) where
   -- the page at an index of the list is free; the lowest is the one at 0
   pub freePages-at : (i d : ℕ) → i < length (freePages k n ws) → Free k n ws (getD (freePages k n ws) i d)
   unfolding freePages
-  freePages-at i d h = let found = listBelow-index (isFree k ws) n i d h in test-free (getD (listBelow n (isFree k ws)) i d) (found .0) (found .1)
+  freePages-at i d h =
+      let found = listBelow-index (isFree k ws) n i d h in
+      test-free (getD (listBelow n (isFree k ws)) i d) (found .0) (found .1)
 
   -- no free page is lower than the first of the list
   pub freePages-lowest : (d p : ℕ) → Free k n ws p → getD (freePages k n ws) 0 d ≤ p
@@ -102,13 +104,15 @@ module _ (k n p : ℕ) (P : Page) (ws : List ℕ) (h : p < n) (len : length ws �
       (true-or-false (eqb q p))
 
   -- a free page taken: one free page fewer
-  pub freePages-taken-fewer : Free k n ws p → 1 ≤ P .level → length (freePages k n (written k (write p P) ws)) + 1 ≡ length (freePages k n ws)
+  pub freePages-taken-fewer : Free k n ws p → 1 ≤ P .level
+      → length (freePages k n (written k (write p P) ws)) + 1 ≡ length (freePages k n ws)
   unfolding freePages
   freePages-taken-fewer was up =
       let old : ℕ → Bool = isFree k ws in
       let new : ℕ → Bool = isFree k (written k (write p P) ws) in
+      let passed = free-test k n ws p was in
       let fails = written-not-free up in
-      let less = countBelow-less old new p (free-test k n ws p was) fails n h (λ q l ne. isFree-written-other k p P ws fits q ne) in
+      let less = countBelow-less old new p passed fails n h (λ q l ne. isFree-written-other k p P ws fits q ne) in
       omega (arith, length-listBelow old n, length-listBelow new n)
 
   -- the lowest free page taken: the list loses its first
@@ -133,7 +137,8 @@ module _ (k n p : ℕ) (P : Page) (ws : List ℕ) (h : p < n) (len : length ws �
       (true-or-false (eqb q p)))
 
   -- a page other than page 0 freed: one free page more
-  pub freePages-freed-more : isFree k ws p ≡ false → p ≢ 0 → P .level ≡ 0 → length (freePages k n (written k (write p P) ws)) ≡ length (freePages k n ws) + 1
+  pub freePages-freed-more : isFree k ws p ≡ false → p ≢ 0 → P .level ≡ 0
+      → length (freePages k n (written k (write p P) ws)) ≡ length (freePages k n ws) + 1
   unfolding freePages
   freePages-freed-more f ne down =
       let old : ℕ → Bool = isFree k ws in
@@ -152,7 +157,8 @@ AllBusy k ws [] = Unit {0}
 AllBusy k ws (w ∷ rest) = BusyWrite k ws w × AllBusy k ws rest
 
 -- such writes are such writes still after one of them
-busy-stays : (k n : ℕ) (w : Write) (ws : List ℕ) → FitWrite k n w → 1 ≤ w .value .level → length ws ≡ poolLength k n → (writes : List Write)
+busy-stays : (k n : ℕ) (w : Write) (ws : List ℕ) → FitWrite k n w → 1 ≤ w .value .level → length ws ≡ poolLength k n
+    → (writes : List Write)
     → AllBusy k ws writes → AllBusy k (written k w ws) writes
 busy-stays k n w ws fit up len [] busy = tt
 busy-stays k n w ws fit up len (v ∷ rest) busy = (
@@ -164,10 +170,12 @@ busy-stays k n w ws fit up len (v ∷ rest) busy = (
 )
 
 -- pages written that were not free, with values of level 1 or more: the same pages are free
-pub freePages-kept-applied : (k n : ℕ) (writes : List Write) (ws : List ℕ) → length ws ≡ poolLength k n → AllFit k n writes → AllBusy k ws writes
+pub freePages-kept-applied : (k n : ℕ) (writes : List Write) (ws : List ℕ) → length ws ≡ poolLength k n → AllFit k n writes
+    → AllBusy k ws writes
     → freePages k n (applied k writes ws) ≡ freePages k n ws
 unfolding applied
 freePages-kept-applied k n [] ws len fit busy = refl
 freePages-kept-applied k n (w ∷ rest) ws len fit busy =
-    freePages-kept-applied k n rest (written k w ws) (length-written k w ws ∙ len) (fit .1) (busy-stays k n w ws (fit .0) (busy .0 .level) len rest (busy .1))
+    let later = busy-stays k n w ws (fit .0) (busy .0 .level) len rest (busy .1) in
+    freePages-kept-applied k n rest (written k w ws) (length-written k w ws ∙ len) (fit .1) later
     ∙ freePages-kept k n (w .at) (w .value) ws (fit .0 .inPool) len (fit .0 .fits) (busy .0 .notFree) (busy .0 .level)
