@@ -1,3 +1,4 @@
 pub mod Unique
 pub mod Refusals
 pub mod SoundFacts
+pub mod OrderLaws
