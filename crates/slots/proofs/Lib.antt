@@ -2,3 +2,4 @@ pub mod Unique
 pub mod Refusals
 pub mod SoundFacts
 pub mod OrderLaws
+pub mod Clashes
