@@ -3,3 +3,4 @@ pub mod Refusals
 pub mod SoundFacts
 pub mod OrderLaws
 pub mod Clashes
+pub mod Keeping

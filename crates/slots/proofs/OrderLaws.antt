@@ -27,7 +27,7 @@ member-other : (x i : ℕ) (xs : List ℕ) → i ≢ x → member i xs ≡ membe
 unfolding member
 member-other x i xs n = sym (ap (λ (t : Bool). t || member i xs) (ne-eqb i x n))
 
-member-here : (x : ℕ) (xs : List ℕ) → member x (x ∷ xs) ≡ true
+pub member-here : (x : ℕ) (xs : List ℕ) → member x (x ∷ xs) ≡ true
 unfolding member
 member-here x xs = or-first (member x xs) (eq-eqb x x refl)
 
@@ -68,7 +68,7 @@ order-has-room st len f s b closed =
 
 -- ---- a slot taken out of the order
 
-same-or-not : (a b : ℕ) → (a ≡ b) ⊎ (a ≢ b)
+pub same-or-not : (a b : ℕ) → (a ≡ b) ⊎ (a ≢ b)
 same-or-not a b = ⊎-elim (λ e. inl (eqb-true a b e)) (λ e. inr (eqb-false a b e)) (true-or-false (eqb a b))
 
 in-front : (x t : ℕ) (xs ys : List ℕ) → member x xs ≡ member x ys → member x (t ∷ xs) ≡ member x (t ∷ ys)
