@@ -4,3 +4,5 @@ pub mod SoundFacts
 pub mod OrderLaws
 pub mod Clashes
 pub mod Keeping
+pub mod GrantLaws
+pub mod Holders
