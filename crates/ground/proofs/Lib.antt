@@ -1,2 +1,3 @@
 pub mod Bools
 pub mod Choice
+pub mod Tests
