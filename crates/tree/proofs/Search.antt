@@ -8,7 +8,7 @@ use lib.Dec.{leb, ltb}
 use lib.ListN.{length, getD, length-append, List·getD-append}
 use lib.Seq.{getD-at, getD-append-seam, getD-append-add}
 use Rattle.ground.specs.Limits.{wordRange}
-use Rattle.page.specs.Words.{Keyed, Entry, Page, page}
+use Rattle.page.specs.Words.{Keyed, Page, page}
 use Rattle.page.specs.Place.{route, has, information}
 use Rattle.tree.specs.Rows.{headKey, Span, Each, gathered, followed, rowPage}
 use Rattle.tree.specs.Tree.{Tr, pageNumber, pageOf, entriesOf, rootLeast, InRange, Holds, way, leafOn, Forms}
@@ -32,27 +32,33 @@ pub record Down (k x l : ℕ) (t : Tr (suc l)) (hi : ℕ) : Type 0 where
   pub wayOn : way x (suc l) t ≡ way x l (here .value) ++ t .at ∷ []
   pub leafOf : leafOn x (suc l) t ≡ leafOn x l (here .value)
 
+-- where a key of its range belongs to a child of the tree
+unfoldable pub down-at : (k m M x l : ℕ) (t : Tr (suc l)) (lo hi : ℕ) → InRange k m M (suc l) t lo hi
+    → (before : List (Keyed (Tr l))) (here : Keyed (Tr l)) (after : List (Keyed (Tr l))) → t .row ≡ before ++ here ∷ after
+    → here .key ≤ x → x < headKey after hi → Down k x l t hi
+down-at k m M x l t lo hi r before here after whole from to =
+    let P : Tr l → ℕ → ℕ → Type 0 = InRange k k (2 * k) l in
+    let span : Span P (before ++ here ∷ after) hi = subst (λ (row : List (Keyed (Tr l))). Span P row hi) whole (r .children) in
+    record {
+      before = before;
+      here = here;
+      after = after;
+      whole = whole;
+      span = span;
+      from = from;
+      to = to;
+      child = middle-has P before here after hi span;
+      wayOn =
+          ap (λ (row : List (Keyed (Tr l))). followed (way x l) [] x row ++ t .at ∷ []) whole
+          ∙ ap (λ (w : List ℕ). w ++ t .at ∷ []) (followed-spot P (way x l) [] x before here after hi span from to);
+      leafOf = ap (followed (leafOn x l) [] x) whole ∙ followed-spot P (leafOn x l) [] x before here after hi span from to;
+    }
+
+-- every key of its range belongs to one
 pub down : (k m M x l : ℕ) (t : Tr (suc l)) (lo hi : ℕ) → InRange k m M (suc l) t lo hi → lo ≤ x → x < hi → Down k x l t hi
 down k m M x l t lo hi r low high =
-    let P : Tr l → ℕ → ℕ → Type 0 = InRange k k (2 * k) l in
-    let s = spot P x (t .row) hi (r .children) (omega (arith, r .low)) high in
-    let span : Span P (s .before ++ s .here ∷ s .after) hi = subst (λ (row : List (Keyed (Tr l))). Span P row hi) (s .whole) (r .children) in
-    record {
-      before = s .before;
-      here = s .here;
-      after = s .after;
-      whole = s .whole;
-      span = span;
-      from = s .from;
-      to = s .to;
-      child = middle-has P (s .before) (s .here) (s .after) hi span;
-      wayOn =
-          ap (λ (row : List (Keyed (Tr l))). followed (way x l) [] x row ++ t .at ∷ []) (s .whole)
-          ∙ ap (λ (w : List ℕ). w ++ t .at ∷ []) (followed-spot P (way x l) [] x (s .before) (s .here) (s .after) hi span (s .from) (s .to));
-      leafOf =
-          ap (followed (leafOn x l) [] x) (s .whole)
-          ∙ followed-spot P (leafOn x l) [] x (s .before) (s .here) (s .after) hi span (s .from) (s .to);
-    }
+    let s = spot (InRange k k (2 * k) l) x (t .row) hi (r .children) (omega (arith, r .low)) high in
+    down-at k m M x l t lo hi r (s .before) (s .here) (s .after) (s .whole) (s .from) (s .to)
 
 -- a thing of the row has what each has
 pub each-here : {C : Type 0} (Q : C → Type 0) (xs : List (Keyed C)) (d : Keyed C) (ys : List (Keyed C)) (row : List (Keyed C))

@@ -1,11 +1,12 @@
 -- What follows from a pool's being a tree: of the way of a key, of the places of pages, and of the tree's size and height.
-use Prim.Native.Nat.{ℕ, zero, suc, _+_, _≤_, _<_}
+use Prim.Native.Nat.{ℕ, suc, _+_, _≤_, _<_}
 use mathlib.Core.Path.{_≡_}
-use mathlib.Core.List.{List, [], _∷_, _++_}
+use mathlib.Core.List.{List, _∷_, _++_}
 use lib.ListN.{length, getD}
-use Rattle.page.specs.Words.{Page, page}
-use Rattle.page.specs.Place.{route, has, information}
-use Rattle.tree.specs.Tree.{Tr, entriesOf, way, leafOn}
+use Rattle.ground.specs.Limits.{wordRange}
+use Rattle.page.specs.Words.{Page, page, μ}
+use Rattle.page.specs.Place.{pointer, route, has, information}
+use Rattle.tree.specs.Tree.{Tr, entriesOf, occurs, Stands, way, leafOn}
 
 -- The way of x through the tree t and through the memory.
 pub record WayFacts (memory : ℕ → Page) (x l : ℕ) (t : Tr l) : Type 0 where
@@ -24,3 +25,69 @@ pub record WayFacts (memory : ℕ → Page) (x l : ℕ) (t : Tr l) : Type 0 wher
   -- which decides for the whole tree whether the key is there, and what stands with it
   pub decides : has x (leafOn x l t) ≡ has x (entriesOf l t)
   pub tells : information x (leafOn x l t) ≡ information x (entriesOf l t)
+
+-- Page q stands somewhere in the tree t.
+pub record Placed (l : ℕ) (t : Tr l) (lo hi q : ℕ) : Type 0 where
+  pub level : ℕ
+  pub from : ℕ
+  pub to : ℕ
+  pub stands : Stands l t lo hi q level from to
+
+-- Page q stands on this level of the tree t, with a range that lies between a and b.
+pub record PlacedWithin (l : ℕ) (t : Tr l) (lo hi q level a b : ℕ) : Type 0 where
+  pub from : ℕ
+  pub to : ℕ
+  pub stands : Stands l t lo hi q level from to
+  pub low : a ≤ from
+  pub rises : from < to
+  pub high : to ≤ b
+
+-- Page q stands on this level of the tree t, with a range that has x.
+pub record PlacedFor (x l : ℕ) (t : Tr l) (lo hi q level : ℕ) : Type 0 where
+  pub from : ℕ
+  pub to : ℕ
+  pub stands : Stands l t lo hi q level from to
+  pub low : from ≤ x
+  pub high : x < to
+
+-- A place is inside the tree.
+pub record PlaceInside (l lo hi level a b : ℕ) : Type 0 where
+  pub lowest : 1 ≤ level
+  pub highest : level ≤ l + 1
+  pub low : lo ≤ a
+  pub rises : a < b
+  pub high : b ≤ hi
+
+-- Two places are one.
+pub record SamePlace (level a b level′ a′ b′ : ℕ) : Type 0 where
+  pub sameLevel : level ≡ level′
+  pub sameFrom : a ≡ a′
+  pub sameTo : b ≡ b′
+
+-- Where the pages of the tree t stand, in the tree and in the memory.
+pub record PlaceFacts (memory : ℕ → Page) (l : ℕ) (t : Tr l) : Type 0 where
+  -- each page of the tree has a place, and what has a place is a page of the tree
+  pub placed : (q : ℕ) → 1 ≤ occurs q l t → Placed l t 0 wordRange q
+  pub counted : (q level a b : ℕ) → Stands l t 0 wordRange q level a b → 1 ≤ occurs q l t
+  -- it has one place only, inside the tree, and the memory has that level there
+  pub only : (q level a b level′ a′ b′ : ℕ) → Stands l t 0 wordRange q level a b → Stands l t 0 wordRange q level′ a′ b′
+      → SamePlace level a b level′ a′ b′
+  pub inside : (q level a b : ℕ) → Stands l t 0 wordRange q level a b → PlaceInside l 0 wordRange level a b
+  pub level : (q level a b : ℕ) → Stands l t 0 wordRange q level a b → memory q .level ≡ level
+  -- the pages of x's way stand in ranges that have x, and every page that stands in such a range is on x's way
+  pub onWay : (x i : ℕ) → x < wordRange → i ≤ l → PlacedFor x l t 0 wordRange (getD (way x l t) i 0) (i + 1)
+  pub wayHas : (x i q a b : ℕ) → Stands l t 0 wordRange q (i + 1) a b → a ≤ x → x < b → getD (way x l t) i 0 ≡ q
+  -- ways that meet have met above
+  pub above : (x y q : ℕ) (lower upper lower′ upper′ : List ℕ) → x < wordRange → y < wordRange
+      → way x l t ≡ lower ++ q ∷ upper → way y l t ≡ lower′ ++ q ∷ upper′ → upper ≡ upper′
+  -- "Keys under p(i-1) are less than ri; keys under pi are at least ri": what a page points to stands one level lower,
+  -- in a part of its range
+  pub pointed : (p i a b j : ℕ) → Stands l t 0 wordRange p (i + 2) a b → j ≤ μ (memory p)
+      → PlacedWithin l t 0 wordRange (pointer j (memory p)) (i + 1) a b
+  -- a page has one father,
+  pub oneFather : (p i a b j p′ i′ a′ b′ j′ : ℕ) → Stands l t 0 wordRange p (i + 2) a b → j ≤ μ (memory p)
+      → Stands l t 0 wordRange p′ (i′ + 2) a′ b′ → j′ ≤ μ (memory p′)
+      → pointer j (memory p) ≡ pointer j′ (memory p′) → p ≡ p′
+  -- which is above it on every way that it is on
+  pub fatherAbove : (x c p i a b j : ℕ) → x < wordRange → c ≤ l → Stands l t 0 wordRange p (i + 2) a b → j ≤ μ (memory p)
+      → getD (way x l t) c 0 ≡ pointer j (memory p) → getD (way x l t) (suc c) 0 ≡ p
