@@ -1,3 +1,6 @@
 pub mod Fits
+pub mod PlaceLaws
+pub mod PutLaws
+pub mod RiseLaws
 pub mod SoundPage
 pub mod WordLaws
