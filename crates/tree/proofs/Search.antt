@@ -65,11 +65,6 @@ pub each-here : {C : Type 0} (Q : C → Type 0) (xs : List (Keyed C)) (d : Keyed
     → row ≡ xs ++ d ∷ ys → Each Q row → Q (d .value)
 each-here {C} Q xs d ys row e h = each-right Q xs (d ∷ ys) (subst (λ (r : List (Keyed C)). Each Q r) e h) .0
 
--- the memory has the root page at the root's page number
-pub holds-root : (memory : ℕ → Page) (l : ℕ) (t : Tr l) → Holds memory l t → memory (pageNumber l t) ≡ pageOf l t
-holds-root memory zero t h = h
-holds-root memory (suc l) t h = h .0
-
 -- the root page's level
 pub pageOf-level : (l : ℕ) (t : Tr l) → pageOf l t .level ≡ l + 1
 pageOf-level zero t = refl

@@ -5,8 +5,8 @@ use mathlib.Core.Path.{_≡_, refl, sym, ap, _∙_, subst, subst₂}
 use mathlib.Core.List.{List, [], _∷_, _++_}
 use mathlib.Core.Logic.{inl, inr}
 use native.Mathlib.Omega.{arith}
-use borrow.Author.Tests.{leb-true, leb-false, ltb-true, eqb-true, eq-eqb}
-use lib.Dec.{leb, eqb}
+use borrow.Author.Tests.{leb-true, leb-false, ltb-true}
+use lib.Dec.{leb}
 use lib.ListN.{length, getD, drop, length-append, List·getD-append}
 use lib.Seq.{drop-at, drop-append-le, drop-append-seam, getD-append-seam}
 use Rattle.ground.specs.Limits.{wordRange}
@@ -20,6 +20,7 @@ use Rattle.tree.specs.Facts.{Placed, PlacedWithin, PlacedFor, PlaceInsid
 use Rattle.tree.proofs.Rows.{by-test, headKey-append, headKey-most, somewhere-right, middle-has, middle-rises, middle-before, middle-after}
 use Rattle.tree.proofs.Pages.{rowPage-μ, rowPage-pointer}
 use Rattle.tree.proofs.Sorted.{place-most}
+use Rattle.tree.proofs.Memory.{once-same, once-is, somewhere-total, stands-occurs}
 use Rattle.tree.proofs.Search.{Down, down, down-at, each-here, way-length, way-lower, way-top}
 
 -- ---- one thing of a row
@@ -47,13 +48,6 @@ pub found-somewhere : {C : Type 0} (P : C → ℕ → ℕ → Type 0) (row : Lis
 found-somewhere {C} P row hi f =
     subst (λ (r : List (Keyed C)). Somewhere P r hi) (sym (f .whole)) (somewhere-right P (f .before) (f .here ∷ f .after) hi (inl (f .has)))
 
--- a sum over a row is at least what one of its things gives
-pub total-somewhere : {C : Type 0} (P : C → ℕ → ℕ → Type 0) (f : C → ℕ) (row : List (Keyed C)) (hi : ℕ)
-    → ((c : C) (a b : ℕ) → P c a b → 1 ≤ f c) → Somewhere P row hi → 1 ≤ total f row
-total-somewhere P f [] hi g h = absurd h
-total-somewhere P f (d ∷ ds) hi g (inl h) = let one = g (d .value) (d .key) (headKey ds hi) h in omega arith
-total-somewhere P f (d ∷ ds) hi g (inr h) = let rest = total-somewhere P f ds hi g h in omega arith
-
 -- a sum over a row that is not 0 has a part that is not 0
 pub total-found : {C : Type 0} (f : C → ℕ) (row : List (Keyed C)) (hi : ℕ) → 1 ≤ total f row → Found (λ (c : C) (a b : ℕ). 1 ≤ f c) row hi
 total-found f [] hi h = absurd (omega arith)
@@ -65,40 +59,12 @@ total-found {C} f (d ∷ ds) hi h =
 
 -- ---- pages counted
 
--- a page number is itself once,
-pub once-same : (q : ℕ) → once q q ≡ 1
-once-same q = cond-true 1 0 (eq-eqb q q refl)
-
-pub once-at : (q p : ℕ) → p ≡ q → once q p ≡ 1
-once-at q p e = cond-true 1 0 (eq-eqb q p (sym e))
-
--- and no other
-pub once-is : (q p : ℕ) → 1 ≤ once q p → p ≡ q
-once-is q p h =
-    by-test (eqb q p)
-    (λ t. sym (eqb-true q p t))
-    (λ t. let none : once q p ≡ 0 = cond-false 1 0 t in absurd (omega arith))
-
--- the root page is a page of the tree
-pub occurs-root : (l : ℕ) (t : Tr l) → 1 ≤ occurs (pageNumber l t) l t
-occurs-root zero t = let one = once-same (t .at) in omega arith
-occurs-root (suc l) t = let one = once-same (t .at) in omega arith
-
--- a page that stands in the tree is one of its pages,
-pub stands-occurs : (l : ℕ) (t : Tr l) (lo hi q level a b : ℕ) → Stands l t lo hi q level a b → 1 ≤ occurs q l t
-stands-occurs zero t lo hi q level a b s = let one = once-at q (t .at) (s .0) in omega arith
-stands-occurs (suc l) t lo hi q level a b (inl s) = let one = once-at q (t .at) (s .0) in omega arith
-stands-occurs (suc l) t lo hi q level a b (inr s) =
-    let rest = total-somewhere (λ (c : Tr l) (lo′ hi′ : ℕ). Stands l c lo′ hi′ q level a b) (occurs q l) (t .row) hi
-    (λ c lo′ hi′ h. stands-occurs l c lo′ hi′ q level a b h) s in
-    omega arith
-
--- and a page of the tree stands in it.
+-- a page of the tree stands in it
 pub occurs-placed : (l : ℕ) (t : Tr l) (lo hi q : ℕ) → 1 ≤ occurs q l t → Placed l t lo hi q
-occurs-placed zero t lo hi q h = record { level = 1; from = lo; to = hi; stands = (once-is q (t .at) h, refl, refl, refl) }
+occurs-placed zero t lo hi q h = record { level = 1; from = lo; to = hi; stands = (sym (once-is q (t .at) h), refl, refl, refl) }
 occurs-placed (suc l) t lo hi q h =
     by-test (leb 1 (once q (t .at)))
-    (λ y. record { level = suc (suc l); from = lo; to = hi; stands = inl (once-is q (t .at) (leb-true 1 (once q (t .at)) y), refl, refl, refl) })
+    (λ y. record { level = suc (suc l); from = lo; to = hi; stands = inl (sym (once-is q (t .at) (leb-true 1 (once q (t .at)) y)), refl, refl, refl) })
     (λ n.
     let none = leb-false 1 (once q (t .at)) n in
     let f = total-found (occurs q l) (t .row) hi (omega arith) in
@@ -126,11 +92,11 @@ same-place f P P′ X [] hi g g′ same most h h′ = absurd h
 same-place f P P′ X (d ∷ ds) hi g g′ same most (inl h) (inl h′) = same (d .value) (d .key) (headKey ds hi) (omega arith) h h′
 same-place f P P′ X (d ∷ ds) hi g g′ same most (inl h) (inr h′) =
     let one = g (d .value) (d .key) (headKey ds hi) h in
-    let rest = total-somewhere P′ f ds hi g′ h′ in
+    let rest = somewhere-total P′ f ds hi g′ h′ in
     absurd (omega arith)
 same-place f P P′ X (d ∷ ds) hi g g′ same most (inr h) (inl h′) =
     let one = g′ (d .value) (d .key) (headKey ds hi) h′ in
-    let rest = total-somewhere P f ds hi g h in
+    let rest = somewhere-total P f ds hi g h in
     absurd (omega arith)
 same-place f P P′ X (d ∷ ds) hi g g′ same most (inr h) (inr h′) = same-place f P P′ X ds hi g g′ same (omega arith) h h′
 
@@ -142,13 +108,13 @@ stands-once zero t lo hi q level a b level′ a′ b′ most s s′ =
 stands-once (suc l) t lo hi q level a b level′ a′ b′ most (inl s) (inl s′) =
     record { sameLevel = s .1 ∙ sym (s′ .1); sameFrom = s .2 ∙ sym (s′ .2); sameTo = s .3 ∙ sym (s′ .3) }
 stands-once (suc l) t lo hi q level a b level′ a′ b′ most (inl s) (inr s′) =
-    let one = once-at q (t .at) (s .0) in
-    let rest = total-somewhere (λ (c : Tr l) (lo′ hi′ : ℕ). Stands l c lo′ hi′ q level′ a′ b′) (occurs q l) (t .row) hi
+    let one = once-same q (t .at) (sym (s .0)) in
+    let rest = somewhere-total (λ (c : Tr l) (lo′ hi′ : ℕ). Stands l c lo′ hi′ q level′ a′ b′) (occurs q l) (t .row) hi
     (λ c lo′ hi′ h. stands-occurs l c lo′ hi′ q level′ a′ b′ h) s′ in
     absurd (omega arith)
 stands-once (suc l) t lo hi q level a b level′ a′ b′ most (inr s) (inl s′) =
-    let one = once-at q (t .at) (s′ .0) in
-    let rest = total-somewhere (λ (c : Tr l) (lo′ hi′ : ℕ). Stands l c lo′ hi′ q level a b) (occurs q l) (t .row) hi
+    let one = once-same q (t .at) (sym (s′ .0)) in
+    let rest = somewhere-total (λ (c : Tr l) (lo′ hi′ : ℕ). Stands l c lo′ hi′ q level a b) (occurs q l) (t .row) hi
     (λ c lo′ hi′ h. stands-occurs l c lo′ hi′ q level a b h) s in
     absurd (omega arith)
 stands-once (suc l) t lo hi q level a b level′ a′ b′ most (inr s) (inr s′) =
