@@ -10,6 +10,7 @@ use lib.Dec.{leb}
 use lib.ListN.{length, getD, drop, length-append, List·getD-append}
 use lib.Seq.{drop-at, drop-append-le, drop-append-seam, getD-append-seam}
 use Rattle.ground.specs.Limits.{wordRange}
+use Rattle.ground.proofs.Limits.{range-rises}
 use Rattle.ground.proofs.Choice.{cond-true, cond-false}
 use Rattle.page.specs.Words.{Keyed, Page, μ}
 use Rattle.page.specs.Place.{pointer, place}
@@ -376,11 +377,6 @@ neighbour-pointer x F =
 
 -- The places of the pages of a tree that a memory holds.
 module _ (k n : ℕ) (memory : ℕ → Page) (l : ℕ) (t : Tr l) (forms : Forms k n memory l t) where
-  -- the top of the range lies above its bottom
-  range-rises : 0 < wordRange
-  unfolding wordRange
-  range-rises = omega arith
-
   place-inside : (q level a b : ℕ) → Stands l t 0 wordRange q level a b → PlaceInside l 0 wordRange level a b
   place-inside q level a b s = stands-inside k (rootLeast l) (2 * k) l t 0 wordRange q level a b (forms .inRange) range-rises s
 

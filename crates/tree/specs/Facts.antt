@@ -1,11 +1,12 @@
 -- What follows from a pool's being a tree: of the way of a key, of the places of pages, and of the tree's size and height.
-use Prim.Native.Nat.{ℕ, suc, _+_, _≤_, _<_}
+use Prim.Native.Nat.{ℕ, zero, suc, _+_, _-_, _^_, _≤_, _<_}
 use mathlib.Core.Path.{_≡_}
 use mathlib.Core.List.{List, _∷_, _++_}
 use lib.ListN.{length, getD}
-use Rattle.ground.specs.Limits.{wordRange}
+use Rattle.ground.specs.Limits.{tallest, wordRange}
 use Rattle.page.specs.Words.{Page, page, μ}
 use Rattle.page.specs.Place.{pointer, route, has, information}
+use Rattle.tree.specs.Rows.{total}
 use Rattle.tree.specs.Tree.{Tr, entriesOf, occurs, Stands, way, leafOn}
 
 -- The way of x through the tree t and through the memory.
@@ -91,3 +92,15 @@ pub record PlaceFacts (memory : ℕ → Page) (l : ℕ) (t : Tr l) : Type 0 wher
   -- which is above it on every way that it is on
   pub fatherAbove : (x c p i a b j : ℕ) → x < wordRange → c ≤ l → Stands l t 0 wordRange p (i + 2) a b → j ≤ μ (memory p)
       → getD (way x l t) c 0 ≡ pointer j (memory p) → getD (way x l t) (suc c) 0 ≡ p
+
+-- how many pages the tree has
+abbrev pub pageCount : (l : ℕ) → Tr l → ℕ
+pageCount zero t = 1
+pageCount (suc l) t = 1 + total (pageCount l) (t .row)
+
+-- "Each page above level 1 has at least two children, so a tree of height h has at least 2^h - 1 pages, and h is at most 10."
+pub record HeightFacts (n l : ℕ) (t : Tr l) : Type 0 where
+  pub many : 2 ^ (l + 1) - 1 ≤ pageCount l t
+  -- the pages are different and of the pool
+  pub inPool : pageCount l t ≤ n
+  pub height : l + 1 ≤ tallest
