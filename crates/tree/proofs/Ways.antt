@@ -164,7 +164,7 @@ cut-pointer {C} level at row j c =
     ∙ ap (λ (r : List (Keyed C)). pointer j (rowPage level at r)) (sym (c .whole))
 
 -- a page has one reference key less than children, where it has a child
-row-μ : {C : Type 0} (level : ℕ) (at : C → ℕ) (row : List (Keyed C)) → 1 ≤ length row → suc (μ (rowPage level at row)) ≡ length row
+pub row-μ : {C : Type 0} (level : ℕ) (at : C → ℕ) (row : List (Keyed C)) → 1 ≤ length row → suc (μ (rowPage level at row)) ≡ length row
 row-μ level at [] h = absurd (omega arith)
 row-μ level at (d ∷ ds) h = ap suc (rowPage-μ level at d ds)
 
