@@ -104,3 +104,10 @@ pub record HeightFacts (n l : ℕ) (t : Tr l) : Type 0 where
   -- the pages are different and of the pool
   pub inPool : pageCount l t ≤ n
   pub height : l + 1 ≤ tallest
+
+-- a tree, of whatever height
+abbrev pub AnyTree : Type 0
+AnyTree = (l : ℕ) × Tr l
+
+abbrev pub anyTree : (l : ℕ) → Tr l → AnyTree
+anyTree l t = (l, t)
