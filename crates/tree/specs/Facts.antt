@@ -1,13 +1,18 @@
 -- What follows from a pool's being a tree: of the way of a key, of the places of pages, and of the tree's size and height.
 use Prim.Native.Nat.{ℕ, zero, suc, _+_, _-_, _^_, _≤_, _<_}
 use mathlib.Core.Path.{_≡_}
-use mathlib.Core.List.{List, _∷_, _++_}
+use mathlib.Core.Bool.{true}
+use mathlib.Core.List.{List, [], _∷_, _++_}
+use lib.Dec.{eqb}
 use lib.ListN.{length, getD}
 use Rattle.ground.specs.Limits.{tallest, wordRange}
+use Rattle.ground.specs.Tests.{member}
 use Rattle.page.specs.Words.{Page, page, μ}
 use Rattle.page.specs.Place.{pointer, route, has, information}
+use Rattle.pool.specs.Pool.{isFree, freePages}
 use Rattle.tree.specs.Rows.{total}
 use Rattle.tree.specs.Tree.{Tr, entriesOf, occurs, Stands, way, leafOn}
+use Rattle.tree.specs.Change.{FreeFor}
 
 -- The way of x through the tree t and through the memory.
 pub record WayFacts (memory : ℕ → Page) (x l : ℕ) (t : Tr l) : Type 0 where
@@ -111,3 +116,15 @@ AnyTree = (l : ℕ) × Tr l
 
 abbrev pub anyTree : (l : ℕ) → Tr l → AnyTree
 anyTree l t = (l, t)
+
+-- the empty tree: page 0 is a leaf without entries
+abbrev pub emptyTree : Tr 0
+emptyTree = record { at = 0; entries = [] }
+
+-- "each time the lowest-numbered free one": the free pages of a pool, in the rule's list, are the pages that are not the tree's.
+pub record FreeFacts (k n : ℕ) (ws : List ℕ) (l : ℕ) (t : Tr l) : Type 0 where
+  pub test : (q : ℕ) → q < n → isFree k ws q ≡ eqb (occurs q l t) 0
+  pub free : FreeFor n l t (freePages k n ws)
+  pub every : (q : ℕ) → q < n → occurs q l t ≡ 0 → member q (freePages k n ws) ≡ true
+  -- the free pages and the tree's are the pool's
+  pub count : length (freePages k n ws) + pageCount l t ≡ n
