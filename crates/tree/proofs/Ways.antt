@@ -421,6 +421,11 @@ module _ (k n : ℕ) (memory : ℕ → Page) (l : ℕ) (t : Tr l) (forms : Forms
   place-pointed p i a b j s most =
       pointed-stands k memory (rootLeast l) (2 * k) l t 0 wordRange p (i + 2) a b i j (forms .inRange) range-rises (forms .holds) s refl most
 
+  place-neighbours : (p i a b x : ℕ) → Stands l t 0 wordRange p (i + 2) a b → PlacedWithin l t 0 wordRange (neighbour x (memory p)) (i + 1) a b
+  place-neighbours p i a b x s =
+      let next = neighbour-pointer x (memory p) in
+      subst (λ (q : ℕ). PlacedWithin l t 0 wordRange q (i + 1) a b) (sym (next .2)) (place-pointed p i a b (next .0) s (next .1))
+
   -- a page is on the way of a key in the range of something that it points to, one level above that
   father-way : (x p i a b j : ℕ) (s : Stands l t 0 wordRange p (i + 2) a b) (most : j ≤ μ (memory p))
       → place-pointed p i a b j s most .from ≤ x → x < place-pointed p i a b j s most .to → getD (way x l t) (suc i) 0 ≡ p
@@ -463,6 +468,7 @@ module _ (k n : ℕ) (memory : ℕ → Page) (l : ℕ) (t : Tr l) (forms : Forms
     wayHas = place-way-has;
     above = place-above;
     pointed = place-pointed;
+    neighbours = place-neighbours;
     oneFather = place-one-father;
     fatherAbove = place-father-above;
   }

@@ -17,14 +17,16 @@ use Rattle.page.specs.Words.{Entry, Page, freePage, encode}
 use Rattle.page.proofs.WordLaws.{length-encode, encode-free}
 use Rattle.pool.specs.Pool.{poolLength, wordsOf, pageAt, Write, written, applied, isFree, freePages, fresh}
 use Rattle.pool.proofs.WriteLaws.{FitWrite, AllFit, length-written, length-applied, wordsOf-written-same, wordsOf-written-other, pageAt-written-same, pageAt-written-other}
+use Rattle.pool.proofs.StretchLaws.{pool-by-pages}
 use Rattle.pool.proofs.FreeLaws.{Free, test-free, free-test, freePages-free, free-freePages}
 use Rattle.pool.proofs.FreshLaws.{length-fresh, wordsOf-fresh-root, wordsOf-fresh-other, pageAt-fresh-root, pageAt-fresh-other}
-use Rattle.tree.specs.Tree.{Tr, pageNumber, once, occurs, Forms, PoolForms}
+use Rattle.tree.specs.Tree.{Tr, pageNumber, once, occurs, Holds, Forms, PoolForms}
 use Rattle.tree.specs.Change.{rewritten, memoryAfter, writtenPages, Fitting, Leads}
 use Rattle.tree.specs.Facts.{emptyTree, FreeFacts}
 use Rattle.tree.proofs.Rows.{by-test}
 use Rattle.tree.proofs.Memory.{once-same, once-is, holds-same, root-occurs}
-use Rattle.tree.proofs.Ways.{place-facts}
+use Rattle.tree.proofs.Ways.{total-found, place-facts}
+use Rattle.tree.proofs.Search.{each-here}
 use Rattle.tree.proofs.Height.{sumBelow, sum-occurs}
 
 -- ---- writing pages
@@ -112,6 +114,38 @@ module _ (k n : ℕ) where
         forms = forms-same (memoryAfter (pageAt k ws) writes) (pageAt k (applied k writes ws)) (leads .height) (leads .tree)
             (λ q inPool. applied-memory writes ws fit (pool .whole) q) (leads .forms);
       }
+
+-- ---- one tree, one pool
+
+-- two memories that hold one tree agree on its pages
+pub holds-agree : (memory memory′ : ℕ → Page) (l : ℕ) (t : Tr l) (q : ℕ) → Holds memory l t → Holds memory′ l t → 1 ≤ occurs q l t → memory q ≡ memory′ q
+holds-agree memory memory′ zero t q h h′ o =
+    subst (λ (p : ℕ). memory p ≡ memory′ p) (sym (once-is q (t .at) o)) (h ∙ sym h′)
+holds-agree memory memory′ (suc l) t q h h′ o =
+    by-test (leb 1 (once q (t .at)))
+    (λ y. subst (λ (p : ℕ). memory p ≡ memory′ p) (sym (once-is q (t .at) (leb-true 1 (once q (t .at)) y))) (h .0 ∙ sym (h′ .0)))
+    (λ z.
+    let none = leb-false 1 (once q (t .at)) z in
+    let f = total-found (occurs q l) (t .row) 0 (omega arith) in
+    holds-agree memory memory′ l (f .here .value) q
+    (each-here (Holds memory l) (f .before) (f .here) (f .after) (t .row) (f .whole) (h .1))
+    (each-here (Holds memory′ l) (f .before) (f .here) (f .after) (t .row) (f .whole) (h′ .1))
+    (f .has))
+
+-- Two pools of one tree have the same words.
+pub pool-words : (k n : ℕ) (ws ws′ : List ℕ) (l : ℕ) (t : Tr l) → PoolForms k n ws l t → PoolForms k n ws′ l t → ws ≡ ws′
+pool-words k n ws ws′ l t pool pool′ =
+    pool-by-pages k n ws ws′ (pool .whole) (pool′ .whole)
+    (λ p inPool. pool .exact p inPool ∙ ap (encode k) (same p inPool) ∙ sym (pool′ .exact p inPool))
+  where
+    same : (p : ℕ) → p < n → pageAt k ws p ≡ pageAt k ws′ p
+    same p inPool =
+        by-test (leb 1 (occurs p l t))
+        (λ y. holds-agree (pageAt k ws) (pageAt k ws′) l t p (pool .forms .holds) (pool′ .forms .holds) (leb-true 1 (occurs p l t) y))
+        (λ z.
+        let few = leb-false 1 (occurs p l t) z in
+        let none : occurs p l t ≡ 0 = omega arith in
+        pool .forms .others p inPool none ∙ sym (pool′ .forms .others p inPool none))
 
 -- ---- the fresh pool
 

@@ -1,4 +1,5 @@
--- What follows from a pool's being a tree: of the way of a key, of the places of pages, and of the tree's size and height.
+-- What follows from a pool's being a tree: of the way of a key, of the places of pages, of the tree's size and height, and of
+-- the pages that are free. The proofs are in files of their own: Search, Ways, Height, SoundPages, Determined, Words.
 use Prim.Native.Nat.{ℕ, zero, suc, _+_, _-_, _^_, _≤_, _<_}
 use mathlib.Core.Path.{_≡_}
 use mathlib.Core.Bool.{true}
@@ -9,6 +10,7 @@ use Rattle.ground.specs.Limits.{tallest, wordRange}
 use Rattle.ground.specs.Tests.{member}
 use Rattle.page.specs.Words.{Page, page, μ}
 use Rattle.page.specs.Place.{pointer, route, has, information}
+use Rattle.page.specs.Short.{neighbour}
 use Rattle.pool.specs.Pool.{isFree, freePages}
 use Rattle.tree.specs.Rows.{total}
 use Rattle.tree.specs.Tree.{Tr, entriesOf, occurs, Stands, way, leafOn}
@@ -90,6 +92,8 @@ pub record PlaceFacts (memory : ℕ → Page) (l : ℕ) (t : Tr l) : Type 0 wher
   -- in a part of its range
   pub pointed : (p i a b j : ℕ) → Stands l t 0 wordRange p (i + 2) a b → j ≤ μ (memory p)
       → PlacedWithin l t 0 wordRange (pointer j (memory p)) (i + 1) a b
+  -- "A page left with k-1 uses its right neighbour under the same father; if it has none, the left one.": so does that one
+  pub neighbours : (p i a b x : ℕ) → Stands l t 0 wordRange p (i + 2) a b → PlacedWithin l t 0 wordRange (neighbour x (memory p)) (i + 1) a b
   -- a page has one father,
   pub oneFather : (p i a b j p′ i′ a′ b′ j′ : ℕ) → Stands l t 0 wordRange p (i + 2) a b → j ≤ μ (memory p)
       → Stands l t 0 wordRange p′ (i′ + 2) a′ b′ → j′ ≤ μ (memory p′)
