@@ -58,7 +58,7 @@ total-found {C} f (d ∷ ds) hi h =
     (λ t. let none = leb-false 1 (f (d .value)) t in
     found-behind (λ (c : C) (a b : ℕ). 1 ≤ f c) d ds hi (total-found f ds hi (omega arith)))
 
--- ---- pages counted
+-- ---- places
 
 -- a page of the tree stands in it
 pub occurs-placed : (l : ℕ) (t : Tr l) (lo hi q : ℕ) → 1 ≤ occurs q l t → Placed l t lo hi q
