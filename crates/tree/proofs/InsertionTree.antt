@@ -48,7 +48,7 @@ tree-shrink k m M M′ (suc l) t lo hi r h =
     record { least = r .least; most = omega arith; low = r .low; children = r .children }
 
 -- one page more taken from the front of a free list
-taken-last : (q j : ℕ) (free : List ℕ) → j < length free → times q (take (suc j) free) ≡ times q (take j free) + once q (lowest (drop j free))
+pub taken-last : (q j : ℕ) (free : List ℕ) → j < length free → times q (take (suc j) free) ≡ times q (take j free) + once q (lowest (drop j free))
 taken-last q j [] h = absurd (omega arith)
 taken-last q zero (a ∷ rest) h = omega arith
 taken-last q (suc j) (a ∷ rest) h = let ih = taken-last q j rest (omega arith) in omega arith
