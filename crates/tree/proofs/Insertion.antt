@@ -12,20 +12,20 @@ use lib.ListN.{length, take, drop}
 use lib.Seq.{drop-drop}
 use Rattle.ground.specs.Limits.{wordRange}
 use Rattle.ground.specs.Tests.{member}
-use Rattle.page.specs.Words.{Keyed, Entry, Page, μ}
+use Rattle.page.specs.Words.{Entry, Page, μ}
 use Rattle.page.specs.Splits.{Parted, raised}
 use Rattle.pool.specs.Pool.{Write, write}
 use Rattle.change.specs.Insertion.{lowest, room, settled, insertion}
-use Rattle.tree.specs.Tree.{Tr, pageNumber, pageOf, entriesOf, once, occurs, InRange, rootLeast, Holds, Stands, way, Forms}
+use Rattle.tree.specs.Tree.{Node, Tr, pageNumber, pageOf, entriesOf, once, occurs, InRange, rootLeast, Holds, Stands, way, Forms}
 use Rattle.tree.specs.Sorted.{inserted}
 use Rattle.tree.specs.Change.{memoryAfter, writtenPages, Fitting, Leads, FreeFor}
-use Rattle.tree.specs.Insertion.{fillings, newPages, treeRoom, InsertionLeads}
+use Rattle.tree.specs.Insertion.{fillings, newPages, treeRoom, InsertionLeads, RoomOfTree}
 use Rattle.tree.proofs.Rows.{by-test}
 use Rattle.tree.proofs.Pages.{rowPage-raised}
 use Rattle.tree.proofs.Memory.{times, times-cut, times-member, member-times, absent-times, distinct-times, times-distinct, times-written, unwritten, Stores, stores-left, stores-right, written-stores, fitting-append, fits-page, holds-top}
 use Rattle.tree.proofs.InsertionWay.{newPages-full, settled-fits, settled-raises}
 use Rattle.tree.proofs.InsertionSplit.{Halves, halves}
-use Rattle.tree.proofs.InsertionTree.{tree-most, tree-shrink, taken-last, begun, Change, Grown, grown, Piece, piece-stopped, piece-written}
+use Rattle.tree.proofs.InsertionTree.{node, keyed, tree-most, tree-shrink, taken-last, begun, Change, Grown, grown, Piece, piece-stopped, piece-written}
 use Rattle.tree.proofs.InsertionHeld.{held-rule, held-pages, room-tree}
 
 -- What the writes make of the whole tree, before they are put into the memory.
@@ -35,15 +35,22 @@ record Made (k : ℕ) (memory : ℕ → Page) (free : List ℕ) (l : ℕ) (t : T
   root : pageNumber height tree ≡ 0
   inRange : InRange k (rootLeast height) (2 * k) height tree 0 wordRange
   entries : entriesOf height tree ≡ es
+  -- it has the old pages, and free ones besides; every page that is written is one of them
   more : (q : ℕ) → occurs q l t ≤ occurs q height tree
   most : (q : ℕ) → occurs q height tree ≤ occurs q l t + times q free
   inside : (q : ℕ) → times q (writtenPages writes) ≤ occurs q height tree
   fitting : Fitting k writes
-  holds : (M : ℕ → Page) → Stores M writes → ((q : ℕ) → times q (writtenPages writes) ≡ 0 → 1 ≤ occurs q l t → M q ≡ memory q) → Holds M height tree
-  keeps : (q level a b : ℕ) → times q (writtenPages writes) ≡ 0 → Stands l t 0 wordRange q level a b → Stands height tree 0 wordRange q level a b
+  -- a memory that has the writes, and else is as it was, holds the tree
+  holds : (M : ℕ → Page) → Stores M writes
+      → ((q : ℕ) → times q (writtenPages writes) ≡ 0 → 1 ≤ occurs q l t → M q ≡ memory q)
+      → Holds M height tree
+  -- every page that is not written keeps its level and range
+  keeps : (q level a b : ℕ) → times q (writtenPages writes) ≡ 0
+      → Stands l t 0 wordRange q level a b → Stands height tree 0 wordRange q level a b
 
 -- pages of the tree and free pages are different
-apart : (n l : ℕ) (t : Tr l) (free : List ℕ) → FreeFor n l t free → ((q : ℕ) → occurs q l t ≤ 1) → (q : ℕ) → occurs q l t + times q free ≤ 1
+apart : (n l : ℕ) (t : Tr l) (free : List ℕ)
+    → FreeFor n l t free → ((q : ℕ) → occurs q l t ≤ 1) → (q : ℕ) → occurs q l t + times q free ≤ 1
 apart n l t free f d q =
     by-test (member q free)
     (λ m. let none = f .outside q m in let one = distinct-times free (f .different) q in omega arith)
@@ -90,17 +97,30 @@ level-of : (l : ℕ) (t : Tr l) → pageOf l t .level ≡ suc l
 level-of zero t = refl
 level-of (suc l) t = refl
 
+-- a root over two trees: page 0, with the key r between them
+abbrev over : {C : Type 0} → C → ℕ → C → Node C
+over a r b = node 0 (keyed 0 a ∷ keyed r b ∷ [])
+
+-- The tree t with page 0 as its root, and what the rule does there.
 module _ (k : ℕ) (memory : ℕ → Page) (x v : ℕ) (free : List ℕ) (l : ℕ) (t : Tr l) (root : pageNumber l t ≡ 0)
     (separate : (q : ℕ) → occurs q l t + times q free ≤ 1) where
-  -- the tree as the one child of a row from 0 to the end of all keys
-  abbrev only : Tr l → Keyed (Tr l)
-  only c = record { key = 0; value = c }
+  -- these writes make a tree with the entry in it
+  abbrev Makes : List Write → Type 0
+  Makes writes = Made k memory free l t writes (inserted x v (entriesOf l t))
+
+  -- where the halves of page 0 go: the left one to the next free page,
+  abbrev firstNew : ℕ → ℕ
+  firstNew taken = lowest (drop taken free)
+
+  -- the right one to the page behind it in the free list
+  abbrev secondNew : ℕ → ℕ
+  secondNew taken = lowest (drop (suc taken) free)
 
   -- one tree again: page 0 is still the root
   made-one : (taken : ℕ) (tree : Tr l) (writes : List Write)
       → pageNumber l tree ≡ pageNumber l t
-      → Piece k memory x v free (rootLeast l) l (only t) wordRange taken (only tree ∷ []) writes
-      → Made k memory free l t writes (inserted x v (entriesOf l t))
+      → Piece k memory x v free (rootLeast l) l (keyed 0 t) wordRange taken (keyed 0 tree ∷ []) writes
+      → Makes writes
   made-one taken tree writes e piece = record {
     height = l;
     tree = tree;
@@ -120,16 +140,15 @@ module _ (k : ℕ) (memory : ℕ → Page) (x v : ℕ) (free : List ℕ) (l : �
       → 1 ≤ k
       → Change k memory x v free l t 0 wordRange taken tree writes
       → suc taken < length free
-      → (h : Halves k l tree 0 wordRange (lowest (drop taken free)) (lowest (drop (suc taken) free)))
-      → Made k memory free l t
-      (writes ++ write (lowest (drop taken free)) (pageOf l (h .left)) ∷ write (lowest (drop (suc taken) free)) (pageOf l (h .right))
-      ∷ write (pageNumber l t) (pageOf (suc l) (record { at = 0; row = only (h .left) ∷ record { key = h .between; value = h .right } ∷ [] })) ∷ [])
-      (inserted x v (entriesOf l t))
+      → (h : Halves k l tree 0 wordRange (firstNew taken) (secondNew taken))
+      → Makes
+      (writes ++ write (firstNew taken) (pageOf l (h .left)) ∷ write (secondNew taken) (pageOf l (h .right))
+      ∷ write (pageNumber l t) (pageOf (suc l) (over (h .left) (h .between) (h .right))) ∷ [])
   made-two taken tree writes one change room h =
-      let a : ℕ = lowest (drop taken free) in
-      let b : ℕ = lowest (drop (suc taken) free) in
+      let a : ℕ = firstNew taken in
+      let b : ℕ = secondNew taken in
       let own : ℕ = pageNumber l t in
-      let new : Tr (suc l) = record { at = 0; row = only (h .left) ∷ record { key = h .between; value = h .right } ∷ [] } in
+      let new : Tr (suc l) = over (h .left) (h .between) (h .right) in
       let three : List Write = write a (pageOf l (h .left)) ∷ write b (pageOf l (h .right)) ∷ write own (pageOf (suc l) new) ∷ [] in
       let counted : (q : ℕ) → occurs q (suc l) new ≡ occurs q l tree + once q a + once q b
       = λ q.
@@ -142,8 +161,16 @@ module _ (k : ℕ) (memory : ℕ → Page) (x v : ℕ) (free : List ℕ) (l : �
         height = suc l;
         tree = new;
         root = refl;
-        inRange = record { least = omega arith; most = omega arith; low = refl; children = (h .from, h .leftIn, (h .to, h .rightIn, tt)) };
-        entries = ap (λ (es : List Entry). entriesOf l (h .left) ++ es) (append-nil (entriesOf l (h .right))) ∙ h .entries ∙ change .entries;
+        inRange = record {
+          least = omega arith;
+          most = omega arith;
+          low = refl;
+          children = (h .from, h .leftIn, (h .to, h .rightIn, tt));
+        };
+        entries =
+            ap (λ (es : List Entry). entriesOf l (h .left) ++ es) (append-nil (entriesOf l (h .right)))
+            ∙ h .entries
+            ∙ change .entries;
         more = λ q. let c = counted q in let p = change .pages q in omega arith;
         most =
             λ q.
@@ -187,36 +214,39 @@ module _ (k : ℕ) (memory : ℕ → Page) (x v : ℕ) (free : List ℕ) (l : �
             λ q level c d z s.
             let w = times-written q writes three in
             let r : once q (pageNumber l tree) ≡ once q own = ap (once q) (change .root) in
-            inr (⊎-elim (λ u. inl u) (λ u. inr (inl u)) (h .stands q level c d (omega arith) (change .keeps q level c d (omega arith) s)));
+            let was = change .keeps q level c d (omega arith) s in
+            inr (⊎-elim (λ u. inl u) (λ u. inr (inl u)) (h .stands q level c d (omega arith) was));
       }
 
   -- the rule's writes at page 0, where it splits
-  raised-writes : (taken : ℕ) (tree : Tr l) (h : Halves k l tree 0 wordRange (lowest (drop taken free)) (lowest (drop (suc taken) free)))
+  raised-writes : (taken : ℕ) (tree : Tr l) (h : Halves k l tree 0 wordRange (firstNew taken) (secondNew taken))
       → 2 * k < μ (pageOf l tree)
       → settled k memory x (drop taken free) [] (pageNumber l t) (pageOf l tree)
-      ≡ write (lowest (drop taken free)) (pageOf l (h .left)) ∷ write (lowest (drop (suc taken) free)) (pageOf l (h .right))
-      ∷ write (pageNumber l t) (pageOf (suc l) (record { at = 0; row = only (h .left) ∷ record { key = h .between; value = h .right } ∷ [] })) ∷ []
+      ≡ write (firstNew taken) (pageOf l (h .left)) ∷ write (secondNew taken) (pageOf l (h .right))
+      ∷ write (pageNumber l t) (pageOf (suc l) (over (h .left) (h .between) (h .right))) ∷ []
   raised-writes taken tree h big =
-      let a : ℕ = lowest (drop taken free) in
+      let a : ℕ = firstNew taken in
+      let b : ℕ = secondNew taken in
       let next : drop 1 (drop taken free) ≡ drop (suc taken) free
       = drop-drop 1 taken free ∙ ap (λ (i : ℕ). drop i free) (add-one taken) in
       settled-raises k memory x (drop taken free) (pageNumber l t) (pageOf l tree) big
       ∙ ap₂ (λ (rest : List ℕ) (S : Parted). write a (S .left) ∷ write (lowest rest) (S .right)
       ∷ write (pageNumber l t) (raised (pageOf l tree) a (S .between) (lowest rest)) ∷ [])
       next (h .pages)
-      ∙ ap (λ (P : Page). write a (pageOf l (h .left)) ∷ write (lowest (drop (suc taken) free)) (pageOf l (h .right)) ∷ write (pageNumber l t) P ∷ [])
-      (rowPage-raised l (pageNumber l) (pageOf l tree) (only (h .left)) (record { key = h .between; value = h .right }) a (h .between) (lowest (drop (suc taken) free))
+      ∙ ap (λ (P : Page). write a (pageOf l (h .left)) ∷ write b (pageOf l (h .right)) ∷ write (pageNumber l t) P ∷ [])
+      (rowPage-raised l (pageNumber l) (pageOf l tree) (keyed 0 (h .left)) (keyed (h .between) (h .right)) a (h .between) b
       (level-of l tree) (h .leftAt) refl (h .rightAt))
 
+  -- they make a tree one level higher
   made-raised : (taken : ℕ) (tree : Tr l) (writes : List Write)
       → 1 ≤ k
       → Change k memory x v free l t 0 wordRange taken tree writes
       → suc taken < length free
       → 2 * k < μ (pageOf l tree)
-      → Halves k l tree 0 wordRange (lowest (drop taken free)) (lowest (drop (suc taken) free))
-      → Made k memory free l t (writes ++ settled k memory x (drop taken free) [] (pageNumber l t) (pageOf l tree)) (inserted x v (entriesOf l t))
+      → Halves k l tree 0 wordRange (firstNew taken) (secondNew taken)
+      → Makes (writes ++ settled k memory x (drop taken free) [] (pageNumber l t) (pageOf l tree))
   made-raised taken tree writes one change room big h =
-      subst (λ (W : List Write). Made k memory free l t (writes ++ W) (inserted x v (entriesOf l t))) (sym (raised-writes taken tree h big))
+      subst (λ (W : List Write). Makes (writes ++ W)) (sym (raised-writes taken tree h big))
       (made-two taken tree writes one change room h)
 
   -- page 0 is written with one pair more
@@ -226,12 +256,12 @@ module _ (k : ℕ) (memory : ℕ → Page) (x v : ℕ) (free : List ℕ) (l : �
       → Change k memory x v free l t 0 wordRange taken tree writes
       → InRange k (rootLeast l) (2 * k) l tree 0 wordRange
       → μ (pageOf l tree) ≤ 2 * k
-      → Made k memory free l t (writes ++ settled k memory x (drop taken free) [] (pageNumber l t) (pageOf l tree)) (inserted x v (entriesOf l t))
+      → Makes (writes ++ settled k memory x (drop taken free) [] (pageNumber l t) (pageOf l tree))
   made-written taken tree writes some held change r fits =
-      subst (λ (W : List Write). Made k memory free l t (writes ++ W) (inserted x v (entriesOf l t)))
+      subst (λ (W : List Write). Makes (writes ++ W))
       (sym (settled-fits k memory x (drop taken free) [] (pageNumber l t) (pageOf l tree) fits))
       (made-one taken tree (writes ++ write (pageNumber l t) (pageOf l tree) ∷ []) (change .root)
-      (piece-written k memory x v free (rootLeast l) l (only t) wordRange some held separate taken tree writes change r))
+      (piece-written k memory x v free (rootLeast l) l (keyed 0 t) wordRange some held separate taken tree writes change r))
 
   -- the whole change at the root, by what has come of the tree below page 0
   made : 1 ≤ k
@@ -240,16 +270,16 @@ module _ (k : ℕ) (memory : ℕ → Page) (x v : ℕ) (free : List ℕ) (l : �
       → Holds memory l t
       → treeRoom k x l t ≤ length free
       → Grown k memory x v free (rootLeast l) l t 0 wordRange
-      → Made k memory free l t (begun k memory x v free (way x l t ++ [])) (inserted x v (entriesOf l t))
+      → Makes (begun k memory x v free (way x l t ++ []))
   made one small r held enough g =
       let taken : ℕ = g .taken in
       let tree : Tr l = g .tree in
-      let P : List Write → Type 0 = λ W. Made k memory free l t W (inserted x v (entriesOf l t)) in
       ⊎-elim
-      (λ o. subst P (sym (o .whole []))
+      (λ o. subst Makes (sym (o .whole []))
       (made-one taken tree (g .writes) (g .change .root)
-      (piece-stopped k memory x v free (rootLeast l) l (only t) wordRange (omega arith) held separate taken tree (g .writes) (g .change) o)))
-      (λ o. subst P (sym (o .whole []))
+      (piece-stopped k memory x v free (rootLeast l) l (keyed 0 t) wordRange (omega arith) held separate
+      taken tree (g .writes) (g .change) o)))
+      (λ o. subst Makes (sym (o .whole []))
       (by-test (leb (μ (pageOf l tree)) (2 * k))
       (λ b.
       let fits = leb-true (μ (pageOf l tree)) (2 * k) b in
@@ -262,7 +292,7 @@ module _ (k : ℕ) (memory : ℕ → Page) (x v : ℕ) (free : List ℕ) (l : �
       let counted : newPages k (fillings x l t) ≡ taken + newPages k (μ (pageOf l t) ∷ [])
       = sym (ap (newPages k) (append-nil (fillings x l t))) ∙ o .room [] in
       made-raised taken tree (g .writes) one (g .change) (omega arith) big
-      (halves k (rootLeast l) l tree 0 wordRange (lowest (drop taken free)) (lowest (drop (suc taken) free)) one (o .inRange) big))))
+      (halves k (rootLeast l) l tree 0 wordRange (firstNew taken) (secondNew taken) one (o .inRange) big))))
       (g .outcome)
 
 -- An insertion leads to a tree with the new entry, and writes the held pages and the first free ones.
@@ -272,11 +302,13 @@ insertionLeads k n memory l t x v free leaf fathers one forms small new held f e
     let pages = held-pages k memory n l t x leaf fathers forms small held v free enough in
     let separate = apart n l t free f (forms .different) in
     let whole : newPages k (fillings x l t ++ []) ≡ treeRoom k x l t = ap (newPages k) (append-nil (fillings x l t)) in
-    let change = made k memory x v free l t (forms .root) separate one small (forms .inRange) (forms .holds) (omega arith)
-    (grown k memory x v free (rootLeast l) l t 0 wordRange [] one (forms .inRange) (omega arith) small new (forms .holds) separate (omega arith)) in
+    let tree = grown k memory x v free (rootLeast l) l t 0 wordRange [] one (forms .inRange) (omega arith) small new (forms .holds)
+    separate (omega arith) in
+    let change = made k memory x v free l t (forms .root) separate one small (forms .inRange) (forms .holds) (omega arith) tree in
     record {
       leads =
-          subst (λ (W : List Write). Leads k n memory l t W (inserted x v (entriesOf l t))) (held-rule k memory n l t x leaf fathers forms small held v free)
+          subst (λ (W : List Write). Leads k n memory l t W (inserted x v (entriesOf l t)))
+          (held-rule k memory n l t x leaf fathers forms small held v free)
           (made-leads k n memory free l t (begun k memory x v free (way x l t ++ [])) (inserted x v (entriesOf l t)) forms f change);
       writes =
           λ q m.
@@ -297,3 +329,7 @@ insertionLeads k n memory l t x v free leaf fathers one forms small new held f e
           let p = pages q in
           times-member q (writtenPages (insertion k memory x v free leaf fathers)) (omega arith);
     }
+
+-- The count of room on the held pages is the number of new pages that the tree needs.
+pub roomOfTree : RoomOfTree
+roomOfTree k n memory l t x leaf fathers forms small held = room-tree k memory n l t x leaf fathers forms small held

@@ -18,7 +18,7 @@ use Rattle.change.specs.Insertion.{isFull, room, insertion}
 use Rattle.tree.specs.Rows.{headKey, Span, Each, followed}
 use Rattle.tree.specs.Tree.{Tr, pageNumber, pageOf, InRange, rootLeast, Holds, way, Forms}
 use Rattle.tree.specs.Change.{writtenPages, topOf, HeldWay}
-use Rattle.tree.specs.Insertion.{hasSpace, fillings, newPages, treeRoom, RoomOfTree}
+use Rattle.tree.specs.Insertion.{hasSpace, fillings, newPages, treeRoom}
 use Rattle.tree.proofs.Rows.{spot, followed-spot, middle-has, each-right}
 use Rattle.tree.proofs.Memory.{once-same, times, times-append, times-member, times-absent, way-occurs}
 use Rattle.tree.proofs.InsertionWay.{μ-put, AtMost, FullBelow, numbers, full-below, Stops, newPages-stops, room-way, settled-stops, settled-pages}
@@ -46,11 +46,12 @@ way-last x zero t = refl
 way-last x (suc l) t = last-append (followed (way x l) [] x (t .row)) (t .at) []
 
 module _ (k : ℕ) (memory : ℕ → Page) where
-  -- pages of two lists, and of the first of them
+  -- of two lists
   atMost-append : (ps rs : List ℕ) → AtMost k memory ps → AtMost k memory rs → AtMost k memory (ps ++ rs)
   atMost-append [] rs h g = g
   atMost-append (p ∷ ps) rs h g = (h .0, atMost-append ps rs (h .1) g)
 
+  -- of the first part of a list
   atMost-left : (ps rs : List ℕ) → AtMost k memory (ps ++ rs) → AtMost k memory ps
   atMost-left [] rs h = tt
   atMost-left (p ∷ ps) rs h = (h .0, atMost-left ps rs (h .1))
@@ -88,6 +89,7 @@ module _ (k : ℕ) (memory : ℕ → Page) where
             ∙ ap (λ (w : List ℕ). numbers k memory (w ++ t .at ∷ [])) (sym ways);
       }
 
+  -- down to the leaf
   on-way : (x l : ℕ) (t : Tr l) (m lo hi : ℕ) → InRange k m (2 * k) l t lo hi → lo ≤ x → x < hi → Holds memory l t → OnWay x l t
   on-way x zero t m lo hi r low high held =
       let own : μ (memory (t .at)) ≡ μ (pageOf zero t) = ap μ held in
@@ -95,12 +97,16 @@ module _ (k : ℕ) (memory : ℕ → Page) where
   on-way x (suc l) t m lo hi r low high held =
       let P : Tr l → ℕ → ℕ → Type 0 = InRange k k (2 * k) l in
       let s = spot P x (t .row) hi (r .children) (omega (arith, r .low)) high in
+      let span : Span P (s .before ++ s .here ∷ s .after) hi
+      = subst (λ (row : List (Keyed (Tr l))). Span P row hi) (s .whole) (r .children) in
+      let each : Each (Holds memory l) (s .before ++ s .here ∷ s .after)
+      = subst (λ (row : List (Keyed (Tr l))). Each (Holds memory l) row) (s .whole) (held .1) in
       on-way-node x l t m lo hi (s .before) (s .here) (s .after) r (held .0) (s .whole) (s .from) (s .to)
       (on-way x l (s .here .value) k (s .here .key) (headKey (s .after) hi)
-      (middle-has P (s .before) (s .here) (s .after) hi (subst (λ (row : List (Keyed (Tr l))). Span P row hi) (s .whole) (r .children)))
+      (middle-has P (s .before) (s .here) (s .after) hi span)
       (s .from)
       (s .to)
-      (each-right (Holds memory l) (s .before) (s .here ∷ s .after) (subst (λ (row : List (Keyed (Tr l))). Each (Holds memory l) row) (s .whole) (held .1)) .0))
+      (each-right (Holds memory l) (s .before) (s .here ∷ s .after) each .0))
 
   -- page 0 is held and full where the top of the held way is full: it is that top, or it is not held
   zero-top : (leaf : ℕ) (fathers above : List ℕ)
@@ -110,7 +116,8 @@ module _ (k : ℕ) (memory : ℕ → Page) where
       → member 0 (leaf ∷ fathers) && isFull k memory 0 ≡ isFull k memory (topOf leaf fathers)
   zero-top leaf fathers [] last once stops =
       let top : topOf leaf fathers ≡ 0 = ap lastOf (sym (append-nil (leaf ∷ fathers))) ∙ last in
-      let on : member 0 (leaf ∷ fathers) ≡ true = times-member 0 (leaf ∷ fathers) (subst (λ (q : ℕ). 1 ≤ times q (leaf ∷ fathers)) top (top-times leaf fathers)) in
+      let once : 1 ≤ times 0 (leaf ∷ fathers) = subst (λ (q : ℕ). 1 ≤ times q (leaf ∷ fathers)) top (top-times leaf fathers) in
+      let on : member 0 (leaf ∷ fathers) ≡ true = times-member 0 (leaf ∷ fathers) once in
       ap (λ (b : Bool). b && isFull k memory 0) on ∙ ap (isFull k memory) (sym top)
   zero-top leaf fathers (a ∷ rest) last once (inl e) = let z : suc (length rest) ≡ 0 = ap length e in absurd (omega arith)
   zero-top leaf fathers (a ∷ rest) last once (inr s) =
@@ -124,19 +131,23 @@ module _ (k : ℕ) (memory : ℕ → Page) where
   -- The pages that an insertion of x holds in the tree of the memory.
   module _ (n l : ℕ) (t : Tr l) (x leaf : ℕ) (fathers : List ℕ) (forms : Forms k n memory l t) (small : x < wordRange)
       (held : HeldWay (hasSpace k memory) x l t leaf fathers) where
+    -- what the memory says of the whole way
     whole-way : OnWay x l t
     whole-way = on-way x l t (rootLeast l) 0 wordRange (forms .inRange) (omega arith) small (forms .holds)
 
+    -- no held page has more than 2k,
     pub held-most : AtMost k memory (leaf ∷ fathers)
     held-most = atMost-left (leaf ∷ fathers) (held .above) (subst (AtMost k memory) (held .whole) (whole-way .most))
 
+    -- those below the top are full,
     pub held-full : FullBelow k memory leaf fathers
     held-full = full-below k memory leaf fathers held-most (held .unsafe)
 
+    -- and there is nothing above the top, or the top has space
     pub held-stops : Stops k memory leaf fathers (held .above)
     held-stops = held .top
 
-    -- the count of room is the number of pages that the tree needs
+    -- the count of room is the number of pages that the held pages take,
     pub held-room : room k memory leaf (leaf ∷ fathers) ≡ newPages k (numbers k memory (leaf ∷ fathers))
     held-room =
         room-way k memory leaf fathers held-full
@@ -148,6 +159,7 @@ module _ (k : ℕ) (memory : ℕ → Page) where
         omega arith)
         held-stops)
 
+    -- and so the number that the tree needs
     pub room-tree : room k memory leaf (leaf ∷ fathers) ≡ treeRoom k x l t
     room-tree =
         held-room
@@ -160,7 +172,8 @@ module _ (k : ℕ) (memory : ℕ → Page) where
     unfolding insertion
     held-rule v free =
         ap (begun k memory x v free) (append-nil (way x l t) ∙ held .whole)
-        ∙ settled-stops k memory x free leaf (put (place x (memory leaf .entries)) (entry x v) (memory leaf)) fathers (held .above) (μ-put _ _ _) held-stops
+        ∙ settled-stops k memory x free leaf (put (place x (memory leaf .entries)) (entry x v) (memory leaf))
+        fathers (held .above) (μ-put _ _ _) held-stops
 
     -- the pages that the rule writes: the held ones, and as many from the front of the free list as the count of room says
     pub held-pages : (v : ℕ) (free : List ℕ) → room k memory leaf (leaf ∷ fathers) ≤ length free
@@ -169,10 +182,7 @@ module _ (k : ℕ) (memory : ℕ → Page) where
         ≡ times q (leaf ∷ fathers) + times q (take (room k memory leaf (leaf ∷ fathers)) free)
     unfolding insertion
     held-pages v free enough q =
-        settled-pages k memory x q free leaf (put (place x (memory leaf .entries)) (entry x v) (memory leaf)) fathers (μ-put _ _ _) held-most held-full
+        settled-pages k memory x q free leaf (put (place x (memory leaf .entries)) (entry x v) (memory leaf))
+        fathers (μ-put _ _ _) held-most held-full
         (subst (λ (i : ℕ). i ≤ length free) held-room enough)
         ∙ ap (λ (i : ℕ). times q (leaf ∷ fathers) + times q (take i free)) (sym held-room)
-
--- "Room: .." as the held pages say is what the tree needs
-pub roomOfTree : RoomOfTree
-roomOfTree k n memory l t x leaf fathers forms small held = room-tree k memory n l t x leaf fathers forms small held

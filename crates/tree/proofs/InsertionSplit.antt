@@ -34,7 +34,8 @@ pub record Halves (k l : ℕ) (t : Tr l) (lo hi p a : ℕ) : Type 0 where
       → Stands l left lo between q level c d ⊎ Stands l right between hi q level c d
 
 -- a row that is not empty begins before its end
-headKey-below : {C : Type 0} (P : C → ℕ → ℕ → Type 0) (row : List (Keyed C)) (hi : ℕ) → 0 < length row → Span P row hi → headKey row hi < hi
+headKey-below : {C : Type 0} (P : C → ℕ → ℕ → Type 0) (row : List (Keyed C)) (hi : ℕ)
+    → 0 < length row → Span P row hi → headKey row hi < hi
 headKey-below P [] hi h s = absurd (omega arith)
 headKey-below P (d ∷ ds) hi h s = let m = headKey-most P ds hi (s .2) in omega (arith, s .0)
 
@@ -110,6 +111,7 @@ record Cut {A : Type 0} (n : ℕ) (xs : List A) : Type 0 where
   whole : before ++ here ∷ after ≡ xs
   long : length before ≡ n
 
+-- every longer list can be cut so
 cut : {A : Type 0} (n : ℕ) (xs : List A) → n < length xs → Cut n xs
 cut n [] h = absurd (omega arith)
 cut zero (a ∷ rest) h = record { before = []; here = a; after = rest; whole = refl; long = refl }
@@ -132,7 +134,8 @@ node-μ l t h = go (t .row) h
     go (d ∷ ds) h = ap suc (rowPage-μ (suc (suc l)) (pageNumber l) d ds)
 
 -- a tree with 2k + 1 in its root page splits into two trees in range
-pub halves : (k m l : ℕ) (t : Tr l) (lo hi p a : ℕ) → 1 ≤ k → InRange k m (2 * k + 1) l t lo hi → 2 * k < μ (pageOf l t) → Halves k l t lo hi p a
+pub halves : (k m l : ℕ) (t : Tr l) (lo hi p a : ℕ)
+    → 1 ≤ k → InRange k m (2 * k + 1) l t lo hi → 2 * k < μ (pageOf l t) → Halves k l t lo hi p a
 halves k m zero t lo hi p a one r n =
     let c = cut k (t .entries) (omega arith) in
     let size = length-append (c .before) (c .here ∷ c .after) in
@@ -146,7 +149,9 @@ halves k m (suc l) t lo hi p a one r n =
     let c = cut (suc k) (t .row) (omega arith) in
     let size = length-append (c .before) (c .here ∷ c .after) in
     let same : length (c .before ++ c .here ∷ c .after) ≡ length (t .row) = ap length (c .whole) in
+    let R : List (Keyed (Tr l)) → Type 0
+    = λ (row : List (Keyed (Tr l))). NodeIn (InRange k k (2 * k) l) m (2 * k + 1) (record { at = t .at; row = row }) lo hi in
     subst (λ (row : List (Keyed (Tr l))). Halves k (suc l) (record { at = t .at; row = row }) lo hi p a) (c .whole)
     (node-cut k m l (t .at) (c .before) (c .here) (c .after) lo hi p a
-    (subst (λ (row : List (Keyed (Tr l))). NodeIn (InRange k k (2 * k) l) m (2 * k + 1) (record { at = t .at; row = row }) lo hi) (sym (c .whole)) r)
+    (subst R (sym (c .whole)) r)
     (c .long) (omega (arith, r .most, c .long)))
