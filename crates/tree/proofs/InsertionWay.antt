@@ -32,15 +32,17 @@ unfolding put
     let parts = length-append (take i es) (drop i es) in
     length-append (take i es) (e ∷ drop i es) ∙ omega arith
 
--- a full page takes one new page more than those above it; one with space takes none
+-- a full page takes one new page more than those above it,
 pub newPages-full : (k n : ℕ) (ns : List ℕ) → n ≡ 2 * k → newPages k (n ∷ ns) ≡ suc (newPages k ns)
 newPages-full k n ns e = cond-true (suc (newPages k ns)) 0 (eq-eqb n (2 * k) e)
 
+-- and one with space takes none
 pub newPages-space : (k n : ℕ) (ns : List ℕ) → n < 2 * k → newPages k (n ∷ ns) ≡ 0
 newPages-space k n ns h = cond-false (suc (newPages k ns)) 0 (ne-eqb n (2 * k) (λ e. omega arith))
 
 -- the first pages of a free list: its lowest, and the first of the others
-pub taken-first : (q : ℕ) (free : List ℕ) (n : ℕ) → n < length free → times q (take (suc n) free) ≡ once q (lowest free) + times q (take n (drop 1 free))
+taken-first : (q : ℕ) (free : List ℕ) (n : ℕ)
+    → n < length free → times q (take (suc n) free) ≡ once q (lowest free) + times q (take n (drop 1 free))
 taken-first q [] n h = absurd (omega arith)
 taken-first q (a ∷ rest) n h = refl
 
@@ -60,7 +62,10 @@ module _ (k : ℕ) (memory : ℕ → Page) where
   numbers ps = map (λ (p : ℕ). μ (memory p)) ps
 
   -- pages without space are full
-  pub full-below : (p : ℕ) (fathers : List ℕ) → AtMost (p ∷ fathers) → all (λ (q : ℕ). not (hasSpace k memory q)) (belowTop p fathers) ≡ true → FullBelow p fathers
+  pub full-below : (p : ℕ) (fathers : List ℕ)
+      → AtMost (p ∷ fathers)
+      → all (λ (q : ℕ). not (hasSpace k memory q)) (belowTop p fathers) ≡ true
+      → FullBelow p fathers
   unfolding all
   full-below p [] m a = tt
   full-below p (f ∷ up) m a =
@@ -83,7 +88,8 @@ module _ (k : ℕ) (memory : ℕ → Page) where
   count-way p [] f = omega arith
   count-way p (q ∷ up) f =
       let ih = count-way q up (f .1) in
-      cond-true (suc (count (isFull k memory) (q ∷ up))) (count (isFull k memory) (q ∷ up)) (eq-eqb (μ (memory p)) (2 * k) (f .0)) ∙ omega arith
+      let n : ℕ = count (isFull k memory) (q ∷ up) in
+      cond-true (suc n) n (eq-eqb (μ (memory p)) (2 * k) (f .0)) ∙ omega arith
 
   -- a choice of 1 made twice is a choice of 2
   twice : (b : Bool) → cond b 1 0 + cond b 1 0 ≡ cond b 2 0
@@ -113,7 +119,9 @@ module _ (k : ℕ) (memory : ℕ → Page) where
   -- the pages above such a top need no new page
   pub newPages-stops : (p : ℕ) (fathers above : List ℕ) → Stops p fathers above
       → newPages k (numbers ((p ∷ fathers) ++ above)) ≡ newPages k (numbers (p ∷ fathers))
-  newPages-stops p fathers above (inl e) = ap (λ (ps : List ℕ). newPages k (numbers ps)) (ap (λ (a : List ℕ). (p ∷ fathers) ++ a) e ∙ append-nil (p ∷ fathers))
+  newPages-stops p fathers above (inl e) =
+      ap (λ (a : List ℕ). newPages k (numbers ((p ∷ fathers) ++ a))) e
+      ∙ ap (λ (ps : List ℕ). newPages k (numbers ps)) (append-nil (p ∷ fathers))
   newPages-stops p [] above (inr e) =
       let less = ltb-true (μ (memory p)) (2 * k) e in
       newPages-space k (μ (memory p)) (numbers above) less ∙ sym (newPages-space k (μ (memory p)) [] less)
@@ -125,12 +133,13 @@ module _ (k : ℕ) (memory : ℕ → Page) where
     abbrev pub fatherWith : ℕ → Page → ℕ → Page
     fatherWith father P taken = put (place x (memory father .entries)) (entry (split k P .between) taken) (memory father)
 
-    -- what the rule does with a page of at most 2k, and with one that has more
+    -- a page of at most 2k is written
     pub settled-fits : (free up : List ℕ) (p : ℕ) (P : Page) → μ P ≤ 2 * k → settled k memory x free up p P ≡ write p P ∷ []
     unfolding settled
     settled-fits free [] p P h = cond-true _ _ (le-leb (μ P) (2 * k) h)
     settled-fits free (f ∷ up) p P h = cond-true _ _ (le-leb (μ P) (2 * k) h)
 
+    -- one that has more is split, and its father has one reference key more
     pub settled-splits : (free : List ℕ) (f : ℕ) (up : List ℕ) (p : ℕ) (P : Page) → 2 * k < μ P
         → settled k memory x free (f ∷ up) p P
         ≡ write (lowest free) (split k P .right) ∷ write p (split k P .left)
@@ -138,6 +147,7 @@ module _ (k : ℕ) (memory : ℕ → Page) where
     unfolding settled
     settled-splits free f up p P h = cond-false _ _ (lt-leb (μ P) (2 * k) h)
 
+    -- page 0 is split under a new root
     pub settled-raises : (free : List ℕ) (p : ℕ) (P : Page) → 2 * k < μ P
         → settled k memory x free [] p P
         ≡ write (lowest free) (split k P .left) ∷ write (lowest (drop 1 free)) (split k P .right)
@@ -148,7 +158,8 @@ module _ (k : ℕ) (memory : ℕ → Page) where
     -- the pages above such a top do not matter to the rule
     pub settled-stops : (free : List ℕ) (p : ℕ) (P : Page) (fathers above : List ℕ) → μ P ≡ suc (μ (memory p)) → Stops p fathers above
         → settled k memory x free (fathers ++ above) p P ≡ settled k memory x free fathers p P
-    settled-stops free p P fathers above m (inl e) = ap (λ (ps : List ℕ). settled k memory x free ps p P) (ap (λ (a : List ℕ). fathers ++ a) e ∙ append-nil fathers)
+    settled-stops free p P fathers above m (inl e) =
+        ap (λ (ps : List ℕ). settled k memory x free ps p P) (ap (λ (a : List ℕ). fathers ++ a) e ∙ append-nil fathers)
     settled-stops free p P [] above m (inr e) =
         let less = ltb-true (μ (memory p)) (2 * k) e in
         settled-fits free above p P (omega arith) ∙ sym (settled-fits free [] p P (omega arith))
@@ -170,7 +181,8 @@ module _ (k : ℕ) (memory : ℕ → Page) where
         → AtMost (p ∷ fathers)
         → FullBelow p fathers
         → newPages k (numbers (p ∷ fathers)) ≤ length free
-        → times q (writtenPages (settled k memory x free fathers p P)) ≡ times q (p ∷ fathers) + times q (take (newPages k (numbers (p ∷ fathers))) free)
+        → times q (writtenPages (settled k memory x free fathers p P))
+        ≡ times q (p ∷ fathers) + times q (take (newPages k (numbers (p ∷ fathers))) free)
     settled-pages q free p P [] m a f r =
         by-test (eqb (μ (memory p)) (2 * k))
         (λ t.
@@ -178,7 +190,8 @@ module _ (k : ℕ) (memory : ℕ → Page) where
         let is = eqb-true (μ (memory p)) (2 * k) t in
         let first = taken-first q free 1 (omega arith) in
         let second = taken-first q (drop 1 free) 0 (rw (length-drop 1 free) (omega arith)) in
-        let count : times q (take (newPages k (numbers (p ∷ []))) free) ≡ times q (take 2 free) = ap (λ (n : ℕ). times q (take n free)) full in
+        let count : times q (take (newPages k (numbers (p ∷ []))) free) ≡ times q (take 2 free)
+        = ap (λ (n : ℕ). times q (take n free)) full in
         ap (λ (W : List Write). times q (writtenPages W)) (settled-raises free p P (omega arith)) ∙ omega arith)
         (λ t.
         let other : μ (memory p) ≡ 2 * k → ⊥ = eqb-false (μ (memory p)) (2 * k) t in
@@ -189,6 +202,8 @@ module _ (k : ℕ) (memory : ℕ → Page) where
         let n : ℕ = newPages k (numbers (g ∷ up)) in
         let full : newPages k (numbers (p ∷ g ∷ up)) ≡ suc n = newPages-full k (μ (memory p)) (numbers (g ∷ up)) (f .0) in
         let first = taken-first q free n (omega arith) in
-        let count : times q (take (newPages k (numbers (p ∷ g ∷ up))) free) ≡ times q (take (suc n) free) = ap (λ (i : ℕ). times q (take i free)) full in
-        let above = settled-pages q (drop 1 free) g (fatherWith g P (lowest free)) up (μ-put _ _ _) (a .1) (f .1) (rw (length-drop 1 free) (omega arith)) in
+        let count : times q (take (newPages k (numbers (p ∷ g ∷ up))) free) ≡ times q (take (suc n) free)
+        = ap (λ (i : ℕ). times q (take i free)) full in
+        let above = settled-pages q (drop 1 free) g (fatherWith g P (lowest free)) up (μ-put _ _ _) (a .1) (f .1)
+        (rw (length-drop 1 free) (omega arith)) in
         ap (λ (W : List Write). times q (writtenPages W)) (settled-splits free g up p P (omega (arith, f .0))) ∙ omega arith
