@@ -3,7 +3,8 @@
 
 mod common;
 
-use common::{Random, Run};
+use common::Run;
+use draw::Random;
 use twin::{begin, is_sound, make, page_words, report, step, Answer, Op, State};
 
 /// A run stopped somewhere in the middle.

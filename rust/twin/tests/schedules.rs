@@ -2,7 +2,8 @@
 
 mod common;
 
-use common::{Random, Run};
+use common::Run;
+use draw::Random;
 use twin::Op;
 
 /// How a schedule is drawn.

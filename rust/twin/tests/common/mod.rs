@@ -1,4 +1,4 @@
-//! What the tests share: random numbers, a run that is judged after every call, and the
+//! What the tests share: a run that is judged after every call, and the
 //! demands as checks on it.
 
 #![allow(dead_code)]
@@ -8,30 +8,6 @@ use std::collections::BTreeMap;
 use twin::{
     begin, free_pages, make, must_wait, page_words, read_page, report, step, Answer, Op, State,
 };
-
-/// A small generator of random numbers (splitmix).
-pub struct Random(pub u64);
-
-impl Random {
-    /// The next 64 random bits.
-    pub fn bits(&mut self) -> u64 {
-        self.0 = self.0.wrapping_add(0x9E37_79B9_7F4A_7C15);
-        let mut z = self.0;
-        z = (z ^ (z >> 30)).wrapping_mul(0xBF58_476D_1CE4_E5B9);
-        z = (z ^ (z >> 27)).wrapping_mul(0x94D0_49BB_1331_11EB);
-        z ^ (z >> 31)
-    }
-
-    /// A number below a bound.
-    pub fn below(&mut self, bound: u64) -> u64 {
-        self.bits() % bound
-    }
-
-    /// True so many times in a hundred.
-    pub fn percent(&mut self, times: u64) -> bool {
-        self.below(100) < times
-    }
-}
 
 /// A run from a fresh pool, with the sorted list beside it.
 pub struct Run {
