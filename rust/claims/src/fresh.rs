@@ -25,8 +25,8 @@ pub fn made(k: u32, n: u32) -> Moment {
 
 /// What kind of schedule: many slots or few, tall trees or low ones.
 pub fn draw(random: &mut Random) -> Draw {
-    let k = random.one(&[1, 1, 1, 2, 2, 3]);
-    let n = random.from(1, 40) as u32;
+    let k = random.one(&[1, 1, 1, 1, 1, 2, 2, 2, 3, 3, 16]);
+    let n = random.from(1, if k == 16 { 6 } else { 40 }) as u32;
     let keys = random.from(4, 90);
     Draw {
         k,

@@ -73,7 +73,7 @@ fn empty(run: &mut Run) {
 fn small_pools() {
     let mut random = Random(1);
     let mut tallest = 1;
-    for turn in 0..300 {
+    for turn in 0..160 {
         let k = 1 + turn % 4;
         let n = 1 + random.below(40) as u32;
         let (keys, slots) = (5 + random.below(120), 1 + random.below(16));
@@ -81,7 +81,7 @@ fn small_pools() {
             k,
             n,
             keys,
-            calls: 1500,
+            calls: 1000,
             slots,
             check_every: 1,
         };
@@ -108,13 +108,13 @@ fn large_pools() {
             k,
             n,
             keys,
-            calls: 60_000,
+            calls: 25_000,
             slots: 16,
-            check_every: 41,
+            check_every: 97,
         };
         tallest = tallest.max(schedule(&mut random, &draw));
     }
-    assert!(tallest >= 7);
+    assert!(tallest >= 6);
 }
 
 #[test]
