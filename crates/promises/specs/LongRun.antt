@@ -1,69 +1,46 @@
-use Prim.Native.Nat.{ℕ, zero, suc, _+_, _*_, _-_}
-use mathlib.Core.Bool.{Bool}
-use mathlib.Core.Path.{_≡_, refl}
-use mathlib.Core.List.{List, [], _∷_, _++_}
-use lib.ListN.{replicate}
-use Rattle.ground.specs.Limits.{largestK, largestN, tallest, slotCount, searchHolds, pathHolds, siblingHolds}
-use Rattle.ground.specs.Tests.{all, count, member, distinct, apart, allBelow, anyBelow, countBelow, listBelow, firstBelow, padded}
-use Rattle.page.specs.Words.{flat, encode, pairs, view}
-use Rattle.page.specs.Place.{place, has, information, without}
-use Rattle.page.specs.Sound.{risesFrom, rises, soundByItself}
-use Rattle.page.specs.Splits.{put, split}
-use Rattle.page.specs.Short.{neighbour, betweenAt, fromRight, fromLeft, joined, lessKey, rekeyed}
-use Rattle.pool.specs.Pool.{poolLength, start, wordsOf, pageAt, written, applied, isFree, freePages, fresh}
-use Rattle.change.specs.Insertion.{room, settled, insertion}
-use Rattle.change.specs.Deletion.{needs, shares, shrunk, deletion}
-use Rattle.slots.specs.Parts.{idleState, pathOf, siblingsOf, waitingOrder}
-use Rattle.slots.specs.Grant.{olderThan, noClash, noOlder}
-use Rattle.slots.specs.Book.{leaving, begins, goesOn, closes}
-use Rattle.slots.specs.Sound.{orderSound, slotSound, noClashingHolds, sound}
-use Rattle.slots.specs.Begin.{begun}
-use Rattle.slots.specs.Report.{reported}
-use Rattle.index.specs.Granted.{deletes, atLeaf, comesDown, besides, granted}
-use Rattle.index.specs.Fitting.{pagesSound, descends, sameLevels, fitting, verdict}
-use Rattle.index.specs.Step.{Left, left, stepped}
-use Rattle.index.specs.Make.{made}
-use Rattle.slots.specs.declared.Op.{Op}
-use Rattle.slots.specs.declared.Op.the-variants.{Search, Insert, Delete}
-use Rattle.slots.specs.declared.Task.{Task}
-use Rattle.slots.specs.declared.Task.the-variants.{Closed, Open}
-use Rattle.slots.specs.declared.Slot.{Slot}
-use Rattle.slots.specs.declared.State.{State}
-use Rattle.slots.specs.declared.Answer.the-variants.{Made, BadPool}
-use Rattle.promises.specs.Run.{Call, begin, step, report, run, runFresh, called, Told, told}
-
 -- A long run on the bench: 219 calls by three slots, k = 1, N = 18. The tree rises from one leaf to four levels, loses
 -- them again and ends as the fresh pool. On the way pages split, move over and join on levels 1, 2 and 3, with right and
--- with left neighbours, and every answer of a step is heard.
+-- with left neighbours, and every answer of a step is heard. The answers come from a second program, written from
+-- document 01 alone (`rust/twin`).
+use Prim.Native.Nat.{ℕ, zero, suc}
+use mathlib.Core.List.{List, [], _∷_, _++_}
+use Rattle.pool.specs.Pool.{fresh}
+use Rattle.slots.specs.declared.Op.{Op}
+use Rattle.slots.specs.declared.Op.the-variants.{Search, Insert, Delete}
+use Rattle.slots.specs.declared.Answer.the-variants.{Waiting, Moved, Found, NotFound, Inserted, AlreadyThere, Deleted, NoSuchKey, NoRoom, Begun}
+use Rattle.slots.specs.Heard.{heard}
+use Rattle.promises.specs.Run.{Call, begin, step, runFresh}
+use Rattle.promises.specs.Bench.{Row, row}
+
 abbrev pub began : List ℕ
-began = 41 ∷ []
+began = heard Begun
 
 abbrev pub onward : List ℕ
-onward = 33 ∷ []
+onward = heard Moved
 
 abbrev pub waits : List ℕ
-waits = 32 ∷ []
+waits = heard Waiting
 
 abbrev pub found : List ℕ
-found = 34 ∷ 7 ∷ []
+found = heard (Found 7)
 
 abbrev pub absent : List ℕ
-absent = 35 ∷ []
+absent = heard NotFound
 
 abbrev pub inserted : List ℕ
-inserted = 36 ∷ []
+inserted = heard Inserted
 
 abbrev pub there : List ℕ
-there = 37 ∷ []
+there = heard AlreadyThere
 
 abbrev pub deleted : List ℕ
-deleted = 38 ∷ 7 ∷ []
+deleted = heard (Deleted 7)
 
 abbrev pub missing : List ℕ
-missing = 39 ∷ []
+missing = heard NoSuchKey
 
 abbrev pub noPage : List ℕ
-noPage = 40 ∷ []
+noPage = heard NoRoom
 
 -- some calls so many times
 unfoldable pub again : ℕ → List Call → List Call
@@ -124,7 +101,9 @@ longAnswers =
     onward ∷ deleted ∷
     began ∷ began ∷ began ∷ deleted ∷ absent ∷ missing ∷ []
 
--- What is heard, every slot closed and nothing waiting, and the fresh pool.
-longBench : runFresh 1 18 longRun ≡ told longAnswers (idleState 1 18) (1 ∷ replicate 125 0)
-unfolding largestK largestN tallest slotCount searchHolds pathHolds siblingHolds all count member distinct apart allBelow anyBelow countBelow listBelow firstBelow padded flat encode pairs view place has information without risesFrom rises soundByItself put split neighbour betweenAt fromRight fromLeft joined lessKey rekeyed poolLength start wordsOf pageAt written applied isFree freePages fresh room settled insertion needs shares shrunk deletion pathOf siblingsOf waitingOrder olderThan noClash noOlder leaving begins goesOn closes orderSound slotSound noClashingHolds sound begun reported deletes atLeaf comesDown besides granted pagesSound descends sameLevels fitting verdict stepped made run runFresh called again
-longBench = refl
+-- What is heard, and the fresh pool at the end.
+abbrev pub longRows : List Row
+longRows =
+    row (runFresh 1 18 longRun .answers) longAnswers
+    ∷ row (runFresh 1 18 longRun .words ∷ []) (fresh 1 18 ∷ [])
+    ∷ []
