@@ -5,3 +5,5 @@ pub mod RiseLaws
 pub mod SoundPage
 pub mod WordLaws
 pub mod SmallRows
+pub mod ReadingLaws
+pub mod CheckingLaws
