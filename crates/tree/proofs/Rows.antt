@@ -1,7 +1,7 @@
 -- Laws of rows: a row cut in two, two rows joined, a thing replaced, and the thing to which a key belongs.
-use Prim.Native.Nat.{ℕ, zero, suc, _+_, _≤_, _<_}
+use Prim.Native.Nat.{ℕ, suc, _+_, _≤_, _<_}
 use mathlib.Core.Bool.{Bool, true, false, cond}
-use mathlib.Core.List.{List, [], _∷_, _++_, map, append-assoc}
+use mathlib.Core.List.{List, [], _∷_, _++_, append-assoc}
 use mathlib.Core.Logic.{_⊎_, inl, inr, ⊎-elim}
 use mathlib.Core.Path.{_≡_, refl, sym, ap, _∙_, subst}
 use native.Mathlib.Omega.{arith}
@@ -56,15 +56,17 @@ pub keys-map : {C : Type 0} (P Q : ℕ → Type 0) (row : List (Keyed C)) → ((
 keys-map P Q [] f h = tt
 keys-map P Q (d ∷ ds) f h = (f (d .key) (h .0), keys-map P Q ds f (h .1))
 
--- the keys of two rows joined, and of each part
+-- what each key of two rows has, each key of the joined row has,
 pub keys-append : {C : Type 0} (P : ℕ → Type 0) (xs ys : List (Keyed C)) → Keys P xs → Keys P ys → Keys P (xs ++ ys)
 keys-append P [] ys h k = k
 keys-append P (d ∷ ds) ys h k = (h .0, keys-append P ds ys (h .1) k)
 
+-- and so has each of its first part,
 pub keys-left : {C : Type 0} (P : ℕ → Type 0) (xs ys : List (Keyed C)) → Keys P (xs ++ ys) → Keys P xs
 keys-left P [] ys h = tt
 keys-left P (d ∷ ds) ys h = (h .0, keys-left P ds ys (h .1))
 
+-- and each of its second
 pub keys-right : {C : Type 0} (P : ℕ → Type 0) (xs ys : List (Keyed C)) → Keys P (xs ++ ys) → Keys P ys
 keys-right P [] ys h = h
 keys-right P (d ∷ ds) ys h = keys-right P ds ys (h .1)
@@ -141,6 +143,7 @@ pub record Spot {C : Type 0} (x : ℕ) (row : List (Keyed C)) (hi : ℕ) : Type 
   pub from : here .key ≤ x
   pub to : x < headKey after hi
 
+-- where x belongs in a row, it belongs in that row behind one more thing
 spot-behind : {C : Type 0} (x : ℕ) (d : Keyed C) (ds : List (Keyed C)) (hi : ℕ) → Spot x ds hi → Spot x (d ∷ ds) hi
 spot-behind {C} x d ds hi s =
     record { before = d ∷ s .before; here = s .here; after = s .after; whole = ap (λ (l : List (Keyed C)). d ∷ l) (s .whole); from = s .from; to = s .to }
@@ -215,15 +218,17 @@ pub total-append : {C : Type 0} (f : C → ℕ) (xs ys : List (Keyed C)) → tot
 total-append f [] ys = omega arith
 total-append f (d ∷ ds) ys = let ih = total-append f ds ys in omega arith
 
--- what each thing of two rows has, each of the joined row has, and back
+-- what each thing of two rows has, each of the joined row has,
 pub each-append : {C : Type 0} (P : C → Type 0) (xs ys : List (Keyed C)) → Each P xs → Each P ys → Each P (xs ++ ys)
 each-append P [] ys h k = k
 each-append P (d ∷ ds) ys h k = (h .0, each-append P ds ys (h .1) k)
 
+-- and so has each of its first part,
 pub each-left : {C : Type 0} (P : C → Type 0) (xs ys : List (Keyed C)) → Each P (xs ++ ys) → Each P xs
 each-left P [] ys h = tt
 each-left P (d ∷ ds) ys h = (h .0, each-left P ds ys (h .1))
 
+-- and each of its second
 pub each-right : {C : Type 0} (P : C → Type 0) (xs ys : List (Keyed C)) → Each P (xs ++ ys) → Each P ys
 each-right P [] ys h = h
 each-right P (d ∷ ds) ys h = each-right P ds ys (h .1)
