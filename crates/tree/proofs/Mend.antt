@@ -14,6 +14,7 @@ use Rattle.tree.specs.Rows.{headKey, Span, Somewhere, Each, gathered, to
 use Rattle.tree.specs.Tree.{Leaf, Node, Tr, pageNumber, pageOf, entriesOf, once, occurs, LeafIn, NodeIn, InRange, Holds, HoldsBelow, Stands}
 use Rattle.tree.proofs.Rows.{headKey-append, span-left, span-right, span-append, gathered-append, total-append, each-append, each-left, each-right, each-map, somewhere-left, somewhere-right, somewhere-cases, length-references}
 use Rattle.tree.proofs.Sorted.{Anything, Within, within-append, within-left, within-right, within-gathered}
+use Rattle.tree.proofs.Memory.{row-same}
 use Rattle.tree.proofs.Pages.{leaf-joined, leaf-fromRight, leaf-fromLeft, rowPage-joined, rowPage-fromRight, rowPage-fromLeft, rowPage-μ}
 
 -- what stands behind a key: the information of an entry, or a child
@@ -100,10 +101,6 @@ occurs-things q (suc l) t = refl
 pub holds-things : (memory : ℕ → Page) (l : ℕ) (t : Tr l) → memory (pageNumber l t) ≡ pageOf l t → HoldsIn memory l (thingsOf l t) → Holds memory l t
 holds-things memory zero t h s = h
 holds-things memory (suc l) t h s = (h, s)
-
-pub holds-top : (memory : ℕ → Page) (l : ℕ) (t : Tr l) → Holds memory l t → memory (pageNumber l t) ≡ pageOf l t
-holds-top memory zero t h = h
-holds-top memory (suc l) t h = h .0
 
 pub holds-below : (memory : ℕ → Page) (l : ℕ) (t : Tr l) → Holds memory l t → HoldsIn memory l (thingsOf l t)
 holds-below memory zero t h = tt
@@ -199,6 +196,24 @@ standsIn-left k (suc l) L R mid hi q level a b r s =
 pub standsIn-right : (l : ℕ) (L R : Things l) (hi q level a b : ℕ) → StandsIn l R hi q level a b → StandsIn l (L ++ R) hi q level a b
 standsIn-right zero L R hi q level a b s = s
 standsIn-right (suc l) L R hi q level a b s = somewhere-right (λ (c : Tr l) (lo′ hi′ : ℕ). Stands l c lo′ hi′ q level a b) L R hi s
+
+-- the entries of a tree rise in its range, and so do those of a row of things
+pub range-within : (k m M l : ℕ) (t : Tr l) (lo hi : ℕ) → InRange k m M l t lo hi → Within lo (entriesOf l t) hi
+range-within k m M zero t lo hi r = (r .low, r .rising)
+range-within k m M (suc l) t lo hi r =
+    subst (λ (n : ℕ). Within n (entriesOf (suc l) t) hi) (r .low)
+    (within-gathered (InRange k k (2 * k) l) (entriesOf l) (t .row) hi (λ c a b h s. range-within k k (2 * k) l c a b s) (r .children))
+
+pub run-within : (k l : ℕ) (ts : Things l) (lo hi : ℕ) → Run k l ts lo hi → Within lo (entriesIn l ts) hi
+run-within k zero ts lo hi r = r
+run-within k (suc l) ts lo hi r =
+    subst (λ (n : ℕ). Within n (entriesIn (suc l) ts) hi) (r .0)
+    (within-gathered (InRange k k (2 * k) l) (entriesOf l) ts hi (λ c a b h s. range-within k k (2 * k) l c a b s) (r .1))
+
+-- things are held by a memory that agrees on their pages
+pub things-same : (M M′ : ℕ → Page) (l : ℕ) (ts : Things l) → ((q : ℕ) → 1 ≤ occursIn q l ts → M′ q ≡ M q) → HoldsIn M l ts → HoldsIn M′ l ts
+things-same M M′ zero ts a h = tt
+things-same M M′ (suc l) ts a h = row-same M M′ l ts a h
 
 -- ---- the rules on pages, as rows of things joined and cut
 
