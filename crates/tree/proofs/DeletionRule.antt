@@ -12,7 +12,7 @@ use Rattle.ground.specs.Tests.{member}
 use Rattle.ground.proofs.Bools.{or-first, or-second, or-none, or-first-fails, or-second-fails, or-cases}
 use Rattle.ground.proofs.Choice.{cond-true, cond-false, cond-ind}
 use Rattle.page.specs.Words.{Page, μ, freePage}
-use Rattle.page.specs.Splits.{withEntries}
+use Rattle.page.specs.Splits.{Parted, parted, withEntries}
 use Rattle.page.specs.Place.{without}
 use Rattle.page.specs.Short.{hasRight, neighbour, betweenAt, moved, merged, lessKey, rekeyed}
 use Rattle.pool.specs.Pool.{Write, write}
@@ -240,3 +240,36 @@ module _ (k : ℕ) (memory : ℕ → Page) (x q : ℕ) where
       let P : Page = withEntries (memory leaf) (without x (memory leaf .entries)) in
       let o = shrunk-held fathers siblings leaf P (member-times q (writtenPages (shrunk k memory x fathers siblings leaf P)) m) in
       times-member q ((leaf ∷ fathers) ++ siblings) (omega (arith, times-append q (leaf ∷ fathers) siblings))
+
+-- ---- a short page and its neighbour, right or left of it
+
+module _ (k : ℕ) (memory : ℕ → Page) (x f : ℕ) (up : List ℕ) (s : ℕ) (ss : List ℕ) (p : ℕ) (P F S : Page) (father : memory f ≡ F) (other : memory s ≡ S) (short : μ P < k) where
+  spare : k < μ S → k < μ (memory s)
+  spare h = subst (λ (Q : Page). k < μ Q) (sym other) h
+
+  full : μ S ≤ k → μ (memory s) ≤ k
+  full h = subst (λ (Q : Page). μ Q ≤ k) (sym other) h
+
+  pub right-moves : (A B : Page) (r : ℕ) → k < μ S → hasRight x F ≡ true → moved x F P S ≡ parted A r B
+      → shrunk k memory x (f ∷ up) (s ∷ ss) p P ≡ write p A ∷ write s B ∷ write f (rekeyed (betweenAt x F) r F) ∷ []
+  unfolding shares
+  right-moves A B r h right e = shrunk-shares k memory x f up s ss p P short (spare h) ∙ rw (father, other, e, right)
+
+  pub left-moves : (A B : Page) (r : ℕ) → k < μ S → hasRight x F ≡ false → moved x F P S ≡ parted A r B
+      → shrunk k memory x (f ∷ up) (s ∷ ss) p P ≡ write p B ∷ write s A ∷ write f (rekeyed (betweenAt x F) r F) ∷ []
+  unfolding shares
+  left-moves A B r h left e = shrunk-shares k memory x f up s ss p P short (spare h) ∙ rw (father, other, e, left)
+
+  pub right-joins : (J less : Page) → μ S ≤ k → hasRight x F ≡ true → merged x F P S ≡ J → lessKey (betweenAt x F) F ≡ less
+      → shrunk k memory x (f ∷ up) (s ∷ ss) p P
+      ≡ cond (eqb f 0 && eqb (μ less) 0)
+      (write f J ∷ write p freePage ∷ write s freePage ∷ [])
+      (write p J ∷ write s freePage ∷ shrunk k memory x up ss f less)
+  right-joins J less h right e g = shrunk-joins k memory x f up s ss p P short (full h) ∙ rw (father, other, e, g, right)
+
+  pub left-joins : (J less : Page) → μ S ≤ k → hasRight x F ≡ false → merged x F P S ≡ J → lessKey (betweenAt x F) F ≡ less
+      → shrunk k memory x (f ∷ up) (s ∷ ss) p P
+      ≡ cond (eqb f 0 && eqb (μ less) 0)
+      (write f J ∷ write s freePage ∷ write p freePage ∷ [])
+      (write s J ∷ write p freePage ∷ shrunk k memory x up ss f less)
+  left-joins J less h left e g = shrunk-joins k memory x f up s ss p P short (full h) ∙ rw (father, other, e, g, left)

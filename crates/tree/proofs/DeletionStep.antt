@@ -1,0 +1,218 @@
+-- One level of a deletion: from what became of a child to what becomes of its father's row.
+-- Either the father stays as it is, or two of its children were evened out and it is written with another reference
+-- key, or two of them joined and it has lost one.
+use Prim.Native.Nat.{ℕ, zero, suc, _+_, _*_, _≤_, _<_}
+use native.Mathlib.Omega.{arith}
+use mathlib.Core.Bool.{Bool, true, false, cond, _&&_}
+use mathlib.Core.List.{List, [], _∷_, _++_, append-nil, append-assoc}
+use mathlib.Core.Logic.{_⊎_, inl, inr, ⊎-elim}
+use mathlib.Core.Path.{_≡_, refl, sym, ap, ap₂, _∙_, subst, subst₂}
+use lib.Dec.{eqb}
+use lib.ListN.{length, length-append}
+use lib.Seq.{append-snoc}
+use Rattle.page.specs.Words.{Keyed, Page, μ, freePage}
+use Rattle.pool.specs.Pool.{Write, write}
+use Rattle.page.specs.Splits.{parted}
+use Rattle.page.specs.Short.{hasRight, neighbour, betweenAt, moved, merged, lessKey, rekeyed}
+use Rattle.change.specs.Deletion.{nothing, needs, shrunk}
+use Rattle.tree.specs.Rows.{headKey, Span, Each, rowPage}
+use Rattle.tree.specs.Tree.{Tr, pageNumber, pageOf, once, occurs, InRange, Holds}
+use Rattle.tree.specs.Change.{Fitting}
+use Rattle.tree.proofs.Rows.{span-right, total-append, each-right}
+use Rattle.tree.proofs.Memory.{Stores, top-holds}
+use Rattle.tree.proofs.Mend.{Thing, Things, thingsOf, treeAt, pageIn, tier, Run, occursIn, HoldsIn, page-things, number-back, range-run, range-least, range-most, run-left, run-right, run-nil, things-μ, things-joined, things-fromRight, things-fromLeft}
+use Rattle.tree.proofs.MendPatch.{hits, Patch, graft, opened, opened-run, holds-opened, opened-occurs}
+use Rattle.tree.proofs.MendShort.{keyed, things-fit, page-written, page-kept, pair-joined, pair-moved}
+use Rattle.tree.proofs.Pages.{rowPage-same, rowPage-lessKey, rowPage-rekeyed, right-hasRight, right-neighbour, right-betweenAt, right-moved, right-merged, left-hasRight, left-neighbour, left-betweenAt, left-moved, left-merged}
+use Rattle.tree.proofs.DeletionRule.{needs-none, Shared, needs-shared, shrunk-alone, right-moves, left-moves, right-joins, left-joins}
+
+-- The change is done below the page t or at it: t becomes `tree`, by these writes.
+pub record Settled (k : ℕ) (memory : ℕ → Page) (x l : ℕ) (t : Tr l) (lo hi : ℕ) (W : List Write) : Type 0 where
+  pub tree : Tr l
+  pub number : pageNumber l tree ≡ pageNumber l t
+  pub patch : Patch k memory x (suc l) (keyed lo t ∷ []) (keyed lo tree ∷ []) lo hi W
+
+-- The page t has lost one, and its new value is not written yet: these writes are those below it, and then the rule
+-- goes on from it with the pages above it and the siblings that are left.
+pub record Reached (k : ℕ) (memory : ℕ → Page) (x l : ℕ) (t : Tr l) (lo hi : ℕ) (up : List ℕ) (W : List Write) : Type 0 where
+  pub new : Things l
+  pub shorter : suc (length new) ≡ length (thingsOf l t)
+  pub below : List Write
+  pub patch : Patch k memory x l (thingsOf l t) new lo hi below
+  pub rest : List ℕ
+  pub rule : W ≡ below ++ shrunk k memory x up rest (pageNumber l t) (pageIn l new)
+  pub asks : needs k memory x (pageNumber l t) up rest ≡ nothing
+
+-- What becomes of a father's row by the writes W. It stays, up to what is below its children;
+pub record Kept (k : ℕ) (memory : ℕ → Page) (x l : ℕ) (row : List (Keyed (Tr l))) (lo hi : ℕ) (W : List Write) : Type 0 where
+  pub new : List (Keyed (Tr l))
+  pub size : length new ≡ length row
+  pub patch : Patch k memory x (suc l) row new lo hi W
+  pub same : pageIn (suc l) new ≡ pageIn (suc l) row
+
+-- two children were evened out, and it is written;
+pub record Moved (k : ℕ) (memory : ℕ → Page) (x l f : ℕ) (row : List (Keyed (Tr l))) (lo hi : ℕ) (W : List Write) : Type 0 where
+  pub new : List (Keyed (Tr l))
+  pub size : length new ≡ length row
+  pub below : List Write
+  pub patch : Patch k memory x (suc l) row new lo hi below
+  pub rule : W ≡ below ++ write f (pageIn (suc l) new) ∷ []
+
+-- or two children joined: what they hold is now the one row `things`.
+pub record Joined (k : ℕ) (memory : ℕ → Page) (x l f : ℕ) (up : List ℕ) (row : List (Keyed (Tr l))) (lo hi : ℕ) (W : List Write) : Type 0 where
+  pub before : List (Keyed (Tr l))
+  pub left : Keyed (Tr l)
+  pub right : Keyed (Tr l)
+  pub after : List (Keyed (Tr l))
+  pub whole : row ≡ before ++ left ∷ right ∷ after
+  pub things : Things l
+  pub least : k + tier l ≤ length things
+  pub most : length things ≤ 2 * k + tier l
+  pub below : List Write
+  pub inner : Patch k memory x l (opened l (left ∷ right ∷ [])) things (left .key) (headKey after hi) below
+  pub patch :
+      Patch k memory x (suc l) row (before ++ keyed (left .key) (treeAt l (pageNumber l (left .value)) things) ∷ after) lo hi
+      (below ++ write (pageNumber l (left .value)) (pageIn l things) ∷ write (pageNumber l (right .value)) freePage ∷ [])
+  pub rest : List ℕ
+  pub rule :
+      let less : Page = pageIn (suc l) (before ++ keyed (left .key) (treeAt l (pageNumber l (left .value)) things) ∷ after) in
+      W
+      ≡ below
+      ++ cond (eqb f 0 && eqb (μ less) 0)
+      (write f (pageIn l things) ∷ write (pageNumber l (left .value)) freePage ∷ write (pageNumber l (right .value)) freePage ∷ [])
+      (write (pageNumber l (left .value)) (pageIn l things)
+      ∷ write (pageNumber l (right .value)) freePage
+      ∷ shrunk k memory x up rest f less)
+  pub asks : needs k memory x f up rest ≡ nothing
+
+pub data Step (k : ℕ) (memory : ℕ → Page) (x l f : ℕ) (up : List ℕ) (row : List (Keyed (Tr l))) (lo hi : ℕ) (W : List Write) : Type 0 where
+  stays : Kept k memory x l row lo hi W → Step k memory x l f up row lo hi W
+  evens : Moved k memory x l f row lo hi W → Step k memory x l f up row lo hi W
+  joins : Joined k memory x l f up row lo hi W → Step k memory x l f up row lo hi W
+
+-- What is known of a father's row: its children share the range, the memory holds them, no page hangs in two places.
+pub record Row (k : ℕ) (memory : ℕ → Page) (l : ℕ) (row : List (Keyed (Tr l))) (lo hi : ℕ) : Type 0 where
+  pub span : Span (InRange k k (2 * k) l) row hi
+  pub begins : headKey row hi ≡ lo
+  pub held : Each (Holds memory l) row
+  pub different : (q : ℕ) → occursIn q (suc l) row ≤ 1
+
+module _ (k : ℕ) (memory : ℕ → Page) (x l : ℕ) where
+  -- children next to each other patched, the others as they were
+  row-graft : (xs : List (Keyed (Tr l))) (d : Keyed (Tr l)) (ds new ys : List (Keyed (Tr l))) (lo hi : ℕ) (W : List Write)
+      → Row k memory l (xs ++ (d ∷ ds ++ ys)) lo hi → d .key ≤ x → x < headKey ys hi
+      → Patch k memory x (suc l) (d ∷ ds) new (d .key) (headKey ys hi) W
+      → Patch k memory x (suc l) (xs ++ (d ∷ ds ++ ys)) (xs ++ (new ++ ys)) lo hi W
+  row-graft xs d ds new ys lo hi W r from to p =
+      let all : Run k (suc l) (xs ++ (d ∷ ds ++ ys)) lo hi = (r .begins, r .span) in
+      let tail : Run k (suc l) (d ∷ ds ++ ys) (d .key) hi = run-right k (suc l) xs (d ∷ ds ++ ys) lo hi all in
+      graft k memory x (suc l) xs (d ∷ ds) new ys lo (d .key) (headKey ys hi) hi W
+      (run-left k (suc l) xs (d ∷ ds ++ ys) lo hi all)
+      (run-left k (suc l) (d ∷ ds) ys (d .key) hi tail)
+      (run-right k (suc l) (d ∷ ds) ys (d .key) hi tail)
+      from to (r .different) (r .held) p
+
+  -- ---- a child at which or below which the change is done
+
+  module _ (xs : List (Keyed (Tr l))) (c : Keyed (Tr l)) (ys : List (Keyed (Tr l))) (lo hi : ℕ) (r : Row k memory l (xs ++ c ∷ ys) lo hi) where
+    child-rises : c .key < headKey ys hi
+    child-rises = span-right (InRange k k (2 * k) l) xs (c ∷ ys) hi (r .span) .0
+
+    child-range : InRange k k (2 * k) l (c .value) (c .key) (headKey ys hi)
+    child-range = span-right (InRange k k (2 * k) l) xs (c ∷ ys) hi (r .span) .1
+
+    child-held : Holds memory l (c .value)
+    child-held = each-right (Holds memory l) xs (c ∷ ys) (r .held) .0
+
+    child-different : (q : ℕ) → occurs q l (c .value) ≤ 1
+    child-different q = omega (arith, r .different q, total-append (occurs q l) xs (c ∷ ys))
+
+    settled-step : (W : List Write) → c .key ≤ x → x < headKey ys hi → Settled k memory x l (c .value) (c .key) (headKey ys hi) W
+        → Kept k memory x l (xs ++ c ∷ ys) lo hi W
+    settled-step W from to s =
+        let d : Keyed (Tr l) = keyed (c .key) (s .tree) in
+        record {
+          new = xs ++ d ∷ ys;
+          size = length-append xs (d ∷ ys) ∙ sym (length-append xs (c ∷ ys));
+          patch = row-graft xs c [] (d ∷ []) ys lo hi W r from to (s .patch);
+          same = rowPage-same (suc (suc l)) (pageNumber l) xs c d ys refl (s .number);
+        }
+
+  -- ---- two neighbours of which what they hold is patched as one row
+
+  module _ (xs : List (Keyed (Tr l))) (a b : Keyed (Tr l)) (ys : List (Keyed (Tr l))) (lo hi f : ℕ) (up : List ℕ) (W below : List Write) (one : 1 ≤ k) (r : Row k memory l (xs ++ a ∷ b ∷ ys) lo hi) (from : a .key ≤ x) (to : x < headKey ys hi) where
+    pair-span : Span (InRange k k (2 * k) l) (a ∷ b ∷ []) (headKey ys hi)
+    pair-span =
+        let s = span-right (InRange k k (2 * k) l) xs (a ∷ b ∷ ys) hi (r .span) in
+        (s .0, s .1, (s .2 .0, s .2 .1, tt))
+
+    pair-different : (q : ℕ) → occursIn q (suc l) (a ∷ b ∷ []) ≤ 1
+    pair-different q = omega (arith, r .different q, total-append (occurs q l) xs (a ∷ b ∷ ys))
+
+    pair-held : HoldsIn memory l (opened l (a ∷ b ∷ []))
+    pair-held =
+        let h = each-right (Holds memory l) xs (a ∷ b ∷ ys) (r .held) in
+        holds-opened memory l (a ∷ b ∷ []) (h .0, (h .1 .0, tt))
+
+    pair-inner-different : (q : ℕ) → occursIn q l (opened l (a ∷ b ∷ [])) ≤ 1
+    pair-inner-different q = omega (arith, pair-different q, opened-occurs q l (a ∷ b ∷ []))
+
+    pair-evens : (L R : Things l) (U : List Write) (value : Page)
+        → Patch k memory x l (opened l (a ∷ b ∷ [])) (L ++ R) (a .key) (headKey ys hi) below
+        → k + tier l ≤ length L → length L ≤ 2 * k + tier l → k + tier l ≤ length R → length R ≤ 2 * k + tier l
+        → ((q : ℕ) → hits q U ≡ once q (pageNumber l (a .value)) + once q (pageNumber l (b .value)))
+        → ((M : ℕ → Page) → Stores M U → (M (pageNumber l (a .value)) ≡ pageIn l L) × (M (pageNumber l (b .value)) ≡ pageIn l R))
+        → Fitting k U
+        → value
+        ≡ pageIn (suc l)
+        (xs
+        ++ keyed (a .key) (treeAt l (pageNumber l (a .value)) L)
+        ∷ keyed (headKey R (headKey ys hi)) (treeAt l (pageNumber l (b .value)) R)
+        ∷ ys)
+        → W ≡ below ++ (U ++ write f value ∷ [])
+        → Moved k memory x l f (xs ++ a ∷ b ∷ ys) lo hi W
+    pair-evens L R U value p leastL mostL leastR mostR each stored fits is rule =
+        let a′ : Keyed (Tr l) = keyed (a .key) (treeAt l (pageNumber l (a .value)) L) in
+        let b′ : Keyed (Tr l) = keyed (headKey R (headKey ys hi)) (treeAt l (pageNumber l (b .value)) R) in
+        record {
+          new = xs ++ a′ ∷ b′ ∷ ys;
+          size = length-append xs (a′ ∷ b′ ∷ ys) ∙ sym (length-append xs (a ∷ b ∷ ys));
+          below = below ++ U;
+          patch =
+              row-graft xs a (b ∷ []) (a′ ∷ b′ ∷ []) ys lo hi (below ++ U) r from to
+              (pair-moved k memory x l one a b (headKey ys hi) below pair-span pair-different L R U p leastL mostL leastR mostR each stored fits);
+          rule = rule ∙ sym (append-assoc below U (write f value ∷ [])) ∙ ap (λ (Q : Page). (below ++ U) ++ write f Q ∷ []) is;
+        }
+
+    pair-joins : (ws : Things l) (rest : List ℕ) (less : Page)
+        → Patch k memory x l (opened l (a ∷ b ∷ [])) ws (a .key) (headKey ys hi) below
+        → k + tier l ≤ length ws → length ws ≤ 2 * k + tier l
+        → less ≡ pageIn (suc l) (xs ++ keyed (a .key) (treeAt l (pageNumber l (a .value)) ws) ∷ ys)
+        → W
+        ≡ below
+        ++ cond (eqb f 0 && eqb (μ less) 0)
+        (write f (pageIn l ws) ∷ write (pageNumber l (a .value)) freePage ∷ write (pageNumber l (b .value)) freePage ∷ [])
+        (write (pageNumber l (a .value)) (pageIn l ws) ∷ write (pageNumber l (b .value)) freePage ∷ shrunk k memory x up rest f less)
+        → needs k memory x f up rest ≡ nothing
+        → Joined k memory x l f up (xs ++ a ∷ b ∷ ys) lo hi W
+    pair-joins ws rest less p least most is rule asks =
+        let j : Keyed (Tr l) = keyed (a .key) (treeAt l (pageNumber l (a .value)) ws) in
+        record {
+          before = xs;
+          left = a;
+          right = b;
+          after = ys;
+          whole = refl;
+          things = ws;
+          least = least;
+          most = most;
+          below = below;
+          inner = p;
+          patch =
+              row-graft xs a (b ∷ []) (j ∷ []) ys lo hi
+              (below ++ write (pageNumber l (a .value)) (pageIn l ws) ∷ write (pageNumber l (b .value)) freePage ∷ [])
+              r from to (pair-joined k memory x l one a b (headKey ys hi) below pair-span pair-different ws p least most);
+          rest = rest;
+          rule = rw (is) at rule;
+          asks = asks;
+        }
