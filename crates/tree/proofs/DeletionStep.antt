@@ -13,7 +13,7 @@ use lib.Seq.{append-snoc}
 use Rattle.page.specs.Words.{Keyed, Page, μ, freePage}
 use Rattle.pool.specs.Pool.{Write, write}
 use Rattle.page.specs.Splits.{parted}
-use Rattle.page.specs.Short.{hasRight, neighbour, betweenAt, moved, merged, lessKey, rekeyed}
+use Rattle.page.specs.Short.{fromRight, fromLeft, hasRight, neighbour, betweenAt, moved, merged, lessKey, rekeyed}
 use Rattle.change.specs.Deletion.{nothing, needs, shrunk}
 use Rattle.tree.specs.Rows.{headKey, Span, Each, rowPage}
 use Rattle.tree.specs.Tree.{Tr, pageNumber, pageOf, once, occurs, InRange, Holds}
@@ -216,3 +216,173 @@ module _ (k : ℕ) (memory : ℕ → Page) (x l : ℕ) where
           rule = rw (is) at rule;
           asks = asks;
         }
+
+-- a row of two or more begins with two, and a row that is not empty ends with one
+two-first : {A : Type 0} (ts : List A) → 2 ≤ length ts → (d : A) × (e : A) × (R : List A) × (ts ≡ d ∷ e ∷ R)
+two-first [] h = absurd (omega arith)
+two-first (d ∷ []) h = absurd (omega arith)
+two-first (d ∷ (e ∷ R)) h = (d, e, R, refl)
+
+one-last : {A : Type 0} (ts : List A) → 1 ≤ length ts → (L : List A) × (e : A) × (ts ≡ L ++ e ∷ [])
+one-last [] h = absurd (omega arith)
+one-last (d ∷ []) h = ([], d, refl)
+one-last {A} (d ∷ (e ∷ ts)) h =
+    let (L, z, p) = one-last (e ∷ ts) (omega arith) in
+    (d ∷ L, z, ap (λ (us : List A). d ∷ us) p)
+
+-- two short pages have room in one
+tier-most : (n k l : ℕ) → n + 1 ≡ k + tier l + (k + tier l) → n ≤ 2 * k + tier l
+tier-most n k zero h = omega arith
+tier-most n k (suc l) h = omega arith
+
+module _ (k : ℕ) (memory : ℕ → Page) (x l : ℕ) (one : 1 ≤ k) where
+  -- A page of the tree that lost one, and is not 0: its number of things.
+  module _ (t : Tr l) (lo hi : ℕ) (new : Things l) (range : InRange k k (2 * k) l t lo hi) (held : Holds memory l t) (shorter : suc (length new) ≡ length (thingsOf l t)) where
+    tree-μ : μ (memory (pageNumber l t)) + tier l ≡ length (thingsOf l t)
+    tree-μ =
+        let least = range-least k k (2 * k) l t lo hi range in
+        ap (λ (Q : Page). μ Q + tier l) (top-holds memory l t held ∙ page-things l t) ∙ things-μ l (thingsOf l t) (omega arith)
+
+    short-μ : μ (memory (pageNumber l t)) ≤ k → μ (pageIn l new) < k
+    short-μ h =
+        let least = range-least k k (2 * k) l t lo hi range in
+        let n = tree-μ in
+        let m = things-μ l new (omega arith) in
+        omega arith
+
+  -- A child c that lost one and needs no sibling is written.
+  module _ (xs : List (Keyed (Tr l))) (c : Keyed (Tr l)) (ys : List (Keyed (Tr l))) (lo hi f : ℕ) (up : List ℕ) (W : List Write) (r : Row k memory l (xs ++ c ∷ ys) lo hi) (other : pageNumber l (c .value) ≡ 0 → ⊥) (from : c .key ≤ x) (to : x < headKey ys hi) (new : Things l) (below : List Write) (shorter : suc (length new) ≡ length (thingsOf l (c .value))) (p : Patch k memory x l (thingsOf l (c .value)) new (c .key) (headKey ys hi) below) where
+    alone-step : W ≡ below ++ shrunk k memory x (f ∷ up) [] (pageNumber l (c .value)) (pageIn l new)
+        → needs k memory x (pageNumber l (c .value)) (f ∷ up) [] ≡ nothing
+        → Kept k memory x l (xs ++ c ∷ ys) lo hi W
+    alone-step rule asks =
+        let n = pageNumber l (c .value) in
+        let range = child-range k memory x l xs c ys lo hi r in
+        let spare = needs-none k memory x n f up asks other in
+        let count = tree-μ (c .value) (c .key) (headKey ys hi) new range (child-held k memory x l xs c ys lo hi r) shorter in
+        let most = range-most k k (2 * k) l (c .value) (c .key) (headKey ys hi) range in
+        settled-step k memory x l xs c ys lo hi r W from to
+        (record {
+          tree = treeAt l n new;
+          number = number-back l n new;
+          patch =
+              subst (λ (U : List Write). Patch k memory x (suc l) (c ∷ []) (keyed (c .key) (treeAt l n new) ∷ []) (c .key) (headKey ys hi) U)
+              (ap (λ (U : List Write). below ++ U) (sym (shrunk-alone k memory x f up n (pageIn l new))) ∙ sym rule)
+              (page-written k memory x l one c (headKey ys hi) new below range (child-rises k memory x l xs c ys lo hi r)
+              (child-different k memory x l xs c ys lo hi r) p (omega arith) (omega arith));
+        })
+
+  -- A child c that lost one and is short, and its right neighbour s.
+  module _ (xs : List (Keyed (Tr l))) (c s : Keyed (Tr l)) (ys : List (Keyed (Tr l))) (lo hi f : ℕ) (up : List ℕ) (W : List Write) (r : Row k memory l (xs ++ c ∷ s ∷ ys) lo hi) (top : memory f ≡ pageIn (suc l) (xs ++ c ∷ s ∷ ys)) (from : c .key ≤ x) (to : x < s .key) (new : Things l) (below : List Write) (shorter : suc (length new) ≡ length (thingsOf l (c .value))) (p : Patch k memory x l (thingsOf l (c .value)) new (c .key) (s .key) below) (ss : List ℕ) (few : μ (memory (pageNumber l (c .value))) ≤ k) (rule : W ≡ below ++ shrunk k memory x (f ∷ up) (pageNumber l (s .value) ∷ ss) (pageNumber l (c .value)) (pageIn l new)) where
+    right-to : x < headKey ys hi
+    right-to =
+        let t = span-right (InRange k k (2 * k) l) xs (c ∷ s ∷ ys) hi (r .span) in
+        omega (arith, t .2 .0)
+
+    right-range : InRange k k (2 * k) l (s .value) (s .key) (headKey ys hi)
+    right-range = span-right (InRange k k (2 * k) l) xs (c ∷ s ∷ ys) hi (r .span) .2 .1
+
+    right-held : Holds memory l (s .value)
+    right-held = each-right (Holds memory l) xs (c ∷ s ∷ ys) (r .held) .1 .0
+
+    right-page : memory (pageNumber l (s .value)) ≡ pageIn l (thingsOf l (s .value))
+    right-page = top-holds memory l (s .value) right-held ∙ page-things l (s .value)
+
+    right-count : μ (pageIn l (thingsOf l (s .value))) + tier l ≡ length (thingsOf l (s .value))
+    right-count =
+        let least = range-least k k (2 * k) l (s .value) (s .key) (headKey ys hi) right-range in
+        things-μ l (thingsOf l (s .value)) (omega arith)
+
+    -- how many things the short page has
+    right-new : length new + 1 ≡ k + tier l
+    right-new =
+        let range = child-range k memory x l xs c (s ∷ ys) lo hi r in
+        let least = range-least k k (2 * k) l (c .value) (c .key) (s .key) range in
+        let count = tree-μ (c .value) (c .key) (s .key) new range (child-held k memory x l xs c (s ∷ ys) lo hi r) shorter in
+        omega arith
+
+    right-short : μ (pageIn l new) < k
+    right-short = let n = right-new in let m = things-μ l new (omega arith) in omega arith
+
+    -- what both hold, as one row
+    right-both : Patch k memory x l (opened l (c ∷ s ∷ [])) (new ++ thingsOf l (s .value)) (c .key) (headKey ys hi) below
+    right-both =
+        let pair = pair-span k memory x l xs c s ys lo hi f up W below one r from right-to in
+        subst (λ (ts : Things l). Patch k memory x l (opened l (c ∷ s ∷ [])) (new ++ ts) (c .key) (headKey ys hi) below) (append-nil (thingsOf l (s .value)))
+        (graft k memory x l [] (thingsOf l (c .value)) new (opened l (s ∷ [])) (c .key) (c .key) (s .key) (headKey ys hi) below
+        (run-nil k l (c .key))
+        (range-run k k (2 * k) l (c .value) (c .key) (s .key) (pair .1))
+        (opened-run k l (s ∷ []) (headKey ys hi) (pair .2))
+        from to
+        (pair-inner-different k memory x l xs c s ys lo hi f up W below one r from right-to)
+        (pair-held k memory x l xs c s ys lo hi f up W below one r from right-to)
+        p)
+
+    right-evens-at : k < μ (pageIn l (thingsOf l (s .value))) → (d e : Keyed (Thing l)) (R : Things l) → thingsOf l (s .value) ≡ d ∷ e ∷ R
+        → Moved k memory x l f (xs ++ c ∷ s ∷ ys) lo hi W
+    right-evens-at h d e R cut =
+        let at = pageNumber l in
+        let lv = suc (suc l) in
+        let counted = right-count in
+        let L : Things l = new ++ d ∷ [] in
+        let count : length (thingsOf l (s .value)) ≡ suc (suc (length R)) = ap length cut in
+        let most = range-most k k (2 * k) l (s .value) (s .key) (headKey ys hi) right-range in
+        let run : Run k l (d ∷ e ∷ R) (s .key) (headKey ys hi)
+        = subst (λ (ts : Things l). Run k l ts (s .key) (headKey ys hi)) cut (range-run k k (2 * k) l (s .value) (s .key) (headKey ys hi) right-range) in
+        let number = right-new in
+        let leftNumber : length L ≡ length new + 1 = length-append new (d ∷ []) in
+        let parts : moved x (pageIn (suc l) (xs ++ c ∷ s ∷ ys)) (pageIn l new) (pageIn l (thingsOf l (s .value))) ≡ parted (pageIn l L) (e .key) (pageIn l (e ∷ R))
+        = right-moved (InRange k k (2 * k) l) lv at xs c s ys hi x (r .span) from to (pageIn l new) (pageIn l (thingsOf l (s .value)))
+        ∙ ap (λ (ts : Things l). fromRight (s .key) (pageIn l new) (pageIn l ts)) cut
+        ∙ things-fromRight k l (s .key) (headKey ys hi) new d e R run (omega arith) in
+        let c′ : Keyed (Tr l) = keyed (c .key) (treeAt l (at (c .value)) L) in
+        let s′ : Keyed (Tr l) = keyed (e .key) (treeAt l (at (s .value)) (e ∷ R)) in
+        pair-evens k memory x l xs c s ys lo hi f up W below one r from right-to L (e ∷ R)
+        (write (at (c .value)) (pageIn l L) ∷ write (at (s .value)) (pageIn l (e ∷ R)) ∷ [])
+        (rekeyed (betweenAt x (pageIn (suc l) (xs ++ c ∷ s ∷ ys))) (e .key) (pageIn (suc l) (xs ++ c ∷ s ∷ ys)))
+        (subst (λ (ts : Things l). Patch k memory x l (opened l (c ∷ s ∷ [])) ts (c .key) (headKey ys hi) below)
+        (ap (λ (ts : Things l). new ++ ts) cut ∙ sym (append-snoc new d (e ∷ R)))
+        right-both)
+        (omega arith) (omega arith) (omega arith) (omega arith)
+        (λ q. omega arith)
+        (λ M st. (st .0, st .1 .0))
+        (things-fit k l 0 L (omega arith) (omega arith), (things-fit k l 0 (e ∷ R) (omega arith) (omega arith), tt))
+        (ap (λ (i : ℕ). rekeyed i (e .key) (pageIn (suc l) (xs ++ c ∷ s ∷ ys))) (right-betweenAt (InRange k k (2 * k) l) lv at xs c s ys hi x (r .span) from to)
+        ∙ rowPage-rekeyed lv at xs c c′ s s′ ys (e .key) refl (number-back l (at (c .value)) L) refl (number-back l (at (s .value)) (e ∷ R)))
+        (rule
+        ∙ ap (λ (U : List Write). below ++ U)
+        (right-moves k memory x f up (at (s .value)) ss (at (c .value)) (pageIn l new) (pageIn (suc l) (xs ++ c ∷ s ∷ ys)) (pageIn l (thingsOf l (s .value)))
+        top right-page right-short (pageIn l L) (pageIn l (e ∷ R)) (e .key) h
+        (right-hasRight (InRange k k (2 * k) l) lv at xs c s ys hi x (r .span) from to)
+        parts))
+
+    right-evens : k < μ (pageIn l (thingsOf l (s .value))) → Moved k memory x l f (xs ++ c ∷ s ∷ ys) lo hi W
+    right-evens h =
+        let (d, e, R, cut) = two-first (thingsOf l (s .value)) (omega (arith, right-count)) in
+        right-evens-at h d e R cut
+
+    right-step-joins : μ (pageIn l (thingsOf l (s .value))) ≤ k → needs k memory x f up ss ≡ nothing → Joined k memory x l f up (xs ++ c ∷ s ∷ ys) lo hi W
+    right-step-joins h asks =
+        let at = pageNumber l in
+        let lv = suc (suc l) in
+        let ws : Things l = new ++ thingsOf l (s .value) in
+        let F : Page = pageIn (suc l) (xs ++ c ∷ s ∷ ys) in
+        let number = right-new in
+        let count = right-count in
+        let least = range-least k k (2 * k) l (s .value) (s .key) (headKey ys hi) right-range in
+        let both : length ws ≡ length new + length (thingsOf l (s .value)) = length-append new (thingsOf l (s .value)) in
+        let j : Keyed (Tr l) = keyed (c .key) (treeAt l (at (c .value)) ws) in
+        pair-joins k memory x l xs c s ys lo hi f up W below one r from right-to ws ss (lessKey (betweenAt x F) F)
+        right-both (omega arith) (tier-most (length ws) k l (omega arith))
+        (ap (λ (i : ℕ). lessKey i F) (right-betweenAt (InRange k k (2 * k) l) lv at xs c s ys hi x (r .span) from to)
+        ∙ rowPage-lessKey lv at xs c j s ys refl (number-back l (at (c .value)) ws))
+        (rule
+        ∙ ap (λ (U : List Write). below ++ U)
+        (right-joins k memory x f up (at (s .value)) ss (at (c .value)) (pageIn l new) F (pageIn l (thingsOf l (s .value)))
+        top right-page right-short (pageIn l ws) (lessKey (betweenAt x F) F) h
+        (right-hasRight (InRange k k (2 * k) l) lv at xs c s ys hi x (r .span) from to)
+        (right-merged (InRange k k (2 * k) l) lv at xs c s ys hi x (r .span) from to (pageIn l new) (pageIn l (thingsOf l (s .value)))
+        ∙ things-joined k l (s .key) (headKey ys hi) new (thingsOf l (s .value))
+        (range-run k k (2 * k) l (s .value) (s .key) (headKey ys hi) right-range) (omega arith) (omega arith))
+        refl))
+        asks
