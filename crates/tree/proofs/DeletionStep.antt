@@ -386,3 +386,116 @@ module _ (k : ℕ) (memory : ℕ → Page) (x l : ℕ) (one : 1 ≤ k) where
         (range-run k k (2 * k) l (s .value) (s .key) (headKey ys hi) right-range) (omega arith) (omega arith))
         refl))
         asks
+
+  -- A child c that lost one and is short, the last of its row, and its left neighbour s.
+  module _ (xs : List (Keyed (Tr l))) (s c : Keyed (Tr l)) (lo hi f : ℕ) (up : List ℕ) (W : List Write) (r : Row k memory l (xs ++ s ∷ c ∷ []) lo hi) (top : memory f ≡ pageIn (suc l) (xs ++ s ∷ c ∷ [])) (from : c .key ≤ x) (to : x < hi) (new : Things l) (below : List Write) (shorter : suc (length new) ≡ length (thingsOf l (c .value))) (p : Patch k memory x l (thingsOf l (c .value)) new (c .key) hi below) (ss : List ℕ) (few : μ (memory (pageNumber l (c .value))) ≤ k) (rule : W ≡ below ++ shrunk k memory x (f ∷ up) (pageNumber l (s .value) ∷ ss) (pageNumber l (c .value)) (pageIn l new)) where
+    left-rises : s .key < c .key
+    left-rises = span-right (InRange k k (2 * k) l) xs (s ∷ c ∷ []) hi (r .span) .0
+
+    left-from : s .key ≤ x
+    left-from = omega (arith, left-rises)
+
+    left-range : InRange k k (2 * k) l (s .value) (s .key) (c .key)
+    left-range = span-right (InRange k k (2 * k) l) xs (s ∷ c ∷ []) hi (r .span) .1
+
+    left-child : InRange k k (2 * k) l (c .value) (c .key) hi
+    left-child = span-right (InRange k k (2 * k) l) xs (s ∷ c ∷ []) hi (r .span) .2 .1
+
+    left-page : memory (pageNumber l (s .value)) ≡ pageIn l (thingsOf l (s .value))
+    left-page = top-holds memory l (s .value) (each-right (Holds memory l) xs (s ∷ c ∷ []) (r .held) .0) ∙ page-things l (s .value)
+
+    left-count : μ (pageIn l (thingsOf l (s .value))) + tier l ≡ length (thingsOf l (s .value))
+    left-count =
+        let least = range-least k k (2 * k) l (s .value) (s .key) (c .key) left-range in
+        things-μ l (thingsOf l (s .value)) (omega arith)
+
+    -- how many things the short page has
+    left-new : length new + 1 ≡ k + tier l
+    left-new =
+        let least = range-least k k (2 * k) l (c .value) (c .key) hi left-child in
+        let count = tree-μ (c .value) (c .key) hi new left-child (each-right (Holds memory l) xs (s ∷ c ∷ []) (r .held) .1 .0) shorter in
+        omega arith
+
+    left-short : μ (pageIn l new) < k
+    left-short = let n = left-new in let m = things-μ l new (omega arith) in omega arith
+
+    -- what both hold, as one row
+    left-both : Patch k memory x l (opened l (s ∷ c ∷ [])) (thingsOf l (s .value) ++ new) (s .key) hi below
+    left-both =
+        let pair = pair-span k memory x l xs s c [] lo hi f up W below one r left-from to in
+        subst (λ (ts : Things l). Patch k memory x l (opened l (s ∷ c ∷ [])) (thingsOf l (s .value) ++ ts) (s .key) hi below) (append-nil new)
+        (graft k memory x l (thingsOf l (s .value)) (thingsOf l (c .value)) new [] (s .key) (c .key) hi hi below
+        (range-run k k (2 * k) l (s .value) (s .key) (c .key) (pair .1))
+        (range-run k k (2 * k) l (c .value) (c .key) hi (pair .2 .1))
+        (run-nil k l hi)
+        from to
+        (pair-inner-different k memory x l xs s c [] lo hi f up W below one r left-from to)
+        (pair-held k memory x l xs s c [] lo hi f up W below one r left-from to)
+        p)
+
+    left-evens-at : k < μ (pageIn l (thingsOf l (s .value))) → (L : Things l) (e : Keyed (Thing l)) → thingsOf l (s .value) ≡ L ++ e ∷ []
+        → Moved k memory x l f (xs ++ s ∷ c ∷ []) lo hi W
+    left-evens-at h L e cut =
+        let at = pageNumber l in
+        let lv = suc (suc l) in
+        let F : Page = pageIn (suc l) (xs ++ s ∷ c ∷ []) in
+        let counted = left-count in
+        let count : length (thingsOf l (s .value)) ≡ length L + 1 = ap length cut ∙ length-append L (e ∷ []) in
+        let most = range-most k k (2 * k) l (s .value) (s .key) (c .key) left-range in
+        let number = left-new in
+        let both : Patch k memory x l (opened l (s ∷ c ∷ [])) (L ++ e ∷ new) (s .key) hi below
+        = subst (λ (ts : Things l). Patch k memory x l (opened l (s ∷ c ∷ [])) ts (s .key) hi below)
+        (ap (λ (ts : Things l). ts ++ new) cut ∙ append-snoc L e new)
+        left-both in
+        let parts : moved x F (pageIn l new) (pageIn l (thingsOf l (s .value))) ≡ parted (pageIn l L) (e .key) (pageIn l (e ∷ new))
+        = left-moved (InRange k k (2 * k) l) lv at xs s c hi x (r .span) from to (pageIn l new) (pageIn l (thingsOf l (s .value)))
+        ∙ ap (λ (ts : Things l). fromLeft (c .key) (pageIn l ts) (pageIn l new)) cut
+        ∙ things-fromLeft k l (c .key) hi L e new (p .runs) (omega arith) (omega arith) in
+        let s′ : Keyed (Tr l) = keyed (s .key) (treeAt l (at (s .value)) L) in
+        let c′ : Keyed (Tr l) = keyed (e .key) (treeAt l (at (c .value)) (e ∷ new)) in
+        pair-evens k memory x l xs s c [] lo hi f up W below one r left-from to L (e ∷ new)
+        (write (at (c .value)) (pageIn l (e ∷ new)) ∷ write (at (s .value)) (pageIn l L) ∷ [])
+        (rekeyed (betweenAt x F) (e .key) F)
+        both
+        (omega arith) (omega arith) (omega arith) (omega arith)
+        (λ q. omega arith)
+        (λ M st. (st .1 .0, st .0))
+        (things-fit k l 0 (e ∷ new) (omega arith) (omega arith), (things-fit k l 0 L (omega arith) (omega arith), tt))
+        (ap (λ (i : ℕ). rekeyed i (e .key) F) (left-betweenAt (InRange k k (2 * k) l) lv at xs s c hi x (r .span) from to)
+        ∙ rowPage-rekeyed lv at xs s s′ c c′ [] (e .key) refl (number-back l (at (s .value)) L) refl (number-back l (at (c .value)) (e ∷ new)))
+        (rule
+        ∙ ap (λ (U : List Write). below ++ U)
+        (left-moves k memory x f up (at (s .value)) ss (at (c .value)) (pageIn l new) F (pageIn l (thingsOf l (s .value)))
+        top left-page left-short (pageIn l L) (pageIn l (e ∷ new)) (e .key) h
+        (left-hasRight (InRange k k (2 * k) l) lv at xs s c hi x (r .span) from to)
+        parts))
+
+    left-evens : k < μ (pageIn l (thingsOf l (s .value))) → Moved k memory x l f (xs ++ s ∷ c ∷ []) lo hi W
+    left-evens h =
+        let (L, e, cut) = one-last (thingsOf l (s .value)) (omega (arith, left-count)) in
+        left-evens-at h L e cut
+
+    left-step-joins : μ (pageIn l (thingsOf l (s .value))) ≤ k → needs k memory x f up ss ≡ nothing → Joined k memory x l f up (xs ++ s ∷ c ∷ []) lo hi W
+    left-step-joins h asks =
+        let at = pageNumber l in
+        let lv = suc (suc l) in
+        let ws : Things l = thingsOf l (s .value) ++ new in
+        let F : Page = pageIn (suc l) (xs ++ s ∷ c ∷ []) in
+        let number = left-new in
+        let count = left-count in
+        let least = range-least k k (2 * k) l (s .value) (s .key) (c .key) left-range in
+        let both : length ws ≡ length (thingsOf l (s .value)) + length new = length-append (thingsOf l (s .value)) new in
+        let j : Keyed (Tr l) = keyed (s .key) (treeAt l (at (s .value)) ws) in
+        pair-joins k memory x l xs s c [] lo hi f up W below one r left-from to ws ss (lessKey (betweenAt x F) F)
+        left-both (omega arith) (tier-most (length ws) k l (omega arith))
+        (ap (λ (i : ℕ). lessKey i F) (left-betweenAt (InRange k k (2 * k) l) lv at xs s c hi x (r .span) from to)
+        ∙ rowPage-lessKey lv at xs s j c [] refl (number-back l (at (s .value)) ws))
+        (rule
+        ∙ ap (λ (U : List Write). below ++ U)
+        (left-joins k memory x f up (at (s .value)) ss (at (c .value)) (pageIn l new) F (pageIn l (thingsOf l (s .value)))
+        top left-page left-short (pageIn l ws) (lessKey (betweenAt x F) F) h
+        (left-hasRight (InRange k k (2 * k) l) lv at xs s c hi x (r .span) from to)
+        (left-merged (InRange k k (2 * k) l) lv at xs s c hi x (r .span) from to (pageIn l new) (pageIn l (thingsOf l (s .value)))
+        ∙ things-joined k l (c .key) hi (thingsOf l (s .value)) new (p .runs) (omega arith) (omega arith))
+        refl))
+        asks
