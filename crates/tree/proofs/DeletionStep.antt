@@ -499,3 +499,79 @@ module _ (k : ℕ) (memory : ℕ → Page) (x l : ℕ) (one : 1 ≤ k) where
         ∙ things-joined k l (c .key) hi (thingsOf l (s .value)) new (p .runs) (omega arith) (omega arith))
         refl))
         asks
+
+  -- A child that lost one: what becomes of its father's row.
+  module _ (c : Keyed (Tr l)) (lo hi f : ℕ) (up : List ℕ) (W : List Write) (other : pageNumber l (c .value) ≡ 0 → ⊥) (from : c .key ≤ x) (new : Things l) (below : List Write) (shorter : suc (length new) ≡ length (thingsOf l (c .value))) (n : ℕ) (ns : List ℕ) (rule : W ≡ below ++ shrunk k memory x (f ∷ up) (n ∷ ns) (pageNumber l (c .value)) (pageIn l new)) (asks : needs k memory x (pageNumber l (c .value)) (f ∷ up) (n ∷ ns) ≡ nothing) where
+    right-step : (xs : List (Keyed (Tr l))) (s : Keyed (Tr l)) (ys : List (Keyed (Tr l)))
+        → Row k memory l (xs ++ c ∷ s ∷ ys) lo hi → memory f ≡ pageIn (suc l) (xs ++ c ∷ s ∷ ys) → x < s .key
+        → Patch k memory x l (thingsOf l (c .value)) new (c .key) (s .key) below
+        → Step k memory x l f up (xs ++ c ∷ s ∷ ys) lo hi W
+    right-step xs s ys r top to p =
+        let shared = needs-shared k memory x (pageNumber l (c .value)) f up n ns asks in
+        let is : n ≡ pageNumber l (s .value)
+        = shared .beside ∙ ap (neighbour x) top ∙ right-neighbour (InRange k k (2 * k) l) (suc (suc l)) (pageNumber l) xs c s ys hi x (r .span) from to in
+        let rule′ : W ≡ below ++ shrunk k memory x (f ∷ up) (pageNumber l (s .value) ∷ ns) (pageNumber l (c .value)) (pageIn l new)
+        = subst (λ (m : ℕ). W ≡ below ++ shrunk k memory x (f ∷ up) (m ∷ ns) (pageNumber l (c .value)) (pageIn l new)) is rule in
+        let value : memory n ≡ pageIn l (thingsOf l (s .value))
+        = ap memory is ∙ right-page xs c s ys lo hi f up W r top from to new below shorter p ns (shared .short) rule′ in
+        ⊎-elim
+        (λ h.
+        evens
+        (right-evens xs c s ys lo hi f up W r top from to new below shorter p ns (shared .short) rule′
+        (subst (λ (Q : Page). k < μ Q) value (h .0))))
+        (λ h.
+        joins
+        (right-step-joins xs c s ys lo hi f up W r top from to new below shorter p ns (shared .short) rule′
+        (subst (λ (Q : Page). μ Q ≤ k) value (h .0)) (h .1)))
+        (shared .then)
+
+    left-step : (xs : List (Keyed (Tr l))) (s : Keyed (Tr l))
+        → x < hi
+        → Patch k memory x l (thingsOf l (c .value)) new (c .key) hi below
+        → Row k memory l (xs ++ s ∷ c ∷ []) lo hi → memory f ≡ pageIn (suc l) (xs ++ s ∷ c ∷ [])
+        → Step k memory x l f up (xs ++ s ∷ c ∷ []) lo hi W
+    left-step xs s to p r top =
+        let shared = needs-shared k memory x (pageNumber l (c .value)) f up n ns asks in
+        let is : n ≡ pageNumber l (s .value)
+        = shared .beside ∙ ap (neighbour x) top ∙ left-neighbour (InRange k k (2 * k) l) (suc (suc l)) (pageNumber l) xs s c hi x (r .span) from to in
+        let rule′ : W ≡ below ++ shrunk k memory x (f ∷ up) (pageNumber l (s .value) ∷ ns) (pageNumber l (c .value)) (pageIn l new)
+        = subst (λ (m : ℕ). W ≡ below ++ shrunk k memory x (f ∷ up) (m ∷ ns) (pageNumber l (c .value)) (pageIn l new)) is rule in
+        let value : memory n ≡ pageIn l (thingsOf l (s .value))
+        = ap memory is ∙ left-page xs s c lo hi f up W r top from to new below shorter p ns (shared .short) rule′ in
+        ⊎-elim
+        (λ h.
+        evens
+        (left-evens xs s c lo hi f up W r top from to new below shorter p ns (shared .short) rule′
+        (subst (λ (Q : Page). k < μ Q) value (h .0))))
+        (λ h.
+        joins
+        (left-step-joins xs s c lo hi f up W r top from to new below shorter p ns (shared .short) rule′
+        (subst (λ (Q : Page). μ Q ≤ k) value (h .0)) (h .1)))
+        (shared .then)
+
+    neighbour-step : (xs ys : List (Keyed (Tr l))) → 2 ≤ length (xs ++ c ∷ ys)
+        → Row k memory l (xs ++ c ∷ ys) lo hi → memory f ≡ pageIn (suc l) (xs ++ c ∷ ys) → x < headKey ys hi
+        → Patch k memory x l (thingsOf l (c .value)) new (c .key) (headKey ys hi) below
+        → Step k memory x l f up (xs ++ c ∷ ys) lo hi W
+    neighbour-step xs (s ∷ ys) enough r top to p = right-step xs s ys r top to p
+    neighbour-step xs [] enough r top to p =
+        let (L, s, cut) = one-last xs (omega (arith, length-append xs (c ∷ []))) in
+        subst (λ (row : List (Keyed (Tr l))). Row k memory l row lo hi → memory f ≡ pageIn (suc l) row → Step k memory x l f up row lo hi W)
+        (sym (ap (λ (row : List (Keyed (Tr l))). row ++ c ∷ []) cut ∙ append-snoc L s (c ∷ [])))
+        (left-step L s to p)
+        r top
+
+  -- What became of a child gives what becomes of its father's row.
+  pub child-step : (xs : List (Keyed (Tr l))) (c : Keyed (Tr l)) (ys : List (Keyed (Tr l))) (lo hi f : ℕ) (up : List ℕ) (W : List Write)
+      → Row k memory l (xs ++ c ∷ ys) lo hi → 2 ≤ length (xs ++ c ∷ ys) → memory f ≡ pageIn (suc l) (xs ++ c ∷ ys)
+      → (pageNumber l (c .value) ≡ 0 → ⊥) → c .key ≤ x → x < headKey ys hi
+      → Settled k memory x l (c .value) (c .key) (headKey ys hi) W ⊎ Reached k memory x l (c .value) (c .key) (headKey ys hi) (f ∷ up) W
+      → Step k memory x l f up (xs ++ c ∷ ys) lo hi W
+  child-step xs c ys lo hi f up W r enough top other from to (inl s) = stays (settled-step k memory x l xs c ys lo hi r W from to s)
+  child-step xs c ys lo hi f up W r enough top other from to (inr h) = by-rest (h .rest) (h .rule) (h .asks)
+    where
+      by-rest : (rest : List ℕ) → W ≡ h .below ++ shrunk k memory x (f ∷ up) rest (pageNumber l (c .value)) (pageIn l (h .new))
+          → needs k memory x (pageNumber l (c .value)) (f ∷ up) rest ≡ nothing → Step k memory x l f up (xs ++ c ∷ ys) lo hi W
+      by-rest [] rule asks = stays (alone-step xs c ys lo hi f up W r other from to (h .new) (h .below) (h .shorter) (h .patch) rule asks)
+      by-rest (n ∷ ns) rule asks =
+          neighbour-step c lo hi f up W other from (h .new) (h .below) (h .shorter) n ns rule asks xs ys enough r top to (h .patch)
