@@ -118,13 +118,13 @@ module _ (k : ℕ) (memory : ℕ → Page) (x l : ℕ) where
     child-rises : c .key < headKey ys hi
     child-rises = span-right (InRange k k (2 * k) l) xs (c ∷ ys) hi (r .span) .0
 
-    child-range : InRange k k (2 * k) l (c .value) (c .key) (headKey ys hi)
+    pub child-range : InRange k k (2 * k) l (c .value) (c .key) (headKey ys hi)
     child-range = span-right (InRange k k (2 * k) l) xs (c ∷ ys) hi (r .span) .1
 
-    child-held : Holds memory l (c .value)
+    pub child-held : Holds memory l (c .value)
     child-held = each-right (Holds memory l) xs (c ∷ ys) (r .held) .0
 
-    child-different : (q : ℕ) → occurs q l (c .value) ≤ 1
+    pub child-different : (q : ℕ) → occurs q l (c .value) ≤ 1
     child-different q = omega (arith, r .different q, total-append (occurs q l) xs (c ∷ ys))
 
     settled-step : (W : List Write) → c .key ≤ x → x < headKey ys hi → Settled k memory x l (c .value) (c .key) (headKey ys hi) W
