@@ -160,7 +160,7 @@ module _ (k : ℕ) (memory : ℕ → Page) (x : ℕ) where
       ∙ sym (ap length (h .whole) ∙ length-append (h .before) (h .left ∷ h .right ∷ h .after) ∙ omega arith)
 
   -- two children joined, and the page has not collapsed: the rule goes on above it
-  joined-on : (l f : ℕ) (up : List ℕ) (row : List (Keyed (Tr l))) (lo hi : ℕ) (W : List Write) (h : Joined k memory x l f up row lo hi W)
+  pub joined-on : (l f : ℕ) (up : List ℕ) (row : List (Keyed (Tr l))) (lo hi : ℕ) (W : List Write) (h : Joined k memory x l f up row lo hi W)
       → (let new : List (Keyed (Tr l)) = h .before ++ keyed (h .left .key) (treeAt l (pageNumber l (h .left .value)) (h .things)) ∷ h .after in
       eqb f 0 && eqb (μ (pageIn (suc l) new)) 0 ≡ false
       → W

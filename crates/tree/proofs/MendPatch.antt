@@ -154,7 +154,7 @@ module _ (k : ℕ) where
       (opened-run l ds hi (s .2))
 
   -- a page of the row is one of its own pages or below them, and back
-  opened-cases : (l : ℕ) (row : List (Keyed (Tr l))) (hi q level a b : ℕ) → Span (InRange k k (2 * k) l) row hi → StandsIn (suc l) row hi q level a b
+  pub opened-cases : (l : ℕ) (row : List (Keyed (Tr l))) (hi q level a b : ℕ) → Span (InRange k k (2 * k) l) row hi → StandsIn (suc l) row hi q level a b
       → Somewhere (λ (t : Tr l) (lo′ hi′ : ℕ). TopStands l t lo′ hi′ q level a b) row hi ⊎ StandsIn l (opened l row) hi q level a b
   opened-cases l [] hi q level a b s h = absurd h
   opened-cases l (d ∷ ds) hi q level a b s (inl h) =
