@@ -31,13 +31,14 @@ once-same q p e = cond-true 1 0 (eq-eqb q p e)
 pub once-other : (q p : ℕ) → (q ≡ p → ⊥) → once q p ≡ 0
 once-other q p n = cond-false 1 0 (ne-eqb q p n)
 
--- and so back
+-- a page that counts once is the page itself,
 pub once-is : (q p : ℕ) → 1 ≤ once q p → q ≡ p
 once-is q p h =
     by-test (eqb q p)
     (λ t. eqb-true q p t)
     (λ t. let z : once q p ≡ 0 = cond-false 1 0 t in absurd (omega arith))
 
+-- and one that counts no time is another
 pub once-not : (q p : ℕ) → once q p ≡ 0 → q ≡ p → ⊥
 once-not q p h e = let one = once-same q p e in omega arith
 
@@ -55,7 +56,7 @@ times-append q (p ∷ ps) rs = let ih = times-append q ps rs in omega arith
 pub times-cut : (q i : ℕ) (ps : List ℕ) → times q ps ≡ times q (take i ps) + times q (drop i ps)
 times-cut q i ps = sym (ap (times q) (take-append-drop i ps)) ∙ times-append q (take i ps) (drop i ps)
 
--- what stands in a list stands there at least once, and back
+-- what stands in a list stands there at least once,
 pub member-times : (q : ℕ) (ps : List ℕ) → member q ps ≡ true → 1 ≤ times q ps
 unfolding member
 member-times q [] h = absurd (false≢true h)
@@ -65,6 +66,7 @@ member-times q (p ∷ ps) h =
     (λ t. let ih = member-times q ps t in omega arith)
     (or-cases (eqb q p) (member q ps) h)
 
+-- and back
 pub times-member : (q : ℕ) (ps : List ℕ) → 1 ≤ times q ps → member q ps ≡ true
 unfolding member
 times-member q [] h = absurd (omega arith)
@@ -73,7 +75,7 @@ times-member q (p ∷ ps) h =
     (λ t. or-first (member q ps) t)
     (λ t. let z : once q p ≡ 0 = cond-false 1 0 t in or-second (eqb q p) (times-member q ps (omega arith)))
 
--- what does not stand in a list stands there no time, and back
+-- what does not stand in a list stands there no time,
 pub absent-times : (q : ℕ) (ps : List ℕ) → member q ps ≡ false → times q ps ≡ 0
 unfolding member
 absent-times q [] h = refl
@@ -82,10 +84,11 @@ absent-times q (p ∷ ps) h =
     let ih = absent-times q ps (or-second-fails (eqb q p) (member q ps) h) in
     omega arith
 
+-- and back
 pub times-absent : (q : ℕ) (ps : List ℕ) → times q ps ≡ 0 → member q ps ≡ false
 times-absent q ps h = false-if-not-true (member q ps) (λ t. let one = member-times q ps t in omega arith)
 
--- in a list without repetitions everything stands at most once, and back
+-- in a list without repetitions everything stands at most once,
 pub distinct-times : (ps : List ℕ) → distinct ps ≡ true → (q : ℕ) → times q ps ≤ 1
 unfolding distinct
 distinct-times [] h q = omega arith
@@ -99,6 +102,7 @@ distinct-times (p ∷ ps) h q =
     omega arith)
     (λ t. let z : once q p ≡ 0 = cond-false 1 0 t in omega arith)
 
+-- and back
 pub times-distinct : (ps : List ℕ) → ((q : ℕ) → times q ps ≤ 1) → distinct ps ≡ true
 unfolding distinct
 times-distinct [] h = refl
@@ -119,6 +123,7 @@ memoryAfter-append memory (w ∷ W) U = memoryAfter-append (rewritten memory w) 
 pub written-append : (W U : List Write) → writtenPages (W ++ U) ≡ writtenPages W ++ writtenPages U
 written-append W U = map-append (λ (w : Write). w .at) W U
 
+-- how often a page is among them
 pub times-written : (q : ℕ) (W U : List Write) → times q (writtenPages (W ++ U)) ≡ times q (writtenPages W) + times q (writtenPages U)
 times-written q W U = ap (times q) (written-append W U) ∙ times-append q (writtenPages W) (writtenPages U)
 
@@ -126,22 +131,25 @@ times-written q W U = ap (times q) (written-append W U) ∙ times-append q (writ
 pub unwritten : (memory : ℕ → Page) (W : List Write) (q : ℕ) → times q (writtenPages W) ≡ 0 → memoryAfter memory W q ≡ memory q
 unwritten memory [] q h = refl
 unwritten memory (w ∷ W) q h =
-    unwritten (rewritten memory w) W q (omega arith) ∙ cond-false (w .value) (memory q) (ne-eqb q (w .at) (once-not q (w .at) (omega arith)))
+    unwritten (rewritten memory w) W q (omega arith)
+    ∙ cond-false (w .value) (memory q) (ne-eqb q (w .at) (once-not q (w .at) (omega arith)))
 
 -- the memory has what each write says
 abbrev pub Stores : (ℕ → Page) → List Write → Type 0
 Stores M [] = Unit {0}
 Stores M (w ∷ W) = (M (w .at) ≡ w .value) × Stores M W
 
--- two lists of writes, one behind the other, and each of them
+-- of two lists of writes, one behind the other,
 pub stores-append : (M : ℕ → Page) (W U : List Write) → Stores M W → Stores M U → Stores M (W ++ U)
 stores-append M [] U s r = r
 stores-append M (w ∷ W) U s r = (s .0, stores-append M W U (s .1) r)
 
+-- of the first part of a list of writes,
 pub stores-left : (M : ℕ → Page) (W U : List Write) → Stores M (W ++ U) → Stores M W
 stores-left M [] U s = tt
 stores-left M (w ∷ W) U s = (s .0, stores-left M W U (s .1))
 
+-- and of the second
 pub stores-right : (M : ℕ → Page) (W U : List Write) → Stores M (W ++ U) → Stores M U
 stores-right M [] U s = s
 stores-right M (w ∷ W) U s = stores-right M W U (s .1)
@@ -174,7 +182,8 @@ root-occurs q zero t = omega arith
 root-occurs q (suc l) t = omega arith
 
 -- a sum around a thing
-pub total-middle : {C : Type 0} (f : C → ℕ) (xs : List (Keyed C)) (d : Keyed C) (ys : List (Keyed C)) → total f (xs ++ d ∷ ys) ≡ total f xs + (f (d .value) + total f ys)
+pub total-middle : {C : Type 0} (f : C → ℕ) (xs : List (Keyed C)) (d : Keyed C) (ys : List (Keyed C))
+    → total f (xs ++ d ∷ ys) ≡ total f xs + (f (d .value) + total f ys)
 total-middle f xs d ys = total-append f xs (d ∷ ys)
 
 -- a sum is at least what one of its things gives
@@ -194,12 +203,15 @@ stands-occurs (suc l) t lo hi q level a b (inr r) =
     omega arith
 
 -- what is followed stands in a sum over the row
-followed-total : {C : Type 0} (q x : ℕ) (f : C → List ℕ) (g : C → ℕ) (row : List (Keyed C)) → ((c : C) → times q (f c) ≤ g c) → times q (followed f [] x row) ≤ total g row
+followed-total : {C : Type 0} (q x : ℕ) (f : C → List ℕ) (g : C → ℕ) (row : List (Keyed C))
+    → ((c : C) → times q (f c) ≤ g c) → times q (followed f [] x row) ≤ total g row
 followed-total q x f g [] h = omega arith
 followed-total q x f g (d ∷ []) h = omega (arith, h (d .value))
 followed-total q x f g (d ∷ (e ∷ es)) h =
     let ih = followed-total q x f g (e ∷ es) h in
-    cond-ind (λ (w : List ℕ). times q w ≤ g (d .value) + total g (e ∷ es)) (leb (e .key) x) (λ t. omega arith) (λ t. omega (arith, h (d .value)))
+    cond-ind (λ (w : List ℕ). times q w ≤ g (d .value) + total g (e ∷ es)) (leb (e .key) x)
+    (λ t. omega arith)
+    (λ t. omega (arith, h (d .value)))
 
 -- the pages on a key's way are pages of the tree, each as often as it is on the way
 pub way-occurs : (q x l : ℕ) (t : Tr l) → times q (way x l t) ≤ occurs q l t
@@ -216,11 +228,12 @@ pub holds-top : (M : ℕ → Page) (l : ℕ) (t : Tr l) → M (pageNumber l t) �
 holds-top M zero t e h = e
 holds-top M (suc l) t e h = (e, h)
 
--- and back
+-- a tree that is held has its root page in the memory,
 pub top-holds : (M : ℕ → Page) (l : ℕ) (t : Tr l) → Holds M l t → M (pageNumber l t) ≡ pageOf l t
 top-holds M zero t h = h
 top-holds M (suc l) t h = h .0
 
+-- and its pages below
 pub below-holds : (M : ℕ → Page) (l : ℕ) (t : Tr l) → Holds M l t → HoldsBelow M l t
 below-holds M zero t h = tt
 below-holds M (suc l) t h = h .1

@@ -2,3 +2,4 @@ pub mod Rows
 pub mod Tree
 pub mod Sorted
 pub mod Change
+pub mod Insertion
