@@ -249,7 +249,7 @@ none-left (y ∷ ys) h = absurd (omega arith)
 
 module _ (k n : ℕ) (memory : ℕ → Page) (x : ℕ) (one : 1 ≤ k) where
   -- the root is a leaf: it is written
-  leaf-leads : (t : Tr zero) → Forms k n memory zero t → (W : List Write) → Reached k memory x zero t 0 wordRange [] W
+  pub leaf-leads : (t : Tr zero) → Forms k n memory zero t → (W : List Write) → Reached k memory x zero t 0 wordRange [] W
       → Leads k n memory zero t W (without x (entriesOf zero t))
   leaf-leads t forms W h =
       let most = forms .inRange .most in
@@ -302,7 +302,7 @@ module _ (k n : ℕ) (memory : ℕ → Page) (x : ℕ) (one : 1 ≤ k) where
         (h .things) (h .below) (h .least) (h .most) patch)))
 
     -- what becomes of page 0, from what became of its children
-    root-leads : Step k memory x l (t .at) [] (t .row) 0 wordRange W → Leads k n memory (suc l) t W (without x (entriesOf (suc l) t))
+    pub root-leads : Step k memory x l (t .at) [] (t .row) 0 wordRange W → Leads k n memory (suc l) t W (without x (entriesOf (suc l) t))
     root-leads (stays h) =
         let least = forms .inRange .least in
         let most = forms .inRange .most in

@@ -85,21 +85,6 @@ module _ (k : ℕ) (memory : ℕ → Page) (x : ℕ) where
             (λ t. inr (ltb-false k (μ (memory s)) t, sym (cond-false (satisfied ss) further t) ∙ b .1));
       }
 
-  -- and back
-  shared-needs : (p f : ℕ) (up : List ℕ) (s : ℕ) (ss : List ℕ) → Shared k memory x p f up s ss → needs k memory x p (f ∷ up) (s ∷ ss) ≡ nothing
-  unfolding needs
-  shared-needs p f up s ss h =
-      let further : Need = needs k memory x f up ss in
-      let spare : Bool = ltb k (μ (memory s)) in
-      let inner : Need = cond spare (satisfied ss) further in
-      let outer : Need = cond (eqb s (neighbour x (memory f))) inner astray in
-      cond-false astray outer (or-none (ne-eqb p 0 (h .other)) (le-ltb k (μ (memory p)) (h .short)))
-      ∙ cond-true inner astray (eq-eqb s (neighbour x (memory f)) (h .beside))
-      ∙ ⊎-elim
-      (λ g. cond-true (satisfied ss) further (lt-ltb k (μ (memory s)) (g .0)) ∙ ap satisfied (g .1))
-      (λ g. cond-false (satisfied ss) further (le-ltb k (μ (memory s)) (g .0)) ∙ g .1)
-      (h .then)
-
 -- ---- the change, step by step
 
 -- one step of the rule, where T is what follows above
@@ -170,23 +155,27 @@ module _ (k : ℕ) (memory : ℕ → Page) (x : ℕ) where
       ∙ sym (shrunk-step f up s ss p P))
       (needs-shared k memory x p f up s ss e .then)
 
-  pub needs-stops : (fathers above ss : List ℕ) (p : ℕ) → k < μ (memory (topOf p fathers)) → needs k memory x p fathers ss ≡ nothing
-      → needs k memory x p (fathers ++ above) ss ≡ nothing
+  -- what is needed does not depend on the pages above a safe one
+  pub needs-stops : (fathers above ss : List ℕ) (p : ℕ) → ltb k (μ (memory (topOf p fathers))) ≡ true
+      → needs k memory x p (fathers ++ above) ss ≡ needs k memory x p fathers ss
   unfolding needs
-  needs-stops [] [] ss p safe e = e
-  needs-stops [] (a ∷ rest) ss p safe e =
-      rw (needs-top k memory x p ss e)
-      (cond-true nothing (sibling (neighbour x (memory a))) (or-second (eqb p 0) (lt-ltb k (μ (memory p)) safe)))
-  needs-stops (f ∷ up) above [] p safe e = e
-  needs-stops (f ∷ up) above (s ∷ ss) p safe e =
-      let h = needs-shared k memory x p f up s ss e in
-      shared-needs k memory x p f (up ++ above) s ss
-      (record {
-        short = h .short;
-        other = h .other;
-        beside = h .beside;
-        then = ⊎-elim (λ g. inl g) (λ g. inr (g .0, needs-stops up above ss f safe (g .1))) (h .then);
-      })
+  needs-stops [] [] ss p safe = refl
+  needs-stops [] (a ∷ rest) [] p safe =
+      let test : eqb p 0 || ltb k (μ (memory p)) ≡ true = or-second (eqb p 0) safe in
+      cond-true nothing (sibling (neighbour x (memory a))) test ∙ sym (cond-true nothing astray test)
+  needs-stops [] (a ∷ rest) (s ∷ ss) p safe =
+      let test : eqb p 0 || ltb k (μ (memory p)) ≡ true = or-second (eqb p 0) safe in
+      let further : Need = needs k memory x a rest ss in
+      cond-true astray (cond (eqb s (neighbour x (memory a))) (cond (ltb k (μ (memory s))) (satisfied ss) further) astray) test
+      ∙ sym (cond-true astray astray test)
+  needs-stops (f ∷ up) above [] p safe = refl
+  needs-stops (f ∷ up) above (s ∷ ss) p safe =
+      ap
+      (λ (further : Need).
+      cond (eqb p 0 || ltb k (μ (memory p)))
+      astray
+      (cond (eqb s (neighbour x (memory f))) (cond (ltb k (μ (memory s))) (satisfied ss) further) astray))
+      (needs-stops up above ss f safe)
 
 -- ---- only held pages are written
 

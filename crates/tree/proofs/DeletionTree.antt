@@ -60,7 +60,7 @@ module _ (k : ℕ) (memory : ℕ → Page) (x : ℕ) where
         keeps = λ q level a b u s. s;
       }
 
-  leaf-reached : (m : ℕ) (t : Tr zero) (lo hi : ℕ) → Given k memory x m zero t lo hi → (up siblings : List ℕ)
+  pub leaf-reached : (m : ℕ) (t : Tr zero) (lo hi : ℕ) → Given k memory x m zero t lo hi → (up siblings : List ℕ)
       → asksOn k memory x (way x zero t ++ up) siblings ≡ nothing
       → Reached k memory x zero t lo hi up (changesOn k memory x (way x zero t ++ up) siblings)
   unfolding deletion

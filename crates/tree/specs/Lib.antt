@@ -3,3 +3,4 @@ pub mod Tree
 pub mod Sorted
 pub mod Change
 pub mod Insertion
+pub mod Deletion
