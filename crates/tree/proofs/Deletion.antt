@@ -5,9 +5,7 @@ use Prim.Native.Nat.{ℕ, zero, suc, _+_, _*_, _≤_, _<_}
 use native.Mathlib.Omega.{arith}
 use mathlib.Core.Bool.{true}
 use mathlib.Core.List.{List, [], _∷_, _++_, append-nil}
-use mathlib.Core.Logic.{⊎-elim}
 use mathlib.Core.Path.{_≡_, refl, sym, ap, _∙_, subst}
-use borrow.Author.Tests.{ltb-true}
 use Rattle.ground.specs.Limits.{wordRange}
 use Rattle.page.specs.Words.{Page, μ}
 use Rattle.page.specs.Place.{has, without}
@@ -18,7 +16,7 @@ use Rattle.tree.specs.Tree.{Tr, entriesOf, occurs, rootLeast, way, Forms
 use Rattle.tree.specs.Change.{topOf, Leads, HeldWay}
 use Rattle.tree.specs.Deletion.{canSpare, Deletes, DeletionLeads}
 use Rattle.tree.proofs.Memory.{once-same}
-use Rattle.tree.proofs.DeletionRule.{shrunk-stops, needs-stops, deletion-held}
+use Rattle.tree.proofs.DeletionRule.{shrunk-stops, needs-held, deletion-held}
 use Rattle.tree.proofs.DeletionTree.{asksOn, changesOn, Given, leaf-reached, step-in, outcome}
 use Rattle.tree.proofs.DeletionRoot.{leaf-leads, root-leads}
 
@@ -62,12 +60,7 @@ module _ (k n : ℕ) (memory : ℕ → Page) (x : ℕ) (one : 1 ≤ k) where
   unfolding deletion
   held-leads l t leaf fathers siblings forms word there held asks =
       let path : way x l t ++ [] ≡ leaf ∷ (fathers ++ held .above) = append-nil (way x l t) ∙ held .whole in
-      let wholeAsks : needs k memory x leaf (fathers ++ held .above) siblings ≡ nothing
-      = ⊎-elim
-      (λ e. ap (λ (up : List ℕ). needs k memory x leaf (fathers ++ up) siblings) e ∙ ap (λ (up : List ℕ). needs k memory x leaf up siblings) (append-nil fathers))
-      (λ e. needs-stops k memory x fathers (held .above) siblings leaf e)
-      (held .top)
-      ∙ asks in
+      let wholeAsks : needs k memory x leaf (fathers ++ held .above) siblings ≡ nothing = needs-held k memory x fathers (held .above) siblings leaf (held .top) ∙ asks in
       subst (λ (W : List Write). Leads k n memory l t W (without x (entriesOf l t)))
       (ap (λ (p : List ℕ). changesOn k memory x p siblings) path
       ∙ shrunk-stops k memory x fathers (held .above) siblings leaf (withEntries (memory leaf) (without x (memory leaf .entries))) asks)

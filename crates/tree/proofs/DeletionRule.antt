@@ -8,6 +8,7 @@ use mathlib.Core.Logic.{_⊎_, inl, inr, ⊎-elim}
 use mathlib.Core.Path.{_≡_, refl, sym, ap, _∙_, subst}
 use borrow.Author.Tests.{ltb-true, ltb-false, lt-ltb, le-ltb, leb-true, leb-false, le-leb, lt-leb, eqb-true, eqb-false, eq-eqb, ne-eqb}
 use lib.Dec.{leb, ltb, eqb}
+use lib.ListN.{length}
 use Rattle.ground.specs.Tests.{member}
 use Rattle.ground.proofs.Bools.{or-first, or-second, or-none, or-first-fails, or-second-fails, or-cases}
 use Rattle.ground.proofs.Choice.{cond-true, cond-false, cond-ind}
@@ -29,6 +30,13 @@ sibling≢nothing e = let z : _≡_ {A = ℕ} 0 1 = cc in absurd (omega arith)
 
 pub astray≢nothing : {X : Type 0} → astray ≡ nothing → X
 astray≢nothing e = let z : _≡_ {A = ℕ} 0 1 = cc in absurd (omega arith)
+
+pub astray≢sibling : {s : ℕ} {X : Type 0} → astray ≡ sibling s → X
+astray≢sibling e = let z : _≡_ {A = ℕ} 0 1 = cc in absurd (omega arith)
+
+satisfied≢sibling : {s : ℕ} {X : Type 0} (ss : List ℕ) → satisfied ss ≡ sibling s → X
+satisfied≢sibling [] e = sibling≢nothing (sym e)
+satisfied≢sibling (r ∷ ss) e = astray≢sibling e
 
 -- a choice between going astray and something else that needs nothing
 not-here : (b : Bool) (n : Need) → cond b astray n ≡ nothing → (b ≡ false) × (n ≡ nothing)
@@ -84,6 +92,56 @@ module _ (k : ℕ) (memory : ℕ → Page) (x : ℕ) where
             (λ t. inl (ltb-true k (μ (memory s)) t, satisfied-none ss (sym (cond-true (satisfied ss) further t) ∙ b .1)))
             (λ t. inr (ltb-false k (μ (memory s)) t, sym (cond-false (satisfied ss) further t) ∙ b .1));
       }
+
+-- ---- which sibling is asked for
+
+pub sibling-same : {a b : ℕ} → sibling a ≡ sibling b → a ≡ b
+sibling-same e = cc
+
+module _ (k : ℕ) (memory : ℕ → Page) (x : ℕ) where
+  -- a page that can spare one needs none,
+  pub needs-spare : (p f : ℕ) (up : List ℕ) → k < μ (memory p) → needs k memory x p (f ∷ up) [] ≡ nothing
+  unfolding needs
+  needs-spare p f up h = cond-true nothing (sibling (neighbour x (memory f))) (or-second (eqb p 0) (lt-ltb k (μ (memory p)) h))
+
+  -- another asks for its neighbour,
+  pub needs-ask : (p f : ℕ) (up : List ℕ) → (p ≡ 0 → ⊥) → μ (memory p) ≤ k → needs k memory x p (f ∷ up) [] ≡ sibling (neighbour x (memory f))
+  unfolding needs
+  needs-ask p f up n h = cond-false nothing (sibling (neighbour x (memory f))) (or-none (ne-eqb p 0 n) (le-ltb k (μ (memory p)) h))
+
+  -- and with it needs what the father needs, unless the neighbour can spare one.
+  pub needs-next : (p f : ℕ) (up : List ℕ) (s : ℕ) (ss : List ℕ) → (p ≡ 0 → ⊥) → μ (memory p) ≤ k → s ≡ neighbour x (memory f)
+      → needs k memory x p (f ∷ up) (s ∷ ss) ≡ cond (ltb k (μ (memory s))) (satisfied ss) (needs k memory x f up ss)
+  unfolding needs
+  needs-next p f up s ss n h e =
+      let inner : Need = cond (ltb k (μ (memory s))) (satisfied ss) (needs k memory x f up ss) in
+      cond-false astray (cond (eqb s (neighbour x (memory f))) inner astray) (or-none (ne-eqb p 0 n) (le-ltb k (μ (memory p)) h))
+      ∙ cond-true inner astray (eq-eqb s (neighbour x (memory f)) e)
+
+  -- page 0 needs nothing
+  pub needs-root : (p : ℕ) → p ≡ 0 → needs k memory x p [] [] ≡ nothing
+  unfolding needs
+  needs-root p e = cond-true nothing astray (or-first (ltb k (μ (memory p))) (eq-eqb p 0 e))
+
+  -- a page asks only where its father is held
+  pub needs-length : (p : ℕ) (fathers ss : List ℕ) (s : ℕ) → needs k memory x p fathers ss ≡ sibling s → length ss < length fathers
+  unfolding needs
+  needs-length p [] [] s e =
+      cond-ind (λ (n : Need). n ≡ sibling s → 0 < 0) (eqb p 0 || ltb k (μ (memory p))) (λ t h. sibling≢nothing (sym h)) (λ t h. astray≢sibling h) e
+  needs-length p [] (s′ ∷ ss) s e =
+      cond-ind (λ (n : Need). n ≡ sibling s → suc (length ss) < 0) (eqb p 0 || ltb k (μ (memory p))) (λ t h. astray≢sibling h) (λ t h. astray≢sibling h) e
+  needs-length p (f ∷ up) [] s e = omega arith
+  needs-length p (f ∷ up) (s′ ∷ ss) s e =
+      cond-ind (λ (n : Need). n ≡ sibling s → suc (length ss) < suc (length up)) (eqb p 0 || ltb k (μ (memory p)))
+      (λ t h. astray≢sibling h)
+      (λ t.
+      cond-ind (λ (n : Need). n ≡ sibling s → suc (length ss) < suc (length up)) (eqb s′ (neighbour x (memory f)))
+      (λ u.
+      cond-ind (λ (n : Need). n ≡ sibling s → suc (length ss) < suc (length up)) (ltb k (μ (memory s′)))
+      (λ v h. satisfied≢sibling ss h)
+      (λ v h. let ih = needs-length f up ss s h in omega arith))
+      (λ u h. astray≢sibling h))
+      e
 
 -- ---- the change, step by step
 
@@ -156,7 +214,7 @@ module _ (k : ℕ) (memory : ℕ → Page) (x : ℕ) where
       (needs-shared k memory x p f up s ss e .then)
 
   -- what is needed does not depend on the pages above a safe one
-  pub needs-stops : (fathers above ss : List ℕ) (p : ℕ) → ltb k (μ (memory (topOf p fathers))) ≡ true
+  needs-stops : (fathers above ss : List ℕ) (p : ℕ) → ltb k (μ (memory (topOf p fathers))) ≡ true
       → needs k memory x p (fathers ++ above) ss ≡ needs k memory x p fathers ss
   unfolding needs
   needs-stops [] [] ss p safe = refl
@@ -176,6 +234,13 @@ module _ (k : ℕ) (memory : ℕ → Page) (x : ℕ) where
       astray
       (cond (eqb s (neighbour x (memory f))) (cond (ltb k (μ (memory s))) (satisfied ss) further) astray))
       (needs-stops up above ss f safe)
+
+  -- nor where there are none above
+  pub needs-held : (fathers above ss : List ℕ) (p : ℕ) → (above ≡ []) ⊎ (ltb k (μ (memory (topOf p fathers))) ≡ true)
+      → needs k memory x p (fathers ++ above) ss ≡ needs k memory x p fathers ss
+  needs-held fathers above ss p (inl e) =
+      ap (λ (up : List ℕ). needs k memory x p (fathers ++ up) ss) e ∙ ap (λ (up : List ℕ). needs k memory x p up ss) (append-nil fathers)
+  needs-held fathers above ss p (inr safe) = needs-stops fathers above ss p safe
 
 -- ---- only held pages are written
 

@@ -223,7 +223,7 @@ two-first [] h = absurd (omega arith)
 two-first (d ∷ []) h = absurd (omega arith)
 two-first (d ∷ (e ∷ R)) h = (d, e, R, refl)
 
-one-last : {A : Type 0} (ts : List A) → 1 ≤ length ts → (L : List A) × (e : A) × (ts ≡ L ++ e ∷ [])
+pub one-last : {A : Type 0} (ts : List A) → 1 ≤ length ts → (L : List A) × (e : A) × (ts ≡ L ++ e ∷ [])
 one-last [] h = absurd (omega arith)
 one-last (d ∷ []) h = ([], d, refl)
 one-last {A} (d ∷ (e ∷ ts)) h =

@@ -78,15 +78,19 @@ module _ (k : ℕ) (memory : ℕ → Page) (x : ℕ) where
   -- ---- an upper page
 
   -- the way through a page is the way through the child to which x belongs, and the page
-  way-through : (l n : ℕ) (xs : List (Keyed (Tr l))) (c : Keyed (Tr l)) (ys : List (Keyed (Tr l))) (hi : ℕ) (up : List ℕ)
+  pub node-way : (l n : ℕ) (xs : List (Keyed (Tr l))) (c : Keyed (Tr l)) (ys : List (Keyed (Tr l))) (hi : ℕ)
+      → Span (InRange k k (2 * k) l) (xs ++ c ∷ ys) hi → c .key ≤ x → x < headKey ys hi
+      → way x (suc l) (treeAt (suc l) n (xs ++ c ∷ ys)) ≡ way x l (c .value) ++ n ∷ []
+  node-way l n xs c ys hi s from to = ap (λ (w : List ℕ). w ++ n ∷ []) (followed-spot (InRange k k (2 * k) l) (way x l) [] x xs c ys hi s from to)
+
+  pub way-through : (l n : ℕ) (xs : List (Keyed (Tr l))) (c : Keyed (Tr l)) (ys : List (Keyed (Tr l))) (hi : ℕ) (up : List ℕ)
       → Span (InRange k k (2 * k) l) (xs ++ c ∷ ys) hi → c .key ≤ x → x < headKey ys hi
       → way x (suc l) (treeAt (suc l) n (xs ++ c ∷ ys)) ++ up ≡ way x l (c .value) ++ n ∷ up
   way-through l n xs c ys hi up s from to =
-      ap (λ (w : List ℕ). (w ++ n ∷ []) ++ up) (followed-spot (InRange k k (2 * k) l) (way x l) [] x xs c ys hi s from to)
-      ∙ append-snoc (way x l (c .value)) n up
+      ap (λ (w : List ℕ). w ++ up) (node-way l n xs c ys hi s from to) ∙ append-snoc (way x l (c .value)) n up
 
   -- a key that stands below the page stands in the child to which it belongs
-  there-in : (l : ℕ) (xs : List (Keyed (Tr l))) (c : Keyed (Tr l)) (ys : List (Keyed (Tr l))) (lo hi : ℕ)
+  pub there-in : (l : ℕ) (xs : List (Keyed (Tr l))) (c : Keyed (Tr l)) (ys : List (Keyed (Tr l))) (lo hi : ℕ)
       → Run k (suc l) (xs ++ c ∷ ys) lo hi → c .key ≤ x → x < headKey ys hi
       → has x (gathered (entriesOf l) (xs ++ c ∷ ys)) ≡ true → has x (entriesOf l (c .value)) ≡ true
   there-in l xs c ys lo hi run from to h =
