@@ -4,3 +4,4 @@ pub mod Sorted
 pub mod Change
 pub mod Facts
 pub mod Insertion
+pub mod Deletion
