@@ -1,0 +1,54 @@
+use borrow.Author.Needs.{needs}
+use Rattle.slots.proofs.book.standing.Statement.{statement}
+use Rattle.slots.proofs.book.standing.Tie as tie
+use Rattle.slots.proofs.book.standing.Reads as reads
+use Rattle.slots.proofs.book.standing.Lts as lts
+
+abbrev Inv-loop : tie.InvT-loop
+Inv-loop order waiting s i₀ i = ?
+
+abbrev μ-loop : tie.MeasureT-loop
+μ-loop order waiting s i₀ i = ?
+
+loop-holds : tie.Need-loop-holds Inv-loop μ-loop
+loop-holds c = search needs
+
+add-loop : tie.Need-add-loop Inv-loop μ-loop
+add-loop c = search needs
+
+mul-if1 : tie.Need-mul-if1 Inv-loop μ-loop
+mul-if1 c = search needs
+
+element-copy-out-if1 : tie.Need-element-copy-out-if1 Inv-loop μ-loop
+element-copy-out-if1 c = search needs
+
+add-i : tie.Need-add-i Inv-loop μ-loop
+add-i c = search needs
+
+loop-less : tie.Need-loop-less Inv-loop μ-loop
+loop-less c = search needs
+
+loop-again : tie.Need-loop-again Inv-loop μ-loop
+loop-again c = search needs
+
+returns : tie.Need-returns Inv-loop μ-loop
+returns c = search needs
+
+returns-2 : tie.Need-returns-2 Inv-loop μ-loop
+returns-2 c = search needs
+
+pub standing-spec : {M : Type 1} → statement M
+standing-spec =
+    tie.close
+    (tie.spec
+    Inv-loop
+    μ-loop
+    loop-holds
+    add-loop
+    mul-if1
+    element-copy-out-if1
+    add-i
+    loop-less
+    loop-again
+    returns
+    returns-2)
