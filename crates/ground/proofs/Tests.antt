@@ -75,7 +75,8 @@ module _ {A : Type 0} (p : A → Bool) where
       cond-ind (λ (n : ℕ). n ≤ suc (length xs)) (p x) (λ y. omega arith) (λ n. omega arith)
 
   -- one element more
-  pub count-more : (xs : List A) (i : ℕ) (d : A) → i < length xs → count p (take (suc i) xs) ≡ count p (take i xs) + cond (p (getD xs i d)) 1 0
+  pub count-more : (xs : List A) (i : ℕ) (d : A) → i < length xs
+      → count p (take (suc i) xs) ≡ count p (take i xs) + cond (p (getD xs i d)) 1 0
   unfolding count
   count-more xs i d h = ap (count p) (take-suc xs i d h) ∙ count-append (take i xs) (getD xs i d ∷ [])
 
@@ -94,7 +95,8 @@ member-append x (y ∷ xs) ys =
     ap (λ (b : Bool). eqb x y || b) (member-append x xs ys) ∙ sym (or-assoc (eqb x y) (member x xs) (member x ys))
 
 -- one element more
-pub member-more : (x : ℕ) (xs : List ℕ) (i d : ℕ) → i < length xs → member x (take (suc i) xs) ≡ member x (take i xs) || eqb x (getD xs i d)
+pub member-more : (x : ℕ) (xs : List ℕ) (i d : ℕ) → i < length xs
+    → member x (take (suc i) xs) ≡ member x (take i xs) || eqb x (getD xs i d)
 unfolding member
 member-more x xs i d h =
     ap (member x) (take-suc xs i d h)
@@ -161,12 +163,14 @@ distinct-append (x ∷ xs) ys =
 -- in the first of two lists no number stands twice
 pub distinct-front : (xs ys : List ℕ) → distinct (xs ++ ys) ≡ true → distinct xs ≡ true
 distinct-front xs ys t =
-    and-first (distinct xs) (distinct ys) (and-first (distinct xs && distinct ys) (apart xs ys) (sym (distinct-append xs ys) ∙ t))
+    and-first (distinct xs) (distinct ys)
+    (and-first (distinct xs && distinct ys) (apart xs ys) (sym (distinct-append xs ys) ∙ t))
 
 -- in the second of two lists no number stands twice
 pub distinct-back : (xs ys : List ℕ) → distinct (xs ++ ys) ≡ true → distinct ys ≡ true
 distinct-back xs ys t =
-    and-second (distinct xs) (distinct ys) (and-first (distinct xs && distinct ys) (apart xs ys) (sym (distinct-append xs ys) ∙ t))
+    and-second (distinct xs) (distinct ys)
+    (and-first (distinct xs && distinct ys) (apart xs ys) (sym (distinct-append xs ys) ∙ t))
 
 -- two lists in which together no number stands twice are apart
 pub distinct-apart : (xs ys : List ℕ) → distinct (xs ++ ys) ≡ true → apart xs ys ≡ true
@@ -254,7 +258,8 @@ snoc-rises xs a d rising below i j l h =
     let within : j < suc (length xs) = omega (arith, length-append xs (a ∷ [])) in
     below-or-at (λ (z : ℕ). i < z → getD (xs ++ a ∷ []) i d < getD (xs ++ a ∷ []) z d)
     within
-    (λ inside l′. rw (List·getD-append xs (a ∷ []) d i (omega arith), List·getD-append xs (a ∷ []) d j inside) (rising i j l′ inside))
+    (λ inside l′. rw (List·getD-append xs (a ∷ []) d i (omega arith), List·getD-append xs (a ∷ []) d j inside)
+    (rising i j l′ inside))
     (λ l′. rw (List·getD-append xs (a ∷ []) d i l′, getD-append-seam xs a [] d) (below i l′))
     l
 
@@ -290,12 +295,12 @@ module _ (p : ℕ → Bool) where
   allBelow-stops n i h f = false-if-not-true (allBelow n p) (λ t. not-both (allBelow-at n t i h) f)
 
   -- not every number below n passes, so one fails
-  pub allBelow-fails : (n : ℕ) → allBelow n p ≡ false → (i : ℕ) × (i < n) × (p i ≡ false)
+  pub allBelow-false-at : (n : ℕ) → allBelow n p ≡ false → (i : ℕ) × (i < n) × (p i ≡ false)
   unfolding allBelow
-  allBelow-fails zero f = absurd (true≢false f)
-  allBelow-fails (suc n) f =
+  allBelow-false-at zero f = absurd (true≢false f)
+  allBelow-false-at (suc n) f =
       ⊎-elim
-      (λ b. let found = allBelow-fails n b in (found .0, omega arith, found .2))
+      (λ b. let found = allBelow-false-at n b in (found .0, omega arith, found .2))
       (λ a. (n, omega arith, a))
       (and-fails (allBelow n p) (p n) f)
 
@@ -332,12 +337,12 @@ module _ (p : ℕ → Bool) where
       (eq-or-lt-of-le (le-of-suc-le-suc h))
 
   -- no number below n passes, so each fails
-  pub anyBelow-fails : (n : ℕ) → anyBelow n p ≡ false → (i : ℕ) → i < n → p i ≡ false
-  anyBelow-fails n f i h = false-if-not-true (p i) (λ t. not-both (anyBelow-from n i h t) f)
+  pub anyBelow-false-at : (n : ℕ) → anyBelow n p ≡ false → (i : ℕ) → i < n → p i ≡ false
+  anyBelow-false-at n f i h = false-if-not-true (p i) (λ t. not-both (anyBelow-from n i h t) f)
 
   -- each number below n fails, so none passes
-  pub anyBelow-stays : (n : ℕ) → ((i : ℕ) → i < n → p i ≡ false) → anyBelow n p ≡ false
-  anyBelow-stays n f =
+  pub anyBelow-fails : (n : ℕ) → ((i : ℕ) → i < n → p i ≡ false) → anyBelow n p ≡ false
+  anyBelow-fails n f =
       false-if-not-true (anyBelow n p) (λ t. let found = anyBelow-at n t in not-both (found .2) (f (found .0) (found .1)))
 
   -- ---- how many numbers below n pass, and which
@@ -359,6 +364,17 @@ module _ (p : ℕ → Bool) where
   -- one number more that fails
   pub countBelow-skips : (n : ℕ) → p n ≡ false → countBelow (suc n) p ≡ countBelow n p
   countBelow-skips n f = countBelow-more n ∙ cond-false (suc (countBelow n p)) (countBelow n p) f
+
+  -- each number below n passes, so n pass
+  pub countBelow-all : (n : ℕ) → ((i : ℕ) → i < n → p i ≡ true) → countBelow n p ≡ n
+  countBelow-all zero f = countBelow-none
+  countBelow-all (suc n) f =
+      countBelow-passes n (f n (omega arith)) ∙ ap suc (countBelow-all n (λ i h. f i (omega arith)))
+
+  -- each number below n fails, so none passes
+  pub countBelow-fails : (n : ℕ) → ((i : ℕ) → i < n → p i ≡ false) → countBelow n p ≡ 0
+  countBelow-fails zero f = countBelow-none
+  countBelow-fails (suc n) f = countBelow-skips n (f n (omega arith)) ∙ countBelow-fails n (λ i h. f i (omega arith))
 
   -- at most all numbers below n pass
   pub countBelow-most : (n : ℕ) → countBelow n p ≤ n
@@ -405,7 +421,8 @@ module _ (p : ℕ → Bool) where
       ⊎-elim
       (λ f. let found = listBelow-at n x f in (omega arith, found .1))
       (λ l. last (p n) refl l)
-      (or-cases (member x (listBelow n p)) (member x (cond (p n) (n ∷ []) [])) (sym (member-append x (listBelow n p) (cond (p n) (n ∷ []) [])) ∙ m))
+      (or-cases (member x (listBelow n p)) (member x (cond (p n) (n ∷ []) []))
+      (sym (member-append x (listBelow n p) (cond (p n) (n ∷ []) [])) ∙ m))
     where
       last : (b : Bool) → p n ≡ b → member x (cond b (n ∷ []) []) ≡ true → (x < suc n) × (p x ≡ true)
       last true e l = let x≡n = eqb-true x n (sym (or-false (eqb x n)) ∙ l) in (omega arith, ap p x≡n ∙ e)
@@ -425,8 +442,11 @@ module _ (p : ℕ → Bool) where
       (eq-or-lt-of-le (le-of-suc-le-suc h))
 
   -- what stands at an index of the list is below n and passes
-  pub listBelow-index : (n i d : ℕ) → i < length (listBelow n p) → (getD (listBelow n p) i d < n) × (p (getD (listBelow n p) i d) ≡ true)
-  listBelow-index n i d h = listBelow-at n (getD (listBelow n p) i d) (member-from (getD (listBelow n p) i d) (listBelow n p) i d h refl)
+  pub listBelow-index : (n i d : ℕ) → i < length (listBelow n p)
+      → (getD (listBelow n p) i d < n) × (p (getD (listBelow n p) i d) ≡ true)
+  listBelow-index n i d h =
+      let x : ℕ = getD (listBelow n p) i d in
+      listBelow-at n x (member-from x (listBelow n p) i d h refl)
 
   -- the list rises
   pub listBelow-rises : (n d i j : ℕ) → i < j → j < length (listBelow n p) → getD (listBelow n p) i d < getD (listBelow n p) j d
@@ -463,7 +483,8 @@ module _ (p : ℕ → Bool) where
 
   firstBelow-is : (n : ℕ) → IsFirst n (firstBelow n p)
   unfolding firstBelow
-  firstBelow-is zero = record { most = omega arith; passes = λ h. absurd (not-suc-le-zero h); before = λ i h. absurd (not-suc-le-zero h) }
+  firstBelow-is zero =
+      record { most = omega arith; passes = λ h. absurd (not-suc-le-zero h); before = λ i h. absurd (not-suc-le-zero h) }
   firstBelow-is (suc n) =
       let f : ℕ = firstBelow n p in
       let was = firstBelow-is n in
@@ -542,7 +563,8 @@ module _ (p : ℕ → Bool) where
       let least = firstBelow-least n (getD (listBelow n p) 0 d) (head .1) in
       first-index (found .0) (found .2) (found .1) least
     where
-      first-index : (i : ℕ) → getD (listBelow n p) i d ≡ firstBelow n p → i < length (listBelow n p) → firstBelow n p ≤ getD (listBelow n p) 0 d
+      first-index : (i : ℕ) → getD (listBelow n p) i d ≡ firstBelow n p → i < length (listBelow n p)
+          → firstBelow n p ≤ getD (listBelow n p) 0 d
           → getD (listBelow n p) 0 d ≡ firstBelow n p
       first-index zero e l least = e
       first-index (suc i) e l least = let rising = listBelow-rises n d 0 (suc i) (omega arith) l in absurd (omega arith)
@@ -581,12 +603,14 @@ module _ (p q : ℕ → Bool) where
   unfolding firstBelow
   firstBelow-same zero f = refl
   firstBelow-same (suc n) f =
-      ap₂ (λ (a : ℕ) (b : Bool). cond (ltb a n) a (cond b n (suc n))) (firstBelow-same n (λ i h. f i (omega arith))) (f n (omega arith))
+      ap₂ (λ (a : ℕ) (b : Bool). cond (ltb a n) a (cond b n (suc n)))
+      (firstBelow-same n (λ i h. f i (omega arith)))
+      (f n (omega arith))
 
 -- no number below n passes, so the list is empty
-pub listBelow-empty : (p : ℕ → Bool) (n : ℕ) → ((i : ℕ) → i < n → p i ≡ false) → listBelow n p ≡ []
-listBelow-empty p zero f = listBelow-none p
-listBelow-empty p (suc n) f = listBelow-skips p n (f n (omega arith)) ∙ listBelow-empty p n (λ i h. f i (omega arith))
+pub listBelow-fails : (p : ℕ → Bool) (n : ℕ) → ((i : ℕ) → i < n → p i ≡ false) → listBelow n p ≡ []
+listBelow-fails p zero f = listBelow-none p
+listBelow-fails p (suc n) f = listBelow-skips p n (f n (omega arith)) ∙ listBelow-fails p n (λ i h. f i (omega arith))
 
 -- ---- a test with one passing number taken out: q is p, but that a fails
 
@@ -612,8 +636,8 @@ module _ (p q : ℕ → Bool) (a : ℕ) (passed : p a ≡ true) (fails : q a ≡
   listBelow-less zero h first same = absurd (not-suc-le-zero h)
   listBelow-less (suc n) h first same =
       ⊎-elim
-      (λ e. let none = listBelow-empty p n (λ i l. first i (omega arith)) in
-      let was : listBelow (suc n) p ≡ n ∷ [] = listBelow-passes p n (sym (ap p e) ∙ passed) ∙ ap (λ (xs : List ℕ). xs ++ n ∷ []) none in
+      (λ e. let none = listBelow-fails p n (λ i l. first i (omega arith)) in
+      let was = listBelow-passes p n (sym (ap p e) ∙ passed) ∙ ap (λ (xs : List ℕ). xs ++ n ∷ []) none in
       listBelow-skips q n (sym (ap q e) ∙ fails)
       ∙ listBelow-same q p n (λ i l. same i (omega arith) (omega arith))
       ∙ none

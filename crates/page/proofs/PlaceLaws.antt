@@ -47,9 +47,11 @@ pub place-is : (x : ℕ) (es : List Entry) (m : ℕ) → m ≤ length es → ((i
 unfolding place count
 place-is x [] m h low high = omega arith
 place-is x (e ∷ es) zero h low high =
-    place-skips x e es (high 0 (omega arith) (omega arith)) ∙ place-is x es 0 (omega arith) (λ i l. absurd (not-suc-le-zero l)) (λ i l b. high (suc i) (omega arith) (omega arith))
+    place-skips x e es (high 0 (omega arith) (omega arith))
+    ∙ place-is x es 0 (omega arith) (λ i l. absurd (not-suc-le-zero l)) (λ i l b. high (suc i) (omega arith) (omega arith))
 place-is x (e ∷ es) (suc m) h low high =
-    place-passes x e es (low 0 (omega arith)) ∙ ap suc (place-is x es m (omega arith) (λ i l. low (suc i) (omega arith)) (λ i l b. high (suc i) (omega arith) (omega arith)))
+    let rest = place-is x es m (omega arith) (λ i l. low (suc i) (omega arith)) (λ i l b. high (suc i) (omega arith) (omega arith)) in
+    place-passes x e es (low 0 (omega arith)) ∙ ap suc rest
 
 -- keys that rise from one greater than x on: none is at most x
 place-zero : (x : ℕ) (e : Entry) (es : List Entry) → rises (e ∷ es) ≡ true → x < e .key → place x (e ∷ es) ≡ 0
@@ -71,7 +73,8 @@ place-before x (e ∷ es) t i h =
     (λ p. let zero-place = place-zero x e es t (leb-false (e .key) x p) in absurd (omega arith))
     (true-or-false (leb (e .key) x))
   where
-    at : (i : ℕ) → e .key ≤ x → ((j : ℕ) → suc j < place x (e ∷ es) → keyAt j es ≤ x) → i < place x (e ∷ es) → keyAt i (e ∷ es) ≤ x
+    at : (i : ℕ) → e .key ≤ x → ((j : ℕ) → suc j < place x (e ∷ es) → keyAt j es ≤ x) → i < place x (e ∷ es)
+        → keyAt i (e ∷ es) ≤ x
     at zero low f l = low
     at (suc j) low f l = f j l
 
@@ -85,7 +88,8 @@ place-behind x (e ∷ es) t zero l h =
     (true-or-false (leb (e .key) x))
 place-behind x (e ∷ es) t (suc i) l h =
     ⊎-elim
-    (λ p. let step = place-passes x e es (leb-true (e .key) x p) in place-behind x es (rises-drop 1 (e ∷ es) t) i (omega arith) (omega arith))
+    (λ p. let step = place-passes x e es (leb-true (e .key) x p) in
+    place-behind x es (rises-drop 1 (e ∷ es) t) i (omega arith) (omega arith))
     (λ p. lt-trans (leb-false (e .key) x p) (rises-at (e ∷ es) t 0 (suc i) (omega arith) h))
     (true-or-false (leb (e .key) x))
 
@@ -155,16 +159,20 @@ has-place x es t y =
     let back : place x es - 1 ≡ i = omega arith in
     (omega arith, ap (λ (j : ℕ). keyAt j es) back ∙ found .2)
 
+-- a key stands that is the key just before its place
+pub place-has : (x : ℕ) (es : List Entry) → 0 < place x es → keyAt (place x es - 1) es ≡ x → has x es ≡ true
+place-has x es some e = let most = place-most x es in has-from x es (place x es - 1) (omega arith) e
+
 -- On rising keys one look tells whether a key stands: at the entry just before its place.
 pub has-test : (x : ℕ) (es : List Entry) → rises es ≡ true → has x es ≡ ltb 0 (place x es) && eqb (keyAt (place x es - 1) es) x
 has-test x es t =
     let some : Bool = ltb 0 (place x es) in
-    let same : Bool = eqb (keyAt (place x es - 1) es) x in
-    let most = place-most x es in
-    same-if-true-together (has x es) (some && same)
-    (λ y. let there = has-place x es t y in and-both (lt-ltb 0 (place x es) (there .0)) (eq-eqb (keyAt (place x es - 1) es) x (there .1)))
-    (λ y. let positive = ltb-true 0 (place x es) (and-first some same y) in
-    has-from x es (place x es - 1) (omega arith) (eqb-true (keyAt (place x es - 1) es) x (and-second some same y)))
+    let last : ℕ = keyAt (place x es - 1) es in
+    same-if-true-together (has x es) (some && eqb last x)
+    (λ y. let there = has-place x es t y in and-both (lt-ltb 0 (place x es) (there .0)) (eq-eqb last x (there .1)))
+    (λ y. place-has x es
+    (ltb-true 0 (place x es) (and-first some (eqb last x) y))
+    (eqb-true last x (and-second some (eqb last x) y)))
 
 -- ---- information
 
@@ -177,7 +185,8 @@ information-none x (e ∷ es) f =
     ∙ information-none x es (or-second-fails (eqb (e .key) x) (has x es) f)
 
 -- on rising keys, the information of the key at index i is the value there
-pub information-at : (x : ℕ) (es : List Entry) → rises es ≡ true → (i : ℕ) → i < length es → keyAt i es ≡ x → information x es ≡ entryAt i es .value
+pub information-at : (x : ℕ) (es : List Entry) → rises es ≡ true → (i : ℕ) → i < length es → keyAt i es ≡ x
+    → information x es ≡ entryAt i es .value
 unfolding information
 information-at x [] t i h e = absurd (not-suc-le-zero h)
 information-at x (f ∷ es) t zero h e = cond-true (f .value) (information x es) (eq-eqb (f .key) x e)
@@ -197,7 +206,8 @@ without-none x (e ∷ es) f =
     ∙ ap (λ (r : List Entry). e ∷ r) (without-none x es (or-second-fails (eqb (e .key) x) (has x es) f))
 
 -- on rising keys, the entries less the key at index i are those before i and those behind it
-pub without-at : (x : ℕ) (es : List Entry) → rises es ≡ true → (i : ℕ) → i < length es → keyAt i es ≡ x → without x es ≡ take i es ++ drop (suc i) es
+pub without-at : (x : ℕ) (es : List Entry) → rises es ≡ true → (i : ℕ) → i < length es → keyAt i es ≡ x
+    → without x es ≡ take i es ++ drop (suc i) es
 unfolding without
 without-at x [] t i h e = absurd (not-suc-le-zero h)
 without-at x (f ∷ es) t zero h e = cond-true es (f ∷ without x es) (eq-eqb (f .key) x e)
@@ -213,7 +223,8 @@ length-without x [] t = absurd (false≢true t)
 length-without x (e ∷ es) t =
     cond-ind (λ (l : List Entry). suc (length l) ≡ suc (length es)) (eqb (e .key) x)
     (λ here. refl)
-    (λ there. ap suc (length-without x es (⊎-elim (λ here. not-both here there) (λ later. later) (or-cases (eqb (e .key) x) (has x es) t))))
+    (λ there. ap suc (length-without x es
+    (⊎-elim (λ here. not-both here there) (λ later. later) (or-cases (eqb (e .key) x) (has x es) t))))
 
 -- rising keys less one rise
 pub rises-without : (x : ℕ) (es : List Entry) → rises es ≡ true → rises (without x es) ≡ true

@@ -31,10 +31,13 @@ put-entries i e P = refl
 pub put-μ : (i : ℕ) (e : Entry) (P : Page) → μ (put i e P) ≡ suc (μ P)
 unfolding put
 put-μ i e P =
-    omega (arith, length-append (take i (P .entries)) (e ∷ drop i (P .entries)), length-append (take i (P .entries)) (drop i (P .entries)), ap length (take-append-drop i (P .entries)))
+    let es : List Entry = P .entries in
+    let all = ap length (take-append-drop i es) in
+    omega (arith, length-append (take i es) (e ∷ drop i es), length-append (take i es) (drop i es))
 
 -- Keys rise on where the new key is greater than all before place i and lower than all from there on.
-pub put-rises : (i : ℕ) (e : Entry) (P : Page) → rises (P .entries) ≡ true → ((j : ℕ) → j < i → j < μ P → keyAt j (P .entries) < e .key)
+pub put-rises : (i : ℕ) (e : Entry) (P : Page) → rises (P .entries) ≡ true
+    → ((j : ℕ) → j < i → j < μ P → keyAt j (P .entries) < e .key)
     → ((j : ℕ) → i ≤ j → j < μ P → e .key < keyAt j (P .entries)) → rises (put i e P .entries) ≡ true
 unfolding put
 put-rises i e P t low high =

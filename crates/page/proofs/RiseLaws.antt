@@ -1,6 +1,6 @@
 -- Rising keys: the test and the order of any two keys, each from the other, and what parts and joins keep of it.
 use Prim.Native.Nat.{ℕ, zero, suc, _+_, _≤_, _<_}
-use mathlib.Core.Bool.{true, false, _&&_}
+use mathlib.Core.Bool.{Bool, true, false, _&&_}
 use mathlib.Core.List.{List, [], _∷_, _++_}
 use mathlib.Core.Path.{_≡_, refl, ap, subst, subst₂}
 use native.Mathlib.Nat.{le-of-suc-le-suc, not-suc-le-zero, lt-trans}
@@ -72,7 +72,8 @@ rises-from (e ∷ es) f =
 
 -- a key that is not lower than the next, so the keys do not rise
 pub rises-stops : (es : List Entry) (i : ℕ) → suc i < length es → keyAt (suc i) es ≤ keyAt i es → rises es ≡ false
-rises-stops es i h l = false-if-not-true (rises es) (λ t. let up = rises-at es t i (suc i) (omega arith) h in absurd (omega arith))
+rises-stops es i h l =
+    false-if-not-true (rises es) (λ t. let up = rises-at es t i (suc i) (omega arith) h in absurd (omega arith))
 
 -- the first n of rising keys rise
 pub rises-take : (n : ℕ) (es : List Entry) → rises es ≡ true → rises (take n es) ≡ true
@@ -139,28 +140,45 @@ pub rises-cons : (e : Entry) (es : List Entry) → rises es ≡ true → (0 < le
 unfolding rises
 rises-cons e es = risesFrom-from (e .key) es
 
--- one key more behind rising ones: they rise on if the last is lower than it
+-- one key more behind rising ones, greater than the last of them: they rise on
+rises-longer : (es : List Entry) (i : ℕ) → suc i < length es → rises (take (suc i) es) ≡ true → keyAt i es < keyAt (suc i) es
+    → rises (take (suc (suc i)) es) ≡ true
+rises-longer es i h t up = rises-from (take (suc (suc i)) es) next
+  where
+    within : (j : ℕ) → j < i → keyAt j es < keyAt (suc j) es
+    within j l =
+        subst₂ (λ (a b : ℕ). a < b)
+        (keyAt-take (suc i) es j (omega arith))
+        (keyAt-take (suc i) es (suc j) (omega arith))
+        (rises-at (take (suc i) es) t j (suc j) (omega arith) (omega (arith, length-take-le (suc i) es (omega arith))))
+
+    next : (j : ℕ) → suc j < length (take (suc (suc i)) es)
+        → keyAt j (take (suc (suc i)) es) < keyAt (suc j) (take (suc (suc i)) es)
+    next j l =
+        let long = length-take-le (suc (suc i)) es h in
+        rw (keyAt-take (suc (suc i)) es j (omega arith), keyAt-take (suc (suc i)) es (suc j) (omega arith))
+        (below-or-at (λ (m : ℕ). keyAt m es < keyAt (suc m) es) {n = i} (omega arith) (within j) up)
+
+-- one key more: the keys rise on if they rose and the last is lower than the new one
 pub rises-more : (es : List Entry) (i : ℕ) → suc i < length es
     → rises (take (suc (suc i)) es) ≡ rises (take (suc i) es) && ltb (keyAt i es) (keyAt (suc i) es)
 rises-more es i h =
-    let two : List Entry = take (suc (suc i)) es in
-    let one : List Entry = take (suc i) es in
-    let longer : length two ≡ suc (suc i) = length-take-le (suc (suc i)) es h in
-    let long : length one ≡ suc i = length-take-le (suc i) es (omega arith) in
-    same-if-true-together (rises two) (rises one && ltb (keyAt i es) (keyAt (suc i) es))
-    (λ t. and-both
-    (subst (λ (l : List Entry). rises l ≡ true) (take-take (suc i) (suc (suc i)) es (omega arith)) (rises-take (suc i) two t))
-    (lt-ltb (keyAt i es) (keyAt (suc i) es)
-    (subst₂ (λ (a b : ℕ). a < b)
-    (keyAt-take (suc (suc i)) es i (omega arith))
-    (keyAt-take (suc (suc i)) es (suc i) (omega arith))
-    (rises-at two t i (suc i) (omega arith) (omega arith)))))
-    (λ t. rises-from two
-    (λ j l. rw (keyAt-take (suc (suc i)) es j (omega arith), keyAt-take (suc (suc i)) es (suc j) (omega arith))
-    (below-or-at (λ (m : ℕ). keyAt m es < keyAt (suc m) es) {n = i}
-    (omega arith)
-    (λ below. subst₂ (λ (a b : ℕ). a < b)
-    (keyAt-take (suc i) es j (omega arith))
-    (keyAt-take (suc i) es (suc j) (omega arith))
-    (rises-at one (and-first (rises one) (ltb (keyAt i es) (keyAt (suc i) es)) t) j (suc j) (omega arith) (omega arith)))
-    (ltb-true (keyAt i es) (keyAt (suc i) es) (and-second (rises one) (ltb (keyAt i es) (keyAt (suc i) es)) t)))))
+    let longer : List Entry = take (suc (suc i)) es in
+    let was : Bool = rises (take (suc i) es) in
+    let up : Bool = ltb (keyAt i es) (keyAt (suc i) es) in
+    same-if-true-together (rises longer) (was && up)
+    (λ t. and-both (shorter t) (lt-ltb (keyAt i es) (keyAt (suc i) es) (rose t)))
+    (λ t. rises-longer es i h (and-first was up t) (ltb-true (keyAt i es) (keyAt (suc i) es) (and-second was up t)))
+  where
+    shorter : rises (take (suc (suc i)) es) ≡ true → rises (take (suc i) es) ≡ true
+    shorter t =
+        subst (λ (l : List Entry). rises l ≡ true)
+        (take-take (suc i) (suc (suc i)) es (omega arith))
+        (rises-take (suc i) (take (suc (suc i)) es) t)
+
+    rose : rises (take (suc (suc i)) es) ≡ true → keyAt i es < keyAt (suc i) es
+    rose t =
+        subst₂ (λ (a b : ℕ). a < b)
+        (keyAt-take (suc (suc i)) es i (omega arith))
+        (keyAt-take (suc (suc i)) es (suc i) (omega arith))
+        (rises-at (take (suc (suc i)) es) t i (suc i) (omega arith) (omega (arith, length-take-le (suc (suc i)) es h)))

@@ -1,16 +1,20 @@
 -- A page sound by itself, as facts: what the test on its words tells of its value, and the test from those facts.
-use Prim.Native.Nat.{ℕ, _+_, _-_, _*_, _≤_}
+use Prim.Native.Nat.{ℕ, _+_, _-_, _*_, _≤_, _<_}
 use mathlib.Core.Bool.{Bool, true, false, cond, _&&_}
 use mathlib.Core.List.{List}
+use mathlib.Core.Logic.{_≢_}
 use mathlib.Core.Path.{_≡_, refl, sym, _∙_}
-use borrow.Author.Tests.{leb-true, le-leb}
+use borrow.Author.Tests.{leb-true, le-leb, ltb-true}
 use lib.Dec.{leb, ltb, eqb}
-use lib.ListN.{length, getD, drop}
+use native.Mathlib.Omega.{arith}
+use lib.ListN.{length, getD, drop, length-map}
 use Rattle.ground.specs.Limits.{tallest}
 use Rattle.ground.specs.Tests.{all, distinct}
 use Rattle.ground.proofs.Bools.{and-first, and-second, and-both}
+use Rattle.ground.proofs.Tests.{all-at, distinct-at}
 use Rattle.ground.proofs.Choice.{cond-ind, cond-true, cond-false}
-use Rattle.page.specs.Words.{Page, μ, isLeaf, pointers, used, pairsFrom, view, encode, size}
+use Rattle.page.specs.Words.{Page, μ, isLeaf, pointers, valueOf, used, pairsFrom, view, encode, size}
+use Rattle.page.specs.Place.{pointer}
 use Rattle.page.specs.Sound.{rises, least, goodPointers, soundByItself}
 use Rattle.page.proofs.Fits.{Fits}
 use Rattle.page.proofs.WordLaws.{encode-μ, view-encode, encode-view, view-μ, encode-behind, zeros-pass}
@@ -110,5 +114,23 @@ sound-test k n p P s =
     (and-both (le-leb 1 (P .level) (s .lowest)) (le-leb (P .level) tallest (s .highest)))
     (and-both (le-leb (least k p (isLeaf P)) (μ P) (s .enough)) (le-leb (μ P) (2 * k) (s .room))))
     (s .rising))
-    (cond-ind (λ (b : Bool). b ≡ true) (isLeaf P) (λ leaf. refl) (λ upper. and-both (s .pointersApart upper) (s .pointersInPool upper))))
+    (cond-ind (λ (b : Bool). b ≡ true) (isLeaf P)
+    (λ leaf. refl)
+    (λ upper. and-both (s .pointersApart upper) (s .pointersInPool upper))))
     (rw (encode-behind k P) (zeros-pass (size k - length (used P)))))
+
+-- In a sound page above the leaves each pointer is a page of the pool other than page 0.
+pub sound-pointer : {k n p : ℕ} {P : Page} → SoundPage k n p P → isLeaf P ≡ false → (i : ℕ) → i ≤ μ P
+    → (1 ≤ pointer i P) × (pointer i P < n)
+sound-pointer {n = n} {P = P} s upper i h =
+    let q : ℕ = pointer i P in
+    let len = length-map (P .entries) valueOf in
+    let t = all-at (λ (r : ℕ). leb 1 r && ltb r n) (pointers P) 0 (s .pointersInPool upper) i (omega arith) in
+    (leb-true 1 q (and-first (leb 1 q) (ltb q n) t), ltb-true q n (and-second (leb 1 q) (ltb q n) t))
+
+-- In a sound page above the leaves no two pointers are the same.
+pub sound-pointers-differ : {k n p : ℕ} {P : Page} → SoundPage k n p P → isLeaf P ≡ false → (i j : ℕ) → i < j → j ≤ μ P
+    → pointer i P ≢ pointer j P
+sound-pointers-differ {P = P} s upper i j l h =
+    let len = length-map (P .entries) valueOf in
+    distinct-at (pointers P) 0 (s .pointersApart upper) i j l (omega arith)

@@ -9,6 +9,7 @@ use lib.ListN.{length, getD, take, drop, replicate, length-append, length-replic
 use lib.Seq.{length-take-le, drop-at}
 use Rattle.ground.specs.Tests.{all}
 use Rattle.ground.proofs.Bools.{and-first, and-second}
+use Rattle.ground.proofs.Choice.{cond-ind}
 use Rattle.page.specs.Words.{Entry, Page, page, μ, isLeaf, freePage, flat, used, encode, pairs, pairsFrom, view, size}
 use Rattle.page.proofs.Fits.{Fits}
 use borrow.Author.Tests.{eqb-true}
@@ -43,7 +44,9 @@ flat-pairs (suc m) (x ∷ (v ∷ ws)) h =
     let twice : 2 * suc m ≡ suc (suc (2 * m)) = omega arith in
     rw twice (ap (λ (r : List ℕ). x ∷ v ∷ r) (flat-pairs m ws (omega arith)))
 
-length-behind-two : (leaf : Bool) (f : ℕ) (es : List Entry) → 2 + length (cond leaf (flat es) (f ∷ flat es)) ≡ cond leaf 2 3 + 2 * length es
+-- the words behind word 1, counted with the two before them
+length-behind-two : (leaf : Bool) (f : ℕ) (es : List Entry)
+    → 2 + length (cond leaf (flat es) (f ∷ flat es)) ≡ cond leaf 2 3 + 2 * length es
 length-behind-two true f es = let h = length-flat es in omega arith
 length-behind-two false f es = let h = length-flat es in omega arith
 
@@ -53,11 +56,7 @@ length-used P = let h = length-behind-two (isLeaf P) (P .first) (P .entries) in 
 
 -- the pairs begin at word 3 at the latest
 pub pairsFrom-most : (level : ℕ) → pairsFrom level ≤ 3
-pairsFrom-most level = two-or-three (eqb level 1)
-  where
-    two-or-three : (leaf : Bool) → cond leaf 2 3 ≤ 3
-    two-or-three true = omega arith
-    two-or-three false = omega arith
+pairsFrom-most level = cond-ind (λ (m : ℕ). m ≤ 3) (eqb level 1) (λ leaf. omega arith) (λ upper. omega arith)
 
 -- a page that fits fills a page's words to the last
 pub length-encode : (k : ℕ) (P : Page) → Fits k P → length (encode k P) ≡ size k
@@ -69,11 +68,13 @@ length-encode k P fits =
     ∙ ap (λ (j : ℕ). length (used P) + j) (length-replicate (size k - length (used P)) 0)
     ∙ omega arith
 
+-- p0 is read back
 first-again : (leaf : Bool) (l m f : ℕ) (es : List Entry) (ws : List ℕ) → (leaf ≡ true → f ≡ 0)
     → cond leaf 0 (getD (l ∷ m ∷ (cond leaf (flat es) (f ∷ flat es) ++ ws)) 2 0) ≡ f
 first-again true l m f es ws h = sym (h refl)
 first-again false l m f es ws h = refl
 
+-- the pairs are read back
 pairs-again : (leaf : Bool) (l m f : ℕ) (es : List Entry) (ws : List ℕ)
     → pairs (length es) (drop (cond leaf 2 3) (l ∷ m ∷ (cond leaf (flat es) (f ∷ flat es) ++ ws))) ≡ es
 pairs-again true l m f es ws = pairs-flat es ws
@@ -98,6 +99,7 @@ pub encode-μ : (k : ℕ) (P : Page) → getD (encode k P) 1 0 ≡ μ P
 unfolding encode
 encode-μ k P = refl
 
+-- the words of what is read from three words and the rest are these words as far as they are used
 used-again : (leaf : Bool) (l m f : ℕ) (rest : List ℕ) → cond leaf 2 3 + 2 * m ≤ length (l ∷ m ∷ f ∷ rest)
     → l ∷ length (pairs m (drop (cond leaf 2 3) (l ∷ m ∷ f ∷ rest)))
     ∷ cond leaf
@@ -128,7 +130,8 @@ view-μ k ws len inRange =
     length-pairs (getD ws 1 0) (drop (pairsFrom (getD ws 0 0)) ws) (omega (arith, length-drop (pairsFrom (getD ws 0 0)) ws))
 
 -- the words behind a page's pairs are 0
-pub encode-behind : (k : ℕ) (P : Page) → drop (pairsFrom (P .level) + 2 * μ P) (encode k P) ≡ replicate (size k - length (used P)) 0
+pub encode-behind : (k : ℕ) (P : Page)
+    → drop (pairsFrom (P .level) + 2 * μ P) (encode k P) ≡ replicate (size k - length (used P)) 0
 unfolding encode
 encode-behind k P = drop-at (used P) (replicate (size k - length (used P)) 0) (pairsFrom (P .level) + 2 * μ P) (length-used P)
 

@@ -1,2 +1,4 @@
+pub mod FreeLaws
+pub mod FreshLaws
 pub mod StretchLaws
 pub mod WriteLaws

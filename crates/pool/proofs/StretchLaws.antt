@@ -53,7 +53,8 @@ length-wordsOf k n p ws h len =
     length-take-le (size k) (drop (start k p) ws) (omega (arith, length-drop (start k p) ws))
 
 -- words that agree on the first m pages agree as far as these go
-same-front : (k m : ℕ) (vs ws : List ℕ) → ((p : ℕ) → p < m → wordsOf k p vs ≡ wordsOf k p ws) → take (start k m) vs ≡ take (start k m) ws
+same-front : (k m : ℕ) (vs ws : List ℕ) → ((p : ℕ) → p < m → wordsOf k p vs ≡ wordsOf k p ws)
+    → take (start k m) vs ≡ take (start k m) ws
 unfolding wordsOf
 same-front k zero vs ws h = rw (start-zero k)
 same-front k (suc m) vs ws h =

@@ -55,7 +55,8 @@ read-behind l j i [] h = refl
 read-behind l j i (v ∷ vs) h = read-behind (set l i v) j (suc i) vs (omega arith) ∙ drop-set-lt j l i v (omega arith)
 
 -- the words of a page just written are those of its new value
-pub wordsOf-written-same : (k n p : ℕ) (P : Page) (ws : List ℕ) → p < n → length ws ≡ poolLength k n → length (encode k P) ≡ size k
+pub wordsOf-written-same : (k n p : ℕ) (P : Page) (ws : List ℕ) → p < n → length ws ≡ poolLength k n
+    → length (encode k P) ≡ size k
     → wordsOf k p (written k (write p P) ws) ≡ encode k P
 unfolding wordsOf written
 wordsOf-written-same k n p P ws h len full =
@@ -104,13 +105,15 @@ all-fit-append k n [] after b a = a
 all-fit-append k n (w ∷ rest) after b a = (b .0, all-fit-append k n rest after (b .1) a)
 
 -- writing one list and then another is writing both
-pub applied-append : (k : ℕ) (before after : List Write) (ws : List ℕ) → applied k (before ++ after) ws ≡ applied k after (applied k before ws)
+pub applied-append : (k : ℕ) (before after : List Write) (ws : List ℕ)
+    → applied k (before ++ after) ws ≡ applied k after (applied k before ws)
 unfolding applied
 applied-append k [] after ws = refl
 applied-append k (w ∷ rest) after ws = applied-append k rest after (written k w ws)
 
 -- a page that no write names keeps its words
-pub wordsOf-applied-other : (k n q : ℕ) (writes : List Write) (ws : List ℕ) → AllFit k n writes → member q (namedBy writes) ≡ false
+pub wordsOf-applied-other : (k n q : ℕ) (writes : List Write) (ws : List ℕ) → AllFit k n writes
+    → member q (namedBy writes) ≡ false
     → wordsOf k q (applied k writes ws) ≡ wordsOf k q ws
 unfolding applied member
 wordsOf-applied-other k n q [] ws fit h = refl
@@ -134,7 +137,9 @@ wordsOf-applied-last k n before w after ws fit fitAfter len h =
     let was : List ℕ = applied k before ws in
     ap (wordsOf k (w .at)) (applied-append k before (w ∷ after) ws)
     ∙ wordsOf-applied-other k n (w .at) after (written k w was) fitAfter h
-    ∙ wordsOf-written-same k n (w .at) (w .value) was (fit .inPool) (length-applied k before ws ∙ len) (length-encode k (w .value) (fit .fits))
+    ∙ wordsOf-written-same k n (w .at) (w .value) was (fit .inPool)
+    (length-applied k before ws ∙ len)
+    (length-encode k (w .value) (fit .fits))
 
 -- a page that no later write names has the value written
 pub pageAt-applied-last : (k n : ℕ) (before : List Write) (w : Write) (after : List Write) (ws : List ℕ) → FitWrite k n w
