@@ -1,6 +1,10 @@
 // The state after a slot began, went on or closed: only that slot and the waiting order change.
-use crate::{Op, Slot, State, Task};
-use ground::{HELD, SLOTS};
+use crate::Op;
+use crate::Slot;
+use crate::State;
+use crate::Task;
+use ground::HELD;
+use ground::SLOTS;
 ghost use mathlib.Core.Path.{_≡_};
 ghost use mathlib.Core.List.{List, [], _∷_, _++_};
 ghost use mathlib.Core.Bool.{true};
@@ -129,9 +133,9 @@ pub fn holding_beside(op: Op, want: u32, slot: Slot, p: u32) -> Slot
 }
 
 // Where slot s stands among the first `waiting` cells of the order.
-pub fn standing(order: &[usize; SLOTS], waiting: usize, s: usize) -> usize
-    requires { ⌜ (waiting ≤ slotCount) × (member s (take waiting (now order)) ≡ true) ⌝ }
-    ensures { λ r. ⌜ (r < waiting) × (leaving s (take waiting (now (order .entry))) ≡ take r (now (order .entry)) ++ drop (r + 1) (take waiting (now (order .entry)))) ⌝ }
+pub fn standing(order: [usize; SLOTS], waiting: usize, s: usize) -> usize
+    requires { ⌜ (waiting ≤ slotCount) × (member s (take waiting order) ≡ true) ⌝ }
+    ensures { λ r. ⌜ (r < waiting) × (leaving s (take waiting order) ≡ take r order ++ drop (r + 1) (take waiting order)) ⌝ }
 {
     let mut i = 0;
     while i + 1 < waiting {
@@ -148,7 +152,7 @@ pub fn leave(order: [usize; SLOTS], waiting: usize, s: usize, last: usize) -> [u
     requires { ⌜ (waiting ≤ slotCount) × (member s (take waiting order) ≡ true) ⌝ }
     ensures { λ r. ⌜ r ≡ leaving s (take waiting order) ++ last ∷ drop waiting order ⌝ }
 {
-    let at = standing(&order, waiting, s);
+    let at = standing(order, waiting, s);
     let mut next = order;
     let mut i = at + 1;
     while i < waiting {

@@ -1,17 +1,15 @@
 -- The loop's invariant: the first i cells are copied, and 0 stands behind them.
-use Prim.Native.Nat.{_≤_, _-_}
+use Prim.Native.Nat.{ℕ, _≤_, _-_}
 use mathlib.Core.Path.{_≡_, _∙_, ap}
+use mathlib.Core.List.{List}
 use native.Mathlib.Omega.{arith}
-use native.Mathlib.Numerals.{add-one}
-use lib.ListN.{length, take}
+use lib.ListN.{length, getD, take, set}
 use borrow.Author.Needs.{needs}
 use Rattle.ground.specs.Limits.{pathHolds}
 use Rattle.ground.specs.Tests.{padded}
 use Rattle.slots.proofs.BookLaws.{padded-more}
 use Rattle.slots.proofs.book.tidy.Statement.{statement}
 use Rattle.slots.proofs.book.tidy.Tie as tie
-use Rattle.slots.proofs.book.tidy.Reads as reads
-use Rattle.slots.proofs.book.tidy.Lts as lts
 
 abbrev Inv-loop : tie.InvT-loop
 Inv-loop count cells next₀ i₀ next i = (i ≤ count) × (next ≡ padded pathHolds (take i cells)) × (length cells ≡ 10)
@@ -40,17 +38,26 @@ unfolding pathHolds
 array-write-next c = search needs
 
 add-i : tie.Need-add-i Inv-loop μ-loop
-unfolding pathHolds
 add-i c = search needs
 
 loop-less : tie.Need-loop-less Inv-loop μ-loop
 loop-less c = search needs
 
 loop-again : tie.Need-loop-again Inv-loop μ-loop
-loop-again c = ?
+unfolding pathHolds
+loop-again c =
+    let cells : List ℕ = c .before .before .args .t1 in
+    let i : ℕ = c .before .loop .i in
+    let inv = c .before .loop .inv in (
+      omega arith,
+      ap (λ (l : List ℕ). set l i (getD cells i 0)) (inv .1) ∙ padded-more pathHolds cells i (omega arith) (omega arith),
+      inv .2,
+    )
 
 returns : tie.Need-returns Inv-loop μ-loop
-returns c = ?
+returns c =
+    let e : c .before .loop .i ≡ c .before .before .args .count = omega arith in
+    c .before .loop .inv .1 ∙ ap (λ (n : ℕ). padded pathHolds (take n (c .before .before .args .t1))) e
 
 pub tidy-spec : {M : Type 1} → statement M
 tidy-spec =
