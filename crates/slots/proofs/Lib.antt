@@ -1,3 +1,9 @@
 pub mod Unique
 pub mod Refusals
 pub mod BookLaws
+pub mod SoundFacts
+pub mod OrderLaws
+pub mod Clashes
+pub mod Keeping
+pub mod GrantLaws
+pub mod Holders
