@@ -1,5 +1,7 @@
 pub mod Unique
 pub mod Refusals
+pub mod BookLaws
+pub mod GrantingLaws
 pub mod SoundFacts
 pub mod OrderLaws
 pub mod Clashes

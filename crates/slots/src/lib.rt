@@ -1,4 +1,7 @@
 // Slots and locks: who holds what, who waits for whom. The state and what the caller hears.
+pub mod book;
+pub mod granting;
+
 use ground::HELD;
 use ground::SLOTS;
 
