@@ -2,27 +2,27 @@
 -- under the same father is asked for. All pages on the way and all siblings hang in different places.
 use Prim.Native.Nat.{ℕ, zero, suc, _+_, _*_, _≤_, _<_}
 use native.Mathlib.Omega.{arith}
-use mathlib.Core.Bool.{Bool, true, false, cond}
-use mathlib.Core.List.{List, [], _∷_, _++_, append-nil, append-assoc}
-use mathlib.Core.Logic.{_⊎_, inl, inr, ⊎-elim}
+use mathlib.Core.Bool.{true, cond}
+use mathlib.Core.List.{List, [], _∷_, _++_, append-nil}
+use mathlib.Core.Logic.{inl, inr}
 use mathlib.Core.Path.{_≡_, refl, sym, ap, _∙_, subst}
 use borrow.Author.Tests.{ltb-true, ltb-false}
 use lib.Dec.{ltb}
 use lib.ListN.{length, getD, length-append, List·getD-append}
 use lib.Seq.{append-snoc, getD-at}
 use Rattle.ground.specs.Limits.{wordRange}
-use Rattle.ground.specs.Tests.{member, distinct}
 use Rattle.ground.proofs.Choice.{cond-true, cond-false}
 use Rattle.page.specs.Words.{Keyed, Page, μ}
 use Rattle.page.specs.Place.{has}
 use Rattle.page.specs.Short.{neighbour}
-use Rattle.change.specs.Deletion.{Need, nothing, sibling, astray, satisfied, needs}
-use Rattle.tree.specs.Rows.{headKey, Span, Somewhere, total, followed}
+use Rattle.change.specs.Deletion.{nothing, sibling, astray, satisfied, needs}
+use Rattle.tree.specs.Rows.{headKey, Span, total, followed}
 use Rattle.tree.specs.Tree.{Tr, pageNumber, entriesOf, once, occurs, InRange, Stands, way, Forms}
-use Rattle.tree.specs.Change.{topOf, HeldWay}
+use Rattle.tree.specs.Change.{HeldWay}
 use Rattle.tree.specs.Deletion.{canSpare, Asked, Wanted, Needed, SiblingsThere}
-use Rattle.tree.proofs.Rows.{by-test, headKey-append, headKey-most, span-left, span-right, total-append, somewhere-right, Spot, spot}
-use Rattle.tree.proofs.Memory.{once-same, times, times-append, times-member, member-times, times-absent, times-distinct, root-occurs, way-occurs}
+use Rattle.tree.proofs.Rows.{by-test, headKey-append, headKey-most, span-left, span-right, total-append, somewhere-right, spot}
+use Rattle.tree.proofs.Memory.{once-same, times, times-append, member-times, times-absent, times-distinct, root-occurs}
+use Rattle.tree.proofs.InsertionTree.{ChildIn}
 use Rattle.tree.proofs.Mend.{treeAt, pageIn, occursIn, StandsIn, stands-top}
 use Rattle.tree.proofs.Pages.{right-neighbour, left-neighbour}
 use Rattle.tree.proofs.DeletionRule.{sibling≢nothing, astray≢nothing, astray≢sibling, sibling-same, needs-spare, needs-ask, needs-next, needs-root, needs-length, needs-held}
@@ -44,10 +44,10 @@ record Neighbour (l : ℕ) (row : List (Keyed (Tr l))) (hi : ℕ) (c : Tr l) (s 
 
 module _ (k : ℕ) (memory : ℕ → Page) (x l : ℕ) where
   -- a child's range is inside the row's
-  child-inside : (xs : List (Keyed (Tr l))) (d : Keyed (Tr l)) (ys : List (Keyed (Tr l))) (hi : ℕ) → Span (InRange k k (2 * k) l) (xs ++ d ∷ ys) hi
+  child-inside : (xs : List (Keyed (Tr l))) (d : Keyed (Tr l)) (ys : List (Keyed (Tr l))) (hi : ℕ) → Span (ChildIn k l) (xs ++ d ∷ ys) hi
       → (headKey (xs ++ d ∷ ys) hi ≤ d .key) × (headKey ys hi ≤ hi)
   child-inside xs d ys hi s =
-      let P = InRange k k (2 * k) l in
+      let P = ChildIn k l in
       let first : headKey (xs ++ d ∷ ys) hi ≡ headKey xs (d .key) = headKey-append xs (d ∷ ys) hi in
       let start : headKey xs (d .key) ≤ d .key = headKey-most P xs (d .key) (span-left P xs (d ∷ ys) hi s) in
       (omega arith, headKey-most P ys hi (span-right P xs (d ∷ ys) hi s .2))
@@ -59,10 +59,10 @@ module _ (k : ℕ) (memory : ℕ → Page) (x l : ℕ) where
       somewhere-right (λ (c : Tr l) (lo′ hi′ : ℕ). Stands l c lo′ hi′ q level a b) xs (d ∷ ys) hi (inl s)
 
   right-beside : (xs : List (Keyed (Tr l))) (c s : Keyed (Tr l)) (ys : List (Keyed (Tr l))) (hi : ℕ) (F : Page)
-      → Span (InRange k k (2 * k) l) (xs ++ c ∷ s ∷ ys) hi → F ≡ pageIn (suc l) (xs ++ c ∷ s ∷ ys) → c .key ≤ x → x < s .key
+      → Span (ChildIn k l) (xs ++ c ∷ s ∷ ys) hi → F ≡ pageIn (suc l) (xs ++ c ∷ s ∷ ys) → c .key ≤ x → x < s .key
       → Neighbour l (xs ++ c ∷ s ∷ ys) hi (c .value) (neighbour x F)
   right-beside xs c s ys hi F span top from to =
-      let P = InRange k k (2 * k) l in
+      let P = ChildIn k l in
       let is : neighbour x F ≡ pageNumber l (s .value) = ap (neighbour x) top ∙ right-neighbour P (suc (suc l)) (pageNumber l) xs c s ys hi x span from to in
       let snoc : (xs ++ c ∷ []) ++ s ∷ ys ≡ xs ++ c ∷ s ∷ ys = append-snoc xs c (s ∷ ys) in
       let inside : (headKey (xs ++ c ∷ s ∷ ys) hi ≤ s .key) × (headKey ys hi ≤ hi)
@@ -84,10 +84,10 @@ module _ (k : ℕ) (memory : ℕ → Page) (x l : ℕ) where
 
   left-beside : (xs : List (Keyed (Tr l))) (s c : Keyed (Tr l)) (hi : ℕ) (F : Page)
       → c .key ≤ x → x < hi
-      → Span (InRange k k (2 * k) l) (xs ++ s ∷ c ∷ []) hi → F ≡ pageIn (suc l) (xs ++ s ∷ c ∷ [])
+      → Span (ChildIn k l) (xs ++ s ∷ c ∷ []) hi → F ≡ pageIn (suc l) (xs ++ s ∷ c ∷ [])
       → Neighbour l (xs ++ s ∷ c ∷ []) hi (c .value) (neighbour x F)
   left-beside xs s c hi F from to span top =
-      let P = InRange k k (2 * k) l in
+      let P = ChildIn k l in
       let is : neighbour x F ≡ pageNumber l (s .value) = ap (neighbour x) top ∙ left-neighbour P (suc (suc l)) (pageNumber l) xs s c hi x span from to in
       let inside = child-inside xs s (c ∷ []) hi span in
       record {
@@ -104,12 +104,12 @@ module _ (k : ℕ) (memory : ℕ → Page) (x l : ℕ) where
       }
 
   beside-of : (xs : List (Keyed (Tr l))) (c : Keyed (Tr l)) (ys : List (Keyed (Tr l))) (hi : ℕ) (F : Page) → 2 ≤ length (xs ++ c ∷ ys)
-      → Span (InRange k k (2 * k) l) (xs ++ c ∷ ys) hi → F ≡ pageIn (suc l) (xs ++ c ∷ ys) → c .key ≤ x → x < headKey ys hi
+      → Span (ChildIn k l) (xs ++ c ∷ ys) hi → F ≡ pageIn (suc l) (xs ++ c ∷ ys) → c .key ≤ x → x < headKey ys hi
       → Neighbour l (xs ++ c ∷ ys) hi (c .value) (neighbour x F)
   beside-of xs c (s ∷ ys) hi F enough span top from to = right-beside xs c s ys hi F span top from to
   beside-of xs c [] hi F enough span top from to =
       let (L, s, cut) = one-last xs (omega (arith, length-append xs (c ∷ []))) in
-      subst (λ (row : List (Keyed (Tr l))). Span (InRange k k (2 * k) l) row hi → F ≡ pageIn (suc l) row → Neighbour l row hi (c .value) (neighbour x F))
+      subst (λ (row : List (Keyed (Tr l))). Span (ChildIn k l) row hi → F ≡ pageIn (suc l) row → Neighbour l row hi (c .value) (neighbour x F))
       (sym (ap (λ (row : List (Keyed (Tr l))). row ++ c ∷ []) cut ∙ append-snoc L s (c ∷ [])))
       (left-beside L s c hi F from to)
       span top
@@ -121,7 +121,7 @@ module _ (k : ℕ) (memory : ℕ → Page) (x : ℕ) where
   way-length : (m l : ℕ) (t : Tr l) (lo hi : ℕ) → InRange k m (2 * k) l t lo hi → lo ≤ x → x < hi → length (way x l t) ≡ suc l
   way-length m zero t lo hi r from to = refl
   way-length m (suc l) t lo hi r from to =
-      let P = InRange k k (2 * k) l in
+      let P = ChildIn k l in
       let sp = spot P x (t .row) hi (r .children) (omega (arith, r .low)) to in
       let s = span-right P (sp .before) (sp .here ∷ sp .after) hi (subst (λ (row : List (Keyed (Tr l))). Span P row hi) (sp .whole) (r .children)) in
       let ih : length (way x l (sp .here .value)) ≡ suc l = way-length k l (sp .here .value) (sp .here .key) (headKey (sp .after) hi) (s .1) (sp .from) (sp .to) in
@@ -157,12 +157,12 @@ record Beside (x l : ℕ) (t : Tr l) (lo hi s i : ℕ) : Type 0 where
   fromInside : least ≤ from
   toInside : to ≤ most
 
-module _ (k : ℕ) (memory : ℕ → Page) (x l n : ℕ) (xs : List (Keyed (Tr l))) (c : Keyed (Tr l)) (ys : List (Keyed (Tr l))) (lo hi : ℕ) (span : Span (InRange k k (2 * k) l) (xs ++ c ∷ ys) hi) (begins : headKey (xs ++ c ∷ ys) hi ≡ lo) (low : c .key ≤ x) (high : x < headKey ys hi) where
+module _ (k : ℕ) (memory : ℕ → Page) (x l n : ℕ) (xs : List (Keyed (Tr l))) (c : Keyed (Tr l)) (ys : List (Keyed (Tr l))) (lo hi : ℕ) (span : Span (ChildIn k l) (xs ++ c ∷ ys) hi) (begins : headKey (xs ++ c ∷ ys) hi ≡ lo) (low : c .key ≤ x) (high : x < headKey ys hi) where
   path : way x (suc l) (treeAt (suc l) n (xs ++ c ∷ ys)) ≡ way x l (c .value) ++ n ∷ []
   path = node-way k memory x l n xs c ys hi span low high
 
   child-way : length (way x l (c .value)) ≡ suc l
-  child-way = way-length k memory x k l (c .value) (c .key) (headKey ys hi) (span-right (InRange k k (2 * k) l) xs (c ∷ ys) hi span .1) low high
+  child-way = way-length k memory x k l (c .value) (c .key) (headKey ys hi) (span-right (ChildIn k l) xs (c ∷ ys) hi span .1) low high
 
   -- a page of the child's way is on the tree's way
   path-at : (i : ℕ) → i ≤ l → getD (way x (suc l) (treeAt (suc l) n (xs ++ c ∷ ys))) i 0 ≡ getD (way x l (c .value)) i 0
@@ -201,7 +201,7 @@ module _ (k : ℕ) (memory : ℕ → Page) (x l n : ℕ) (xs : List (Keyed (Tr l
   beside-child : (s : ℕ) → Neighbour l (xs ++ c ∷ ys) hi (c .value) s → Beside x (suc l) (treeAt (suc l) n (xs ++ c ∷ ys)) lo hi s l
   beside-child s b =
       let whole : Tr (suc l) = treeAt (suc l) n (xs ++ c ∷ ys) in
-      let range = span-right (InRange k k (2 * k) l) xs (c ∷ ys) hi span .1 in
+      let range = span-right (ChildIn k l) xs (c ∷ ys) hi span .1 in
       let is : getD (way x (suc l) whole) l 0 ≡ pageNumber l (c .value)
       = path-at l (omega arith) ∙ way-top k memory x k l (c .value) (c .key) (headKey ys hi) range low high in
       let father : getD (way x (suc l) whole) (suc l) 0 ≡ n
@@ -377,7 +377,7 @@ module _ (k : ℕ) (memory : ℕ → Page) (x : ℕ) (p siblings : List ℕ) (as
     climb-in : (t : Tr (suc l)) (lo hi : ℕ) → Given k memory x m (suc l) t lo hi → occursIn 0 (suc l) (t .row) ≡ 0 → (up : List ℕ)
         → p ≡ way x (suc l) t ++ up → Climb k memory x p siblings (suc l) t lo hi up
     climb-in t lo hi g none up is =
-        let sp = spot (InRange k k (2 * k) l) x (t .row) hi (g .range .children) (omega (arith, g .range .low, g .from)) (g .to) in
+        let sp = spot (ChildIn k l) x (t .row) hi (g .range .children) (omega (arith, g .range .low, g .from)) (g .to) in
         subst
         (λ (row : List (Keyed (Tr l))).
         Given k memory x m (suc l) (treeAt (suc l) (t .at) row) lo hi
@@ -500,7 +500,7 @@ module _ (k n : ℕ) (memory : ℕ → Page) (x : ℕ) (one : 1 ≤ k) (l : ℕ)
       ∙ eq []
       ∙ needs-root k memory x (pageNumber l t) (forms .root))
 
-pub siblings-there : SiblingsThere
-siblings-there k n memory l t x leaf fathers siblings one forms word there held asked =
+pub siblingsThere : SiblingsThere
+siblingsThere k n memory l t x leaf fathers siblings one forms word there held asked =
     needed-by k n memory x one l t leaf fathers siblings forms word there held asked
     (whole-climb k n memory x one l t leaf fathers siblings forms word there held asked)

@@ -1,19 +1,19 @@
 -- The rule of a deletion by itself: what it says step by step, that it stops at a safe page, and that it writes only
 -- pages that are held.
-use Prim.Native.Nat.{ℕ, zero, suc, _+_, _*_, _≤_, _<_}
+use Prim.Native.Nat.{ℕ, suc, _+_, _≤_, _<_}
 use native.Mathlib.Omega.{arith}
 use mathlib.Core.Bool.{Bool, true, false, cond, _&&_, _||_}
 use mathlib.Core.List.{List, [], _∷_, _++_, append-nil}
 use mathlib.Core.Logic.{_⊎_, inl, inr, ⊎-elim}
 use mathlib.Core.Path.{_≡_, refl, sym, ap, _∙_, subst}
-use borrow.Author.Tests.{ltb-true, ltb-false, lt-ltb, le-ltb, leb-true, leb-false, le-leb, lt-leb, eqb-true, eqb-false, eq-eqb, ne-eqb}
+use borrow.Author.Tests.{ltb-true, ltb-false, lt-ltb, le-ltb, leb-true, leb-false, lt-leb, eqb-true, eqb-false, eq-eqb, ne-eqb}
 use lib.Dec.{leb, ltb, eqb}
 use lib.ListN.{length}
 use Rattle.ground.specs.Tests.{member}
-use Rattle.ground.proofs.Bools.{or-first, or-second, or-none, or-first-fails, or-second-fails, or-cases}
+use Rattle.ground.proofs.Bools.{or-first, or-second, or-none, or-first-fails, or-second-fails}
 use Rattle.ground.proofs.Choice.{cond-true, cond-false, cond-ind}
 use Rattle.page.specs.Words.{Page, μ, freePage}
-use Rattle.page.specs.Splits.{Parted, parted, withEntries}
+use Rattle.page.specs.Splits.{parted, withEntries}
 use Rattle.page.specs.Place.{without}
 use Rattle.page.specs.Short.{hasRight, neighbour, betweenAt, moved, merged, lessKey, rekeyed}
 use Rattle.pool.specs.Pool.{Write, write}
@@ -127,9 +127,15 @@ module _ (k : ℕ) (memory : ℕ → Page) (x : ℕ) where
   pub needs-length : (p : ℕ) (fathers ss : List ℕ) (s : ℕ) → needs k memory x p fathers ss ≡ sibling s → length ss < length fathers
   unfolding needs
   needs-length p [] [] s e =
-      cond-ind (λ (n : Need). n ≡ sibling s → 0 < 0) (eqb p 0 || ltb k (μ (memory p))) (λ t h. sibling≢nothing (sym h)) (λ t h. astray≢sibling h) e
+      cond-ind (λ (n : Need). n ≡ sibling s → 0 < 0) (eqb p 0 || ltb k (μ (memory p)))
+      (λ t h. sibling≢nothing (sym h))
+      (λ t h. astray≢sibling h)
+      e
   needs-length p [] (s′ ∷ ss) s e =
-      cond-ind (λ (n : Need). n ≡ sibling s → suc (length ss) < 0) (eqb p 0 || ltb k (μ (memory p))) (λ t h. astray≢sibling h) (λ t h. astray≢sibling h) e
+      cond-ind (λ (n : Need). n ≡ sibling s → suc (length ss) < 0) (eqb p 0 || ltb k (μ (memory p)))
+      (λ t h. astray≢sibling h)
+      (λ t h. astray≢sibling h)
+      e
   needs-length p (f ∷ up) [] s e = omega arith
   needs-length p (f ∷ up) (s′ ∷ ss) s e =
       cond-ind (λ (n : Need). n ≡ sibling s → suc (length ss) < suc (length up)) (eqb p 0 || ltb k (μ (memory p)))
@@ -297,7 +303,8 @@ module _ (k : ℕ) (memory : ℕ → Page) (x q : ℕ) where
 
 -- ---- a short page and its neighbour, right or left of it
 
-module _ (k : ℕ) (memory : ℕ → Page) (x f : ℕ) (up : List ℕ) (s : ℕ) (ss : List ℕ) (p : ℕ) (P F S : Page) (father : memory f ≡ F) (other : memory s ≡ S) (short : μ P < k) where
+module _ (k : ℕ) (memory : ℕ → Page) (x f : ℕ) (up : List ℕ) (s : ℕ) (ss : List ℕ) (p : ℕ) (P F S : Page)
+    (father : memory f ≡ F) (other : memory s ≡ S) (short : μ P < k) where
   spare : k < μ S → k < μ (memory s)
   spare h = subst (λ (Q : Page). k < μ Q) (sym other) h
 
