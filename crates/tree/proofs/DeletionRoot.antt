@@ -23,8 +23,6 @@ use Rattle.tree.proofs.Rows.{by-test}
 use Rattle.tree.proofs.Memory.{once-same, once-is, times-distinct, times-written, absent-times, member-times, unwritten, Stores, stores-left, stores-right, written-stores, fitting-append}
 use Rattle.tree.proofs.Mend.{Things, thingsOf, treeAt, pageIn, tier, Run, entriesIn, occursIn, HoldsIn, StandsIn, things-back, number-back, page-back, entries-things, occurs-things, holds-things, stands-things, stands-top, stands-below, run-range, things-μ, things-fit}
 use Rattle.tree.proofs.MendPatch.{hits, Elsewhere, Patch, opened, opened-occurs, opened-entries, opened-cases}
-use Rattle.tree.proofs.InsertionTree.{keyed}
-use Rattle.tree.proofs.Pages.{rowPage-μ-around}
 use Rattle.tree.proofs.DeletionRule.{shrunk-top}
 use Rattle.tree.proofs.DeletionStep.{Reached, Joined, Step, stays, evens, joins}
 use Rattle.tree.proofs.DeletionTree.{joined-on}

@@ -7,7 +7,6 @@ use mathlib.Core.Logic.{_⊎_, inl, inr}
 use mathlib.Core.Path.{_≡_, refl, sym, ap, _∙_, subst}
 use borrow.Author.Tests.{ne-eqb}
 use lib.Dec.{eqb}
-use lib.ListN.{length, length-append}
 use lib.Seq.{append-snoc}
 use Rattle.ground.specs.Limits.{wordRange}
 use Rattle.ground.proofs.Bools.{and-first-fails}
@@ -105,7 +104,7 @@ module _ (k : ℕ) (memory : ℕ → Page) (x : ℕ) where
       ap (λ (w : List ℕ). w ++ up) (node-way l n xs c ys hi s from to) ∙ append-snoc (way x l (c .value)) n up
 
   -- a key that stands below the page stands in the child to which it belongs
-  pub there-in : (l : ℕ) (xs : List (Keyed (Tr l))) (c : Keyed (Tr l)) (ys : List (Keyed (Tr l))) (lo hi : ℕ)
+  there-in : (l : ℕ) (xs : List (Keyed (Tr l))) (c : Keyed (Tr l)) (ys : List (Keyed (Tr l))) (lo hi : ℕ)
       → Run k (suc l) (xs ++ c ∷ ys) lo hi → c .key ≤ x → x < headKey ys hi
       → has x (gathered (entriesOf l) (xs ++ c ∷ ys)) ≡ true → has x (entriesOf l (c .value)) ≡ true
   there-in l xs c ys lo hi run from to h =
@@ -117,6 +116,34 @@ module _ (k : ℕ) (memory : ℕ → Page) (x : ℕ) where
       from to)
       ∙ ap (has x) (sym (gathered-append (entriesOf l) xs (c ∷ ys)))
       ∙ h
+
+  -- A page with the child c to which x belongs: its row, and c with the key.
+  module _ (m l n : ℕ) (xs : List (Keyed (Tr l))) (c : Keyed (Tr l)) (ys : List (Keyed (Tr l))) (lo hi : ℕ) (from : c .key ≤ x) (to : x < headKey ys hi)
+      (g : Given k memory x m (suc l) (treeAt (suc l) n (xs ++ c ∷ ys)) lo hi) where
+    pub given-row : Row k memory l (xs ++ c ∷ ys) lo hi
+    given-row = record { span = g .range .children; begins = g .range .low; held = g .held .1; different = λ q. omega (arith, g .different q) }
+
+    pub given-child : Given k memory x k l (c .value) (c .key) (headKey ys hi)
+    given-child =
+        record {
+          range = child-range k memory x l xs c ys lo hi given-row;
+          from = from;
+          to = to;
+          there = there-in l xs c ys lo hi (g .range .low, g .range .children) from to (g .there);
+          held = child-held k memory x l xs c ys lo hi given-row;
+          different = child-different k memory x l xs c ys lo hi given-row;
+        }
+
+  -- a child of a row without page 0 is another page, and so are all its pages
+  pub child-missing : (l : ℕ) (xs : List (Keyed (Tr l))) (c : Keyed (Tr l)) (ys : List (Keyed (Tr l)))
+      → occursIn 0 (suc l) (xs ++ c ∷ ys) ≡ 0 → occurs 0 l (c .value) ≡ 0
+  child-missing l xs c ys none = omega (arith, total-append (occurs 0 l) xs (c ∷ ys))
+
+  pub missing-other : (l : ℕ) (t : Tr l) → occurs 0 l t ≡ 0 → pageNumber l t ≡ 0 → ⊥
+  missing-other l t none e =
+      let top = root-occurs 0 l t in
+      let is = once-same 0 (pageNumber l t) (sym e) in
+      omega arith
 
   -- What becomes of a tree on the key's way.
   abbrev pub Outcome : (l : ℕ) → Tr l → ℕ → ℕ → List ℕ → List Write → Type 0
@@ -132,28 +159,16 @@ module _ (k : ℕ) (memory : ℕ → Page) (x : ℕ) where
         → asksOn k memory x (way x (suc l) (treeAt (suc l) n (xs ++ c ∷ ys)) ++ up) siblings ≡ nothing
         → Step k memory x l n up (xs ++ c ∷ ys) lo hi (changesOn k memory x (way x (suc l) (treeAt (suc l) n (xs ++ c ∷ ys)) ++ up) siblings)
     step-at n xs c ys lo hi from to g none up siblings asks =
-        let r : Row k memory l (xs ++ c ∷ ys) lo hi
-        = record { span = g .range .children; begins = g .range .low; held = g .held .1; different = λ q. omega (arith, g .different q) } in
         let path = way-through l n xs c ys hi up (g .range .children) from to in
-        let parts = total-append (occurs 0 l) xs (c ∷ ys) in
-        let missing : occurs 0 l (c .value) ≡ 0 = omega arith in
+        let missing = child-missing l xs c ys none in
         subst (λ (p : List ℕ). Step k memory x l n up (xs ++ c ∷ ys) lo hi (changesOn k memory x p siblings)) (sym path)
-        (child-step k memory x l one xs c ys lo hi n up (changesOn k memory x (way x l (c .value) ++ n ∷ up) siblings) r
+        (child-step k memory x l one xs c ys lo hi n up (changesOn k memory x (way x l (c .value) ++ n ∷ up) siblings)
+        (given-row m l n xs c ys lo hi from to g)
         (omega (arith, g .range .least))
         (g .held .0)
-        (λ e. let top = root-occurs 0 l (c .value) in let is = once-same 0 (pageNumber l (c .value)) (sym e) in omega arith)
+        (missing-other l (c .value) missing)
         from to
-        (child (c .value) (c .key) (headKey ys hi)
-        (record {
-          range = child-range k memory x l xs c ys lo hi r;
-          from = from;
-          to = to;
-          there = there-in l xs c ys lo hi (g .range .low, g .range .children) from to (g .there);
-          held = child-held k memory x l xs c ys lo hi r;
-          different = child-different k memory x l xs c ys lo hi r;
-        })
-        missing
-        (n ∷ up) siblings
+        (child (c .value) (c .key) (headKey ys hi) (given-child m l n xs c ys lo hi from to g) missing (n ∷ up) siblings
         (subst (λ (p : List ℕ). asksOn k memory x p siblings ≡ nothing) path asks)))
 
     pub step-in : (t : Tr (suc l)) (lo hi : ℕ) → Given k memory x m (suc l) t lo hi → occursIn 0 (suc l) (t .row) ≡ 0 → (up siblings : List ℕ)
@@ -239,6 +254,6 @@ module _ (k : ℕ) (memory : ℕ → Page) (x : ℕ) where
   outcome one zero t lo hi g none up siblings asks = inr (leaf-reached k t lo hi g up siblings asks)
   outcome one (suc l) t lo hi g none up siblings asks =
       page-outcome one l t lo hi up (changesOn k memory x (way x (suc l) t ++ up) siblings) g
-      (λ e. let is = once-same 0 (t .at) (sym e) in omega arith)
+      (missing-other (suc l) t none)
       (step-in one k l one (λ c lo′ hi′ g′ none′ up′ siblings′ asks′. outcome one l c lo′ hi′ g′ none′ up′ siblings′ asks′)
       t lo hi g (omega arith) up siblings asks)
