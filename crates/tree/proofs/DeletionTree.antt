@@ -97,6 +97,7 @@ module _ (k : ℕ) (memory : ℕ → Page) (x : ℕ) where
       → way x (suc l) (treeAt (suc l) n (xs ++ c ∷ ys)) ≡ way x l (c .value) ++ n ∷ []
   node-way l n xs c ys hi s from to = ap (λ (w : List ℕ). w ++ n ∷ []) (followed-spot (ChildIn k l) (way x l) [] x xs c ys hi s from to)
 
+  -- and so with the pages above it
   pub way-through : (l n : ℕ) (xs : List (Keyed (Tr l))) (c : Keyed (Tr l)) (ys : List (Keyed (Tr l))) (hi : ℕ) (up : List ℕ)
       → Span (ChildIn k l) (xs ++ c ∷ ys) hi → c .key ≤ x → x < headKey ys hi
       → way x (suc l) (treeAt (suc l) n (xs ++ c ∷ ys)) ++ up ≡ way x l (c .value) ++ n ∷ up
@@ -120,7 +121,7 @@ module _ (k : ℕ) (memory : ℕ → Page) (x : ℕ) where
   -- A page with the child c to which x belongs: its row, and c with the key.
   module _ (m l n : ℕ) (xs : List (Keyed (Tr l))) (c : Keyed (Tr l)) (ys : List (Keyed (Tr l))) (lo hi : ℕ) (from : c .key ≤ x) (to : x < headKey ys hi)
       (g : Given k memory x m (suc l) (treeAt (suc l) n (xs ++ c ∷ ys)) lo hi) where
-    pub given-row : Row k memory l (xs ++ c ∷ ys) lo hi
+    given-row : Row k memory l (xs ++ c ∷ ys) lo hi
     given-row = record { span = g .range .children; begins = g .range .low; held = g .held .1; different = λ q. omega (arith, g .different q) }
 
     pub given-child : Given k memory x k l (c .value) (c .key) (headKey ys hi)

@@ -57,9 +57,10 @@ pub record Beside (l : ℕ) (t : Tr l) (lo hi s p father level : ℕ) : Type 0 w
   pub fromInside : least ≤ from
   pub toInside : to ≤ most
 
--- The sibling s that a deletion wants. As many siblings are held as pages of the path below the page that s is to help.
+-- The sibling s that a deletion wants: "a page left with k-1 uses its right neighbour under the same father; if it has
+-- none, the left one". As many siblings are held as pages of the path below the page that s is to help.
 pub record Wanted (l : ℕ) (t : Tr l) (x leaf : ℕ) (fathers siblings : List ℕ) (s : ℕ) : Type 0 where
-  -- "A page left with k-1 uses its right neighbour under the same father; if it has none, the left one."
+  -- the father is held, and s is a page of the tree beside that page, under it
   pub fatherHeld : length siblings < length fathers
   pub place : Beside l t 0 wordRange s (getD (leaf ∷ fathers) (length siblings) 0) (getD fathers (length siblings) 0) (suc (length siblings))
   -- no slot "wants one it holds"
