@@ -1,34 +1,31 @@
 -- A deletion at the root: page 0 stays as it is, is written, or takes in its one child. Then the pages form a tree again.
 use Prim.Native.Nat.{ℕ, zero, suc, _+_, _*_, _≤_, _<_}
 use native.Mathlib.Omega.{arith}
-use mathlib.Core.Bool.{Bool, true, false, cond, _&&_}
-use mathlib.Core.List.{List, [], _∷_, _++_, append-nil, append-assoc}
-use mathlib.Core.Logic.{_⊎_, inl, inr, ⊎-elim}
-use mathlib.Core.Path.{_≡_, refl, sym, ap, _∙_, subst}
+use mathlib.Core.Bool.{true, false, _&&_}
+use mathlib.Core.List.{List, [], _∷_, _++_, append-nil}
+use mathlib.Core.Logic.{_≢_, inl, inr, ⊎-elim}
+use mathlib.Core.Path.{_≡_, refl, sym, ap, ap₂, _∙_, subst}
 use borrow.Author.Tests.{leb-true, leb-false, eqb-true, eqb-false, eq-eqb}
 use lib.Dec.{leb, eqb}
 use lib.ListN.{length, length-append}
 use Rattle.ground.specs.Limits.{wordRange}
-use Rattle.ground.specs.Tests.{member}
 use Rattle.ground.proofs.Bools.{and-second, and-fails, not-both}
 use Rattle.ground.proofs.Choice.{cond-true}
-use Rattle.page.specs.Words.{Keyed, Entry, Page, μ, freePage}
+use Rattle.page.specs.Words.{Keyed, Page, μ, freePage}
 use Rattle.page.specs.Place.{without}
 use Rattle.page.proofs.WordLaws.{free-fits}
 use Rattle.pool.specs.Pool.{Write, write}
 use Rattle.change.specs.Deletion.{shrunk}
-use Rattle.tree.specs.Rows.{headKey, Somewhere}
+use Rattle.tree.specs.Rows.{headKey}
 use Rattle.tree.specs.Tree.{Tr, pageNumber, pageOf, entriesOf, once, occurs, InRange, rootLeast, Holds, Stands, Forms}
 use Rattle.tree.specs.Change.{memoryAfter, writtenPages, Fitting, Leads}
 use Rattle.tree.proofs.Rows.{by-test}
-use Rattle.tree.proofs.Memory.{once-same, once-is, times, times-distinct, times-written, absent-times, member-times, unwritten, Stores, stores-left, stores-right, written-stores, fitting-append, stands-occurs}
-use Rattle.tree.proofs.Mend.{Things, thingsOf, treeAt, pageIn, tier, Run, entriesIn, occursIn, HoldsIn, StandsIn, TopStands, page-things, things-back, number-back, page-back, entries-things, occurs-things, holds-things, stands-things, stands-top, stands-below, run-range, things-μ}
-use Rattle.tree.proofs.MendPatch.{hits, Patch, opened, opened-occurs, opened-entries, opened-cases}
-use Rattle.tree.proofs.MendShort.{keyed, things-fit}
-use Rattle.tree.proofs.Pages.{rowPage-μ-around}
+use Rattle.tree.proofs.Memory.{once-same, once-is, times-distinct, times-written, absent-times, member-times, unwritten, Stores, stores-left, stores-right, written-stores, fitting-append}
+use Rattle.tree.proofs.Mend.{Things, thingsOf, treeAt, pageIn, tier, Run, entriesIn, occursIn, HoldsIn, StandsIn, things-back, number-back, page-back, entries-things, occurs-things, holds-things, stands-things, stands-top, stands-below, run-range, things-μ, things-fit}
+use Rattle.tree.proofs.MendPatch.{hits, Elsewhere, Patch, opened, opened-occurs, opened-entries, opened-cases}
 use Rattle.tree.proofs.DeletionRule.{shrunk-top}
-use Rattle.tree.proofs.DeletionStep.{Reached, Kept, Moved, Joined, Step, stays, evens, joins}
-use Rattle.tree.proofs.DeletionTree.{joined-shorter, joined-on}
+use Rattle.tree.proofs.DeletionStep.{Reached, Joined, Step, stays, evens, joins}
+use Rattle.tree.proofs.DeletionTree.{joined-on}
 
 rootLeast-most : (l : ℕ) → rootLeast l ≤ 1
 rootLeast-most zero = omega arith
@@ -41,13 +38,14 @@ record Replaced (k : ℕ) (memory : ℕ → Page) (x l : ℕ) (t : Tr l) (height
   entries : entriesOf height new ≡ without x (entriesOf l t)
   fewer : (q : ℕ) → occurs q height new ≤ occurs q l t
   gone : (M : ℕ → Page) → Stores M W → (q : ℕ) → 1 ≤ occurs q l t → occurs q height new ≡ 0 → M q ≡ freePage
-  holds : (M : ℕ → Page) → Stores M W → ((q : ℕ) → 1 ≤ occurs q l t → hits q W ≡ 0 → M q ≡ memory q) → Holds M height new
+  holds : (M : ℕ → Page) → Stores M W → Elsewhere memory M (λ q. occurs q l t) W → Holds M height new
   writes : (q : ℕ) → hits q W ≤ occurs q l t
   fitting : Fitting k W
   keeps : (q level a b : ℕ) → hits q W ≡ 0 → Stands l t 0 wordRange q level a b → Stands height new 0 wordRange q level a b
 
 -- A replaced tree is what the memory forms after the writes.
-module _ (k n : ℕ) (memory : ℕ → Page) (x l : ℕ) (t : Tr l) (forms : Forms k n memory l t) (height : ℕ) (new : Tr height) (W : List Write) (r : Replaced k memory x l t height new W) where
+module _ (k n : ℕ) (memory : ℕ → Page) (x l : ℕ) (t : Tr l) (forms : Forms k n memory l t)
+    (height : ℕ) (new : Tr height) (W : List Write) (r : Replaced k memory x l t height new W) where
   once-written : (q : ℕ) → hits q W ≤ 1
   once-written q = omega (arith, r .writes q, forms .different q)
 
@@ -84,7 +82,11 @@ module _ (k n : ℕ) (memory : ℕ → Page) (x l : ℕ) (t : Tr l) (forms : For
       }
 
 -- Page 0 keeps its number; what it holds is patched; U is what is written of page 0 itself.
-module _ (k : ℕ) (memory : ℕ → Page) (x l : ℕ) (t : Tr l) (root : pageNumber l t ≡ 0) (different : (q : ℕ) → occurs q l t ≤ 1) (new : Things l) (W U : List Write) (least : rootLeast l + tier l ≤ length new) (most : length new ≤ 2 * k + tier l) (p : Patch k memory x l (thingsOf l t) new 0 wordRange W) (writesTop : (q : ℕ) → hits q U ≤ once q 0) (holdsTop : (M : ℕ → Page) → Stores M U → (hits 0 U ≡ 0 → M 0 ≡ memory 0) → M 0 ≡ pageIn l new) (fits : Fitting k U) where
+module _ (k : ℕ) (memory : ℕ → Page) (x l : ℕ) (t : Tr l) (root : pageNumber l t ≡ 0) (different : (q : ℕ) → occurs q l t ≤ 1)
+    (new : Things l) (W U : List Write) (least : rootLeast l + tier l ≤ length new) (most : length new ≤ 2 * k + tier l)
+    (p : Patch k memory x l (thingsOf l t) new 0 wordRange W)
+    (writesTop : (q : ℕ) → hits q U ≤ once q 0)
+    (holdsTop : (M : ℕ → Page) → Stores M U → (hits 0 U ≡ 0 → M 0 ≡ memory 0) → M 0 ≡ pageIn l new) (fits : Fitting k U) where
   before : (q : ℕ) → occurs q l t ≡ once q 0 + occursIn q l (thingsOf l t)
   before q = occurs-things q l t ∙ ap (λ (a : ℕ). once q a + occursIn q l (thingsOf l t)) root
 
@@ -97,7 +99,7 @@ module _ (k : ℕ) (memory : ℕ → Page) (x l : ℕ) (t : Tr l) (root : pageNu
   replaced-gone : (M : ℕ → Page) → Stores M (W ++ U) → (q : ℕ) → 1 ≤ occurs q l t → occurs q l (treeAt l 0 new) ≡ 0 → M q ≡ freePage
   replaced-gone M s q o none = p .gone M (stores-left M W U s) q (omega (arith, before q, after q)) (omega (arith, after q))
 
-  replaced-holds : (M : ℕ → Page) → Stores M (W ++ U) → ((q : ℕ) → 1 ≤ occurs q l t → hits q (W ++ U) ≡ 0 → M q ≡ memory q) → Holds M l (treeAt l 0 new)
+  replaced-holds : (M : ℕ → Page) → Stores M (W ++ U) → Elsewhere memory M (λ q. occurs q l t) (W ++ U) → Holds M l (treeAt l 0 new)
   replaced-holds M s same =
       let one = once-same 0 0 refl in
       let top : M 0 ≡ pageIn l new
@@ -133,14 +135,16 @@ module _ (k : ℕ) (memory : ℕ → Page) (x l : ℕ) (t : Tr l) (root : pageNu
         keeps = replaced-keeps;
       }
 
-module _ (k : ℕ) (memory : ℕ → Page) (x l : ℕ) (t : Tr l) (root : pageNumber l t ≡ 0) (different : (q : ℕ) → occurs q l t ≤ 1) (new : Things l) (W : List Write) (least : rootLeast l + tier l ≤ length new) (most : length new ≤ 2 * k + tier l) (p : Patch k memory x l (thingsOf l t) new 0 wordRange W) where
+module _ (k : ℕ) (memory : ℕ → Page) (x l : ℕ) (t : Tr l) (root : pageNumber l t ≡ 0) (different : (q : ℕ) → occurs q l t ≤ 1)
+    (new : Things l) (W : List Write) (least : rootLeast l + tier l ≤ length new) (most : length new ≤ 2 * k + tier l)
+    (p : Patch k memory x l (thingsOf l t) new 0 wordRange W) where
   -- page 0 is written
   root-written : Replaced k memory x l t l (treeAt l 0 new) (W ++ write 0 (pageIn l new) ∷ [])
   root-written =
       replaced k memory x l t root different new W (write 0 (pageIn l new) ∷ []) least most p
       (λ q. omega arith)
       (λ M s same. s .0)
-      (things-fit k l 0 new (omega arith) most, tt)
+      (things-fit k l new (omega arith) most, tt)
 
   -- page 0 stays as it is
   root-kept : pageIn l new ≡ pageOf l t → memory 0 ≡ pageOf l t → Replaced k memory x l t l (treeAt l 0 new) W
@@ -152,7 +156,11 @@ module _ (k : ℕ) (memory : ℕ → Page) (x l : ℕ) (t : Tr l) (root : pageNu
       tt)
 
 -- "If page 0 is left with no reference key, its one child's words move into page 0 and that child is freed."
-module _ (k : ℕ) (memory : ℕ → Page) (x l : ℕ) (one : 1 ≤ k) (a b : Keyed (Tr l)) (different : (q : ℕ) → occurs q (suc l) (treeAt (suc l) 0 (a ∷ b ∷ [])) ≤ 1) (range : InRange k 1 (2 * k) (suc l) (treeAt (suc l) 0 (a ∷ b ∷ [])) 0 wordRange) (ws : Things l) (W : List Write) (least : k + tier l ≤ length ws) (most : length ws ≤ 2 * k + tier l) (p : Patch k memory x l (opened l (a ∷ b ∷ [])) ws (a .key) wordRange W) where
+module _ (k : ℕ) (memory : ℕ → Page) (x l : ℕ) (one : 1 ≤ k) (a b : Keyed (Tr l))
+    (different : (q : ℕ) → occurs q (suc l) (treeAt (suc l) 0 (a ∷ b ∷ [])) ≤ 1)
+    (range : InRange k 1 (2 * k) (suc l) (treeAt (suc l) 0 (a ∷ b ∷ [])) 0 wordRange)
+    (ws : Things l) (W : List Write) (least : k + tier l ≤ length ws) (most : length ws ≤ 2 * k + tier l)
+    (p : Patch k memory x l (opened l (a ∷ b ∷ [])) ws (a .key) wordRange W) where
   frees : List Write
   frees = write 0 (pageIn l ws) ∷ write (pageNumber l (a .value)) freePage ∷ write (pageNumber l (b .value)) freePage ∷ []
 
@@ -233,19 +241,15 @@ module _ (k : ℕ) (memory : ℕ → Page) (x l : ℕ) (one : 1 ≤ k) (a b : Ke
         gone = collapsed-gone;
         holds = collapsed-holds;
         writes = λ q. omega (arith, times-written q W frees, frees-hits q, collapsed-before q, p .writes q);
-        fitting = fitting-append k W frees (p .fitting) (things-fit k l 0 ws (omega arith) most, (free-fits k, (free-fits k, tt)));
+        fitting = fitting-append k W frees (p .fitting) (things-fit k l ws (omega arith) most, (free-fits k, (free-fits k, tt)));
         keeps = collapsed-keeps;
       }
 
--- a row that is left with one child had two
-collapsed-row : {C : Type 0} (xs : List C) (a b : C) (ys : List C) → length xs + length ys ≡ 0 → xs ++ a ∷ b ∷ ys ≡ a ∷ b ∷ []
-collapsed-row [] a b [] h = refl
-collapsed-row [] a b (y ∷ ys) h = absurd (omega arith)
-collapsed-row (z ∷ xs) a b ys h = absurd (omega arith)
-
-none-left : {C : Type 0} (ys : List C) → length ys ≡ 0 → ys ≡ []
-none-left [] h = refl
-none-left (y ∷ ys) h = absurd (omega arith)
+-- a row of two has nothing beside the two
+two-only : {C : Type 0} (xs : List C) (a b : C) (ys : List C) → length (xs ++ a ∷ b ∷ ys) ≡ 2 → (xs ≡ []) × (ys ≡ [])
+two-only [] a b [] h = (refl, refl)
+two-only [] a b (y ∷ ys) h = absurd (omega arith)
+two-only (z ∷ xs) a b ys h = absurd (omega (arith, length-append xs (a ∷ b ∷ ys)))
 
 module _ (k n : ℕ) (memory : ℕ → Page) (x : ℕ) (one : 1 ≤ k) where
   -- the root is a leaf: it is written
@@ -262,44 +266,60 @@ module _ (k n : ℕ) (memory : ℕ → Page) (x : ℕ) (one : 1 ≤ k) where
       (root-written k memory x zero t (forms .root) (forms .different) (h .new) (h .below) (omega arith) (omega arith) (h .patch)))
 
   module _ (l : ℕ) (t : Tr (suc l)) (forms : Forms k n memory (suc l) t) (W : List Write) where
-    -- page 0 takes in its one child
+    -- two children of page 0 joined, and it has no reference key left: its row was these two
     collapse-leads : (h : Joined k memory x l (t .at) [] (t .row) 0 wordRange W)
-        → (let new : List (Keyed (Tr l)) = h .before ++ keyed (h .left .key) (treeAt l (pageNumber l (h .left .value)) (h .things)) ∷ h .after in
-        eqb (t .at) 0 && eqb (μ (pageIn (suc l) new)) 0 ≡ true
-        → Leads k n memory (suc l) t W (without x (entriesOf (suc l) t)))
+        → eqb (t .at) 0 && eqb (μ (pageIn (suc l) (h .new))) 0 ≡ true → Leads k n memory (suc l) t W (without x (entriesOf (suc l) t))
     collapse-leads h test =
         let a = h .left in
         let b = h .right in
-        let j : Keyed (Tr l) = keyed (a .key) (treeAt l (pageNumber l (a .value)) (h .things)) in
-        let less : Page = pageIn (suc l) (h .before ++ j ∷ h .after) in
+        let m = pageNumber l (a .value) in
+        let m′ = pageNumber l (b .value) in
+        let less : Page = pageIn (suc l) (h .new) in
         let none : μ less ≡ 0 = eqb-true (μ less) 0 (and-second (eqb (t .at) 0) (eqb (μ less) 0) test) in
-        let around = rowPage-μ-around (suc (suc l)) (pageNumber l) (h .before) j (h .after) in
-        let two : t .row ≡ a ∷ b ∷ [] = h .whole ∙ collapsed-row (h .before) a b (h .after) (omega arith) in
+        let least = forms .inRange .least in
+        let shorter = h .shorter in
+        let count = things-μ (suc l) (h .new) (omega arith) in
+        let only = two-only (h .before) a b (h .after) (sym (ap length (h .whole)) ∙ omega arith) in
+        let two : t .row ≡ a ∷ b ∷ [] = h .whole ∙ ap₂ (λ (xs ys : List (Keyed (Tr l))). xs ++ a ∷ b ∷ ys) (only .0) (only .1) in
         let tree : t ≡ treeAt (suc l) 0 (a ∷ b ∷ []) = λ i. treeAt (suc l) (forms .root i) (two i) in
-        let final : List Write = h .below ++ write 0 (pageIn l (h .things)) ∷ write (pageNumber l (a .value)) freePage ∷ write (pageNumber l (b .value)) freePage ∷ [] in
-        let is : final ≡ W
-        = ap
-        (λ (m : ℕ). h .below ++ write m (pageIn l (h .things)) ∷ write (pageNumber l (a .value)) freePage ∷ write (pageNumber l (b .value)) freePage ∷ [])
-        (sym (forms .root))
-        ∙ ap (λ (U : List Write). h .below ++ U)
-        (sym
-        (cond-true
-        (write (t .at) (pageIn l (h .things)) ∷ write (pageNumber l (a .value)) freePage ∷ write (pageNumber l (b .value)) freePage ∷ [])
-        (write (pageNumber l (a .value)) (pageIn l (h .things))
-        ∷ write (pageNumber l (b .value)) freePage
-        ∷ shrunk k memory x [] (h .rest) (t .at) less)
-        test))
+        let final : ℕ → List Write = λ p. write p (pageIn l (h .things)) ∷ write m freePage ∷ write m′ freePage ∷ [] in
+        let on : List Write = write m (pageIn l (h .things)) ∷ write m′ freePage ∷ shrunk k memory x [] (h .rest) (t .at) less in
+        let is : h .below ++ final 0 ≡ W
+        = ap (λ (p : ℕ). h .below ++ final p) (sym (forms .root))
+        ∙ ap (λ (U : List Write). h .below ++ U) (sym (cond-true (final (t .at)) on test))
         ∙ sym (h .rule) in
         let patch : Patch k memory x l (opened l (a ∷ b ∷ [])) (h .things) (a .key) wordRange (h .below)
         = subst (λ (ys : List (Keyed (Tr l))). Patch k memory x l (opened l (a ∷ b ∷ [])) (h .things) (a .key) (headKey ys wordRange) (h .below))
-        (none-left (h .after) (omega arith)) (h .inner) in
+        (only .1) (h .inner) in
         subst (λ (U : List Write). Leads k n memory (suc l) t U (without x (entriesOf (suc l) t))) is
-        (leads k n memory x (suc l) t forms l (treeAt l 0 (h .things)) final
-        (subst (λ (s : Tr (suc l)). Replaced k memory x (suc l) s l (treeAt l 0 (h .things)) final) (sym tree)
+        (leads k n memory x (suc l) t forms l (treeAt l 0 (h .things)) (h .below ++ final 0)
+        (subst (λ (s : Tr (suc l)). Replaced k memory x (suc l) s l (treeAt l 0 (h .things)) (h .below ++ final 0)) (sym tree)
         (root-collapsed k memory x l one a b
         (subst (λ (s : Tr (suc l)). (q : ℕ) → occurs q (suc l) s ≤ 1) tree (forms .different))
         (subst (λ (s : Tr (suc l)). InRange k 1 (2 * k) (suc l) s 0 wordRange) tree (forms .inRange))
         (h .things) (h .below) (h .least) (h .most) patch)))
+
+    -- two children of page 0 joined, and it has a reference key left: it is written
+    shorter-leads : (h : Joined k memory x l (t .at) [] (t .row) 0 wordRange W)
+        → eqb (t .at) 0 && eqb (μ (pageIn (suc l) (h .new))) 0 ≡ false → Leads k n memory (suc l) t W (without x (entriesOf (suc l) t))
+    shorter-leads h test =
+        let below : List Write
+        = h .below ++ write (pageNumber l (h .left .value)) (pageIn l (h .things)) ∷ write (pageNumber l (h .right .value)) freePage ∷ [] in
+        let some : μ (pageIn (suc l) (h .new)) ≢ 0
+        = ⊎-elim
+        (λ u. not-both (eq-eqb (t .at) 0 (forms .root)) u)
+        (λ u. eqb-false (μ (pageIn (suc l) (h .new))) 0 u)
+        (and-fails (eqb (t .at) 0) (eqb (μ (pageIn (suc l) (h .new))) 0) test) in
+        let least = forms .inRange .least in
+        let most = forms .inRange .most in
+        let shorter = h .shorter in
+        let count = things-μ (suc l) (h .new) (omega arith) in
+        subst (λ (U : List Write). Leads k n memory (suc l) t U (without x (entriesOf (suc l) t)))
+        (ap (λ (p : ℕ). below ++ write p (pageIn (suc l) (h .new)) ∷ []) (sym (forms .root))
+        ∙ ap (λ (U : List Write). below ++ U) (sym (shrunk-top k memory x (h .rest) (t .at) (pageIn (suc l) (h .new))))
+        ∙ sym (joined-on k memory x l (t .at) [] (t .row) 0 wordRange W h test))
+        (leads k n memory x (suc l) t forms (suc l) (treeAt (suc l) 0 (h .new)) (below ++ write 0 (pageIn (suc l) (h .new)) ∷ [])
+        (root-written k memory x (suc l) t (forms .root) (forms .different) (h .new) below (omega arith) (omega arith) (h .patch)))
 
     -- what becomes of page 0, from what became of its children
     pub root-leads : Step k memory x l (t .at) [] (t .row) 0 wordRange W → Leads k n memory (suc l) t W (without x (entriesOf (suc l) t))
@@ -319,30 +339,6 @@ module _ (k n : ℕ) (memory : ℕ → Page) (x : ℕ) (one : 1 ≤ k) where
         (leads k n memory x (suc l) t forms (suc l) (treeAt (suc l) 0 (h .new)) (h .below ++ write 0 (pageIn (suc l) (h .new)) ∷ [])
         (root-written k memory x (suc l) t (forms .root) (forms .different) (h .new) (h .below) (omega arith) (omega arith) (h .patch)))
     root-leads (joins h) =
-        let j : Keyed (Tr l) = keyed (h .left .key) (treeAt l (pageNumber l (h .left .value)) (h .things)) in
-        let new : List (Keyed (Tr l)) = h .before ++ j ∷ h .after in
-        let below : List Write
-        = h .below ++ write (pageNumber l (h .left .value)) (pageIn l (h .things)) ∷ write (pageNumber l (h .right .value)) freePage ∷ [] in
-        by-test (eqb (t .at) 0 && eqb (μ (pageIn (suc l) new)) 0)
+        by-test (eqb (t .at) 0 && eqb (μ (pageIn (suc l) (h .new))) 0)
         (λ test. collapse-leads h test)
-        (λ test.
-        let least = forms .inRange .least in
-        let most = forms .inRange .most in
-        let shorter = joined-shorter k memory x l (t .at) [] (t .row) 0 wordRange W h in
-        let some : μ (pageIn (suc l) new) ≡ 0 → ⊥
-        = ⊎-elim
-        (λ u. not-both (eq-eqb (t .at) 0 (forms .root)) u)
-        (λ u. eqb-false (μ (pageIn (suc l) new)) 0 u)
-        (and-fails (eqb (t .at) 0) (eqb (μ (pageIn (suc l) new)) 0) test) in
-        let around = rowPage-μ-around (suc (suc l)) (pageNumber l) (h .before) j (h .after) in
-        let count = length-append (h .before) (j ∷ h .after) in
-        let two : 2 ≤ length new = by-size (length new) (length (h .before) + length (h .after)) (omega arith) (λ e. some (around ∙ e)) in
-        subst (λ (U : List Write). Leads k n memory (suc l) t U (without x (entriesOf (suc l) t)))
-        (ap (λ (m : ℕ). below ++ write m (pageIn (suc l) new) ∷ []) (sym (forms .root))
-        ∙ ap (λ (U : List Write). below ++ U) (sym (shrunk-top k memory x (h .rest) (t .at) (pageIn (suc l) new)))
-        ∙ sym (joined-on k memory x l (t .at) [] (t .row) 0 wordRange W h test))
-        (leads k n memory x (suc l) t forms (suc l) (treeAt (suc l) 0 new) (below ++ write 0 (pageIn (suc l) new) ∷ [])
-        (root-written k memory x (suc l) t (forms .root) (forms .different) new below two (omega arith) (h .patch))))
-      where
-        by-size : (a b : ℕ) → a ≡ b + 1 → (b ≡ 0 → ⊥) → 2 ≤ a
-        by-size a b e f = omega (arith, f)
+        (λ test. shorter-leads h test)

@@ -1,25 +1,26 @@
 -- The rule of a deletion by itself: what it says step by step, that it stops at a safe page, and that it writes only
 -- pages that are held.
-use Prim.Native.Nat.{ℕ, zero, suc, _+_, _*_, _≤_, _<_}
+use Prim.Native.Nat.{ℕ, suc, _+_, _≤_, _<_}
 use native.Mathlib.Omega.{arith}
 use mathlib.Core.Bool.{Bool, true, false, cond, _&&_, _||_}
-use mathlib.Core.List.{List, [], _∷_, _++_, append-nil}
+use mathlib.Core.List.{List, [], _∷_, _++_, append-nil, head-eq-of-cons-eq, tail-eq-of-cons-eq}
 use mathlib.Core.Logic.{_⊎_, inl, inr, ⊎-elim}
 use mathlib.Core.Path.{_≡_, refl, sym, ap, _∙_, subst}
-use borrow.Author.Tests.{ltb-true, ltb-false, lt-ltb, le-ltb, leb-true, leb-false, le-leb, lt-leb, eqb-true, eqb-false, eq-eqb, ne-eqb}
+use borrow.Author.Tests.{ltb-true, ltb-false, lt-ltb, le-ltb, leb-true, leb-false, lt-leb, eqb-true, eqb-false, eq-eqb, ne-eqb}
 use lib.Dec.{leb, ltb, eqb}
-use lib.ListN.{length}
+use lib.ListN.{length, length-append}
 use Rattle.ground.specs.Tests.{member}
-use Rattle.ground.proofs.Bools.{or-first, or-second, or-none, or-first-fails, or-second-fails, or-cases}
+use Rattle.ground.proofs.Bools.{or-first, or-second, or-none, or-first-fails, or-second-fails}
 use Rattle.ground.proofs.Choice.{cond-true, cond-false, cond-ind}
 use Rattle.page.specs.Words.{Page, μ, freePage}
-use Rattle.page.specs.Splits.{Parted, parted, withEntries}
+use Rattle.page.specs.Splits.{parted, withEntries}
 use Rattle.page.specs.Place.{without}
 use Rattle.page.specs.Short.{hasRight, neighbour, betweenAt, moved, merged, lessKey, rekeyed}
 use Rattle.pool.specs.Pool.{Write, write}
 use Rattle.change.specs.Deletion.{Need, nothing, sibling, astray, satisfied, needs, leftOne, rightOne, shares, shrunk, deletion}
 use Rattle.tree.specs.Tree.{once}
 use Rattle.tree.specs.Change.{writtenPages, topOf}
+use Rattle.tree.specs.Deletion.{Asked}
 use Rattle.tree.proofs.Rows.{by-test}
 use Rattle.tree.proofs.Memory.{times, times-append, member-times, times-member}
 
@@ -127,9 +128,15 @@ module _ (k : ℕ) (memory : ℕ → Page) (x : ℕ) where
   pub needs-length : (p : ℕ) (fathers ss : List ℕ) (s : ℕ) → needs k memory x p fathers ss ≡ sibling s → length ss < length fathers
   unfolding needs
   needs-length p [] [] s e =
-      cond-ind (λ (n : Need). n ≡ sibling s → 0 < 0) (eqb p 0 || ltb k (μ (memory p))) (λ t h. sibling≢nothing (sym h)) (λ t h. astray≢sibling h) e
+      cond-ind (λ (n : Need). n ≡ sibling s → 0 < 0) (eqb p 0 || ltb k (μ (memory p)))
+      (λ t h. sibling≢nothing (sym h))
+      (λ t h. astray≢sibling h)
+      e
   needs-length p [] (s′ ∷ ss) s e =
-      cond-ind (λ (n : Need). n ≡ sibling s → suc (length ss) < 0) (eqb p 0 || ltb k (μ (memory p))) (λ t h. astray≢sibling h) (λ t h. astray≢sibling h) e
+      cond-ind (λ (n : Need). n ≡ sibling s → suc (length ss) < 0) (eqb p 0 || ltb k (μ (memory p)))
+      (λ t h. astray≢sibling h)
+      (λ t h. astray≢sibling h)
+      e
   needs-length p (f ∷ up) [] s e = omega arith
   needs-length p (f ∷ up) (s′ ∷ ss) s e =
       cond-ind (λ (n : Need). n ≡ sibling s → suc (length ss) < suc (length up)) (eqb p 0 || ltb k (μ (memory p)))
@@ -142,6 +149,84 @@ module _ (k : ℕ) (memory : ℕ → Page) (x : ℕ) where
       (λ v h. let ih = needs-length f up ss s h in omega arith))
       (λ u h. astray≢sibling h))
       e
+
+-- ---- siblings taken as they were asked for
+
+-- a list cut somewhere, where its last number is known
+last-cut : (xs : List ℕ) (s : ℕ) (before : List ℕ) (r : ℕ) (after : List ℕ) → xs ++ s ∷ [] ≡ before ++ r ∷ after
+    → ((before ≡ xs) × (s ≡ r)) ⊎ ((rest : List ℕ) × (xs ≡ before ++ r ∷ rest))
+last-cut [] s [] r after e = inl (refl, head-eq-of-cons-eq e)
+last-cut [] s (b ∷ bs) r after e =
+    absurd (omega (arith, ap length (tail-eq-of-cons-eq e), length-append bs (r ∷ after)))
+last-cut (x ∷ xs) s [] r after e = inr (xs, ap (λ (n : ℕ). n ∷ xs) (head-eq-of-cons-eq e))
+last-cut (x ∷ xs) s (b ∷ bs) r after e =
+    let same : x ≡ b = head-eq-of-cons-eq e in
+    ⊎-elim
+    (λ h. inl ((λ i. sym same i ∷ h .0 i), h .1))
+    (λ h. inr (h .0, (λ i. same i ∷ h .1 i)))
+    (last-cut xs s bs r after (tail-eq-of-cons-eq e))
+
+-- a choice between going astray and something else that does not go astray
+astray-not : (b : Bool) (n : Need) → (cond b astray n ≡ astray → ⊥) → (b ≡ false) × (n ≡ astray → ⊥)
+astray-not true n h = absurd (h refl)
+astray-not false n h = (refl, h)
+
+only-not : (b : Bool) (n : Need) → (cond b n astray ≡ astray → ⊥) → (b ≡ true) × (n ≡ astray → ⊥)
+only-not true n h = (refl, h)
+only-not false n h = absurd (h refl)
+
+-- more siblings than are needed lead astray
+too-many : (bs : List ℕ) (s : ℕ) (after : List ℕ) → satisfied (bs ++ s ∷ after) ≡ astray
+too-many [] s after = refl
+too-many (b ∷ bs) s after = refl
+
+module _ (k : ℕ) (memory : ℕ → Page) (x : ℕ) where
+  -- one sibling more, when it was asked for
+  pub asked-more : (leaf : ℕ) (fathers siblings : List ℕ) (s : ℕ) → Asked k memory x leaf fathers siblings
+      → needs k memory x leaf fathers siblings ≡ sibling s → Asked k memory x leaf fathers (siblings ++ s ∷ [])
+  asked-more leaf fathers siblings s asked e before r after cut =
+      ⊎-elim
+      (λ h. ap (needs k memory x leaf fathers) (h .0) ∙ e ∙ ap sibling (h .1))
+      (λ h. asked before r (h .0) (h .1))
+      (last-cut siblings s before r after cut)
+
+  -- what is asked for with some of the siblings r and ss, from what the father asks for with some of ss
+  course-step : (p f : ℕ) (up : List ℕ) (r : ℕ) (ss before : List ℕ) (s : ℕ) (after : List ℕ)
+      → μ (memory p) ≤ k → (p ≡ 0 → ⊥) → r ≡ neighbour x (memory f)
+      → (cond (ltb k (μ (memory r))) (satisfied ss) (needs k memory x f up ss) ≡ astray → ⊥)
+      → ((needs k memory x f up ss ≡ astray → ⊥) → (bs : List ℕ) → ss ≡ bs ++ s ∷ after → needs k memory x f up bs ≡ sibling s)
+      → r ∷ ss ≡ before ++ s ∷ after → needs k memory x p (f ∷ up) before ≡ sibling s
+  course-step p f up r ss [] s after few other beside course ih cut =
+      needs-ask k memory x p f up other few ∙ ap sibling (sym beside ∙ head-eq-of-cons-eq cut)
+  course-step p f up r ss (b ∷ bs) s after few other beside course ih cut =
+      let rest : ss ≡ bs ++ s ∷ after = tail-eq-of-cons-eq cut in
+      let further : Need = needs k memory x f up ss in
+      ap (λ (n : ℕ). needs k memory x p (f ∷ up) (n ∷ bs)) (sym (head-eq-of-cons-eq cut))
+      ∙ needs-next k memory x p f up r bs other few beside
+      ∙ by-test (ltb k (μ (memory r)))
+      (λ t. absurd (course (cond-true (satisfied ss) further t ∙ ap satisfied rest ∙ too-many bs s after)))
+      (λ t.
+      cond-false (satisfied bs) (needs k memory x f up bs) t
+      ∙ ih (λ e. course (cond-false (satisfied ss) further t ∙ e)) bs rest)
+
+  -- siblings with which the rule does not go astray were asked for one after the other
+  pub course-asked : (leaf : ℕ) (fathers siblings : List ℕ) → (needs k memory x leaf fathers siblings ≡ astray → ⊥)
+      → Asked k memory x leaf fathers siblings
+  unfolding needs
+  course-asked p fathers [] course before s after cut = absurd (omega (arith, ap length cut, length-append before (s ∷ after)))
+  course-asked p [] (r ∷ ss) course before s after cut =
+      absurd (course (cond-ind (λ (n : Need). n ≡ astray) (eqb p 0 || ltb k (μ (memory p))) (λ t. refl) (λ t. refl)))
+  course-asked p (f ∷ up) (r ∷ ss) course before s after cut =
+      let inner : Need = cond (ltb k (μ (memory r))) (satisfied ss) (needs k memory x f up ss) in
+      let a = astray-not (eqb p 0 || ltb k (μ (memory p))) (cond (eqb r (neighbour x (memory f))) inner astray) course in
+      let b = only-not (eqb r (neighbour x (memory f))) inner (a .1) in
+      course-step p f up r ss before s after
+      (ltb-false k (μ (memory p)) (or-second-fails (eqb p 0) (ltb k (μ (memory p))) (a .0)))
+      (eqb-false p 0 (or-first-fails (eqb p 0) (ltb k (μ (memory p))) (a .0)))
+      (eqb-true r (neighbour x (memory f)) (b .0))
+      (b .1)
+      (λ further bs rest. course-asked f up ss further bs s after rest)
+      cut
 
 -- ---- the change, step by step
 
@@ -297,7 +382,8 @@ module _ (k : ℕ) (memory : ℕ → Page) (x q : ℕ) where
 
 -- ---- a short page and its neighbour, right or left of it
 
-module _ (k : ℕ) (memory : ℕ → Page) (x f : ℕ) (up : List ℕ) (s : ℕ) (ss : List ℕ) (p : ℕ) (P F S : Page) (father : memory f ≡ F) (other : memory s ≡ S) (short : μ P < k) where
+module _ (k : ℕ) (memory : ℕ → Page) (x f : ℕ) (up : List ℕ) (s : ℕ) (ss : List ℕ) (p : ℕ) (P F S : Page)
+    (father : memory f ≡ F) (other : memory s ≡ S) (short : μ P < k) where
   spare : k < μ S → k < μ (memory s)
   spare h = subst (λ (Q : Page). k < μ Q) (sym other) h
 

@@ -1,57 +1,49 @@
--- A page that lost one, alone and with its neighbour: written as it is, joined with the neighbour, or evened out with it.
--- Evening out is a join cut at another place.
+-- A page whose things are patched: written or left as it is; and two neighbours whose things are patched as one row:
+-- joined in the left page, or evened out. Evening out is a join cut at another place.
 use Prim.Native.Nat.{ℕ, zero, suc, _+_, _*_, _≤_, _<_}
 use native.Mathlib.Omega.{arith}
-use mathlib.Core.List.{List, [], _∷_, _++_, append-nil, append-assoc}
-use mathlib.Core.Path.{_≡_, refl, sym, ap, ap₂, _∙_, subst, subst₂}
-use lib.ListN.{length, length-append}
-use lib.Seq.{append-snoc}
-use Rattle.page.specs.Words.{Keyed, Page, μ, freePage}
-use Rattle.page.proofs.Fits.{Fits}
+use mathlib.Core.List.{List, [], _∷_, _++_, append-nil}
+use mathlib.Core.Path.{_≡_, refl, sym, ap₂, _∙_, subst, subst₂}
+use lib.ListN.{length}
+use Rattle.page.specs.Words.{Keyed, Page, freePage}
 use Rattle.pool.specs.Pool.{Write, write}
 use Rattle.tree.specs.Rows.{headKey, Span}
-use Rattle.tree.specs.Tree.{Tr, pageNumber, pageOf, once, occurs, InRange, Holds}
+use Rattle.tree.specs.Tree.{Tr, pageNumber, pageOf, once, occurs}
 use Rattle.tree.specs.Change.{Fitting}
 use Rattle.tree.proofs.Rows.{headKey-most}
 use Rattle.tree.proofs.Sorted.{Anything}
-use Rattle.tree.proofs.Memory.{Stores, fits-page}
-use Rattle.tree.proofs.Mend.{Thing, Things, thingsOf, treeAt, pageIn, tier, Run, occursIn, HoldsIn, page-things, things-back, number-back, page-back, range-run, range-least, range-most, run-range, run-left, run-right, run-nil, things-μ}
-use Rattle.tree.proofs.MendPatch.{hits, Patch, graft, opened, opened-run, holds-opened, opened-occurs, closed, top-kept, top-written, tops-moved, tops-joined}
-
-abbrev pub keyed : {C : Type 0} → ℕ → C → Keyed C
-keyed r c = record { key = r; value = c }
+use Rattle.tree.proofs.Memory.{Stores}
+use Rattle.tree.proofs.InsertionTree.{keyed, ChildIn}
+use Rattle.tree.proofs.Mend.{Things, thingsOf, treeAt, pageIn, tier, Run, occursIn, things-back, number-back, page-back, run-range, run-left, run-right, things-μ}
+use Rattle.tree.proofs.MendPatch.{hits, Patch, opened, closed, top-kept, top-written, tops-moved, tops-joined}
 
 -- the range of a run that is not empty is not empty
 run-rises : (k l : ℕ) (ts : Things l) (lo hi : ℕ) → Run k l ts lo hi → 0 < length ts → lo < hi
 run-rises k l [] lo hi r h = absurd (omega arith)
-run-rises k zero (d ∷ ds) lo hi r h = let m = headKey-most Anything ds hi (r .1 .2) in omega (arith, r .0, r .1 .0)
-run-rises k (suc l) (d ∷ ds) lo hi r h = let m = headKey-most (InRange k k (2 * k) l) ds hi (r .1 .2) in omega (arith, r .0, r .1 .0)
-
--- a page of a tree has room for 2k pairs
-pub things-fit : (k l p : ℕ) (ts : Things l) → tier l ≤ length ts → length ts ≤ 2 * k + tier l → Fits k (pageIn l ts)
-things-fit k l p ts h g =
-    let n = things-μ l ts h in
-    subst (Fits k) (page-back l p ts) (fits-page k l (treeAt l p ts) (rw (page-back l p ts) (omega arith)))
+run-rises k zero (d ∷ ds) lo hi r h = omega (arith, headKey-most Anything ds hi (r .1 .2), r .0, r .1 .0)
+run-rises k (suc l) (d ∷ ds) lo hi r h = omega (arith, headKey-most (ChildIn k l) ds hi (r .1 .2), r .0, r .1 .0)
 
 module _ (k : ℕ) (memory : ℕ → Page) (x l : ℕ) (one : 1 ≤ k) where
-  patch-as : (old old′ new new′ : Things l) (lo hi : ℕ) (W : List Write) → old ≡ old′ → new ≡ new′
+  -- the same patch, its rows told another way
+  patch-as : {old old′ new new′ : Things l} {lo hi : ℕ} {W : List Write} → old ≡ old′ → new ≡ new′
       → Patch k memory x l old new lo hi W → Patch k memory x l old′ new′ lo hi W
-  patch-as old old′ new new′ lo hi W p q h = subst₂ (λ (o n : Things l). Patch k memory x l o n lo hi W) p q h
+  patch-as {lo = lo} {hi = hi} {W = W} p q h = subst₂ (λ (o n : Things l). Patch k memory x l o n lo hi W) p q h
 
   -- ---- one page
 
-  module _ (c : Keyed (Tr l)) (hi : ℕ) (new : Things l) (W : List Write) (range : InRange k k (2 * k) l (c .value) (c .key) hi) (rises : c .key < hi) (different : (q : ℕ) → occurs q l (c .value) ≤ 1) (p : Patch k memory x l (thingsOf l (c .value)) new (c .key) hi W) (least : k + tier l ≤ length new) (most : length new ≤ 2 * k + tier l) where
-    changed : Keyed (Tr l)
+  module _ (c : Keyed (Tr l)) (hi : ℕ) (new : Things l) (W : List Write)
+      (range : ChildIn k l (c .value) (c .key) hi) (rises : c .key < hi) (different : (q : ℕ) → occurs q l (c .value) ≤ 1)
+      (p : Patch k memory x l (thingsOf l (c .value)) new (c .key) hi W)
+      (least : k + tier l ≤ length new) (most : length new ≤ 2 * k + tier l) where
+    abbrev changed : Keyed (Tr l)
     changed = keyed (c .key) (treeAt l (pageNumber l (c .value)) new)
 
-    changed-span : Span (InRange k k (2 * k) l) (changed ∷ []) hi
-    unfolding changed
+    changed-span : Span (ChildIn k l) (changed ∷ []) hi
     changed-span = (rises, run-range k k (2 * k) l (pageNumber l (c .value)) new (c .key) hi (p .runs) least most, tt)
 
     changed-patch : Patch k memory x l (opened l (c ∷ [])) (opened l (changed ∷ [])) (c .key) hi W
-    unfolding changed
     changed-patch =
-        patch-as (thingsOf l (c .value)) (opened l (c ∷ [])) new (opened l (changed ∷ [])) (c .key) hi W
+        patch-as
         (sym (append-nil (thingsOf l (c .value))))
         (sym (append-nil (thingsOf l (changed .value)) ∙ things-back l (pageNumber l (c .value)) new))
         p
@@ -59,7 +51,6 @@ module _ (k : ℕ) (memory : ℕ → Page) (x l : ℕ) (one : 1 ≤ k) where
     -- the page is written
     pub page-written : Patch k memory x (suc l) (c ∷ []) (keyed (c .key) (treeAt l (pageNumber l (c .value)) new) ∷ []) (c .key) hi
         (W ++ write (pageNumber l (c .value)) (pageIn l new) ∷ [])
-    unfolding changed
     page-written =
         let n = pageNumber l (c .value) in
         let room = things-μ l new (omega arith) in
@@ -72,7 +63,6 @@ module _ (k : ℕ) (memory : ℕ → Page) (x l : ℕ) (one : 1 ≤ k) where
     -- the page stays as it is
     pub page-kept : pageIn l new ≡ pageOf l (c .value) → memory (pageNumber l (c .value)) ≡ pageOf l (c .value)
         → Patch k memory x (suc l) (c ∷ []) (keyed (c .key) (treeAt l (pageNumber l (c .value)) new) ∷ []) (c .key) hi W
-    unfolding changed
     page-kept same held =
         let n = pageNumber l (c .value) in
         subst (λ (U : List Write). Patch k memory x (suc l) (c ∷ []) (changed ∷ []) (c .key) hi U) (append-nil W)
@@ -81,26 +71,27 @@ module _ (k : ℕ) (memory : ℕ → Page) (x l : ℕ) (one : 1 ≤ k) where
         changed-patch
         (top-kept k memory l c changed hi refl (number-back l n new) (page-back l n new ∙ same) held))
 
-  -- ---- two neighbours, what they hold patched as one row
+  -- ---- two neighbours
 
-  module _ (a b : Keyed (Tr l)) (hi : ℕ) (W : List Write) (span : Span (InRange k k (2 * k) l) (a ∷ b ∷ []) hi) (different : (q : ℕ) → occursIn q (suc l) (a ∷ b ∷ []) ≤ 1) where
+  module _ (a b : Keyed (Tr l)) (hi : ℕ) (W : List Write)
+      (span : Span (ChildIn k l) (a ∷ b ∷ []) hi) (different : (q : ℕ) → occursIn q (suc l) (a ∷ b ∷ []) ≤ 1) where
     -- the row in the left page, the right one freed
-    pub pair-joined : (ws : Things l) → Patch k memory x l (opened l (a ∷ b ∷ [])) ws (a .key) hi W → k + tier l ≤ length ws → length ws ≤ 2 * k + tier l
+    pub pair-joined : (ws : Things l) → Patch k memory x l (opened l (a ∷ b ∷ [])) ws (a .key) hi W
+        → k + tier l ≤ length ws → length ws ≤ 2 * k + tier l
         → Patch k memory x (suc l) (a ∷ b ∷ []) (keyed (a .key) (treeAt l (pageNumber l (a .value)) ws) ∷ []) (a .key) hi
         (W ++ write (pageNumber l (a .value)) (pageIn l ws) ∷ write (pageNumber l (b .value)) freePage ∷ [])
     pair-joined ws p least most =
         let n = pageNumber l (a .value) in
         let j : Keyed (Tr l) = keyed (a .key) (treeAt l n ws) in
+        let free : Write = write (pageNumber l (b .value)) freePage in
         let room = things-μ l ws (omega arith) in
-        subst (λ (Q : Page). Patch k memory x (suc l) (a ∷ b ∷ []) (j ∷ []) (a .key) hi (W ++ write n Q ∷ write (pageNumber l (b .value)) freePage ∷ []))
-        (page-back l n ws)
-        (closed k memory x l (a ∷ b ∷ []) (j ∷ []) hi W (write n (pageOf l (j .value)) ∷ write (pageNumber l (b .value)) freePage ∷ []) span
-        (run-rises k l ws (a .key) hi (p .runs) (omega arith), run-range k k (2 * k) l n ws (a .key) hi (p .runs) least most, tt)
+        let rises = run-rises k l ws (a .key) hi (p .runs) (omega arith) in
+        subst (λ (Q : Page). Patch k memory x (suc l) (a ∷ b ∷ []) (j ∷ []) (a .key) hi (W ++ write n Q ∷ free ∷ [])) (page-back l n ws)
+        (closed k memory x l (a ∷ b ∷ []) (j ∷ []) hi W (write n (pageOf l (j .value)) ∷ free ∷ []) span
+        (rises, run-range k k (2 * k) l n ws (a .key) hi (p .runs) least most, tt)
         refl
         different
-        (patch-as (opened l (a ∷ b ∷ [])) (opened l (a ∷ b ∷ [])) ws (opened l (j ∷ [])) (a .key) hi W refl
-        (sym (append-nil (thingsOf l (j .value)) ∙ things-back l n ws))
-        p)
+        (patch-as refl (sym (append-nil (thingsOf l (j .value)) ∙ things-back l n ws)) p)
         (tops-joined k memory l a b j hi (number-back l n ws) (rw (page-back l n ws) (omega arith))))
 
     -- the row cut in two
@@ -126,9 +117,8 @@ module _ (k : ℕ) (memory : ℕ → Page) (x l : ℕ) (one : 1 ≤ k) where
         )
         refl
         different
-        (patch-as (opened l (a ∷ b ∷ [])) (opened l (a ∷ b ∷ [])) (L ++ R) (opened l (a′ ∷ b′ ∷ [])) (a .key) hi W refl
-        (sym
-        (ap₂ (λ (ts us : Things l). ts ++ us) (things-back l m L) (append-nil (thingsOf l (b′ .value)) ∙ things-back l n R)))
+        (patch-as refl
+        (sym (ap₂ (λ (ts us : Things l). ts ++ us) (things-back l m L) (append-nil (thingsOf l (b′ .value)) ∙ things-back l n R)))
         p)
         (tops-moved k memory l a b a′ b′ hi U (number-back l m L) (number-back l n R) each
         (λ M s. (stored M s .0 ∙ sym (page-back l m L), stored M s .1 ∙ sym (page-back l n R)))

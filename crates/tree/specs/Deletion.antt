@@ -2,7 +2,7 @@
 use Prim.Native.Nat.{ℕ, suc, _≤_, _<_}
 use mathlib.Core.Bool.{Bool, true, false}
 use mathlib.Core.Path.{_≡_}
-use mathlib.Core.List.{List, [], _∷_, _++_}
+use mathlib.Core.List.{List, _∷_, _++_}
 use lib.Dec.{ltb}
 use lib.ListN.{length, getD}
 use Rattle.ground.specs.Limits.{wordRange}
@@ -41,26 +41,28 @@ abbrev pub Asked : ℕ → (ℕ → Page) → ℕ → ℕ → List ℕ → List 
 Asked k memory x leaf fathers siblings =
     (before : List ℕ) (s : ℕ) (after : List ℕ) → siblings ≡ before ++ s ∷ after → needs k memory x leaf fathers before ≡ sibling s
 
--- The sibling s that a deletion wants: "a page left with k-1 uses its right neighbour under the same father; if it has
--- none, the left one". There are as many siblings held as path pages below the one that s is to help.
-pub record Wanted (l : ℕ) (t : Tr l) (x leaf : ℕ) (fathers siblings : List ℕ) (s : ℕ) : Type 0 where
-  -- the father of that page is held
-  pub fatherHeld : length siblings < length fathers
-  -- s is a page of the tree, on the level of that page
+-- Pages s and p of the tree are on this level, under the same father: their ranges are parts of its range.
+pub record Beside (l : ℕ) (t : Tr l) (lo hi s p father level : ℕ) : Type 0 where
   pub low : ℕ
   pub high : ℕ
-  pub stands : Stands l t 0 wordRange s (suc (length siblings)) low high
+  pub stands : Stands l t lo hi s level low high
   pub from : ℕ
   pub to : ℕ
-  pub beside : Stands l t 0 wordRange (getD (leaf ∷ fathers) (length siblings) 0) (suc (length siblings)) from to
-  -- the two share the father's range
+  pub beside : Stands l t lo hi p level from to
   pub least : ℕ
   pub most : ℕ
-  pub father : Stands l t 0 wordRange (getD fathers (length siblings) 0) (suc (suc (length siblings))) least most
+  pub under : Stands l t lo hi father (suc level) least most
   pub lowInside : least ≤ low
   pub highInside : high ≤ most
   pub fromInside : least ≤ from
   pub toInside : to ≤ most
+
+-- The sibling s that a deletion wants: "a page left with k-1 uses its right neighbour under the same father; if it has
+-- none, the left one". As many siblings are held as pages of the path below the page that s is to help.
+pub record Wanted (l : ℕ) (t : Tr l) (x leaf : ℕ) (fathers siblings : List ℕ) (s : ℕ) : Type 0 where
+  -- the father is held, and s is a page of the tree beside that page, under it
+  pub fatherHeld : length siblings < length fathers
+  pub place : Beside l t 0 wordRange s (getD (leaf ∷ fathers) (length siblings) 0) (getD fathers (length siblings) 0) (suc (length siblings))
   -- no slot "wants one it holds"
   pub offWay : member s (way x l t) ≡ false
   pub notHeld : member s siblings ≡ false
