@@ -44,7 +44,8 @@ fn spoil(random: &mut Random, build: &mut Build, slot: &mut Slot) {
     let start = page as usize * size;
     let other = random.below(u64::from(build.n)) as u32;
     let key = slot.op.map_or(0, Op::key);
-    match random.below(12) {
+    match random.below(16) {
+        12..=15 => turn_back(random, build, slot),
         0 => slot.op = Some(Op::Delete(key)),
         1 => slot.op = Some(Op::Insert(key, 1)),
         2 => slot.op = Some(Op::Delete(random.below(build.keys) as u32)),
@@ -65,6 +66,18 @@ fn spoil(random: &mut Random, build: &mut Build, slot: &mut Slot) {
             let at = start + random.below(size as u64) as usize;
             build.words[at] = random.below(5) as u32;
         }
+    }
+}
+
+/// A page of the path or the wanted one points at a page that is held or wanted.
+fn turn_back(random: &mut Random, build: &mut Build, slot: &Slot) {
+    let size = page_words(build.k);
+    let pages = [slot.held(), vec![slot.want]].concat();
+    let page = random.one(&[slot.path(), &[slot.want]].concat());
+    let start = page as usize * size;
+    let place = random.below(u64::from(build.words[start + 1]) + 1) as usize;
+    if build.words[start] > 1 {
+        build.words[start + 2 + 2 * place] = random.one(&pages);
     }
 }
 
