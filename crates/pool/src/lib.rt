@@ -1,1 +1,2 @@
 // The pool: pages in the lent words.
+pub mod lying;
