@@ -2,3 +2,5 @@ pub mod Rows
 pub mod Tree
 pub mod Sorted
 pub mod Change
+pub mod Facts
+pub mod Insertion
