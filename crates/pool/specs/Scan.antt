@@ -13,3 +13,4 @@ use Rattle.pool.specs.declared.lying.Taken.{Taken}
 pub record Scanned (need : ℕ) (free : List ℕ) (r : Taken) : Type 0 where
   pub enough : r .enough ≡ leb need (length free)
   pub pages : r .enough ≡ true → r .pages ≡ padded mostNew (take need free)
+  pub cells : length (r .pages) ≡ mostNew

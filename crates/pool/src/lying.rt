@@ -1,13 +1,10 @@
 // Where pages lie in the pool, which pages are free, and the fresh pool.
 use ground::NEW;
 ghost use mathlib.Core.Path.{_≡_};
-ghost use mathlib.Core.List.{List, [], _∷_};
-ghost use mathlib.Core.Bool.{true};
-ghost use Prim.Native.Nat.{ℕ, _+_, _≤_, _<_};
-ghost use lib.Dec.{leb};
-ghost use lib.ListN.{length, take, set, replicate};
+ghost use Prim.Native.Nat.{_≤_};
+ghost use lib.ListN.{length, set, replicate};
 ghost use Rattle.ground.specs.Limits.{largestK, largestN, mostNew};
-ghost use Rattle.ground.specs.Tests.{padded, firstBelow};
+ghost use Rattle.ground.specs.Tests.{firstBelow};
 ghost use Rattle.page.specs.Words.{size};
 ghost use Rattle.pool.specs.Pool.{poolLength, start, freePages, freeFrom};
 ghost use Rattle.pool.specs.Scan.{Scanned};

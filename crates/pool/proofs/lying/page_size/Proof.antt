@@ -3,8 +3,6 @@ use borrow.Author.Needs.{needs}
 use Rattle.ground.specs.Limits.{largestK}
 use Rattle.pool.proofs.lying.page_size.Statement.{statement}
 use Rattle.pool.proofs.lying.page_size.Tie as tie
-use Rattle.pool.proofs.lying.page_size.Reads as reads
-use Rattle.pool.proofs.lying.page_size.Lts as lts
 
 mul-result : tie.Need-mul-result
 unfolding largestK
