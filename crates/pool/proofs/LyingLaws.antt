@@ -1,5 +1,5 @@
 -- Where pages lie, for the code: no number of words wraps, and the free pages behind a page.
-use Prim.Native.Nat.{ℕ, zero, suc, _+_, _-_, _≤_, _<_}
+use Prim.Native.Nat.{ℕ, zero, suc, _+_, _-_, _*_, _≤_, _<_}
 use mathlib.Core.Bool.{Bool, true, false, not, _&&_, false≢true}
 use mathlib.Core.List.{List, [], _∷_, _++_, append-nil}
 use mathlib.Core.Logic.{⊎-elim}
@@ -19,9 +19,9 @@ use Rattle.pool.specs.Pool.{start, wordsOf, isFree, freePages, freeFrom}
 use Rattle.pool.specs.Scan.{Scanned}
 
 -- a pool has few words
-pub start-few : (k p : ℕ) → k ≤ largestK → p ≤ largestN → start k p ≤ 68608
-unfolding largestK largestN start
-start-few k p h b = let few : size k ≤ 67 = omega arith in mul-le-mul b few
+pub start-few : (k p : ℕ) → k ≤ largestK → p ≤ largestN → start k p ≤ largestN * size largestK
+unfolding start
+start-few k p h b = let few : size k ≤ size largestK = omega arith in mul-le-mul b few
 
 -- the level of page p is the word at its start
 pub level-word : (k p at : ℕ) (ws : List ℕ) → at ≡ start k p → getD (wordsOf k p ws) 0 0 ≡ getD ws at 0

@@ -33,6 +33,7 @@ loop-holds : tie.Need-loop-holds Inv-loop μ-loop
 loop-holds c = (search needs, search needs, c .start-of .ensures, scan-starts (c .before .before .before .args .k) (c .before .before .before .args .words .now) (c .before .before .before .args .from))
 
 mul-if2 : tie.Need-mul-if2 Inv-loop μ-loop
+unfolding largestK largestN
 mul-if2 c =
     let few = start-few (c .before .before .before .before .before .args .k) (c .before .loop .p) (omega arith) (omega arith) in
     omega (arith, c .before .loop .inv .2)
@@ -47,7 +48,7 @@ unfolding largestN
 add-p c = omega arith
 
 add-at : tie.Need-add-at Inv-loop μ-loop
-unfolding largestK
+unfolding largestK largestN
 add-at c =
     let few = start-few (c .before .before .before .before .before .before .before .args .k) (c .before .before .before .loop .p) (omega arith) (omega arith) in
     omega (arith, c .before .before .before .loop .inv .2, c .before .before .before .before .before .page-size .ensures)

@@ -3,6 +3,7 @@ use mathlib.Core.Path.{ap}
 use Prim.Native.Nat.{ℕ, _*_}
 use native.Mathlib.Omega.{arith}
 use borrow.Author.Needs.{needs}
+use Rattle.ground.specs.Limits.{largestK, largestN}
 use Rattle.pool.specs.Pool.{start}
 use Rattle.pool.proofs.LyingLaws.{start-few}
 use Rattle.pool.proofs.lying.start_of.Statement.{statement}
@@ -12,7 +13,7 @@ page-size-requires : tie.Need-page-size-requires
 page-size-requires c κs = search needs
 
 mul-result : tie.Need-mul-result
-unfolding start
+unfolding start largestK largestN
 mul-result c =
     rw (c .page-size .ensures)
     (omega (arith, start-few (c .before .args .k) (c .before .args .p) (c .before .pre .0) (c .before .pre .1)))
