@@ -5,3 +5,4 @@ pub mod RiseLaws
 pub mod SoundPage
 pub mod WordLaws
 pub mod SmallRows
+pub mod ReadingLaws

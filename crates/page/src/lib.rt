@@ -1,1 +1,2 @@
 // One page: its words, its value, and how it changes.
+pub mod reading;
