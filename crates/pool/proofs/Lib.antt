@@ -3,3 +3,4 @@ pub mod FreshLaws
 pub mod StretchLaws
 pub mod WriteLaws
 pub mod LyingLaws
+pub mod PagesLaws
