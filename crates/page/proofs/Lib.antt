@@ -6,3 +6,4 @@ pub mod SoundPage
 pub mod WordLaws
 pub mod SmallRows
 pub mod ReadingLaws
+pub mod CheckingLaws

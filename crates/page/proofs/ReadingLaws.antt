@@ -1,7 +1,7 @@
 -- A page's value read from its words: pair i of the value is the two words at its place, and pi the word before the next key.
 use Prim.Native.Nat.{ℕ, zero, suc, _+_, _-_, _*_, _≤_, _<_}
 use mathlib.Core.Bool.{true, false}
-use mathlib.Core.List.{List, [], _∷_, map}
+use mathlib.Core.List.{List, [], _∷_}
 use mathlib.Core.Path.{_≡_, refl, sym, ap, _∙_}
 use native.Mathlib.Nat.{not-suc-le-zero}
 use native.Mathlib.Omega.{arith}
@@ -26,6 +26,11 @@ use Rattle.page.proofs.SoundPage.{sound-μ, sound-facts}
 pub view-level : (ws : List ℕ) → view ws .level ≡ getD ws 0 0
 unfolding view
 view-level ws = refl
+
+-- above the leaves the pairs begin behind p0
+pub upper-from : (ws : List ℕ) → isLeaf (view ws) ≡ false → pairsFrom (getD ws 0 0) ≡ 3
+unfolding view
+upper-from ws upper = cond-false 2 3 upper
 
 -- pair i of some words is the two words at 2i
 pairs-at : (m : ℕ) (ws : List ℕ) (i : ℕ) → i < m → 2 * m ≤ length ws
@@ -55,7 +60,9 @@ module _ (ws : List ℕ) (r : Readable ws) where
       → entryAt i (view ws .entries) .key ≡ getD ws (from + 2 * i) 0
   unfolding view
   key-word from i e h =
-      rw e (ap keyOf (pairs-at (getD ws 1 0) (drop (pairsFrom (getD ws 0 0)) ws) i h enough) ∙ getD-drop (pairsFrom (getD ws 0 0)) ws (2 * i) 0)
+      rw e
+      (ap keyOf (pairs-at (getD ws 1 0) (drop (pairsFrom (getD ws 0 0)) ws) i h enough)
+      ∙ getD-drop (pairsFrom (getD ws 0 0)) ws (2 * i) 0)
 
   -- what stands behind the key of pair i
   pub value-word : (from i : ℕ) → from ≡ pairsFrom (getD ws 0 0) → i < getD ws 1 0
@@ -78,14 +85,9 @@ module _ (ws : List ℕ) (r : Readable ws) where
       (λ some. low (i - 1) (omega arith))
       (λ more. rw (key-word from i e (omega arith)) (high (omega arith))))
 
-  -- above the leaves the pairs begin behind p0
-  pub upper-from : isLeaf (view ws) ≡ false → pairsFrom (getD ws 0 0) ≡ 3
-  unfolding view
-  upper-from upper = cond-false 2 3 upper
-
   -- the word of pi is there
   pub pointer-inside : isLeaf (view ws) ≡ false → (i : ℕ) → i ≤ getD ws 1 0 → 2 + 2 * i < length ws
-  pointer-inside upper i h = omega (arith, upper-from upper, r .inside)
+  pointer-inside upper i h = omega (arith, upper-from ws upper, r .inside)
 
   -- above the leaves pi is the word before the key of pair i
   pub pointer-word : isLeaf (view ws) ≡ false → (i : ℕ) → i ≤ getD ws 1 0 → pointer i (view ws) ≡ getD ws (2 + 2 * i) 0
@@ -94,7 +96,7 @@ module _ (ws : List ℕ) (r : Readable ws) where
   pointer-word upper (suc i) h =
       let at : 3 + 2 * i + 1 ≡ 2 + 2 * suc i = omega arith in
       List·getD-map valueOf (view ws .entries) i (entry 0 0)
-      ∙ value-word 3 i (sym (upper-from upper)) h
+      ∙ value-word 3 i (sym (upper-from ws upper)) h
       ∙ ap (λ (n : ℕ). getD ws n 0) at
 
   -- p0 and one pointer for each pair
@@ -143,22 +145,25 @@ module _ (x i : ℕ) (es : List Entry) (e : i ≡ place x es) (t : rises es ≡ 
 
 module _ (x i m : ℕ) (F : Page) (e : i ≡ place x (F .entries)) (n : m ≡ μ F) where
   -- it has a right neighbour
-  pub right-there : i < m → hasRight x F ≡ true
+  right-there : i < m → hasRight x F ≡ true
   right-there h = lt-ltb (place x (F .entries)) (μ F) (omega arith)
 
   -- it has none
-  pub right-missing : m ≤ i → hasRight x F ≡ false
+  right-missing : m ≤ i → hasRight x F ≡ false
   right-missing h = le-ltb (place x (F .entries)) (μ F) (omega arith)
 
+  -- the key between the page and its right neighbour stands at its place
   pub between-right : i < m → i ≡ betweenAt x F
   unfolding betweenAt
   between-right h = e ∙ sym (cond-true (place x (F .entries)) (place x (F .entries) - 1) (right-there h))
 
+  -- the key between the page and its left neighbour stands just before its place
   pub between-left : m ≤ i → i - 1 ≡ betweenAt x F
   unfolding betweenAt
   between-left h =
       ap (λ (j : ℕ). j - 1) e ∙ sym (cond-false (place x (F .entries)) (place x (F .entries) - 1) (right-missing h))
 
+  -- the right neighbour is the next pointer
   pub neighbour-right : i < m → pointer (i + 1) F ≡ neighbour x F
   unfolding neighbour
   neighbour-right h =
@@ -166,6 +171,7 @@ module _ (x i m : ℕ) (F : Page) (e : i ≡ place x (F .entries)) (n : m ≡ μ
       let next : i + 1 ≡ suc p = omega arith in
       ap (λ (j : ℕ). pointer j F) next ∙ sym (cond-true (pointer (suc p) F) (pointer (p - 1) F) (right-there h))
 
+  -- the left neighbour is the pointer before
   pub neighbour-left : m ≤ i → pointer (i - 1) F ≡ neighbour x F
   unfolding neighbour
   neighbour-left h =

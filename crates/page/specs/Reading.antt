@@ -1,4 +1,4 @@
--- What reading a page's words asks and answers.
+-- What reading and testing a page's words asks and answers.
 use Prim.Native.Nat.{ℕ, _+_, _*_, _≤_}
 use mathlib.Core.Bool.{Bool, cond, _&&_}
 use mathlib.Core.List.{List}
