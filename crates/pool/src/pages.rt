@@ -1,6 +1,7 @@
 // One page of the pool: the part of the lent words where it lies, lent on to the function on a page's words.
 use crate::lying::page_size;
 use crate::lying::start_of;
+use page::checking;
 use page::reading;
 use page::reading::Lot;
 ghost use mathlib.Core.Path.{_≡_};
@@ -9,7 +10,7 @@ ghost use Prim.Native.Nat.{_≤_, _<_};
 ghost use Rattle.ground.specs.Limits.{largestK, largestN};
 ghost use Rattle.page.specs.Words.{μ, isLeaf};
 ghost use Rattle.page.specs.Place.{place, pointer, route};
-ghost use Rattle.page.specs.Sound.{rises};
+ghost use Rattle.page.specs.Sound.{rises, soundByItself};
 ghost use Rattle.page.specs.Splits.{entryAt};
 ghost use Rattle.page.specs.Short.{hasRight, neighbour, betweenAt};
 ghost use Rattle.page.specs.Reading.{Readable, looked};
@@ -165,4 +166,12 @@ pub fn neighbour_of(words: &[u32], k: usize, n: usize, p: u32, x: u32) -> u32
     ensures { λ r. ⌜ r ≡ neighbour x (pageAt k (now (words .entry)) p) ⌝ }
 {
     reading::neighbour(page_words(words, k, n, p), x)
+}
+
+// It is sound by itself.
+pub fn sound_of(words: &[u32], k: usize, n: usize, p: u32) -> bool
+    requires { ⌜ InPool k n p (now words) ⌝ }
+    ensures { λ r. ⌜ r ≡ soundByItself k n p (wordsOf k p (now (words .entry))) ⌝ }
+{
+    checking::sound_page(page_words(words, k, n, p), k, n, p)
 }
