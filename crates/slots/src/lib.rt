@@ -1,4 +1,6 @@
 // Slots and locks: who holds what, who waits for whom. The state and what the caller hears.
+pub mod checking;
+
 use ground::HELD;
 use ground::SLOTS;
 
