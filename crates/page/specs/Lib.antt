@@ -3,3 +3,4 @@ pub mod Place
 pub mod Sound
 pub mod Splits
 pub mod Short
+pub mod Sheets
