@@ -9,4 +9,6 @@ pub mod FlatLaws
 pub mod WritingLaws
 pub mod LayLaws
 pub mod SheetLaws
+pub mod ExactLaws
+pub mod MoveLaws
 pub mod SmallRows
