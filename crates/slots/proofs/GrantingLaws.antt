@@ -76,7 +76,7 @@ want-read st i e h = ap (λ (x : Slot). x .want) (slot-read st i e h)
 
 -- ---- the slots one by one
 
--- slot t does not keep slot s from what it wants
+-- slot t lets slot s have what it wants
 unfoldable pub letsPass : State → ℕ → ℕ → Bool
 letsPass st s t = eqb t s || not (holdsAt st t (wantAt st s) && clash (lockAt st t) (lockAt st s))
 
@@ -96,13 +96,13 @@ pub slots-stop : (st : State) (s t : ℕ) → t < slotCount → letsPass st s t 
 unfolding noClash letsPass
 slots-stop st s t h f = sym (allBelow-stops (letsPass st s) slotCount t h f)
 
--- slot s does not keep itself from anything
+-- slot s lets itself have it
 pub own-passes : (st : State) (s t : ℕ) → t ≡ s → letsPass st s t ≡ true
 unfolding letsPass
 own-passes st s t e = or-first _ (eq-eqb t s e)
 
--- any other slot does where it holds the page under a clashing lock
-pub other-passes : (st : State) (s t : ℕ) → (t ≡ s → ⊥) → letsPass st s t ≡ not (holdsAt st t (wantAt st s) && clash (lockAt st t) (lockAt st s))
+-- any other slot does so unless it holds the page under a clashing lock
+other-passes : (st : State) (s t : ℕ) → (t ≡ s → ⊥) → letsPass st s t ≡ not (holdsAt st t (wantAt st s) && clash (lockAt st t) (lockAt st s))
 unfolding letsPass
 other-passes st s t n = ap (λ (b : Bool). b || not (holdsAt st t (wantAt st s) && clash (lockAt st t) (lockAt st s))) (ne-eqb t s n)
 
