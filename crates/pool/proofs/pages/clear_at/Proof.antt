@@ -1,4 +1,5 @@
 -- Zeros are the words of a freed page.
+use native.Mathlib.Omega.{arith}
 use borrow.Author.Needs.{needs}
 use Prim.Native.Nat.{ℕ}
 use mathlib.Core.Path.{sym, ap, _∙_}
@@ -13,16 +14,16 @@ stretch-of-requires : tie.Need-stretch-of-requires
 stretch-of-requires c κs = search needs
 
 mul-clear : tie.Need-mul-clear
-mul-clear c = search needs
+mul-clear c = omega arith
 
 sub-clear : tie.Need-sub-clear
-sub-clear c = search needs
+sub-clear c = omega arith
 
 part-clear-start : tie.Need-part-clear-start
-part-clear-start c = search needs
+part-clear-start c = omega arith
 
 part-clear-end : tie.Need-part-clear-end
-part-clear-end c = search needs
+part-clear-end c = omega arith
 
 clear-requires : tie.Need-clear-requires
 clear-requires c κs = tt

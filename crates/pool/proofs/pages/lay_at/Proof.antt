@@ -1,4 +1,5 @@
 -- The part where the page lies is lent to the function that writes it, and comes back as the page written.
+use native.Mathlib.Omega.{arith}
 use borrow.Author.Needs.{needs}
 use Rattle.page.specs.Words.{Page}
 use Rattle.page.specs.Sheets.{sheetPage}
@@ -10,16 +11,16 @@ stretch-of-requires : tie.Need-stretch-of-requires
 stretch-of-requires c κs = search needs
 
 mul-lay : tie.Need-mul-lay
-mul-lay c = search needs
+mul-lay c = omega arith
 
 sub-lay : tie.Need-sub-lay
-sub-lay c = search needs
+sub-lay c = omega arith
 
 part-lay-start : tie.Need-part-lay-start
-part-lay-start c = search needs
+part-lay-start c = omega arith
 
 part-lay-end : tie.Need-part-lay-end
-part-lay-end c = search needs
+part-lay-end c = omega arith
 
 lay-requires : tie.Need-lay-requires
 lay-requires c κs =

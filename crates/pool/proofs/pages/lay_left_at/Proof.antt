@@ -1,4 +1,5 @@
 -- The part where the page lies is lent to the function that writes it, and comes back as the page written.
+use native.Mathlib.Omega.{arith}
 use borrow.Author.Needs.{needs}
 use Rattle.page.specs.Words.{Page}
 use Rattle.page.specs.Splits.{split}
@@ -11,16 +12,16 @@ stretch-of-requires : tie.Need-stretch-of-requires
 stretch-of-requires c κs = search needs
 
 mul-lay-left : tie.Need-mul-lay-left
-mul-lay-left c = search needs
+mul-lay-left c = omega arith
 
 sub-lay-left : tie.Need-sub-lay-left
-sub-lay-left c = search needs
+sub-lay-left c = omega arith
 
 part-lay-left-start : tie.Need-part-lay-left-start
-part-lay-left-start c = search needs
+part-lay-left-start c = omega arith
 
 part-lay-left-end : tie.Need-part-lay-left-end
-part-lay-left-end c = search needs
+part-lay-left-end c = omega arith
 
 lay-left-requires : tie.Need-lay-left-requires
 lay-left-requires c κs =

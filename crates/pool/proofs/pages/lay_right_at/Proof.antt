@@ -1,4 +1,5 @@
 -- The part where the page lies is lent to the function that writes it, and comes back as the page written.
+use native.Mathlib.Omega.{arith}
 use borrow.Author.Needs.{needs}
 use Rattle.page.specs.Words.{Page}
 use Rattle.page.specs.Splits.{split}
@@ -11,16 +12,16 @@ stretch-of-requires : tie.Need-stretch-of-requires
 stretch-of-requires c κs = search needs
 
 mul-lay-right : tie.Need-mul-lay-right
-mul-lay-right c = search needs
+mul-lay-right c = omega arith
 
 sub-lay-right : tie.Need-sub-lay-right
-sub-lay-right c = search needs
+sub-lay-right c = omega arith
 
 part-lay-right-start : tie.Need-part-lay-right-start
-part-lay-right-start c = search needs
+part-lay-right-start c = omega arith
 
 part-lay-right-end : tie.Need-part-lay-right-end
-part-lay-right-end c = search needs
+part-lay-right-end c = omega arith
 
 lay-right-requires : tie.Need-lay-right-requires
 lay-right-requires c κs =

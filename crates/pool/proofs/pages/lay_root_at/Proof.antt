@@ -1,4 +1,5 @@
 -- The part where the page lies is lent to the function that writes it, and comes back as the page written.
+use native.Mathlib.Omega.{arith}
 use borrow.Author.Needs.{needs}
 use mathlib.Core.List.{[], _∷_}
 use Prim.Native.Nat.{_+_}
@@ -11,16 +12,16 @@ stretch-of-requires : tie.Need-stretch-of-requires
 stretch-of-requires c κs = search needs
 
 mul-lay-root : tie.Need-mul-lay-root
-mul-lay-root c = search needs
+mul-lay-root c = omega arith
 
 sub-lay-root : tie.Need-sub-lay-root
-sub-lay-root c = search needs
+sub-lay-root c = omega arith
 
 part-lay-root-start : tie.Need-part-lay-root-start
-part-lay-root-start c = search needs
+part-lay-root-start c = omega arith
 
 part-lay-root-end : tie.Need-part-lay-root-end
-part-lay-root-end c = search needs
+part-lay-root-end c = omega arith
 
 lay-root-requires : tie.Need-lay-root-requires
 lay-root-requires c κs =

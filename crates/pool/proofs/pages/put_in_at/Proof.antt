@@ -1,4 +1,5 @@
 -- The part where the page lies is lent to the function that writes it, and comes back as the page written.
+use native.Mathlib.Omega.{arith}
 use borrow.Author.Needs.{needs}
 use Rattle.page.specs.Words.{Page, entry}
 use Rattle.page.specs.Splits.{put}
@@ -11,16 +12,16 @@ stretch-of-requires : tie.Need-stretch-of-requires
 stretch-of-requires c κs = search needs
 
 mul-put-in : tie.Need-mul-put-in
-mul-put-in c = search needs
+mul-put-in c = omega arith
 
 sub-put-in : tie.Need-sub-put-in
-sub-put-in c = search needs
+sub-put-in c = omega arith
 
 part-put-in-start : tie.Need-part-put-in-start
-part-put-in-start c = search needs
+part-put-in-start c = omega arith
 
 part-put-in-end : tie.Need-part-put-in-end
-part-put-in-end c = search needs
+part-put-in-end c = omega arith
 
 put-in-requires : tie.Need-put-in-requires
 unfolding pageAt

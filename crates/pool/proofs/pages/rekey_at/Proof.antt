@@ -1,4 +1,5 @@
 -- The part where the page lies is lent to the function that writes it, and comes back as the page written.
+use native.Mathlib.Omega.{arith}
 use borrow.Author.Needs.{needs}
 use Rattle.page.specs.Words.{Page}
 use Rattle.page.specs.Short.{rekeyed}
@@ -11,16 +12,16 @@ stretch-of-requires : tie.Need-stretch-of-requires
 stretch-of-requires c κs = search needs
 
 mul-rekey : tie.Need-mul-rekey
-mul-rekey c = search needs
+mul-rekey c = omega arith
 
 sub-rekey : tie.Need-sub-rekey
-sub-rekey c = search needs
+sub-rekey c = omega arith
 
 part-rekey-start : tie.Need-part-rekey-start
-part-rekey-start c = search needs
+part-rekey-start c = omega arith
 
 part-rekey-end : tie.Need-part-rekey-end
-part-rekey-end c = search needs
+part-rekey-end c = omega arith
 
 rekey-requires : tie.Need-rekey-requires
 unfolding pageAt

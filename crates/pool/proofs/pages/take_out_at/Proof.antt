@@ -1,4 +1,5 @@
 -- The part where the page lies is lent to the function that writes it, and comes back as the page written.
+use native.Mathlib.Omega.{arith}
 use borrow.Author.Needs.{needs}
 use Rattle.page.specs.Words.{Page}
 use Rattle.page.specs.Short.{lessKey}
@@ -11,16 +12,16 @@ stretch-of-requires : tie.Need-stretch-of-requires
 stretch-of-requires c κs = search needs
 
 mul-take-out : tie.Need-mul-take-out
-mul-take-out c = search needs
+mul-take-out c = omega arith
 
 sub-take-out : tie.Need-sub-take-out
-sub-take-out c = search needs
+sub-take-out c = omega arith
 
 part-take-out-start : tie.Need-part-take-out-start
-part-take-out-start c = search needs
+part-take-out-start c = omega arith
 
 part-take-out-end : tie.Need-part-take-out-end
-part-take-out-end c = search needs
+part-take-out-end c = omega arith
 
 take-out-requires : tie.Need-take-out-requires
 unfolding pageAt
