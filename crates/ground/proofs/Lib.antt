@@ -1,3 +1,4 @@
 pub mod Bools
 pub mod Choice
 pub mod Tests
+pub mod Limits

@@ -3,9 +3,8 @@ use Prim.Native.Nat.{ℕ, _+_}
 use mathlib.Core.Bool.{Bool, true, false, cond, not, _&&_, _||_}
 use mathlib.Core.List.{List, [], _∷_, _++_, reverse}
 use lib.Dec.{eqb}
-use lib.ListN.{drop}
 use Rattle.ground.specs.Tests.{all, member}
-use Rattle.page.specs.Words.{Page, isLeaf}
+use Rattle.page.specs.Words.{Page, μ}
 use Rattle.page.specs.Place.{route, has}
 use Rattle.page.specs.Sound.{soundByItself}
 use Rattle.pool.specs.Pool.{wordsOf, pageAt, freePages}
@@ -34,7 +33,7 @@ descends memory x (p ∷ (q ∷ rest)) = leads memory x p q && descends memory x
 abbrev pub rightlyKept : Op → ℕ → (ℕ → Page) → List ℕ → ℕ → Bool
 rightlyKept op k memory [] want = eqb want 0
 rightlyKept op k memory (top ∷ below) want =
-    (eqb top 0 || isSafe op k (memory top)) && all (λ (p : ℕ). not (isSafe op k (memory p))) below
+    (eqb top 0 || isSafe op k (μ (memory top))) && all (λ (p : ℕ). not (isSafe op k (μ (memory p)))) below
 
 -- each sibling has the level of the page beside it on the path, given upward
 unfoldable pub sameLevels : (ℕ → Page) → List ℕ → List ℕ → Bool

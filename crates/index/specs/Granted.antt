@@ -25,14 +25,15 @@ pub data Verdict : Type 0 where
 
 -- "Search gives up the father." "Insertion: if the page has μ < 2k, all its ancestors are given up." "Deletion: the
 -- same with μ > k, for pages other than 0": page 0 has no ancestors. On such a page an operation holds that page alone.
-abbrev pub isSafe : Op → ℕ → Page → Bool
-isSafe (Search x) k P = true
-isSafe (Insert x v) k P = ltb (μ P) (2 * k)
-isSafe (Delete x) k P = ltb k (μ P)
+-- It is asked of the page's number μ.
+abbrev pub isSafe : Op → ℕ → ℕ → Bool
+isSafe (Search x) k m = true
+isSafe (Insert x v) k m = ltb m (2 * k)
+isSafe (Delete x) k m = ltb k m
 
 -- the path after page p is granted
 abbrev pub kept : Op → ℕ → (ℕ → Page) → List ℕ → ℕ → List ℕ
-kept op k memory path p = cond (isSafe op k (memory p)) (p ∷ []) (path ++ p ∷ [])
+kept op k memory path p = cond (isSafe op k (μ (memory p))) (p ∷ []) (path ++ p ∷ [])
 
 -- what a deletion does by what it needs: the whole change, one more page wanted, or nothing at all
 abbrev pub byNeed : List ℕ → List ℕ → Verdict → Need → Verdict

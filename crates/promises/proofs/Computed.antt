@@ -1,7 +1,7 @@
 -- The bench holds: the rules, computed.
 use Prim.Native.Nat.{ℕ}
 use mathlib.Core.Bool.{Bool, true, false, _&&_, false≢true}
-use mathlib.Core.Path.{_≡_, refl, ap, ap₂}
+use mathlib.Core.Path.{_≡_, refl, ap₂}
 use mathlib.Core.List.{List, [], _∷_}
 use lib.Dec.{eqb}
 use borrow.Author.Tests.{eqb-true}
@@ -28,6 +28,7 @@ use Rattle.index.specs.Make.{made}
 use Rattle.promises.specs.Run.{called, run, runFresh}
 use Rattle.promises.specs.Bench.{Row, Holds, bench}
 use Rattle.promises.specs.MoreRows.{more}
+use Rattle.promises.specs.LongRun.{again, longRows}
 
 -- Everything that a call unfolds to: who unfolds this unfolds all of it.
 calls : Unit {0}
@@ -87,3 +88,7 @@ bench-holds = agree-holds bench refl
 pub more-holds : Holds more
 unfolding calls same sames agree
 more-holds = agree-holds more refl
+
+pub long-holds : Holds longRows
+unfolding calls same sames agree again
+long-holds = agree-holds longRows refl

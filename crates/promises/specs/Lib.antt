@@ -1,3 +1,4 @@
 pub mod Run
 pub mod Bench
 pub mod MoreRows
+pub mod LongRun

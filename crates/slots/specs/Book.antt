@@ -25,11 +25,12 @@ unfoldable pub begins : State → ℕ → Op → State
 begins st s op = rewritten st s (openSlot op 0 [] []) (set (st .order) (st .waiting) s) (st .waiting + 1)
 
 -- "A new want goes to the end of the waiting order."
+abbrev pub requeued : State → ℕ → Slot → State
+requeued st s slot =
+    rewritten st s slot (leaving s (waitingOrder st) ++ s ∷ drop (st .waiting) (st .order)) (st .waiting)
+
 unfoldable pub goesOn : State → ℕ → Op → ℕ → List ℕ → List ℕ → State
-goesOn st s op want path siblings =
-    rewritten st s (openSlot op want path siblings)
-    (leaving s (waitingOrder st) ++ s ∷ drop (st .waiting) (st .order))
-    (st .waiting)
+goesOn st s op want path siblings = requeued st s (openSlot op want path siblings)
 
 -- "An answer that ends the operation gives up every lock and closes the slot."
 unfoldable pub closes : State → ℕ → State

@@ -2,3 +2,6 @@ pub mod Rows
 pub mod Tree
 pub mod Sorted
 pub mod Change
+pub mod Facts
+pub mod Insertion
+pub mod Deletion

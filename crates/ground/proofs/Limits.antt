@@ -1,0 +1,44 @@
+-- The facts about document 01's fixed numbers on which what is proved rests, each once. Nothing else unfolds the names.
+use Prim.Native.Nat.{_+_, _-_, _*_, _^_, _<_}
+use mathlib.Core.Path.{_≡_, refl}
+use lib.Dec.{lit<}
+use Rattle.ground.specs.Limits.{largestN, tallest, slotCount, pathHolds, siblingHolds, wordRange, slotGrants, roundsEnough}
+
+-- there are words
+pub range-rises : 0 < wordRange
+unfolding wordRange
+range-rises = lit< tt
+
+-- a page number is a word
+pub pages-are-words : largestN < wordRange
+unfolding largestN wordRange
+pages-are-words = lit< tt
+
+-- a level is a word
+pub levels-are-words : tallest < wordRange
+unfolding tallest wordRange
+levels-are-words = lit< tt
+
+-- "a tree of height h has at least 2^h - 1 pages, and h is at most 10": no pool has pages for a tree of height 11
+pub pages-few : largestN < 2 ^ (tallest + 1) - 1
+unfolding largestN tallest
+pages-few = lit< tt
+
+-- "a deletion at most 10 on its path and 9 siblings": a whole way, and a sibling on each of its levels but the top
+pub path-is-way : pathHolds ≡ tallest
+unfolding pathHolds tallest
+path-is-way = refl
+
+pub siblings-below-top : siblingHolds + 1 ≡ tallest
+unfolding siblingHolds tallest
+siblings-below-top = refl
+
+-- "deletion h to 2h-1. So at most 19 a slot"
+pub grants-of-height : slotGrants ≡ 2 * tallest - 1
+unfolding slotGrants tallest
+grants-of-height = refl
+
+-- "16 × 19 = 304"
+pub rounds-of-slots : roundsEnough ≡ slotCount * slotGrants
+unfolding roundsEnough slotCount slotGrants
+rounds-of-slots = refl

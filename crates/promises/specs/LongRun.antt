@@ -1,0 +1,109 @@
+-- A long run on the bench: 219 calls by three slots, k = 1, N = 18. The tree rises from one leaf to four levels, loses
+-- them again and ends as the fresh pool. On the way pages split, move over and join on levels 1, 2 and 3, with right and
+-- with left neighbours, and every answer of a step is heard. The answers come from a second program, written from
+-- document 01 alone (`rust/twin`).
+use Prim.Native.Nat.{ℕ, zero, suc}
+use mathlib.Core.List.{List, [], _∷_, _++_}
+use Rattle.pool.specs.Pool.{fresh}
+use Rattle.slots.specs.declared.Op.{Op}
+use Rattle.slots.specs.declared.Op.the-variants.{Search, Insert, Delete}
+use Rattle.slots.specs.declared.Answer.the-variants.{Waiting, Moved, Found, NotFound, Inserted, AlreadyThere, Deleted, NoSuchKey, NoRoom, Begun}
+use Rattle.slots.specs.Heard.{heard}
+use Rattle.promises.specs.Run.{Call, begin, step, runFresh}
+use Rattle.promises.specs.Bench.{Row, row}
+
+abbrev pub began : List ℕ
+began = heard Begun
+
+abbrev pub onward : List ℕ
+onward = heard Moved
+
+abbrev pub waits : List ℕ
+waits = heard Waiting
+
+abbrev pub found : List ℕ
+found = heard (Found 7)
+
+abbrev pub absent : List ℕ
+absent = heard NotFound
+
+abbrev pub inserted : List ℕ
+inserted = heard Inserted
+
+abbrev pub there : List ℕ
+there = heard AlreadyThere
+
+abbrev pub deleted : List ℕ
+deleted = heard (Deleted 7)
+
+abbrev pub missing : List ℕ
+missing = heard NoSuchKey
+
+abbrev pub noPage : List ℕ
+noPage = heard NoRoom
+
+-- some calls so many times
+unfoldable pub again : ℕ → List Call → List Call
+again zero cs = []
+again (suc r) cs = cs ++ again r cs
+
+-- Three operations begun in slots 0, 1 and 2, then so many rounds by all three, by the last two, by the last.
+abbrev pub three : Op → Op → Op → ℕ → ℕ → ℕ → List Call
+three o p q all two one =
+    begin 0 o
+    ∷ begin 1 p
+    ∷ begin 2 q
+    ∷ again all (step 0 ∷ step 1 ∷ step 2 ∷ [])
+    ++ again two (step 1 ∷ step 2 ∷ [])
+    ++ again one (step 2 ∷ [])
+
+abbrev pub longRun : List Call
+longRun =
+    three (Insert 1 7) (Delete 11) (Insert 14 7) 1 0 0
+    ++ three (Insert 14 7) (Insert 7 7) (Insert 8 7) 1 0 1
+    ++ three (Insert 2 7) (Insert 16 7) (Insert 7 7) 2 1 2
+    ++ three (Insert 13 7) (Insert 3 7) (Insert 4 7) 3 1 1
+    ++ three (Insert 9 7) (Search 17) (Insert 15 7) 3 1 1
+    ++ three (Insert 6 7) (Insert 5 7) (Delete 14) 4 1 2
+    ++ three (Delete 7) (Insert 11 7) (Delete 15) 5 0 4
+    ++ three (Search 16) (Insert 10 7) (Delete 3) 4 1 4
+    ++ three (Search 9) (Delete 5) (Delete 8) 4 3 6
+    ++ three (Insert 12 7) (Delete 2) (Delete 9) 3 6 4
+    ++ three (Delete 4) (Delete 1) (Delete 6) 4 3 4
+    ++ three (Delete 12) (Delete 13) (Delete 10) 2 2 2
+    ++ three (Delete 16) (Search 16) (Delete 16) 1 0 0
+
+-- what is heard; each three operations begin a new line
+abbrev pub longAnswers : List (List ℕ)
+longAnswers =
+    began ∷ began ∷ began ∷ inserted ∷ missing ∷ inserted ∷
+    began ∷ began ∷ began ∷ there ∷ inserted ∷ onward ∷ inserted ∷
+    began ∷ began ∷ began ∷ onward ∷ waits ∷ waits ∷ inserted ∷ onward ∷ waits ∷ inserted ∷ onward ∷ onward ∷ there ∷
+    began ∷ began ∷ began ∷ onward ∷ waits ∷ waits ∷ onward ∷ onward ∷ waits ∷ inserted ∷ onward ∷ onward ∷ inserted ∷
+    onward ∷ inserted ∷
+    began ∷ began ∷ began ∷ onward ∷ waits ∷ waits ∷ onward ∷ onward ∷ waits ∷ inserted ∷ onward ∷ onward ∷ absent ∷
+    onward ∷ inserted ∷
+    began ∷ began ∷ began ∷ onward ∷ waits ∷ waits ∷ onward ∷ onward ∷ waits ∷ onward ∷ onward ∷ onward ∷ inserted ∷
+    onward ∷ onward ∷ inserted ∷ onward ∷ onward ∷ deleted ∷
+    began ∷ began ∷ began ∷ onward ∷ waits ∷ waits ∷ onward ∷ onward ∷ waits ∷ onward ∷ onward ∷ onward ∷ onward ∷
+    onward ∷ onward ∷ deleted ∷ noPage ∷ onward ∷ onward ∷ onward ∷ onward ∷ deleted ∷
+    began ∷ began ∷ began ∷ onward ∷ waits ∷ waits ∷ onward ∷ onward ∷ waits ∷ onward ∷ onward ∷ onward ∷ found ∷
+    onward ∷ onward ∷ inserted ∷ onward ∷ onward ∷ onward ∷ onward ∷ deleted ∷
+    began ∷ began ∷ began ∷ onward ∷ waits ∷ waits ∷ onward ∷ onward ∷ waits ∷ onward ∷ onward ∷ waits ∷ found ∷
+    onward ∷ waits ∷ onward ∷ waits ∷ onward ∷ waits ∷ deleted ∷ onward ∷ onward ∷ onward ∷ onward ∷ onward ∷ onward ∷
+    deleted ∷
+    began ∷ began ∷ began ∷ onward ∷ waits ∷ waits ∷ onward ∷ waits ∷ waits ∷ inserted ∷ onward ∷ waits ∷ onward ∷
+    waits ∷ onward ∷ waits ∷ onward ∷ waits ∷ onward ∷ waits ∷ onward ∷ waits ∷ deleted ∷ onward ∷ onward ∷ onward ∷
+    onward ∷ deleted ∷
+    began ∷ began ∷ began ∷ onward ∷ waits ∷ waits ∷ onward ∷ onward ∷ waits ∷ onward ∷ waits ∷ waits ∷ deleted ∷
+    onward ∷ waits ∷ onward ∷ waits ∷ onward ∷ waits ∷ deleted ∷ onward ∷ onward ∷ onward ∷ onward ∷ deleted ∷
+    began ∷ began ∷ began ∷ onward ∷ waits ∷ waits ∷ deleted ∷ onward ∷ waits ∷ onward ∷ waits ∷ deleted ∷ onward ∷
+    onward ∷ deleted ∷
+    began ∷ began ∷ began ∷ deleted ∷ absent ∷ missing ∷ []
+
+-- What is heard, and the fresh pool at the end.
+abbrev pub longRows : List Row
+longRows =
+    row (runFresh 1 18 longRun .answers) longAnswers
+    ∷ row (runFresh 1 18 longRun .words ∷ []) (fresh 1 18 ∷ [])
+    ∷ []

@@ -1,0 +1,87 @@
+-- A granted want clashes with nothing, so a slot that takes it keeps the locks apart.
+use Prim.Native.Nat.{ℕ, _<_}
+use mathlib.Core.Bool.{Bool, true, false, not, _&&_, _||_}
+use mathlib.Core.Logic.{_≢_, _⊎_, inl, inr, ⊎-elim}
+use mathlib.Core.Path.{_≡_, refl, sym, ap, ap₂, subst, _∙_}
+use mathlib.Core.List.{List, [], _∷_, _++_}
+use lib.Dec.{eqb}
+use lib.ListN.{take}
+use borrow.Author.Tests.{eqb-true, ne-eqb, not-true}
+use Rattle.ground.specs.Limits.{slotCount}
+use Rattle.ground.specs.Tests.{member, apart, allBelow}
+use Rattle.ground.proofs.Bools.{not-both, false-if-not-true, and-first, and-second, and-both, or-cases}
+use Rattle.ground.proofs.Tests.{member-none, apart-member, apart-from, apart-swap, allBelow-at}
+use Rattle.slots.specs.declared.Op.{Op}
+use Rattle.slots.specs.declared.Op.the-variants.{Search, Insert, Delete}
+use Rattle.slots.specs.declared.Task.{Task}
+use Rattle.slots.specs.declared.Task.the-variants.{Closed, Open}
+use Rattle.slots.specs.declared.Slot.{Slot}
+use Rattle.slots.specs.declared.State.{State}
+use Rattle.slots.specs.Parts.{isOpen, held, pathOf, siblingsOf, slotAt, openAt, wantAt, holdsAt}
+use Rattle.slots.specs.Locks.{lockOf, lockAt, clash, isXi}
+use Rattle.slots.specs.Sound.{withinLimits}
+use Rattle.slots.specs.Grant.{noClash, noOlder, grants}
+use Rattle.slots.proofs.SoundFacts.{SoundSlot, SoundState}
+
+-- No other slot holds the wanted page of a granted slot with a clashing lock.
+pub granted-no-clash : (st : State) (s : ℕ) → grants st s ≡ true → (t : ℕ) → t < slotCount → t ≢ s → holdsAt st t (wantAt st s) ≡ true → clash (lockAt st t) (lockAt st s) ≡ false
+unfolding noClash
+granted-no-clash st s g t b n h =
+    let holds = holdsAt st t (wantAt st s) in
+    let clashes = clash (lockAt st t) (lockAt st s) in
+    let tested : eqb t s || not (holds && clashes) ≡ true =
+    allBelow-at (λ (u : ℕ). eqb u s || not (holdsAt st u (wantAt st s) && clash (lockAt st u) (lockAt st s))) slotCount (and-first (noClash st s) (noOlder st s) g) t b in
+    ⊎-elim
+    (λ e. not-both e (ne-eqb t s n))
+    (λ e. false-if-not-true clashes (λ c. not-both (and-both h c) (not-true (holds && clashes) e)))
+    (or-cases (eqb t s) (not (holds && clashes)) tested)
+
+-- a slot that holds a page is open
+holder-task : (task : Task) (depth beside p : ℕ) (path siblings : List ℕ) → withinLimits task depth beside ≡ true → member p (take depth path ++ take beside siblings) ≡ true → isOpen task ≡ true
+holder-task Closed depth beside p path siblings h m =
+    let d : depth ≡ 0 = eqb-true depth 0 (and-first (eqb depth 0) (eqb beside 0) h) in
+    let e : beside ≡ 0 = eqb-true beside 0 (and-second (eqb depth 0) (eqb beside 0) h) in
+    not-both (subst (λ (l : List ℕ). member p l ≡ true) (ap₂ (λ (i j : ℕ). take i path ++ take j siblings) d e) m) (member-none p)
+holder-task (Open op) depth beside p path siblings h m = refl
+
+pub holder-open : (n : ℕ) (s : Slot) (p : ℕ) → SoundSlot n s → member p (held s) ≡ true → isOpen (s .task) ≡ true
+unfolding pathOf siblingsOf
+holder-open n s p f m = holder-task (s .task) (s .depth) (s .beside) p (s .path) (s .siblings) (f .limits) m
+
+-- two open slots of which one updates have clashing locks
+open-clash : (a b : Task) → isOpen a ≡ true → isOpen b ≡ true → isXi (lockOf b) || isXi (lockOf a) ≡ true → clash (lockOf a) (lockOf b) ≡ true
+open-clash Closed b o q x = not-both o refl
+open-clash (Open (Search y)) Closed o q x = not-both q refl
+open-clash (Open (Insert y v)) Closed o q x = not-both q refl
+open-clash (Open (Delete y)) Closed o q x = not-both q refl
+open-clash (Open (Search y)) (Open (Search z)) o q x = not-both x refl
+open-clash (Open (Search y)) (Open (Insert z w)) o q x = refl
+open-clash (Open (Search y)) (Open (Delete z)) o q x = refl
+open-clash (Open (Insert y v)) (Open (Search z)) o q x = refl
+open-clash (Open (Insert y v)) (Open (Insert z w)) o q x = refl
+open-clash (Open (Insert y v)) (Open (Delete z)) o q x = refl
+open-clash (Open (Delete y)) (Open (Search z)) o q x = refl
+open-clash (Open (Delete y)) (Open (Insert z w)) o q x = refl
+open-clash (Open (Delete y)) (Open (Delete z)) o q x = refl
+
+-- A granted slot that holds from now on pages that it held and the page it wanted holds them apart from every slot with
+-- which its lock clashes: what `goes-on-sound` asks.
+pub taking-alone : (st : State) → SoundState st → (s : ℕ) → s < slotCount → openAt st s ≡ true → grants st s ≡ true → (pages : List ℕ)
+    → ((p : ℕ) → member p pages ≡ true → (holdsAt st s p ≡ true) ⊎ (p ≡ wantAt st s))
+    → (t : ℕ) → t < slotCount → t ≢ s → isXi (lockAt st s) || isXi (lockAt st t) ≡ true → apart pages (held (slotAt st t)) ≡ true
+taking-alone st f s b opened g pages from t c n x =
+    apart-from pages (held (slotAt st t)) (λ p m. ⊎-elim (held-before p) wanted (from p m))
+  where
+    held-before : (p : ℕ) → holdsAt st s p ≡ true → member p (held (slotAt st t)) ≡ false
+    held-before p h =
+        ⊎-elim
+        (λ y. apart-member (held (slotAt st s)) (held (slotAt st t)) (f .alone s t b c (λ e. n (sym e)) y) p h)
+        (λ y. apart-member (held (slotAt st s)) (held (slotAt st t)) (apart-swap (held (slotAt st t)) (held (slotAt st s)) (f .alone t s c b n y)) p h)
+        (or-cases (isXi (lockAt st s)) (isXi (lockAt st t)) x)
+
+    wanted : {p : ℕ} → p ≡ wantAt st s → member p (held (slotAt st t)) ≡ false
+    wanted {p} e =
+        subst (λ (q : ℕ). member q (held (slotAt st t)) ≡ false) (sym e)
+        (false-if-not-true (holdsAt st t (wantAt st s)) (λ h. not-both
+        (open-clash (slotAt st t .task) (slotAt st s .task) (holder-open (st .n) (slotAt st t) (wantAt st s) (f .slot t c) h) opened x)
+        (granted-no-clash st s g t c n h)))

@@ -1,0 +1,198 @@
+-- Laws of the tests behind a grant: a page looked for in some cells, the slots one by one, and the walk over older wants.
+use Prim.Native.Nat.{ℕ, zero, suc, _+_, _≤_, _<_}
+use mathlib.Core.Bool.{Bool, true, false, not, _&&_, _||_}
+use mathlib.Core.Path.{_≡_, refl, sym, ap, subst, _∙_}
+use mathlib.Core.List.{List, [], _∷_, map}
+use native.Mathlib.Omega.{arith}
+use native.Mathlib.Nat.{not-suc-le-zero, le-of-suc-le-suc}
+use native.Mathlib.Numerals.{add-one}
+use lib.Dec.{eqb}
+use lib.ListN.{length, getD, take, drop, length-take, length-map, drop-of-length-le}
+use lib.Seq.{drop-cons, take-all, length-take-le, getD-take}
+use borrow.Author.Tests.{eq-eqb, ne-eqb}
+use Rattle.ground.specs.Limits.{slotCount}
+use Rattle.ground.specs.Tests.{all, allBelow, member}
+use Rattle.ground.proofs.Bools.{and-both, and-first-fails, or-first, or-none, not-of-true, not-of-false}
+use Rattle.ground.proofs.Choice.{cond-true, cond-false}
+use Rattle.ground.proofs.Tests.{member-more, member-from, member-append, allBelow-more, allBelow-stops}
+use Rattle.slots.specs.declared.Slot.{Slot}
+use Rattle.slots.specs.declared.State.{State}
+use Rattle.slots.specs.declared.Task.the-variants.{Closed}
+use Rattle.slots.specs.declared.Lock.{Lock}
+use Rattle.slots.specs.declared.Lock.the-variants.{None, Rho, Xi}
+use Rattle.slots.specs.Parts.{slotAt, wantAt, holdsAt, held, pathOf, siblingsOf, waitingOrder}
+use Rattle.slots.specs.Locks.{lockOf, lockAt, clash}
+use Rattle.slots.specs.Grant.{olderThan, noClash, noOlder}
+
+-- the absent lock clashes with nothing
+pub none-clashes : (b : Lock) → false ≡ clash None b
+none-clashes None = refl
+none-clashes Rho = refl
+none-clashes Xi = refl
+
+-- ---- a page looked for in the first cells
+
+-- one cell more, and it is another page
+pub among-more : (p : ℕ) (cells : List ℕ) (i : ℕ) → i < length cells → member p (take i cells) ≡ false → (getD cells i 0 ≡ p → ⊥)
+    → member p (take (i + 1) cells) ≡ false
+among-more p cells i h none other =
+    ap (λ (n : ℕ). member p (take n cells)) (add-one i)
+    ∙ member-more p cells i 0 h
+    ∙ or-none none (ne-eqb p (getD cells i 0) (λ e. other (sym e)))
+
+-- it stands in cell i
+pub among-found : (p : ℕ) (cells : List ℕ) (count i : ℕ) → i < length cells → i < count → getD cells i 0 ≡ p → true ≡ member p (take count cells)
+among-found p cells count i h l e =
+    let short : i < length (take count cells) = omega (arith, length-take count cells) in
+    sym (member-from p (take count cells) i 0 short (getD-take count cells i 0 l ∙ e))
+
+-- behind the last cell there is none
+pub among-all : (p : ℕ) (cells : List ℕ) (count i : ℕ) → length cells ≤ i → length cells ≤ count → member p (take i cells) ≡ false
+    → false ≡ member p (take count cells)
+among-all p cells count i h l none =
+    sym (ap (member p) (take-all count cells l ∙ sym (take-all i cells h)) ∙ none)
+
+-- ---- a slot read out of a state
+
+-- what is read where no slot stands
+abbrev blank : Slot
+blank = record { task = Closed; want = 0; path = []; depth = 0; siblings = []; beside = 0 }
+
+default-other : (slots : List Slot) (i : ℕ) (a b : Slot) → i < length slots → getD slots i a ≡ getD slots i b
+default-other [] i a b h = absurd (not-suc-le-zero h)
+default-other (x ∷ xs) zero a b h = refl
+default-other (x ∷ xs) (suc i) a b h = default-other xs i a b (le-of-suc-le-suc h)
+
+pub slot-read : (st : State) (i : ℕ) → length (st .slots) ≡ slotCount → i < slotCount → getD (st .slots) i blank ≡ slotAt st i
+slot-read st i e h = default-other (st .slots) i blank _ (omega arith)
+
+-- ---- the slots one by one
+
+-- slot t does not keep slot s from what it wants
+unfoldable pub letsPass : State → ℕ → ℕ → Bool
+letsPass st s t = eqb t s || not (holdsAt st t (wantAt st s) && clash (lockAt st t) (lockAt st s))
+
+pub slots-none : (st : State) (s : ℕ) → allBelow 0 (letsPass st s) ≡ true
+unfolding allBelow
+slots-none st s = refl
+
+pub slots-more : (st : State) (s t : ℕ) → allBelow t (letsPass st s) ≡ true → letsPass st s t ≡ true → allBelow (t + 1) (letsPass st s) ≡ true
+slots-more st s t before this =
+    ap (λ (n : ℕ). allBelow n (letsPass st s)) (add-one t) ∙ allBelow-more (letsPass st s) t ∙ and-both before this
+
+pub slots-done : (st : State) (s t : ℕ) → t ≡ slotCount → allBelow t (letsPass st s) ≡ true → true ≡ noClash st s
+unfolding noClash letsPass
+slots-done st s t e h = sym (subst (λ (n : ℕ). allBelow n (letsPass st s) ≡ true) e h)
+
+pub slots-stop : (st : State) (s t : ℕ) → t < slotCount → letsPass st s t ≡ false → false ≡ noClash st s
+unfolding noClash letsPass
+slots-stop st s t h f = sym (allBelow-stops (letsPass st s) slotCount t h f)
+
+-- slot s does not keep itself from anything
+pub own-passes : (st : State) (s t : ℕ) → t ≡ s → letsPass st s t ≡ true
+unfolding letsPass
+own-passes st s t e = or-first _ (eq-eqb t s e)
+
+-- any other slot does where it holds the page under a clashing lock
+pub other-passes : (st : State) (s t : ℕ) → (t ≡ s → ⊥) → letsPass st s t ≡ not (holdsAt st t (wantAt st s) && clash (lockAt st t) (lockAt st s))
+unfolding letsPass
+other-passes st s t n = ap (λ (b : Bool). b || not (holdsAt st t (wantAt st s) && clash (lockAt st t) (lockAt st s))) (ne-eqb t s n)
+
+-- ---- the walk over older wants
+
+module _ (p : ℕ → Bool) (s : ℕ) (order : List ℕ) (i : ℕ) where
+  rest : Bool
+  rest = all p (olderThan s (drop i order))
+
+  rest-end : length order ≤ i → rest ≡ true
+  unfolding rest olderThan all
+  rest-end h = ap (λ (l : List ℕ). all p (olderThan s l)) (drop-of-length-le order h)
+
+  module _ (inside : i < length order) where
+    opened : rest ≡ all p (olderThan s (getD order i 0 ∷ drop (suc i) order))
+    unfolding rest
+    opened = ap (λ (l : List ℕ). all p (olderThan s l)) (drop-cons order i 0 inside)
+
+    rest-here : getD order i 0 ≡ s → rest ≡ true
+    unfolding olderThan all
+    rest-here e = opened ∙ ap (all p) (cond-true [] (getD order i 0 ∷ olderThan s (drop (suc i) order)) (eq-eqb (getD order i 0) s e))
+
+    rest-other : (getD order i 0 ≡ s → ⊥) → rest ≡ p (getD order i 0) && all p (olderThan s (drop (suc i) order))
+    unfolding olderThan all
+    rest-other n = opened ∙ ap (all p) (cond-false [] (getD order i 0 ∷ olderThan s (drop (suc i) order)) (ne-eqb (getD order i 0) s n))
+
+-- from place i of the waiting order on, no want older than slot s's is for the same page
+unfoldable pub noOlderFrom : State → ℕ → ℕ → Bool
+noOlderFrom st s i = all (λ (t : ℕ). not (eqb (wantAt st t) (wantAt st s))) (olderThan s (drop i (waitingOrder st)))
+
+pub older-none : (st : State) (s : ℕ) → noOlder st s ≡ noOlderFrom st s 0
+unfolding noOlder noOlderFrom
+older-none st s = refl
+
+module _ (st : State) (s i : ℕ) (long : length (st .order) ≡ slotCount) (fits : st .waiting ≤ slotCount) where
+  names : ℕ
+  names = getD (st .order) i 0
+
+  waits : length (waitingOrder st) ≡ st .waiting
+  unfolding waitingOrder
+  waits = length-take-le (st .waiting) (st .order) (omega arith)
+
+  -- behind the last that waits there is none
+  pub older-end : st .waiting ≤ i → noOlderFrom st s i ≡ true
+  unfolding noOlderFrom rest
+  older-end h = rest-end (λ (t : ℕ). not (eqb (wantAt st t) (wantAt st s))) s (waitingOrder st) i (omega (arith, waits))
+
+  module _ (inside : i < st .waiting) where
+    named : getD (waitingOrder st) i 0 ≡ getD (st .order) i 0
+    unfolding waitingOrder
+    named = getD-take (st .waiting) (st .order) i 0 inside
+
+    within : i < length (waitingOrder st)
+    within = omega (arith, waits)
+
+    -- the slot named at place i waits
+    pub order-names : member (getD (st .order) i 0) (waitingOrder st) ≡ true
+    order-names = member-from (getD (st .order) i 0) (waitingOrder st) i 0 within named
+
+    -- slot s itself: no want from there on is older
+    pub older-here : getD (st .order) i 0 ≡ s → noOlderFrom st s i ≡ true
+    unfolding noOlderFrom rest
+    older-here e = rest-here (λ (t : ℕ). not (eqb (wantAt st t) (wantAt st s))) s (waitingOrder st) i within (named ∙ e)
+
+    module _ (other : getD (st .order) i 0 ≡ s → ⊥) where
+      at-other : noOlderFrom st s i ≡ not (eqb (wantAt st (getD (st .order) i 0)) (wantAt st s)) && noOlderFrom st s (i + 1)
+      unfolding noOlderFrom rest
+      at-other =
+          let q : ℕ → Bool = λ (t : ℕ). not (eqb (wantAt st t) (wantAt st s)) in
+          rest-other q s (waitingOrder st) i within (λ e. other (sym named ∙ e))
+          ∙ ap (λ (t : ℕ). q t && all q (olderThan s (drop (suc i) (waitingOrder st)))) named
+          ∙ ap (λ (n : ℕ). q (getD (st .order) i 0) && all q (olderThan s (drop n (waitingOrder st)))) (sym (add-one i))
+
+      -- an older want for the same page
+      pub older-stops : wantAt st (getD (st .order) i 0) ≡ wantAt st s → noOlderFrom st s i ≡ false
+      older-stops e = at-other ∙ and-first-fails (noOlderFrom st s (i + 1)) (not-of-true (eq-eqb _ _ e))
+
+      -- an older want for another page
+      pub older-more : (wantAt st (getD (st .order) i 0) ≡ wantAt st s → ⊥) → noOlderFrom st s i ≡ noOlderFrom st s (i + 1)
+      older-more n = at-other ∙ ap (λ (b : Bool). b && noOlderFrom st s (i + 1)) (not-of-false (ne-eqb _ _ n))
+
+-- the slots of a state that came in, counted as the logic has them
+pub counted : {A B : Type 0} (f : A → B) (l : List A) (n : ℕ) → length (map f l) ≡ n → length l ≡ n
+counted f l n e = sym (length-map l f) ∙ e
+
+-- what bars slot s from its want, as read off the slot that may bar it
+pub barred : (st : State) (s t : ℕ) (other : Slot) (want : ℕ) (kind : Lock) (b : Bool) → other ≡ slotAt st t → want ≡ wantAt st s → kind ≡ lockAt st s
+    → b ≡ member want (held other) && clash (lockOf (other .task)) kind → (t ≡ s → ⊥) → letsPass st s t ≡ not b
+barred st s t other want kind b o w k e n =
+    other-passes st s t n
+    ∙ ap not
+    (sym
+    (e
+    ∙ ap (λ (x : Slot). member want (held x) && clash (lockOf (x .task)) kind) o
+    ∙ ap (λ (p : ℕ). holdsAt st t p && clash (lockAt st t) kind) w
+    ∙ ap (λ (l : Lock). holdsAt st t (wantAt st s) && clash (lockAt st t) l) k))
+
+-- the pages of a slot are those of its path and its siblings
+pub holds-split : (slot : Slot) (p : ℕ) → member p (held slot) ≡ member p (take (slot .depth) (slot .path)) || member p (take (slot .beside) (slot .siblings))
+unfolding pathOf siblingsOf
+holds-split slot p = member-append p (take (slot .depth) (slot .path)) (take (slot .beside) (slot .siblings))

@@ -1,0 +1,297 @@
+-- Beginning, going on and closing keep a sound state sound, and leave every other slot as it was.
+-- Arrays are lists to the prover, so the lengths are said: a state is shaped as its type says.
+use Prim.Native.Nat.{ℕ, zero, suc, _+_, _-_, _≤_, _<_, zero-le}
+use mathlib.Core.Bool.{Bool, true, false, not, _&&_, _||_, or-false}
+use mathlib.Core.Logic.{_≢_, _⊎_, inl, inr, ⊎-elim}
+use mathlib.Core.Path.{_≡_, refl, sym, ap, ap₂, subst, _∙_}
+use mathlib.Core.List.{List, [], _∷_, _++_}
+use native.Mathlib.Omega.{arith}
+use native.Mathlib.Numerals.{add-one}
+use lib.Dec.{eqb}
+use lib.ListN.{length, getD, take, drop, set, replicate, length-set, length-append, length-drop, length-replicate}
+use lib.Seq.{getD-set-same, getD-set-other, take-append-seam, take-suc-set}
+use borrow.Author.Tests.{eq-eqb}
+use Rattle.ground.specs.Limits.{largestK, largestN, slotCount, searchHolds, pathHolds, siblingHolds}
+use Rattle.ground.specs.Tests.{member, distinct, apart, padded}
+use Rattle.ground.proofs.Bools.{false-if-not-true, not-both, and-both, or-cases, or-first, or-second}
+use Rattle.ground.proofs.Tests.{member-none, member-append, distinct-none, distinct-snoc, apart-from, apart-swap}
+use Rattle.slots.specs.declared.Op.{Op}
+use Rattle.slots.specs.declared.Op.the-variants.{Search, Insert, Delete}
+use Rattle.slots.specs.declared.Task.{Task}
+use Rattle.slots.specs.declared.Task.the-variants.{Closed, Open}
+use Rattle.slots.specs.declared.Slot.{Slot}
+use Rattle.slots.specs.declared.State.{State}
+use Rattle.slots.specs.Parts.{isOpen, held, pathOf, siblingsOf, slotAt, openAt, wantAt, waitingOrder, openSlot, closedSlot, idleState}
+use Rattle.slots.specs.Locks.{lockOf, lockAt, isXi}
+use Rattle.slots.specs.Sound.{withinLimits}
+use Rattle.slots.specs.Book.{rewritten, leaving, begins, requeued, goesOn, closes}
+use Rattle.slots.proofs.SoundFacts.{SoundSlot, SoundState}
+use Rattle.slots.proofs.OrderLaws.{same-or-not, member-here, member-cases, length-waiting, length-leaving, member-leaving, leaving-gone, distinct-leaving, leaving-was, order-has-room, waiting-begins, waiting-requeued, waiting-closes}
+
+-- the arrays have the lengths of their types
+pub record Shaped (st : State) : Type 0 where
+  pub slots : length (st .slots) ≡ slotCount
+  pub order : length (st .order) ≡ slotCount
+
+-- ---- one slot written, the others as they were
+
+module _ (st : State) (shaped : Shaped st) (s : ℕ) (b : s < slotCount) (slot : Slot) (order : List ℕ) (waiting : ℕ) where
+  pub slot-here : slotAt (rewritten st s slot order waiting) s ≡ slot
+  slot-here = getD-set-same (st .slots) s slot closedSlot (subst (λ (m : ℕ). s < m) (sym (shaped .slots)) b)
+
+  pub slot-other : (t : ℕ) → t ≢ s → slotAt (rewritten st s slot order waiting) t ≡ slotAt st t
+  slot-other t n = getD-set-other (st .slots) s t slot closedSlot n
+
+  -- what holds of the new slot at s, and of the old ones elsewhere, holds of all
+  by-slot : (P : ℕ → Slot → Type 0) → P s slot → ((t : ℕ) → t ≢ s → P t (slotAt st t)) → (t : ℕ) → P t (slotAt (rewritten st s slot order waiting) t)
+  by-slot P here other t =
+      ⊎-elim
+      (λ e. subst (λ (q : ℕ). P q (slotAt (rewritten st s slot order waiting) q)) (sym e) (subst (P s) (sym slot-here) here))
+      (λ n. subst (P t) (sym (slot-other t n)) (other t n))
+      (same-or-not t s)
+
+-- What is to be known of the new slot and the new waiting order.
+pub record Fits (st : State) (s : ℕ) (slot : Slot) (after : List ℕ) (waiting : ℕ) : Type 0 where
+  pub waits : waiting ≤ slotCount
+  pub below : (t : ℕ) → member t after ≡ true → t < slotCount
+  pub different : distinct after ≡ true
+  -- every other slot is in the order as it was
+  pub others : (t : ℕ) → t ≢ s → member t after ≡ member t (waitingOrder st)
+  -- the slot itself is in the order just if it is open
+  pub itself : member s after ≡ isOpen (slot .task)
+  pub sound : SoundSlot (st .n) slot
+  -- where it updates, or another does, they hold no page in common
+  pub alone : (t : ℕ) → t < slotCount → t ≢ s → isXi (lockOf (slot .task)) || isXi (lockAt st t) ≡ true → apart (held slot) (held (slotAt st t)) ≡ true
+
+keeps-sound : (st : State) → Shaped st → SoundState st → (s : ℕ) → s < slotCount → (slot : Slot) (order : List ℕ) (waiting : ℕ)
+    → Fits st s slot (waitingOrder (rewritten st s slot order waiting)) waiting → SoundState (rewritten st s slot order waiting)
+unfolding waitingOrder
+keeps-sound st shaped f s b slot order waiting g =
+    record {
+      kLeast = f .kLeast;
+      kMost = f .kMost;
+      nLeast = f .nLeast;
+      nMost = f .nMost;
+      waits = g .waits;
+      orderBelow = g .below;
+      orderOpen = λ t m. by-slot st shaped s b slot order waiting (λ (q : ℕ) (sl : Slot). member q (take waiting order) ≡ true → isOpen (sl .task) ≡ true)
+          (λ q. sym (g .itself) ∙ q) (λ q n h. f .orderOpen q (sym (g .others q n) ∙ h)) t m;
+      orderOnce = g .different;
+      orderNames = λ t c. by-slot st shaped s b slot order waiting (λ (q : ℕ) (sl : Slot). q < slotCount → isOpen (sl .task) ≡ true → member q (take waiting order) ≡ true)
+          (λ _ o. g .itself ∙ o) (λ q n d o. g .others q n ∙ f .orderNames q d o) t c;
+      slot = λ t. by-slot st shaped s b slot order waiting (λ (q : ℕ) (sl : Slot). q < slotCount → SoundSlot (st .n) sl) (λ _. g .sound) (λ q n d. f .slot q d) t;
+      alone = λ t u c d n. two t u c d n;
+    }
+  where
+    next : State
+    next = rewritten st s slot order waiting
+
+    two : (t u : ℕ) → t < slotCount → u < slotCount → t ≢ u → isXi (lockAt next t) ≡ true → apart (held (slotAt next t)) (held (slotAt next u)) ≡ true
+    two t u = by-slot st shaped s b slot order waiting
+        (λ (q : ℕ) (sl : Slot). q < slotCount → u < slotCount → q ≢ u → isXi (lockOf (sl .task)) ≡ true → apart (held sl) (held (slotAt next u)) ≡ true)
+        (λ c d n x. subst (λ (o : Slot). apart (held slot) (held o) ≡ true) (sym (slot-other st shaped s b slot order waiting u (λ e. n (sym e)))) (g .alone u d (λ e. n (sym e)) (or-first (isXi (lockAt st u)) x)))
+        (λ q m c d n x. by-slot st shaped s b slot order waiting
+        (λ (r : ℕ) (sl : Slot). r < slotCount → q ≢ r → apart (held (slotAt st q)) (held sl) ≡ true)
+        (λ _ _. apart-swap (held slot) (held (slotAt st q)) (g .alone q c m (or-second (isXi (lockOf (slot .task))) x)))
+        (λ r k e o. f .alone q r c e o x) u d n)
+        t
+
+-- ---- what a new slot holds
+
+pub path-new : (op : Op) (want : ℕ) (path siblings : List ℕ) → pathOf (openSlot op want path siblings) ≡ path
+unfolding pathOf padded
+path-new op want path siblings = take-append-seam path (replicate (pathHolds - length path) 0)
+
+pub siblings-new : (op : Op) (want : ℕ) (path siblings : List ℕ) → siblingsOf (openSlot op want path siblings) ≡ siblings
+unfolding siblingsOf padded
+siblings-new op want path siblings = take-append-seam siblings (replicate (pathHolds - length siblings) 0)
+
+pub held-new : (op : Op) (want : ℕ) (path siblings : List ℕ) → held (openSlot op want path siblings) ≡ path ++ siblings
+held-new op want path siblings = ap₂ (λ (ps ss : List ℕ). ps ++ ss) (path-new op want path siblings) (siblings-new op want path siblings)
+
+nothing-apart : (ys : List ℕ) → apart [] ys ≡ true
+nothing-apart ys = apart-from [] ys (λ x m. not-both m (member-none x))
+
+closed-holds-nothing : held closedSlot ≡ []
+unfolding pathOf siblingsOf padded
+closed-holds-nothing = refl
+
+closed-sound : (n : ℕ) → SoundSlot n closedSlot
+closed-sound n = record { limits = refl; below = λ o. not-both o refl; different = λ o. not-both o refl }
+
+begun-limits : (op : Op) → withinLimits (Open op) 0 0 ≡ true
+unfolding searchHolds pathHolds siblingHolds
+begun-limits (Search x) = refl
+begun-limits (Insert x v) = refl
+begun-limits (Delete x) = refl
+
+member-one : (x y : ℕ) → member x (y ∷ []) ≡ true → x ≡ y
+member-one x y m = ⊎-elim (λ e. e) (λ h. not-both h (member-none x)) (member-cases x y [] m)
+
+-- another number behind a list
+member-before : (t s : ℕ) (xs : List ℕ) → t ≢ s → member t (xs ++ s ∷ []) ≡ member t xs
+member-before t s xs n =
+    member-append t xs (s ∷ [])
+    ∙ ap (λ (h : Bool). member t xs || h) (false-if-not-true (member t (s ∷ [])) (λ h. n (member-one t s h)))
+    ∙ or-false (member t xs)
+
+begun-sound : (n : ℕ) (op : Op) → 1 ≤ n → SoundSlot n (openSlot op 0 [] [])
+unfolding distinct member
+begun-sound n op h =
+    let holds : held (openSlot op 0 [] []) ≡ [] = held-new op 0 [] [] in
+    record {
+      limits = begun-limits op;
+      below = λ _ p m. subst (λ (q : ℕ). q < n) (sym (member-one p 0 (subst (λ (l : List ℕ). member p (0 ∷ l) ≡ true) holds m))) h;
+      different = λ _. subst (λ (l : List ℕ). distinct (0 ∷ l) ≡ true) (sym holds) refl;
+    }
+
+-- ---- the three ways a slot changes
+
+module _ (st : State) (shaped : Shaped st) (f : SoundState st) (s : ℕ) (b : s < slotCount) where
+  order-long : st .waiting ≤ length (st .order)
+  order-long = subst (λ (m : ℕ). st .waiting ≤ m) (sym (shaped .order)) (f .waits)
+
+  -- Beginning in a closed slot keeps a sound state sound, with the new want last.
+  begins-fits : (op : Op) → openAt st s ≡ false → Fits st s (openSlot op 0 [] []) (waitingOrder st ++ s ∷ []) (st .waiting + 1)
+  begins-fits op closed =
+      let room : st .waiting < slotCount = order-has-room st (shaped .order) f s b closed in
+      let absent : member s (waitingOrder st) ≡ false = false-if-not-true (member s (waitingOrder st)) (λ m. not-both (f .orderOpen s m) closed) in
+      record {
+        waits = omega arith;
+        below = λ t m. ⊎-elim (λ h. f .orderBelow t h) (λ h. subst (λ (q : ℕ). q < slotCount) (sym (member-one t s h)) b)
+            (or-cases (member t (waitingOrder st)) (member t (s ∷ [])) (sym (member-append t (waitingOrder st) (s ∷ [])) ∙ m));
+        different = distinct-snoc (waitingOrder st) s ∙ and-both (f .orderOnce) (ap not absent);
+        others = λ t n. member-before t s (waitingOrder st) n;
+        itself = member-append s (waitingOrder st) (s ∷ []) ∙ or-second (member s (waitingOrder st)) (member-here s []);
+        sound = begun-sound (st .n) op (f .nLeast);
+        alone = λ t c n x. subst (λ (l : List ℕ). apart l (held (slotAt st t)) ≡ true) (sym (held-new op 0 [] [])) (nothing-apart (held (slotAt st t)));
+      }
+
+  pub begins-sound : (op : Op) → openAt st s ≡ false → SoundState (begins st s op)
+  unfolding begins
+  begins-sound op closed =
+      let room : st .waiting < length (st .order) = subst (λ (m : ℕ). st .waiting < m) (sym (shaped .order)) (order-has-room st (shaped .order) f s b closed) in
+      keeps-sound st shaped f s b (openSlot op 0 [] []) (set (st .order) (st .waiting) s) (st .waiting + 1)
+      (subst (λ (l : List ℕ). Fits st s (openSlot op 0 [] []) l (st .waiting + 1)) (sym (waiting-begins st s op room)) (begins-fits op closed))
+
+  -- Closing keeps a sound state sound: the slot leaves the order.
+  closes-fits : openAt st s ≡ true → Fits st s closedSlot (leaving s (waitingOrder st)) (st .waiting - 1)
+  closes-fits opened =
+      record {
+        waits = omega (arith, f .waits);
+        below = λ t m. f .orderBelow t (leaving-was s t (waitingOrder st) (f .orderOnce) m .1);
+        different = distinct-leaving s (waitingOrder st) (f .orderOnce);
+        others = λ t n. member-leaving s t (waitingOrder st) n;
+        itself = leaving-gone s (waitingOrder st) (f .orderOnce);
+        sound = closed-sound (st .n);
+        alone = λ t c n x. subst (λ (l : List ℕ). apart l (held (slotAt st t)) ≡ true) (sym closed-holds-nothing) (nothing-apart (held (slotAt st t)));
+      }
+
+  pub closes-sound : openAt st s ≡ true → SoundState (closes st s)
+  unfolding closes
+  closes-sound opened =
+      keeps-sound st shaped f s b closedSlot (leaving s (waitingOrder st) ++ 0 ∷ drop (st .waiting) (st .order)) (st .waiting - 1)
+      (subst (λ (l : List ℕ). Fits st s closedSlot l (st .waiting - 1)) (sym (waiting-closes st s order-long (f .orderNames s b opened))) (closes-fits opened))
+
+  -- Going on keeps a sound state sound, with the new want last, if the new holdings are within the limits, are different
+  -- pages below N, and clash with no other slot's.
+  requeued-fits : (slot : Slot) → openAt st s ≡ true → isOpen (slot .task) ≡ true → SoundSlot (st .n) slot
+      → ((t : ℕ) → t < slotCount → t ≢ s → isXi (lockOf (slot .task)) || isXi (lockAt st t) ≡ true → apart (held slot) (held (slotAt st t)) ≡ true)
+      → Fits st s slot (leaving s (waitingOrder st) ++ s ∷ []) (st .waiting)
+  requeued-fits slot opened stays g h =
+      let gone = leaving-gone s (waitingOrder st) (f .orderOnce) in
+      record {
+        waits = f .waits;
+        below = λ t m. ⊎-elim (λ q. f .orderBelow t (leaving-was s t (waitingOrder st) (f .orderOnce) q .1)) (λ q. subst (λ (r : ℕ). r < slotCount) (sym (member-one t s q)) b)
+            (or-cases (member t (leaving s (waitingOrder st))) (member t (s ∷ [])) (sym (member-append t (leaving s (waitingOrder st)) (s ∷ [])) ∙ m));
+        different = distinct-snoc (leaving s (waitingOrder st)) s ∙ and-both (distinct-leaving s (waitingOrder st) (f .orderOnce)) (ap not gone);
+        others = λ t n. member-before t s (leaving s (waitingOrder st)) n ∙ member-leaving s t (waitingOrder st) n;
+        itself = member-append s (leaving s (waitingOrder st)) (s ∷ []) ∙ or-second (member s (leaving s (waitingOrder st))) (member-here s []) ∙ sym stays;
+        sound = g;
+        alone = h;
+      }
+
+  pub goes-on-sound : (op : Op) (want : ℕ) (path siblings : List ℕ) → openAt st s ≡ true
+      → withinLimits (Open op) (length path) (length siblings) ≡ true
+      → ((p : ℕ) → member p (want ∷ (path ++ siblings)) ≡ true → p < st .n)
+      → distinct (want ∷ (path ++ siblings)) ≡ true
+      → ((t : ℕ) → t < slotCount → t ≢ s → isXi (lockOf (Open op)) || isXi (lockAt st t) ≡ true → apart (path ++ siblings) (held (slotAt st t)) ≡ true)
+      → SoundState (goesOn st s op want path siblings)
+  unfolding goesOn
+  goes-on-sound op want path siblings opened limits below different alone =
+      let slot = openSlot op want path siblings in
+      let holds : path ++ siblings ≡ held slot = sym (held-new op want path siblings) in
+      let g : SoundSlot (st .n) slot = record {
+        limits = limits;
+        below = λ _ p m. below p (subst (λ (l : List ℕ). member p (want ∷ l) ≡ true) (sym holds) m);
+        different = λ _. subst (λ (l : List ℕ). distinct (want ∷ l) ≡ true) holds different;
+      } in
+      keeps-sound st shaped f s b slot (leaving s (waitingOrder st) ++ s ∷ drop (st .waiting) (st .order)) (st .waiting)
+      (subst (λ (l : List ℕ). Fits st s slot l (st .waiting)) (sym (waiting-requeued st s order-long (f .orderNames s b opened) slot))
+      (requeued-fits slot opened refl g (λ t c n x. subst (λ (l : List ℕ). apart l (held (slotAt st t)) ≡ true) holds (alone t c n x))))
+
+  -- The arrays keep their lengths.
+  pub begins-shaped : (op : Op) → Shaped (begins st s op)
+  unfolding begins
+  begins-shaped op = record {
+    slots = length-set (st .slots) s (openSlot op 0 [] []) ∙ shaped .slots;
+    order = length-set (st .order) (st .waiting) s ∙ shaped .order;
+  }
+
+  order-same-length : openAt st s ≡ true → (a : ℕ) → length (leaving s (waitingOrder st) ++ a ∷ drop (st .waiting) (st .order)) ≡ slotCount
+  order-same-length opened a =
+      let m = f .orderNames s b opened in
+      length-append (leaving s (waitingOrder st)) (a ∷ drop (st .waiting) (st .order))
+      ∙ omega (arith, length-leaving s (waitingOrder st) m, length-waiting st order-long, length-drop (st .waiting) (st .order), shaped .order, f .waits)
+
+  pub closes-shaped : openAt st s ≡ true → Shaped (closes st s)
+  unfolding closes
+  closes-shaped opened = record {
+    slots = length-set (st .slots) s closedSlot ∙ shaped .slots;
+    order = order-same-length opened 0;
+  }
+
+  pub goes-on-shaped : (op : Op) (want : ℕ) (path siblings : List ℕ) → openAt st s ≡ true → Shaped (goesOn st s op want path siblings)
+  unfolding goesOn
+  goes-on-shaped op want path siblings opened = record {
+    slots = length-set (st .slots) s (openSlot op want path siblings) ∙ shaped .slots;
+    order = order-same-length opened s;
+  }
+
+-- ---- the state of making
+
+-- every slot of a list of equal ones is that one
+same-everywhere : {A : Type 0} (n i : ℕ) (a : A) → getD (replicate n a) i a ≡ a
+same-everywhere zero i a = refl
+same-everywhere (suc n) zero a = refl
+same-everywhere (suc n) (suc i) a = same-everywhere n i a
+
+idle-order : (k n : ℕ) → waitingOrder (idleState k n) ≡ []
+unfolding waitingOrder
+idle-order k n = refl
+
+-- A fresh state is sound.
+pub idle-sound : (k n : ℕ) → 1 ≤ k → k ≤ largestK → 1 ≤ n → n ≤ largestN → SoundState (idleState k n)
+idle-sound k n kl km nl nm =
+    record {
+      kLeast = kl;
+      kMost = km;
+      nLeast = nl;
+      nMost = nm;
+      waits = zero-le;
+      orderBelow = λ s m. not-both m (nobody s);
+      orderOpen = λ s m. not-both m (nobody s);
+      orderOnce = ap distinct (idle-order k n) ∙ distinct-none;
+      orderNames = λ s b o. not-both o (shut s);
+      slot = λ s b. subst (SoundSlot n) (sym (same-everywhere slotCount s closedSlot)) (closed-sound n);
+      alone = λ s t b c d x. not-both x (ap (λ (sl : Slot). isXi (lockOf (sl .task))) (same-everywhere slotCount s closedSlot));
+    }
+  where
+    nobody : (s : ℕ) → member s (waitingOrder (idleState k n)) ≡ false
+    nobody s = ap (member s) (idle-order k n) ∙ member-none s
+
+    shut : (s : ℕ) → openAt (idleState k n) s ≡ false
+    shut s = ap (λ (sl : Slot). isOpen (sl .task)) (same-everywhere slotCount s closedSlot)
+
+pub idle-shaped : (k n : ℕ) → Shaped (idleState k n)
+idle-shaped k n = record { slots = length-replicate slotCount closedSlot; order = length-replicate slotCount 0 }

@@ -1,0 +1,194 @@
+-- A sound state as facts: the test of document 01, taken apart and put together again.
+use Prim.Native.Nat.{ℕ, _≤_, _<_}
+use mathlib.Core.Bool.{Bool, true, false, not, _&&_, _||_}
+use mathlib.Core.Logic.{⊎-elim}
+use mathlib.Core.Path.{_≡_, refl, sym}
+use mathlib.Core.List.{List, [], _∷_}
+use lib.Dec.{leb, ltb, eqb}
+use borrow.Author.Tests.{leb-true, le-leb, ltb-true, lt-ltb, eqb-true, eq-eqb, ne-eqb, not-true, not-false}
+use Rattle.ground.specs.Limits.{largestK, largestN, slotCount}
+use Rattle.ground.specs.Tests.{all, allBelow, member, distinct, apart}
+use Rattle.ground.proofs.Bools.{true-or-false, not-both, and-first, and-second, and-both, or-first, or-second, or-cases, not-of-false}
+use Rattle.ground.proofs.Tests.{all-member, all-from-members, allBelow-at, allBelow-from}
+use Rattle.slots.specs.declared.Task.{Task}
+use Rattle.slots.specs.declared.Task.the-variants.{Closed, Open}
+use Rattle.slots.specs.declared.Slot.{Slot}
+use Rattle.slots.specs.declared.State.{State}
+use Rattle.slots.specs.Parts.{isOpen, held, slotAt, openAt, waitingOrder}
+use Rattle.slots.specs.Locks.{lockAt, isXi}
+use Rattle.slots.specs.Sound.{numbersInRange, orderSound, withinLimits, pagesSound, ifOpen, slotSound, noClashingHolds, sound}
+
+-- one slot, in a pool of n pages
+pub record SoundSlot (n : ℕ) (s : Slot) : Type 0 where
+  pub limits : withinLimits (s .task) (s .depth) (s .beside) ≡ true
+  -- of an open slot: "all pages named are below N"
+  pub below : isOpen (s .task) ≡ true → (p : ℕ) → member p (s .want ∷ held s) ≡ true → p < n
+  -- "no slot holds a page twice or wants one it holds"
+  pub different : isOpen (s .task) ≡ true → distinct (s .want ∷ held s) ≡ true
+
+pub record SoundState (st : State) : Type 0 where
+  pub kLeast : 1 ≤ st .k
+  pub kMost : st .k ≤ largestK
+  pub nLeast : 1 ≤ st .n
+  pub nMost : st .n ≤ largestN
+  -- "the waiting order names each open slot once and no other"
+  pub waits : st .waiting ≤ slotCount
+  pub orderBelow : (s : ℕ) → member s (waitingOrder st) ≡ true → s < slotCount
+  pub orderOpen : (s : ℕ) → member s (waitingOrder st) ≡ true → openAt st s ≡ true
+  pub orderOnce : distinct (waitingOrder st) ≡ true
+  pub orderNames : (s : ℕ) → s < slotCount → openAt st s ≡ true → member s (waitingOrder st) ≡ true
+  pub slot : (s : ℕ) → s < slotCount → SoundSlot (st .n) (slotAt st s)
+  -- "no ξ-held page is held by another slot"
+  pub alone : (s t : ℕ) → s < slotCount → t < slotCount → (s ≡ t → ⊥) → isXi (lockAt st s) ≡ true → apart (held (slotAt st s)) (held (slotAt st t)) ≡ true
+
+-- a test of an open slot, by its task
+if-open : (task : Task) (test : Bool) → ifOpen task test ≡ true → isOpen task ≡ true → test ≡ true
+if-open Closed test h e = not-both e refl
+if-open (Open op) test h e = h
+
+if-open-from : (task : Task) (test : Bool) → (isOpen task ≡ true → test ≡ true) → ifOpen task test ≡ true
+if-open-from Closed test h = refl
+if-open-from (Open op) test h = h refl
+
+pub sound-slot : (n : ℕ) (s : Slot) → slotSound n s ≡ true → SoundSlot n s
+unfolding slotSound
+sound-slot n s h =
+    let within = withinLimits (s .task) (s .depth) (s .beside) in
+    let names = all (λ (p : ℕ). ltb p n) (s .want ∷ held s) in
+    let pages : isOpen (s .task) ≡ true → pagesSound n s ≡ true = if-open (s .task) (pagesSound n s) (and-second within (ifOpen (s .task) (pagesSound n s)) h) in
+    record {
+      limits = and-first within (ifOpen (s .task) (pagesSound n s)) h;
+      below = λ o p m. ltb-true p n (all-member (λ (q : ℕ). ltb q n) (s .want ∷ held s) (and-first names (distinct (s .want ∷ held s)) (pages o)) p m);
+      different = λ o. and-second names (distinct (s .want ∷ held s)) (pages o);
+    }
+
+pub slot-sound : (n : ℕ) (s : Slot) → SoundSlot n s → slotSound n s ≡ true
+unfolding slotSound
+slot-sound n s h =
+    and-both (h .limits)
+    (if-open-from (s .task) (pagesSound n s)
+    (λ o. and-both (all-from-members (λ (q : ℕ). ltb q n) (s .want ∷ held s) (λ p m. lt-ltb p n (h .below o p m))) (h .different o)))
+
+-- the two tests that go through the slots, by name
+abbrev slotsTest : State → Bool
+slotsTest st = allBelow slotCount (λ (s : ℕ). slotSound (st .n) (slotAt st s))
+
+abbrev apartTest : State → ℕ → ℕ → Bool
+apartTest st s t = eqb s t || not (isXi (lockAt st s)) || apart (held (slotAt st s)) (held (slotAt st t))
+
+module _ (st : State) (h : sound st ≡ true) where
+  numbers-told : numbersInRange st ≡ true
+  unfolding sound
+  numbers-told = and-first (numbersInRange st) (orderSound st) (and-first (numbersInRange st && orderSound st) (slotsTest st) (and-first (numbersInRange st && orderSound st && slotsTest st) (noClashingHolds st) h))
+
+  order-told : orderSound st ≡ true
+  unfolding sound
+  order-told = and-second (numbersInRange st) (orderSound st) (and-first (numbersInRange st && orderSound st) (slotsTest st) (and-first (numbersInRange st && orderSound st && slotsTest st) (noClashingHolds st) h))
+
+  slots-told : slotsTest st ≡ true
+  unfolding sound
+  slots-told = and-second (numbersInRange st && orderSound st) (slotsTest st) (and-first (numbersInRange st && orderSound st && slotsTest st) (noClashingHolds st) h)
+
+  apart-told : noClashingHolds st ≡ true
+  unfolding sound
+  apart-told = and-second (numbersInRange st && orderSound st && slotsTest st) (noClashingHolds st) h
+
+-- the four numbers
+numbers-facts : (st : State) → numbersInRange st ≡ true → (1 ≤ st .k) × (st .k ≤ largestK) × (1 ≤ st .n) × (st .n ≤ largestN)
+numbers-facts st h =
+    let a = leb 1 (st .k) in
+    let b = leb (st .k) largestK in
+    let c = leb 1 (st .n) in
+    let d = leb (st .n) largestN in (
+      leb-true 1 (st .k) (and-first a b (and-first (a && b) c (and-first (a && b && c) d h))),
+      leb-true (st .k) largestK (and-second a b (and-first (a && b) c (and-first (a && b && c) d h))),
+      leb-true 1 (st .n) (and-second (a && b) c (and-first (a && b && c) d h)),
+      leb-true (st .n) largestN (and-second (a && b && c) d h),
+    )
+
+-- the waiting order
+abbrev namedTest : State → ℕ → Bool
+namedTest st s = ltb s slotCount && openAt st s
+
+abbrev namesTest : State → ℕ → Bool
+namesTest st s = not (openAt st s) || member s (waitingOrder st)
+
+pub record OrderFacts (st : State) : Type 0 where
+  pub waits : st .waiting ≤ slotCount
+  pub named : (s : ℕ) → member s (waitingOrder st) ≡ true → namedTest st s ≡ true
+  pub different : distinct (waitingOrder st) ≡ true
+  pub names : (s : ℕ) → s < slotCount → namesTest st s ≡ true
+
+order-facts : (st : State) → orderSound st ≡ true → OrderFacts st
+unfolding orderSound
+order-facts st h =
+    let a = leb (st .waiting) slotCount in
+    let b = all (namedTest st) (waitingOrder st) in
+    let c = distinct (waitingOrder st) in
+    let d = allBelow slotCount (namesTest st) in
+    record {
+      waits = leb-true (st .waiting) slotCount (and-first a b (and-first (a && b) c (and-first (a && b && c) d h)));
+      named = all-member (namedTest st) (waitingOrder st) (and-second a b (and-first (a && b) c (and-first (a && b && c) d h)));
+      different = and-second (a && b) c (and-first (a && b && c) d h);
+      names = allBelow-at (namesTest st) slotCount (and-second (a && b && c) d h);
+    }
+
+named-open : (up named : Bool) → not up || named ≡ true → up ≡ true → named ≡ true
+named-open true named h e = h
+named-open false named h e = not-both e refl
+
+apart-by : (same xi : Bool) {apart : Bool} → same || not xi || apart ≡ true → same ≡ false → xi ≡ true → apart ≡ true
+apart-by true xi h e x = not-both refl e
+apart-by false true h e x = h
+apart-by false false h e x = not-both x refl
+
+-- A sound state is what the record says.
+pub sound-facts : (st : State) → sound st ≡ true → SoundState st
+unfolding noClashingHolds
+sound-facts st h =
+    let (kl, km, nl, nm) = numbers-facts st (numbers-told st h) in
+    let o = order-facts st (order-told st h) in
+    record {
+      kLeast = kl;
+      kMost = km;
+      nLeast = nl;
+      nMost = nm;
+      waits = o .waits;
+      orderBelow = λ s m. ltb-true s slotCount (and-first (ltb s slotCount) (openAt st s) (o .named s m));
+      orderOpen = λ s m. and-second (ltb s slotCount) (openAt st s) (o .named s m);
+      orderOnce = o .different;
+      orderNames = λ s b e. named-open (openAt st s) (member s (waitingOrder st)) (o .names s b) e;
+      slot = λ s b. sound-slot (st .n) (slotAt st s) (allBelow-at (λ (t : ℕ). slotSound (st .n) (slotAt st t)) slotCount (slots-told st h) s b);
+      alone = λ s t b c n x. apart-by (eqb s t) (isXi (lockAt st s))
+          (allBelow-at (apartTest st s) slotCount (allBelow-at (λ (u : ℕ). allBelow slotCount (apartTest st u)) slotCount (apart-told st h) s b) t c)
+          (ne-eqb s t n) x;
+    }
+
+names-from : (up named : Bool) → (up ≡ true → named ≡ true) → not up || named ≡ true
+names-from true named h = h refl
+names-from false named h = refl
+
+apart-from-facts : (st : State) (s t : ℕ) → ((s ≡ t → ⊥) → isXi (lockAt st s) ≡ true → apart (held (slotAt st s)) (held (slotAt st t)) ≡ true) → apartTest st s t ≡ true
+apart-from-facts st s t h = by-both (eqb s t) (isXi (lockAt st s)) (λ e. h (λ q. not-both (eq-eqb s t q) e))
+  where
+    by-both : (same xi : Bool) → (same ≡ false → xi ≡ true → apart (held (slotAt st s)) (held (slotAt st t)) ≡ true) → same || not xi || apart (held (slotAt st s)) (held (slotAt st t)) ≡ true
+    by-both true xi f = refl
+    by-both false true f = f refl refl
+    by-both false false f = refl
+
+-- And the record gives the test.
+pub facts-sound : (st : State) → SoundState st → sound st ≡ true
+unfolding sound orderSound noClashingHolds
+facts-sound st f =
+    and-both
+    (and-both
+    (and-both
+    (and-both (and-both (and-both (le-leb 1 (st .k) (f .kLeast)) (le-leb (st .k) largestK (f .kMost))) (le-leb 1 (st .n) (f .nLeast))) (le-leb (st .n) largestN (f .nMost)))
+    (and-both
+    (and-both
+    (and-both (le-leb (st .waiting) slotCount (f .waits)) (all-from-members (namedTest st) (waitingOrder st) (λ s m. and-both (lt-ltb s slotCount (f .orderBelow s m)) (f .orderOpen s m))))
+    (f .orderOnce))
+    (allBelow-from (namesTest st) slotCount (λ s b. names-from (openAt st s) (member s (waitingOrder st)) (f .orderNames s b)))))
+    (allBelow-from (λ (t : ℕ). slotSound (st .n) (slotAt st t)) slotCount (λ s b. slot-sound (st .n) (slotAt st s) (f .slot s b))))
+    (allBelow-from (λ (u : ℕ). allBelow slotCount (apartTest st u)) slotCount
+    (λ s b. allBelow-from (apartTest st s) slotCount (λ t c. apart-from-facts st s t (λ n x. f .alone s t b c n x))))

@@ -1,0 +1,97 @@
+//! Names for what a call did, to count how much the claims cover.
+
+use twin::{free_pages, page_words, Answer, Op, Slot};
+
+use crate::moment::Moment;
+use crate::text::Call;
+
+/// The name of what a call did from one moment to the next.
+pub fn kind(before: &Moment, call: Call, answer: Answer, after: &Moment) -> String {
+    match (call, answer) {
+        (Call::Step(_), Answer::Inserted) => inserted(before, after),
+        (Call::Step(slot), Answer::Deleted(_)) => deleted(before, &before.state.slots[slot], after),
+        (Call::Step(slot), Answer::Damaged | Answer::Moved) => {
+            format!(
+                "{} {}",
+                answer.name(),
+                stand(before, &before.state.slots[slot])
+            )
+        }
+        _ => answer.name().to_string(),
+    }
+}
+
+/// How many pages an insertion took, and whether the root rose.
+fn inserted(before: &Moment, after: &Moment) -> String {
+    let free = |moment: &Moment| free_pages(&moment.words, moment.state.k, moment.state.n).len();
+    let taken = free(before) - free(after);
+    let root = match after.words[0] {
+        level if level == before.words[0] => "",
+        11 => ", root to level 11",
+        _ => ", root rises",
+    };
+    format!("Inserted, {taken} taken{root}")
+}
+
+/// The sides of the siblings used from the leaf's upward, how the last was used, and the root.
+fn deleted(before: &Moment, slot: &Slot, after: &Moment) -> String {
+    if !has_leaf(before, slot) {
+        return "Deleted".to_string();
+    }
+    let siblings = [slot.siblings(), &[slot.want]].concat();
+    let sides: String = (0..siblings.len())
+        .map(|height| side(before, slot, height, siblings[height]))
+        .collect();
+    let does_move = page(before, slot.want)[1] > before.state.k;
+    let last = if does_move { "move" } else { "join" };
+    let root = if after.words[0] < before.words[0] {
+        ", root falls"
+    } else {
+        ""
+    };
+    format!("Deleted, {sides} {last}{root}")
+}
+
+/// R or L: where the sibling stands from the path page at this height.
+fn side(moment: &Moment, slot: &Slot, height: usize, sibling: u32) -> char {
+    let at = slot.depth - 1 - height;
+    let pointers: Vec<u32> = page(moment, slot.path[at - 1])[2..]
+        .iter()
+        .step_by(2)
+        .copied()
+        .collect();
+    let place = |number: u32| pointers.iter().position(|&pointer| pointer == number);
+    if place(sibling) > place(slot.path[at]) {
+        'R'
+    } else {
+        'L'
+    }
+}
+
+/// Where an operation stands: which one, how many pages it holds, and if beside its leaf.
+fn stand(moment: &Moment, slot: &Slot) -> String {
+    let op = match slot.op {
+        Some(Op::Search(_)) => "search",
+        Some(Op::Insert(..)) => "insertion",
+        _ => "deletion",
+    };
+    let leaf = if has_leaf(moment, slot) {
+        " at its leaf"
+    } else {
+        ""
+    };
+    format!("{op}{leaf} {}+{}", slot.depth, slot.beside)
+}
+
+/// Whether the lowest path page is a leaf.
+fn has_leaf(moment: &Moment, slot: &Slot) -> bool {
+    slot.path()
+        .last()
+        .is_some_and(|&number| page(moment, number)[0] == 1)
+}
+
+/// The words of a page.
+fn page(moment: &Moment, number: u32) -> &[u32] {
+    let size = page_words(moment.state.k);
+    &moment.words[number as usize * size..][..size]
+}

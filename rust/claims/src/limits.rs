@@ -1,0 +1,117 @@
+//! Claims about states drawn near the limits of soundness; the calls read no page.
+
+use draw::Random;
+use twin::{Op, Slot, State};
+
+use crate::moment::{claim_from, Moment};
+use crate::text::Call;
+
+/// A claim about a report, a beginning and a step on one drawn state, with no words at all.
+pub fn claim(name: &str, random: &mut Random) -> (Vec<String>, String) {
+    let state = drawn_state(random);
+    let page = random.below(u64::from(state.n.min(30)) + 2) as u32;
+    let calls = [
+        Call::Report(page),
+        Call::Begin(random.below(17) as usize, Op::Search(5)),
+        Call::Step(random.below(17) as usize),
+    ];
+    claim_from(
+        name,
+        &mut Moment {
+            state,
+            words: Vec::new(),
+        },
+        &calls,
+    )
+}
+
+/// A state that is sound or nearly so.
+fn drawn_state(random: &mut Random) -> State {
+    let k = if random.percent(95) {
+        random.from(1, 16) as u32
+    } else {
+        random.one(&[0, 17])
+    };
+    let n = match random.below(20) {
+        0 => random.one(&[0, 1025, 2000]),
+        1..=5 => random.one(&[1, 2, 5, 1024]),
+        _ => random.from(30, 300) as u32,
+    };
+    let mut state = State::empty(k, n);
+    let mut next = 0;
+    for number in 0..16 {
+        if random.percent(25) {
+            state.slots[number] = drawn_slot(random, n, &mut next);
+        }
+    }
+    draw_order(random, &mut state);
+    state
+}
+
+/// An open slot that holds as many pages as it may, or some more; they go on from the last
+/// slot's.
+fn drawn_slot(random: &mut Random, n: u32, next: &mut u32) -> Slot {
+    let key = random.below(9) as u32;
+    let more = usize::from(random.percent(5));
+    let (op, depth, beside) = match random.below(5) {
+        0 => (Op::Search(key), random.one(&[0, 1, 1]) + more, 0),
+        1 | 2 => (
+            Op::Insert(key, 3),
+            random.one(&[0, 1, 5, 9, 10, 10]) + more,
+            0,
+        ),
+        _ => {
+            let depth = random.one(&[1, 2, 5, 9, 10, 10]);
+            (
+                Op::Delete(key),
+                depth,
+                random.one(&[0, depth / 2, depth - 1]) + more,
+            )
+        }
+    };
+    let beside = beside + usize::from(random.percent(2));
+    let mut slot = Slot {
+        op: Some(op),
+        depth,
+        beside,
+        ..Slot::CLOSED
+    };
+    let mut page = |random: &mut Random| {
+        *next += 1;
+        if random.percent(98) {
+            *next % n.max(1)
+        } else {
+            random.below(u64::from(n) + 2) as u32
+        }
+    };
+    slot.path
+        .iter_mut()
+        .take(depth)
+        .for_each(|cell| *cell = page(random));
+    slot.siblings
+        .iter_mut()
+        .take(beside)
+        .for_each(|cell| *cell = page(random));
+    slot.want = if random.percent(50) { 0 } else { page(random) };
+    slot
+}
+
+/// The open slots in some order, now and then with one thing wrong.
+fn draw_order(random: &mut Random, state: &mut State) {
+    let open: Vec<usize> = (0..16)
+        .filter(|&slot| state.slots[slot].op.is_some())
+        .collect();
+    state.order[..open.len()].copy_from_slice(&open);
+    state.waiting = open.len();
+    for i in 1..open.len() {
+        state.order.swap(i, random.below(i as u64 + 1) as usize);
+    }
+    match random.below(25) {
+        0 => state.waiting += 1,
+        1 => state.waiting = state.waiting.saturating_sub(1),
+        2 => state.order[0] = random.below(18) as usize,
+        3 => state.order[15] = random.below(99) as usize,
+        4 => state.waiting = 17,
+        _ => {}
+    }
+}

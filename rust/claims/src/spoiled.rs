@@ -1,0 +1,164 @@
+//! Claims about single calls at moments of a run that were then spoiled: words of pages that a
+//! slot holds or wants, or cells of the state.
+
+use draw::Random;
+use twin::{page_words, Op, State};
+
+use crate::fresh::{draw, made, next_call, operation, Draw};
+use crate::moment::{claim_from, Moment};
+use crate::text::Call;
+
+/// A moment in the middle of a random run, grown first and then mostly shrunk; best one where a
+/// deletion wants a sibling.
+fn middle(random: &mut Random) -> (Draw, Moment) {
+    let mut draw = draw(random);
+    draw.n = random.from(6, 24) as u32;
+    draw.keys = random.from(8, 40);
+    draw.turn = random.from(60, 160) as usize;
+    let mut moment = made(draw.k, draw.n);
+    let calls = random.from(40, 260) as usize;
+    for at in 0.. {
+        if at >= calls && (has_sibling(&moment) || random.percent(20)) {
+            break;
+        }
+        let call = next_call(random, &draw, &moment, at);
+        moment.call(call);
+    }
+    (draw, moment)
+}
+
+/// Whether some deletion holds its leaf.
+fn has_sibling(moment: &Moment) -> bool {
+    let size = page_words(moment.state.k);
+    moment.ready().iter().any(|&slot| {
+        let lowest = moment.state.slots[slot].path().last().copied();
+        lowest.is_some_and(|page| moment.words[page as usize * size] == 1)
+    })
+}
+
+/// An open slot, best one that can be granted and holds many pages.
+fn choose(random: &mut Random, moment: &Moment) -> Option<usize> {
+    let ready = moment.ready();
+    let score = |slot: &usize| moment.state.slots[*slot].held().len();
+    let most = ready.iter().map(score).max()?;
+    let best: Vec<usize> = ready
+        .iter()
+        .copied()
+        .filter(|slot| score(slot) == most)
+        .collect();
+    let any = random.one(&moment.open());
+    Some(match random.below(10) {
+        0..=5 => random.one(&best),
+        6..=8 => random.one(&ready),
+        _ => any,
+    })
+}
+
+/// A single step after some words of the slot's pages were changed.
+pub fn words_claim(name: &str, random: &mut Random) -> Option<(Vec<String>, String)> {
+    let (draw, mut moment) = middle(random);
+    let slot = choose(random, &moment)?;
+    let pages = [
+        moment.state.slots[slot].held(),
+        vec![moment.state.slots[slot].want],
+    ]
+    .concat();
+    for _ in 0..random.one(&[1, 1, 1, 2, 3]) {
+        let page = random.one(&pages);
+        spoil_page(random, &draw, &mut moment.words, page);
+    }
+    if random.percent(3) {
+        moment.words.pop();
+    }
+    Some(claim_from(name, &mut moment, &[Call::Step(slot)]))
+}
+
+/// Changes one thing in a page.
+fn spoil_page(random: &mut Random, draw: &Draw, words: &mut [u32], page: u32) {
+    let size = page_words(draw.k);
+    let start = page as usize * size;
+    let part = &mut words[start..start + size];
+    let body = 2 + random.below(size as u64 - 2) as usize;
+    match random.below(9) {
+        0 => part[0] = part[0].wrapping_add(random.one(&[1, 2, 9, 10, u32::MAX])),
+        1 => part[1] = part[1].wrapping_add(random.one(&[1, u32::MAX])),
+        2 => part[1] = random.one(&[0, 1, draw.k, 2 * draw.k, 2 * draw.k + 1, u32::MAX]),
+        3 => part[body] = random.below(u64::from(draw.n) + 2) as u32,
+        4 => part[body] = part[body].wrapping_add(random.one(&[1, u32::MAX])),
+        5 => part[body] = random.below(draw.keys) as u32,
+        6 => part.swap(body, 2 + (body + random.one(&[0, 1, 2])) % (size - 2)),
+        7 => part[body] = u32::MAX,
+        _ => {
+            let other = random.below(u64::from(draw.n)) as usize * size;
+            words.copy_within(other..other + size, start);
+        }
+    }
+}
+
+/// One call after one or more cells of the state were changed.
+pub fn state_claim(name: &str, random: &mut Random) -> Option<(Vec<String>, String)> {
+    let (draw, mut moment) = middle(random);
+    let chosen = choose(random, &moment);
+    for _ in 0..random.one(&[1, 1, 2, 3]) {
+        let slot = chosen
+            .filter(|_| random.percent(70))
+            .unwrap_or(random.below(16) as usize);
+        spoil_state(random, &draw, &mut moment.state, slot);
+    }
+    let slot = chosen
+        .filter(|_| random.percent(70))
+        .unwrap_or(random.below(18) as usize);
+    let call = match random.below(4) {
+        0 => Call::Begin(slot, operation(random, &draw, true, &[])),
+        1 => Call::Report(random.below(u64::from(draw.n) + 2) as u32),
+        _ => Call::Step(slot),
+    };
+    Some(claim_from(name, &mut moment, &[call]))
+}
+
+/// Changes one cell of a state.
+fn spoil_state(random: &mut Random, draw: &Draw, state: &mut State, number: usize) {
+    let page = random.below(u64::from(draw.n) + 1) as u32;
+    let odd = random.one(&[0, 1, 2, 9, 10, 11, 15, 16, 17, 1024, 1025, u32::MAX]);
+    let cell = random.one(&[0, 0, 0, 1, 1, 2, 3, 9]);
+    let key = random.below(draw.keys) as u32;
+    let slot = &mut state.slots[number];
+    match random.below(18) {
+        0 => state.k = odd,
+        1 => state.n = random.one(&[odd, draw.n - 1, draw.n + 1]),
+        2 => {
+            state.waiting = random.one(&[
+                odd as usize,
+                state.waiting.wrapping_add(1),
+                state.waiting.wrapping_sub(1),
+            ])
+        }
+        3 => state.order[random.below(16) as usize] = odd as usize,
+        4 => state.order[cell] = random.below(16) as usize,
+        5 => state.order.swap(cell, random.below(16) as usize),
+        6 => slot.want = page,
+        7 => slot.want = odd,
+        8 => {
+            slot.depth = random.one(&[
+                odd as usize,
+                slot.depth.wrapping_add(1),
+                slot.depth.wrapping_sub(1),
+            ])
+        }
+        9 => {
+            slot.beside = random.one(&[
+                odd as usize,
+                slot.beside.wrapping_add(1),
+                slot.beside.wrapping_sub(1),
+            ])
+        }
+        10 => slot.path[cell] = page,
+        11 => slot.path.swap(cell, random.below(10) as usize),
+        12 => slot.siblings[cell] = page,
+        13 => slot.siblings[cell] = odd,
+        14 => slot.op = None,
+        15 => slot.op = Some(Op::Delete(key)),
+        16 => slot.op = Some(Op::Insert(key, odd)),
+        _ => slot.op = Some(Op::Search(key)),
+    }
+}

@@ -1,0 +1,84 @@
+//! Calls, states and words as antt text.
+
+use twin::{Op, Slot, State};
+
+/// One call of a run.
+#[derive(Clone, Copy, Debug)]
+pub enum Call {
+    Begin(usize, Op),
+    Step(usize),
+    Report(u32),
+}
+
+/// What stands at the head of every file of claims.
+pub const HEAD: &str = include_str!("head.txt");
+/// The line that opens the rules to the claims.
+pub const OPENING: &str = include_str!("opening.txt");
+
+/// A list, each element already text.
+pub fn list<I: IntoIterator<Item = String>>(elements: I) -> String {
+    let mut text = String::from("(");
+    for element in elements {
+        text.push_str(&element);
+        text.push_str(" ∷ ");
+    }
+    text + "[])"
+}
+
+/// A list of numbers.
+pub fn numbers<T: ToString + Copy>(numbers: &[T]) -> String {
+    list(numbers.iter().map(|number| number.to_string()))
+}
+
+/// An operation.
+fn op(op: Op) -> String {
+    match op {
+        Op::Search(key) => format!("(Search {key})"),
+        Op::Insert(key, information) => format!("(Insert {key} {information})"),
+        Op::Delete(key) => format!("(Delete {key})"),
+    }
+}
+
+/// A call.
+pub fn call(call: Call) -> String {
+    match call {
+        Call::Begin(slot, asked) => format!("begin {slot} {}", op(asked)),
+        Call::Step(slot) => format!("step {slot}"),
+        Call::Report(page) => format!("report {page}"),
+    }
+}
+
+/// A slot, cell by cell.
+fn slot(slot: &Slot) -> String {
+    if *slot == Slot::CLOSED {
+        return "shut".to_string();
+    }
+    let task = slot.op.map_or("Closed".to_string(), |asked| {
+        format!("(Open {})", op(asked))
+    });
+    format!(
+        "slot {task} {} {} {} {} {}",
+        slot.want,
+        numbers(&slot.path),
+        slot.depth,
+        numbers(&slot.siblings),
+        slot.beside
+    )
+}
+
+/// A state, cell by cell.
+pub fn state(state: &State) -> String {
+    format!(
+        "(given {} {} {} {} {})",
+        state.k,
+        state.n,
+        list(state.slots.iter().map(slot)),
+        numbers(&state.order),
+        state.waiting
+    )
+}
+
+/// A claim: its name, what is evaluated and what it gives.
+pub fn claim(name: &str, left: &str, right: &str) -> String {
+    format!("{name} : {left} ≡ {right}\n{OPENING}{name} = refl\n\n")
+}

@@ -1,0 +1,84 @@
+//! The little program's lines: the example of document 01, and every kind of bad line.
+
+use lots_twin::answers;
+
+/// What the program writes for a text.
+fn written(input: &str) -> String {
+    String::from_utf8(answers(input.as_bytes())).expect("answers are plain text")
+}
+
+#[test]
+fn the_example() {
+    let input = "b 0 i 12 3\nb 1 s 12\nt 1\nt 0\nt 1\nt 1\n";
+    assert_eq!(
+        written(input),
+        "Begun\nBegun\nWaiting\nInserted\nFound 3\nSlotIdle\n"
+    );
+}
+
+#[test]
+fn empty_input_writes_nothing() {
+    assert_eq!(written(""), "");
+}
+
+#[test]
+fn bad_lines() {
+    let bad = [
+        "\n",
+        " \n",
+        "b\n",
+        "t\n",
+        "t \n",
+        "t  0\n",
+        " t 0\n",
+        "t 0 \n",
+        "t 0\r\n",
+        "t\t0\n",
+        "t +0\n",
+        "t -1\n",
+        "T 0\n",
+        "t 0 0\n",
+        "b 0 s\n",
+        "b 0 s 1 2\n",
+        "b 0 i 1\n",
+        "b 0 i 1 2 3\n",
+        "b 0 d\n",
+        "b 0 x 1\n",
+        "b s 1\n",
+        "t 4294967296\n",
+        "b 0 s 99999999999999999999\n",
+        "b 0 i 1 4294967296\n",
+        "t 0x1\n",
+        "t 1\0\n",
+        "t 0",
+        "b 0 s 1",
+        "x",
+    ];
+    for line in bad {
+        assert_eq!(written(line), "BadLine\n", "{line:?}");
+    }
+}
+
+#[test]
+fn numbers_at_the_edge() {
+    assert_eq!(written("t 000000000000000000015\n"), "SlotIdle\n");
+    assert_eq!(written("t 16\nt 4294967295\n"), "BadSlot\nBadSlot\n");
+    assert_eq!(written("b 16 s 1\n"), "BadSlot\n");
+    let input = "b 15 i 4294967295 4294967295\nb 15 s 1\nt 15\nb 0 d 04294967295\nt 0\n";
+    assert_eq!(
+        written(input),
+        "Begun\nSlotBusy\nInserted\nBegun\nDeleted 4294967295\n"
+    );
+}
+
+#[test]
+fn an_unended_last_line_is_not_run() {
+    assert_eq!(written("b 0 s 1\nt 0"), "Begun\nBadLine\n");
+}
+
+#[test]
+fn too_long() {
+    let most = "\n".repeat(65_536);
+    assert_eq!(written(&most), "BadLine\n".repeat(65_536));
+    assert_eq!(written(&(most + "\n")), "TooLong\n");
+}

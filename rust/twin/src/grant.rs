@@ -1,0 +1,238 @@
+//! A granted step: the pages are read again, compared with what the rules would have the
+//! operation hold and want, and then the operation goes on or ends.
+
+use crate::answer::Answer;
+use crate::change::{delete, insert, room_is_short};
+use crate::page::{read_page, Page};
+use crate::state::{Op, Slot};
+
+/// A page with its number.
+#[derive(Clone, Debug)]
+pub struct Held {
+    pub number: u32,
+    pub page: Page,
+}
+
+/// The pages an operation holds: its path from the top downward, its siblings from the leaf's
+/// upward.
+#[derive(Clone, Debug)]
+pub struct Reach {
+    pub path: Vec<Held>,
+    pub siblings: Vec<Held>,
+}
+
+/// How a granted step leaves the operation.
+pub enum Outcome {
+    GoesOn {
+        want: u32,
+        path: Vec<u32>,
+        siblings: Vec<u32>,
+    },
+    Ends(Answer),
+    Damaged,
+}
+
+/// The pool's parameters.
+#[derive(Clone, Copy)]
+pub struct Shape {
+    pub k: u32,
+    pub n: u32,
+}
+
+/// Takes the wanted page and does what the rules say then; words change only when it ends.
+pub fn grant(shape: Shape, words: &mut [u32], slot: &Slot, op: Op) -> Outcome {
+    let Some((reach, wanted)) = read_sound(shape, words, slot, op) else {
+        return Outcome::Damaged;
+    };
+    let reach = take(shape.k, op, reach, wanted);
+    if let Some(answer) = answer_at_leaf(op, &reach) {
+        return Outcome::Ends(answer);
+    }
+    match next_want(shape.k, op, &reach) {
+        Some(want) => go_on(want, &reach),
+        None => Outcome::Ends(change(shape, words, op, reach)),
+    }
+}
+
+/// The pages held and the wanted one, if they are sound for this step.
+fn read_sound(shape: Shape, words: &[u32], slot: &Slot, op: Op) -> Option<(Reach, Held)> {
+    let read = |number: u32| {
+        let page = read_page(words, shape.k, shape.n, number)?;
+        Some(Held { number, page })
+    };
+    let path: Option<Vec<Held>> = slot.path().iter().map(|&number| read(number)).collect();
+    let siblings: Option<Vec<Held>> = slot.siblings().iter().map(|&number| read(number)).collect();
+    let reach = Reach {
+        path: path?,
+        siblings: siblings?,
+    };
+    let wanted = read(slot.want)?;
+    let is_right =
+        is_reach_right(shape.k, op, &reach) && is_want_right(shape.k, op, &reach, &wanted);
+    is_right.then_some((reach, wanted))
+}
+
+/// Whether the rules would have the operation hold these pages at some point before its end.
+fn is_reach_right(k: u32, op: Op, reach: &Reach) -> bool {
+    is_way(op.key(), &reach.path)
+        && is_top_right(k, op, &reach.path)
+        && (has_leaf(reach) || reach.siblings.is_empty())
+        && (!has_leaf(reach) || (is_deleting_there(op, reach) && are_siblings_right(k, op, reach)))
+}
+
+/// Each path page is where the one above routes the key, one level lower.
+fn is_way(key: u32, path: &[Held]) -> bool {
+    path.windows(2)
+        .all(|pair| is_step_down(key, &pair[0].page, &pair[1]))
+}
+
+/// The lower page is where the upper routes the key, one level lower.
+fn is_step_down(key: u32, upper: &Page, lower: &Held) -> bool {
+    !upper.is_leaf() && upper.route(key) == lower.number && upper.level == lower.page.level + 1
+}
+
+/// An update's top page is page 0 or safe, and none below it is safe.
+fn is_top_right(k: u32, op: Op, path: &[Held]) -> bool {
+    let Some((top, below)) = path.split_first() else {
+        return true;
+    };
+    op.is_search()
+        || ((top.number == 0 || is_safe(k, op, &top.page))
+            && below.iter().all(|held| !is_safe(k, op, &held.page)))
+}
+
+/// Whether no ancestor of the page can be changed by the operation.
+fn is_safe(k: u32, op: Op, page: &Page) -> bool {
+    match op {
+        Op::Search(_) => true,
+        Op::Insert(..) => page.count() < 2 * k as usize,
+        Op::Delete(_) => page.count() > k as usize,
+    }
+}
+
+/// Whether the lowest path page is a leaf.
+fn has_leaf(reach: &Reach) -> bool {
+    reach.path.last().is_some_and(|held| held.page.is_leaf())
+}
+
+/// Only a deletion keeps its leaf, and only if the key is there.
+fn is_deleting_there(op: Op, reach: &Reach) -> bool {
+    let Op::Delete(key) = op else {
+        return false;
+    };
+    reach
+        .path
+        .last()
+        .is_some_and(|leaf| leaf.page.find(key).is_some())
+}
+
+/// Each sibling held is the one the rules took, all of them join, and each left the father short.
+fn are_siblings_right(k: u32, op: Op, reach: &Reach) -> bool {
+    (0..reach.siblings.len()).all(|height| {
+        let sibling = &reach.siblings[height];
+        let father_level = reach.path[reach.path.len() - 2 - height].page.level;
+        sibling_at(k, op, reach, height) == Some(sibling.number)
+            && sibling.page.level + 1 == father_level
+            && sibling.page.count() == k as usize
+    })
+}
+
+/// The sibling needed at a height above the leaves, if the path page there would be short.
+fn sibling_at(k: u32, op: Op, reach: &Reach, height: usize) -> Option<u32> {
+    let at = reach.path.len().checked_sub(1 + height)?;
+    let short = &reach.path[at];
+    if short.number == 0 || short.page.count() > k as usize {
+        return None;
+    }
+    let father = &reach.path[at.checked_sub(1)?].page;
+    Some(father.neighbour(father.place(op.key())))
+}
+
+/// Whether the wanted page is the one the rules want next, one level below its father.
+fn is_want_right(k: u32, op: Op, reach: &Reach, wanted: &Held) -> bool {
+    if reach.path.is_empty() {
+        return wanted.number == 0;
+    }
+    let father = if has_leaf(reach) {
+        reach.path.len().checked_sub(2 + reach.siblings.len())
+    } else {
+        Some(reach.path.len() - 1)
+    };
+    father.is_some_and(|at| {
+        next_want(k, op, reach) == Some(wanted.number)
+            && reach.path[at].page.level == wanted.page.level + 1
+    })
+}
+
+/// The page wanted next with these pages held: the route, or a deletion's next sibling.
+fn next_want(k: u32, op: Op, reach: &Reach) -> Option<u32> {
+    let lowest = &reach.path.last()?.page;
+    if !lowest.is_leaf() {
+        return Some(lowest.route(op.key()));
+    }
+    let Op::Delete(_) = op else {
+        return None;
+    };
+    let do_all_join = reach
+        .siblings
+        .last()
+        .is_none_or(|last| last.page.count() == k as usize);
+    if !do_all_join {
+        return None;
+    }
+    sibling_at(k, op, reach, reach.siblings.len())
+}
+
+/// What is held after the grant: a safe page gives up its ancestors, a search its father.
+fn take(k: u32, op: Op, reach: Reach, wanted: Held) -> Reach {
+    let Reach {
+        mut path,
+        mut siblings,
+    } = reach;
+    if path.last().is_some_and(|held| held.page.is_leaf()) {
+        siblings.push(wanted);
+    } else {
+        if is_safe(k, op, &wanted.page) {
+            path.clear();
+        }
+        path.push(wanted);
+    }
+    Reach { path, siblings }
+}
+
+/// The answers that a leaf just granted gives without any change.
+fn answer_at_leaf(op: Op, reach: &Reach) -> Option<Answer> {
+    let leaf = reach.path.last().filter(|held| held.page.is_leaf())?;
+    let found = leaf.page.find(op.key()).map(|at| leaf.page.with[at]);
+    match (op, found) {
+        (Op::Search(_), Some(information)) => Some(Answer::Found(information)),
+        (Op::Search(_), None) => Some(Answer::NotFound),
+        (Op::Insert(..), Some(_)) => Some(Answer::AlreadyThere),
+        (Op::Delete(_), None) => Some(Answer::NoSuchKey),
+        _ => None,
+    }
+}
+
+/// Goes on with a new want, if it is none of the pages then held.
+fn go_on(want: u32, reach: &Reach) -> Outcome {
+    let numbers = |held: &[Held]| held.iter().map(|held| held.number).collect::<Vec<u32>>();
+    let (path, siblings) = (numbers(&reach.path), numbers(&reach.siblings));
+    if path.contains(&want) || siblings.contains(&want) {
+        return Outcome::Damaged;
+    }
+    Outcome::GoesOn {
+        want,
+        path,
+        siblings,
+    }
+}
+
+/// Makes the whole change, or finds no room for it.
+fn change(shape: Shape, words: &mut [u32], op: Op, reach: Reach) -> Answer {
+    match op {
+        Op::Insert(..) if room_is_short(shape, words, &reach.path) => Answer::NoRoom,
+        Op::Insert(key, information) => insert(shape, words, key, information, reach.path),
+        Op::Delete(key) => delete(shape, words, key, reach),
+        Op::Search(_) => unreachable!("a search ends at its leaf"),
+    }
+}

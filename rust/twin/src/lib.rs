@@ -1,0 +1,29 @@
+//! Document 01 a second time: the index of lots as four plain calls.
+//!
+//! Written from the document alone, so that it shares nothing with the proved rules.
+//! It decodes every page it reads into lists, changes the lists and writes them back.
+//!
+//! ```
+//! use twin::{begin, make, step, Answer, Op};
+//! let mut words = [9; 7];
+//! let (made, state) = make(1, 1, &mut words);
+//! assert_eq!(made, Answer::Made);
+//! let (_, state) = begin(&state, 0, Op::Insert(10, 7));
+//! let (answer, _) = step(&state, &mut words, 0);
+//! assert_eq!(answer, Answer::Inserted);
+//! assert_eq!(words, [1, 1, 10, 7, 0, 0, 0]);
+//! ```
+
+mod answer;
+mod calls;
+mod change;
+mod grant;
+mod locks;
+mod page;
+mod state;
+
+pub use answer::Answer;
+pub use calls::{begin, make, report, step};
+pub use locks::must_wait;
+pub use page::{free_pages, page_words, read_page, Page};
+pub use state::{is_sound, Op, Slot, State, PATH, SIBLINGS, SLOTS};

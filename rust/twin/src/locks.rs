@@ -1,0 +1,43 @@
+//! Who holds what, when a want must wait, and the lock report. All states here are sound.
+
+use crate::answer::Answer;
+use crate::state::{Op, State};
+
+/// Whether a want must wait: another slot's lock clashes, or an older want is for the page.
+pub fn must_wait(state: &State, number: usize) -> bool {
+    let Some(op) = state.slots[number].op else {
+        return false;
+    };
+    let want = state.slots[number].want;
+    let is_clash = holders(state, want)
+        .iter()
+        .any(|&(other, its)| other != number && clash(op, its));
+    let mut older = state.order().iter().take_while(|&&slot| slot != number);
+    is_clash || older.any(|&slot| state.slots[slot].want == want)
+}
+
+/// Two ρ go together; ξ goes with nothing.
+fn clash(one: Op, other: Op) -> bool {
+    !(one.is_search() && other.is_search())
+}
+
+/// The slots that hold a page, lowest first, with their operations.
+fn holders(state: &State, page: u32) -> Vec<(usize, Op)> {
+    let slots = state.slots.iter().enumerate();
+    slots
+        .filter(|(_, slot)| slot.holds(page))
+        .filter_map(|(i, slot)| Some((i, slot.op?)))
+        .collect()
+}
+
+/// The report for a page: kind, number of holders, lowest holder.
+pub fn lock_report(state: &State, page: u32) -> Answer {
+    let holders = holders(state, page);
+    match holders.first() {
+        None => Answer::Reported(0, 0, 16),
+        Some(&(lowest, op)) => {
+            let kind = if op.is_search() { 1 } else { 2 };
+            Answer::Reported(kind, holders.len() as u32, lowest as u32)
+        }
+    }
+}

@@ -1,0 +1,180 @@
+//! The state of the 16 slots, as raw as a caller may hand it in, and when it is sound.
+
+/// How many slots there are.
+pub const SLOTS: usize = 16;
+/// How many path pages a slot has cells for.
+pub const PATH: usize = 10;
+/// How many siblings a slot has cells for.
+pub const SIBLINGS: usize = 10;
+
+/// What a buyer asks for: a key, and for an insertion its information.
+#[derive(Clone, Copy, Debug, PartialEq, Eq)]
+pub enum Op {
+    Search(u32),
+    Insert(u32, u32),
+    Delete(u32),
+}
+
+impl Op {
+    /// The key the operation is about.
+    pub fn key(self) -> u32 {
+        match self {
+            Op::Search(key) | Op::Insert(key, _) | Op::Delete(key) => key,
+        }
+    }
+
+    /// Whether its locks are ρ-locks.
+    pub fn is_search(self) -> bool {
+        matches!(self, Op::Search(_))
+    }
+}
+
+/// One slot: closed, or open with an operation, the page it wants and the pages it holds.
+///
+/// The path goes from the top downward, the siblings from the leaf's upward. The counts may
+/// be any numbers, even larger than the arrays.
+#[derive(Clone, Copy, Debug, PartialEq, Eq)]
+pub struct Slot {
+    pub op: Option<Op>,
+    pub want: u32,
+    pub path: [u32; PATH],
+    pub depth: usize,
+    pub siblings: [u32; SIBLINGS],
+    pub beside: usize,
+}
+
+/// All that a call is given beside the words.
+#[derive(Clone, Copy, Debug, PartialEq, Eq)]
+pub struct State {
+    pub k: u32,
+    pub n: u32,
+    pub slots: [Slot; SLOTS],
+    /// The waiting order, oldest want first, in its first `waiting` cells.
+    pub order: [usize; SLOTS],
+    pub waiting: usize,
+}
+
+impl Slot {
+    /// A slot with no operation.
+    pub const CLOSED: Slot = Slot {
+        op: None,
+        want: 0,
+        path: [0; PATH],
+        depth: 0,
+        siblings: [0; SIBLINGS],
+        beside: 0,
+    };
+
+    /// A slot that holds just these pages and wants this one.
+    pub fn open(op: Op, want: u32, path: &[u32], siblings: &[u32]) -> Slot {
+        let mut slot = Slot {
+            op: Some(op),
+            want,
+            ..Slot::CLOSED
+        };
+        slot.path[..path.len()].copy_from_slice(path);
+        slot.siblings[..siblings.len()].copy_from_slice(siblings);
+        slot.depth = path.len();
+        slot.beside = siblings.len();
+        slot
+    }
+
+    /// The path pages held, for counts within the arrays.
+    pub fn path(&self) -> &[u32] {
+        &self.path[..self.depth]
+    }
+
+    /// The siblings held, for counts within the arrays.
+    pub fn siblings(&self) -> &[u32] {
+        &self.siblings[..self.beside]
+    }
+
+    /// All pages held, for counts within the arrays.
+    pub fn held(&self) -> Vec<u32> {
+        [self.path(), self.siblings()].concat()
+    }
+
+    /// Whether the slot holds the page.
+    pub fn holds(&self, page: u32) -> bool {
+        self.path().contains(&page) || self.siblings().contains(&page)
+    }
+}
+
+impl State {
+    /// A state with every slot closed.
+    pub fn empty(k: u32, n: u32) -> State {
+        State {
+            k,
+            n,
+            slots: [Slot::CLOSED; SLOTS],
+            order: [0; SLOTS],
+            waiting: 0,
+        }
+    }
+
+    /// The waiting order, for a count within the array.
+    pub fn order(&self) -> &[usize] {
+        &self.order[..self.waiting]
+    }
+}
+
+/// Whether a state is sound.
+pub fn is_sound(state: &State) -> bool {
+    (1..=16).contains(&state.k)
+        && (1..=1024).contains(&state.n)
+        && is_order_sound(state)
+        && state.slots.iter().all(|slot| is_slot_sound(slot, state.n))
+        && are_locks_sound(state)
+}
+
+/// The waiting order names each open slot once and no other.
+fn is_order_sound(state: &State) -> bool {
+    if state.waiting > SLOTS || state.order().iter().any(|&slot| slot >= SLOTS) {
+        return false;
+    }
+    (0..SLOTS).all(|number| {
+        let times = state
+            .order()
+            .iter()
+            .filter(|&&named| named == number)
+            .count();
+        times == usize::from(state.slots[number].op.is_some())
+    })
+}
+
+/// What is asked of one slot by itself.
+fn is_slot_sound(slot: &Slot, n: u32) -> bool {
+    let Some(op) = slot.op else {
+        return slot.depth == 0 && slot.beside == 0;
+    };
+    if !are_counts_sound(op, slot.depth, slot.beside) {
+        return false;
+    }
+    let held = slot.held();
+    let is_twice = (1..held.len()).any(|i| held[..i].contains(&held[i]));
+    slot.want < n && held.iter().all(|&page| page < n) && !is_twice && !slot.holds(slot.want)
+}
+
+/// How many pages an operation may hold.
+fn are_counts_sound(op: Op, depth: usize, beside: usize) -> bool {
+    match op {
+        Op::Search(_) => depth <= 1 && beside == 0,
+        Op::Insert(..) => depth <= 10 && beside == 0,
+        Op::Delete(_) => depth <= 10 && beside <= 9 && (beside == 0 || beside < depth),
+    }
+}
+
+/// No ξ-held page is held by another slot; the slots are sound by themselves.
+fn are_locks_sound(state: &State) -> bool {
+    state.slots.iter().enumerate().all(|(number, slot)| {
+        let is_exclusive = slot.op.is_some_and(|op| !op.is_search());
+        let is_elsewhere = |page: &u32| {
+            state
+                .slots
+                .iter()
+                .enumerate()
+                .any(|(other, its)| other != number && its.holds(*page))
+        };
+        !is_exclusive || !slot.held().iter().any(is_elsewhere)
+    })
+}

@@ -1,0 +1,265 @@
+//! What the tests share: a run that is judged after every call, and the
+//! demands as checks on it.
+
+#![allow(dead_code)]
+
+use std::collections::BTreeMap;
+
+use twin::{
+    begin, free_pages, make, must_wait, page_words, read_page, report, step, Answer, Op, State,
+};
+
+/// A run from a fresh pool, with the sorted list beside it.
+pub struct Run {
+    pub k: u32,
+    pub n: u32,
+    pub words: Vec<u32>,
+    pub state: State,
+    pub list: BTreeMap<u32, u32>,
+    pub grants: [u32; 16],
+    pub height: [u32; 16],
+    pub tally: BTreeMap<&'static str, u64>,
+    pub tallest: u32,
+}
+
+impl Run {
+    /// Starts with a pool made over rubbish.
+    pub fn new(k: u32, n: u32) -> Run {
+        let mut words = vec![77; n as usize * page_words(k)];
+        let (answer, state) = make(k, n, &mut words);
+        assert_eq!(answer, Answer::Made);
+        let (list, tally) = (BTreeMap::new(), BTreeMap::new());
+        Run {
+            k,
+            n,
+            words,
+            state,
+            list,
+            grants: [0; 16],
+            height: [0; 16],
+            tally,
+            tallest: 1,
+        }
+    }
+
+    /// Begins, and looks only at the slot begun.
+    pub fn begin(&mut self, slot: usize, op: Op) -> Answer {
+        let was_open = slot < 16 && self.state.slots[slot].op.is_some();
+        let (answer, next) = begin(&self.state, slot, op);
+        let expected = match slot {
+            16.. => Answer::BadSlot,
+            _ if was_open => Answer::SlotBusy,
+            _ => Answer::Begun,
+        };
+        assert_eq!(answer, expected);
+        if answer == Answer::Begun {
+            self.grants[slot] = 0;
+        } else {
+            assert_eq!(next, self.state);
+        }
+        self.state = next;
+        answer
+    }
+
+    /// Steps, and judges the answer by the sorted list.
+    pub fn step(&mut self, slot: usize) -> Answer {
+        let op = self.state.slots[slot].op;
+        let waits = must_wait(&self.state, slot);
+        let (before, given) = (self.words.clone(), self.state);
+        let (answer, next) = step(&self.state, &mut self.words, slot);
+        *self.tally.entry(answer.name()).or_default() += 1;
+        let Some(op) = op else {
+            assert_eq!(answer, Answer::SlotIdle);
+            return answer;
+        };
+        assert_eq!(answer == Answer::Waiting, waits);
+        if waits {
+            assert_eq!((&self.words, next), (&before, given));
+            return answer;
+        }
+        self.judge(slot, op, answer, &before);
+        self.state = next;
+        self.tallest = self.tallest.max(self.words[0]);
+        answer
+    }
+
+    /// A granted step: only a change writes, the sorted list agrees, and the grants are counted.
+    fn judge(&mut self, slot: usize, op: Op, answer: Answer, before: &[u32]) {
+        if self.state.slots[slot].want == 0 {
+            self.height[slot] = before[0];
+        }
+        self.grants[slot] += 1;
+        if answer == Answer::Moved {
+            assert_eq!(self.words, before);
+            return;
+        }
+        self.judge_grants(slot, op, answer);
+        if answer == Answer::NoRoom {
+            let Op::Insert(key, _) = op else {
+                panic!("no room for {op:?}")
+            };
+            assert!(!self.list.contains_key(&key));
+            assert_eq!(self.words, before);
+            assert!(self.needs(key) > self.free());
+            return;
+        }
+        if let (Op::Insert(key, _), Answer::Inserted) = (op, answer) {
+            let given = std::mem::replace(&mut self.words, before.to_vec());
+            assert!(self.needs(key) <= self.free());
+            self.words = given;
+        }
+        assert_eq!(answer, list_answer(&mut self.list, op));
+        if !matches!(answer, Answer::Inserted | Answer::Deleted(_)) {
+            assert_eq!(self.words, before);
+        }
+    }
+
+    /// Search and insertion take h grants, deletion h to 2h-1.
+    fn judge_grants(&self, slot: usize, op: Op, answer: Answer) {
+        let (taken, height) = (self.grants[slot], self.height[slot]);
+        match op {
+            Op::Delete(_) if answer != Answer::NoSuchKey => {
+                assert!((height..=2 * height - 1).contains(&taken));
+            }
+            _ => assert_eq!(taken, height),
+        }
+    }
+
+    /// How many pages are free.
+    pub fn free(&self) -> u32 {
+        free_pages(&self.words, self.k, self.n).len() as u32
+    }
+
+    /// How many pages a new key needs in the tree: the pages that split, and one for page 0.
+    fn needs(&self, key: u32) -> u32 {
+        let mut full = 0;
+        let mut number = 0;
+        loop {
+            let page = read_page(&self.words, self.k, self.n, number).expect("a tree page");
+            let is_full = page.count() as u32 == 2 * self.k;
+            full = if is_full {
+                full + 1 + u32::from(number == 0)
+            } else {
+                0
+            };
+            if page.is_leaf() {
+                return if is_full { full } else { 0 };
+            }
+            number = page.route(key);
+        }
+    }
+
+    /// All the demands on a moment of the run.
+    pub fn check(&self) {
+        self.check_tree();
+        self.check_locks();
+        let is_open = |&slot: &usize| self.state.slots[slot].op.is_some();
+        let open: Vec<usize> = (0..16).filter(is_open).collect();
+        assert!(open.is_empty() || open.iter().any(|&slot| !must_wait(&self.state, slot)));
+    }
+
+    /// The pages form the tree, it holds the list's entries, every other page is all zeros.
+    fn check_tree(&self) {
+        let mut seen = vec![false; self.n as usize];
+        let mut entries = Vec::new();
+        self.walk(0, self.words[0], 0, u64::MAX, &mut seen, &mut entries);
+        assert_eq!(
+            entries,
+            self.list
+                .iter()
+                .map(|(&key, &with)| (key, with))
+                .collect::<Vec<_>>()
+        );
+        for (part, seen) in self.words.chunks(page_words(self.k)).zip(seen) {
+            assert!(seen || part.iter().all(|&word| word == 0));
+        }
+    }
+
+    /// One page of the tree: its keys lie from `least` to below `limit`.
+    fn walk(
+        &self,
+        number: u32,
+        level: u32,
+        least: u64,
+        limit: u64,
+        seen: &mut [bool],
+        entries: &mut Vec<(u32, u32)>,
+    ) {
+        assert!(!std::mem::replace(&mut seen[number as usize], true));
+        let page = read_page(&self.words, self.k, self.n, number).expect("sound by itself");
+        assert_eq!(page.level, level);
+        assert!(page
+            .keys
+            .iter()
+            .all(|&key| (least..limit).contains(&u64::from(key))));
+        if page.is_leaf() {
+            entries.extend(page.keys.iter().copied().zip(page.with));
+            return;
+        }
+        for (i, &child) in page.with.iter().enumerate() {
+            let least = if i == 0 {
+                least
+            } else {
+                u64::from(page.keys[i - 1])
+            };
+            let limit = page.keys.get(i).map_or(limit, |&key| u64::from(key));
+            self.walk(child, level - 1, least, limit, seen, entries);
+        }
+    }
+
+    /// No two locks clash, and the report agrees with the held pages.
+    fn check_locks(&self) {
+        let mut holders: BTreeMap<u32, Vec<usize>> = BTreeMap::new();
+        for (number, slot) in self.state.slots.iter().enumerate() {
+            for page in slot.held() {
+                holders.entry(page).or_default().push(number);
+            }
+        }
+        let is_search = |slot: &usize| matches!(self.state.slots[*slot].op, Some(Op::Search(_)));
+        for page in 0..self.n {
+            let by = holders.get(&page).cloned().unwrap_or_default();
+            let all_search = by.iter().all(is_search);
+            assert!(by.len() < 2 || all_search);
+            let kind = if by.is_empty() {
+                0
+            } else if all_search {
+                1
+            } else {
+                2
+            };
+            let lowest = by.first().map_or(16, |&slot| slot as u32);
+            assert_eq!(
+                report(&self.state, page),
+                Answer::Reported(kind, by.len() as u32, lowest)
+            );
+        }
+    }
+
+    /// Steps every open slot in rounds until none is open; 304 rounds must do.
+    pub fn finish(&mut self) {
+        for _ in 0..304 {
+            for slot in 0..16 {
+                if self.state.slots[slot].op.is_some() {
+                    self.step(slot);
+                }
+            }
+        }
+        assert!(self.state.slots.iter().all(|slot| slot.op.is_none()));
+        assert_eq!(self.state.waiting, 0);
+    }
+}
+
+/// The sorted list's answer.
+fn list_answer(list: &mut BTreeMap<u32, u32>, op: Op) -> Answer {
+    match op {
+        Op::Search(key) => list
+            .get(&key)
+            .map_or(Answer::NotFound, |&with| Answer::Found(with)),
+        Op::Delete(key) => list.remove(&key).map_or(Answer::NoSuchKey, Answer::Deleted),
+        Op::Insert(key, _) if list.contains_key(&key) => Answer::AlreadyThere,
+        Op::Insert(key, with) => {
+            list.insert(key, with);
+            Answer::Inserted
+        }
+    }
+}
