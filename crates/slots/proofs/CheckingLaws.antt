@@ -15,7 +15,7 @@ use lib.Seq.{slice, slice-empty, slice-cons, paste, take-paste, drop-append-le, 
 use Rattle.ground.specs.Tests.{all, allBelow, member, distinct, apart}
 use Rattle.ground.proofs.Bools.{and-both, and-first, and-second, and-first-fails, and-second-fails, or-first, or-cases, or-first-fails, or-second-fails, not-of-true, not-of-false, false-if-not-true}
 use Rattle.ground.proofs.Tests.{all-none, all-more, all-stops, member-append, member-at, distinct-none, distinct-more, distinct-at, allBelow-more}
-use Rattle.slots.specs.Checking.{mayEnter}
+use Rattle.slots.specs.Checking.{enters, mayEnter}
 
 -- ---- every number below a bound, in a loop
 
@@ -107,10 +107,6 @@ pub stands-entered : (x from at i : ℕ) (list list₀ pages : List ℕ) → lis
     → member x (slice from (at + i) list) ≡ member x (slice from at list₀ ++ take i pages)
 stands-entered x from at i list list₀ pages e h room k =
     ap (λ (l : List ℕ). member x (slice from (at + i) l)) e ∙ ap (member x) (slice-entered from at i list₀ pages h room k)
-
--- what is asked of each page
-abbrev enters : ℕ → ℕ → List ℕ → ℕ → Bool
-enters n want own p = ltb p n && not (eqb p want) && not (member p own)
 
 -- no page: nothing is asked
 pub may-none : (n want : ℕ) (own : List ℕ) → mayEnter n want own [] ≡ true

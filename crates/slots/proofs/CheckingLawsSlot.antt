@@ -22,64 +22,33 @@ use Rattle.slots.specs.declared.Slot.{Slot}
 use Rattle.slots.specs.Parts.{isOpen, held, pathOf, siblingsOf}
 use Rattle.slots.specs.Locks.{lockOf, isXi}
 use Rattle.slots.specs.Sound.{withinLimits, pagesSound, ifOpen, slotSound}
-use Rattle.slots.specs.Checking.{mayEnter}
+use Rattle.slots.specs.Checking.{enters, mayEnter}
 use Rattle.slots.proofs.CheckingLaws.{slice-entered}
 
 -- ---- the pages of one slot
 
--- what is asked of each page that is put into the list
-abbrev enters : ℕ → ℕ → List ℕ → ℕ → Bool
-enters n want own p = ltb p n && not (eqb p want) && not (member p own)
+-- all pages are below n
+abbrev low : ℕ → List ℕ → Bool
+low n pages = all (λ (p : ℕ). ltb p n) pages
 
--- the wanted page and those held, path and siblings
-abbrev asked : ℕ → ℕ → List ℕ → List ℕ → Bool
-asked n want path siblings = all (λ (p : ℕ). ltb p n) (want ∷ path ++ siblings) && distinct (want ∷ path ++ siblings)
-
-module _ (n want : ℕ) (path siblings : List ℕ) where
-  -- what holds of all pages holds of path and siblings
-  asked-enter : asked n want path siblings ≡ true → mayEnter n want [] path && mayEnter n want path siblings ≡ true
-  unfolding mayEnter all distinct
-  asked-enter y =
+-- what may enter, by its four parts
+module _ (n want : ℕ) (own pages : List ℕ) where
+  enter-from : low n pages ≡ true → member want pages ≡ false → apart pages own ≡ true → distinct pages ≡ true → mayEnter n want own pages ≡ true
+  unfolding mayEnter
+  enter-from below other others differ =
       and-both
-      (and-both
-      (all-from-members (enters n want []) path
+      (all-from-members (enters n want own) pages
       (λ x m. and-both
-      (and-both (all-member (λ (p : ℕ). ltb p n) path (and-first (all (λ (p : ℕ). ltb p n) path) (all (λ (p : ℕ). ltb p n) siblings) low) x m)
-      (not-of-false (ne-eqb x want (λ e. not-both (subst (λ (z : ℕ). member z path ≡ true) e m) (or-first-fails (member want path) (member want siblings) new)))))
-      (not-of-false (member-none x))))
-      (distinct-front path siblings differ))
-      (and-both
-      (all-from-members (enters n want path) siblings
-      (λ x m. and-both
-      (and-both (all-member (λ (p : ℕ). ltb p n) siblings (and-second (all (λ (p : ℕ). ltb p n) path) (all (λ (p : ℕ). ltb p n) siblings) low) x m)
-      (not-of-false (ne-eqb x want (λ e. not-both (subst (λ (z : ℕ). member z siblings ≡ true) e m) (or-second-fails (member want path) (member want siblings) new)))))
-      (not-of-false (apart-member siblings path (apart-swap path siblings (distinct-apart path siblings differ)) x m))))
-      (distinct-back path siblings differ))
-    where
-      both : distinct (want ∷ path ++ siblings) ≡ true
-      both = and-second (all (λ (p : ℕ). ltb p n) (want ∷ path ++ siblings)) (distinct (want ∷ path ++ siblings)) y
+      (and-both (all-member (λ (p : ℕ). ltb p n) pages below x m) (not-of-false (ne-eqb x want (λ e. not-both (subst (λ (z : ℕ). member z pages ≡ true) e m) other))))
+      (not-of-false (apart-member pages own others x m))))
+      differ
 
-      low : all (λ (p : ℕ). ltb p n) path && all (λ (p : ℕ). ltb p n) siblings ≡ true
-      low =
-          sym (all-append (λ (p : ℕ). ltb p n) path siblings)
-          ∙ and-second (ltb want n) (all (λ (p : ℕ). ltb p n) (path ++ siblings))
-          (and-first (all (λ (p : ℕ). ltb p n) (want ∷ path ++ siblings)) (distinct (want ∷ path ++ siblings)) y)
-
-      differ : distinct (path ++ siblings) ≡ true
-      differ = and-second (not (member want (path ++ siblings))) (distinct (path ++ siblings)) both
-
-      new : member want path || member want siblings ≡ false
-      new =
-          sym (member-append want path siblings)
-          ∙ not-true (member want (path ++ siblings)) (and-first (not (member want (path ++ siblings))) (distinct (path ++ siblings)) both)
-
-  -- what is asked of each page put in
-  module _ (own pages : List ℕ) (t : mayEnter n want own pages ≡ true) where
+  module _ (t : mayEnter n want own pages ≡ true) where
     enter-each : (x : ℕ) → member x pages ≡ true → enters n want own x ≡ true
     unfolding mayEnter
     enter-each = all-member (enters n want own) pages (and-first (all (enters n want own) pages) (distinct pages) t)
 
-    enter-low : all (λ (p : ℕ). ltb p n) pages ≡ true
+    enter-low : low n pages ≡ true
     enter-low =
         all-from-members (λ (p : ℕ). ltb p n) pages
         (λ x m. and-first (ltb x n) (not (eqb x want)) (and-first (ltb x n && not (eqb x want)) (not (member x own)) (enter-each x m)))
@@ -88,7 +57,8 @@ module _ (n want : ℕ) (path siblings : List ℕ) where
     enter-other =
         false-if-not-true (member want pages)
         (λ m. not-both (eq-eqb want want refl)
-        (not-true (eqb want want) (and-second (ltb want n) (not (eqb want want)) (and-first (ltb want n && not (eqb want want)) (not (member want own)) (enter-each want m)))))
+        (not-true (eqb want want)
+        (and-second (ltb want n) (not (eqb want want)) (and-first (ltb want n && not (eqb want want)) (not (member want own)) (enter-each want m)))))
 
     enter-apart : apart pages own ≡ true
     enter-apart =
@@ -99,28 +69,67 @@ module _ (n want : ℕ) (path siblings : List ℕ) where
     unfolding mayEnter
     enter-differ = and-second (all (enters n want own) pages) (distinct pages) t
 
+-- the wanted page and those held, path and siblings
+abbrev asked : ℕ → ℕ → List ℕ → List ℕ → Bool
+asked n want path siblings = low n (want ∷ path ++ siblings) && distinct (want ∷ path ++ siblings)
+
+module _ (n want : ℕ) (path siblings : List ℕ) where
+  -- what holds of all pages lets the path enter, and the siblings behind it
+  asked-enter : asked n want path siblings ≡ true → mayEnter n want [] path && mayEnter n want path siblings ≡ true
+  unfolding all distinct
+  asked-enter y =
+      and-both
+      (enter-from n want [] path
+      (and-first (low n path) (low n siblings) below)
+      (or-first-fails (member want path) (member want siblings) other)
+      (apart-from path [] (λ x m. member-none x))
+      (distinct-front path siblings differ))
+      (enter-from n want path siblings
+      (and-second (low n path) (low n siblings) below)
+      (or-second-fails (member want path) (member want siblings) other)
+      (apart-swap path siblings (distinct-apart path siblings differ))
+      (distinct-back path siblings differ))
+    where
+      both : distinct (want ∷ path ++ siblings) ≡ true
+      both = and-second (low n (want ∷ path ++ siblings)) (distinct (want ∷ path ++ siblings)) y
+
+      below : low n path && low n siblings ≡ true
+      below =
+          sym (all-append (λ (p : ℕ). ltb p n) path siblings)
+          ∙ and-second (ltb want n) (low n (path ++ siblings)) (and-first (low n (want ∷ path ++ siblings)) (distinct (want ∷ path ++ siblings)) y)
+
+      differ : distinct (path ++ siblings) ≡ true
+      differ = and-second (not (member want (path ++ siblings))) (distinct (path ++ siblings)) both
+
+      other : member want path || member want siblings ≡ false
+      other =
+          sym (member-append want path siblings)
+          ∙ not-true (member want (path ++ siblings)) (and-first (not (member want (path ++ siblings))) (distinct (path ++ siblings)) both)
+
+  -- and the other way round, where the wanted page is below n
   enter-asked : want < n → mayEnter n want [] path && mayEnter n want path siblings ≡ true → asked n want path siblings ≡ true
   unfolding all distinct
-  enter-asked low y =
+  enter-asked first-low y =
       let first = and-first (mayEnter n want [] path) (mayEnter n want path siblings) y in
       let second = and-second (mayEnter n want [] path) (mayEnter n want path siblings) y in
       and-both
-      (and-both (lt-ltb want n low) (all-append (λ (p : ℕ). ltb p n) path siblings ∙ and-both (enter-low [] path first) (enter-low path siblings second)))
+      (and-both (lt-ltb want n first-low)
+      (all-append (λ (p : ℕ). ltb p n) path siblings ∙ and-both (enter-low n want [] path first) (enter-low n want path siblings second)))
       (and-both
-      (not-of-false (member-append want path siblings ∙ or-none (enter-other [] path first) (enter-other path siblings second)))
-      (distinct-join path siblings (enter-differ [] path first) (enter-differ path siblings second)
-      (apart-swap siblings path (enter-apart path siblings second))))
+      (not-of-false (member-append want path siblings ∙ or-none (enter-other n want [] path first) (enter-other n want path siblings second)))
+      (distinct-join path siblings (enter-differ n want [] path first) (enter-differ n want path siblings second)
+      (apart-swap siblings path (enter-apart n want path siblings second))))
 
   -- path and siblings put in one after the other
-  pub asked-is : want < n → asked n want path siblings ≡ mayEnter n want [] path && mayEnter n want path siblings
-  asked-is low =
-      same-if-true-together (asked n want path siblings) (mayEnter n want [] path && mayEnter n want path siblings) asked-enter (enter-asked low)
+  asked-is : want < n → asked n want path siblings ≡ mayEnter n want [] path && mayEnter n want path siblings
+  asked-is first-low =
+      same-if-true-together (asked n want path siblings) (mayEnter n want [] path && mayEnter n want path siblings) asked-enter (enter-asked first-low)
 
   -- the wanted page is not below n
-  pub asked-high : n ≤ want → asked n want path siblings ≡ false
+  asked-high : n ≤ want → asked n want path siblings ≡ false
   unfolding all
   asked-high high =
-      and-first-fails (distinct (want ∷ path ++ siblings)) (and-first-fails (all (λ (p : ℕ). ltb p n) (path ++ siblings)) (le-ltb want n high))
+      and-first-fails (distinct (want ∷ path ++ siblings)) (and-first-fails (low n (path ++ siblings)) (le-ltb want n high))
 
 -- ---- path and siblings of a slot put into a list, the one behind the other
 
@@ -129,7 +138,7 @@ module _ (n at : ℕ) (s : Slot) (list : List ℕ) where
   pub slot-high : n ≤ s .want → pagesSound n s ≡ false
   slot-high = asked-high n (s .want) (pathOf s) (siblingsOf s)
 
-  module _ (low : s .want < n) (r : Bool) (said : r ≡ mayEnter n (s .want) (slice at at list) (take (s .depth) (s .path))) where
+  module _ (below : s .want < n) (r : Bool) (said : r ≡ mayEnter n (s .want) (slice at at list) (take (s .depth) (s .path))) where
     path-said : r ≡ mayEnter n (s .want) [] (pathOf s)
     unfolding pathOf
     path-said = said ∙ ap (λ (own : List ℕ). mayEnter n (s .want) own (take (s .depth) (s .path))) (slice-empty at list)
@@ -137,7 +146,7 @@ module _ (n at : ℕ) (s : Slot) (list : List ℕ) where
     -- the path may not enter
     pub slot-path : r ≡ false → pagesSound n s ≡ false
     slot-path f =
-        asked-is n (s .want) (pathOf s) (siblingsOf s) low
+        asked-is n (s .want) (pathOf s) (siblingsOf s) below
         ∙ and-first-fails (mayEnter n (s .want) (pathOf s) (siblingsOf s)) (sym path-said ∙ f)
 
     module _ (list₁ : List ℕ) (t : r ≡ true) (is : list₁ ≡ paste list at (s .path) (s .depth)) (room : at + s .depth ≤ length list) (whole : s .depth ≤ length (s .path)) where
@@ -151,7 +160,7 @@ module _ (n at : ℕ) (s : Slot) (list : List ℕ) where
           ∙ slice-entered at at (s .depth) list (s .path) (le-refl at) room whole
           ∙ ap (λ (own : List ℕ). own ++ pathOf s) (slice-empty at list))
           ∙ sym (ap (λ (b : Bool). b && mayEnter n (s .want) (pathOf s) (siblingsOf s)) (sym path-said ∙ t))
-          ∙ sym (asked-is n (s .want) (pathOf s) (siblingsOf s) low)
+          ∙ sym (asked-is n (s .want) (pathOf s) (siblingsOf s) below)
 
       -- all that the slot holds stands in the list
       pub slot-held : (list₂ : List ℕ) → list₂ ≡ paste list₁ (at + s .depth) (s .siblings) (s .beside) → at + s .depth ≤ length list₁ → s .beside ≤ length (s .siblings)
@@ -248,6 +257,6 @@ module _ (n : ℕ) (s : Slot) where
       ⊎-elim
       (λ o. let sound = sym (slot-open y o) ∙ t in
       and-second (not (member (s .want) (held s))) (distinct (held s))
-      (and-second (all (λ (p : ℕ). ltb p n) (s .want ∷ held s)) (distinct (s .want ∷ held s)) sound))
+      (and-second (low n (s .want ∷ held s)) (distinct (s .want ∷ held s)) sound))
       (λ o. ap distinct (held-closed y o))
       (true-or-false (isOpen (s .task)))

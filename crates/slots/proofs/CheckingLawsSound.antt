@@ -105,8 +105,8 @@ gathered-on p f i t = ap (gathered p f) (add-one i) ∙ gathered-passes p f i t
 gathered-stays : (p : ℕ → Bool) (f : ℕ → List ℕ) (i : ℕ) → p i ≡ false → gathered p f (i + 1) ≡ gathered p f i
 gathered-stays p f i e = ap (gathered p f) (add-one i) ∙ gathered-fails p f i e
 
-module _ (st : State) (busy : List Bool) (xi : List ℕ) (xis : ℕ) (rho : List ℕ) (rhos : ℕ) (i : ℕ) (was : Passed st busy xi xis rho rhos i)
-    (o : Bool) (h : i < length busy) (s : Slot) (this : slotAt st i ≡ s) (marks : o ≡ isOpen (s .task)) (within : withinLimits (s .task) (s .depth) (s .beside) ≡ true) where
+module _ {st : State} {busy : List Bool} {xi rho : List ℕ} {xis rhos i : ℕ} (was : Passed st busy xi xis rho rhos i) {o : Bool} {s : Slot}
+    (this : slotAt st i ≡ s) (marks : o ≡ isOpen (s .task)) (within : withinLimits (s .task) (s .depth) (s .beside) ≡ true) (h : i < length busy) where
   -- one sound slot more, and its mark
   fine-on : slotSound (st .n) s ≡ true → allBelow (i + 1) (λ (t : ℕ). slotSound (st .n) (slotAt st t)) ≡ true
   fine-on y = allBelow-on (λ (t : ℕ). slotSound (st .n) (slotAt st t)) i (was .fine) (ap (slotSound (st .n)) this ∙ y)
@@ -175,9 +175,9 @@ module _ (st : State) (busy : List Bool) (xi : List ℕ) (xis : ℕ) (rho : List
       }
 
 -- the same lists and counts by other names
-pub passed-as : (st : State) (busy : List Bool) (xi xi′ : List ℕ) (xis xis′ : ℕ) (rho rho′ : List ℕ) (rhos rhos′ i : ℕ)
+pub passed-as : {st : State} {busy : List Bool} {xi xi′ rho rho′ : List ℕ} {xis xis′ rhos rhos′ i : ℕ}
     → xi′ ≡ xi → xis′ ≡ xis → rho′ ≡ rho → rhos′ ≡ rhos → Passed st busy xi xis rho rhos i → Passed st busy xi′ xis′ rho′ rhos′ i
-passed-as st busy xi xi′ xis xis′ rho rho′ rhos rhos′ i e f g h was =
+passed-as {st} {busy} {xi} {rho = rho} {rho′ = rho′} {xis = xis} {xis′ = xis′} {rhos′ = rhos′} {i = i} e f g h was =
     subst (λ (a : List ℕ). Passed st busy a xis′ rho′ rhos′ i) (sym e)
     (subst (λ (a : ℕ). Passed st busy xi a rho′ rhos′ i) (sym f)
     (subst (λ (a : List ℕ). Passed st busy xi xis a rhos′ i) (sym g) (subst (λ (a : ℕ). Passed st busy xi xis rho a i) (sym h) was)))
@@ -233,16 +233,20 @@ passed-all st busy xi xis rho rhos i last a b numbers =
         ∙ lists-for-pairs (xiAt st) (heldAt st) 16
         (λ j h. slot-differ (st .n) (slotAt st j) (allBelow-at (λ (s : ℕ). slotSound (st .n) (slotAt st s)) 16 (whole .fine) j h))
 
-module _ (st : State) (busy : List Bool) (xi : List ℕ) (xis : ℕ) (rho : List ℕ) (rhos : ℕ) (i : ℕ) (last : Passed st busy xi xis rho rhos i)
-    (a : i ≤ 16) (b : 16 ≤ i) (numbers : numbersInRange st ≡ true) (o : Bool) (said : o ≡ namesEach (λ (s : ℕ). getD busy s false) (st .waiting) (st .order)) where
+module _ {st : State} {busy : List Bool} {xi rho : List ℕ} {xis rhos i : ℕ} (last : Passed st busy xi xis rho rhos i)
+    (a : i ≤ 16) (b : 16 ≤ i) (numbers : numbersInRange st ≡ true) {o : Bool} (said : o ≡ namesEach (λ (s : ℕ). getD busy s false) (st .waiting) (st .order)) where
   -- the order is not sound
-  pub passed-order : o ≡ false → sound st ≡ false
+  pub passed-order : o ≡ false → o ≡ sound st
   passed-order f =
-      passed-all st busy xi xis rho rhos i last a b numbers
-      ∙ and-first-fails (apart (take xis xi) (take rhos rho)) (and-first-fails (distinct (take xis xi)) (sym said ∙ f))
+      f
+      ∙ sym
+      (passed-all st busy xi xis rho rhos i last a b numbers
+      ∙ and-first-fails (apart (take xis xi) (take rhos rho)) (and-first-fails (distinct (take xis xi)) (sym said ∙ f)))
 
   -- the order is sound: the two lists decide
-  pub passed-lists : o ≡ true → sound st ≡ distinct (take xis xi) && apart (take xis xi) (take rhos rho)
-  passed-lists t =
-      passed-all st busy xi xis rho rhos i last a b numbers
-      ∙ ap (λ (q : Bool). q && distinct (take xis xi) && apart (take xis xi) (take rhos rho)) (sym said ∙ t)
+  pub passed-lists : o ≡ true → {r : Bool} → r ≡ distinct (take xis xi) && apart (take xis xi) (take rhos rho) → r ≡ sound st
+  passed-lists t e =
+      e
+      ∙ sym
+      (passed-all st busy xi xis rho rhos i last a b numbers
+      ∙ ap (λ (q : Bool). q && distinct (take xis xi) && apart (take xis xi) (take rhos rho)) (sym said ∙ t))

@@ -7,10 +7,13 @@ use lib.ListN.{take}
 use Rattle.ground.specs.Limits.{slotCount}
 use Rattle.ground.specs.Tests.{all, allBelow, member, distinct}
 
--- these pages are below n, none of them is the wanted one or one of the slot's own so far, and no two are the same
+-- a page below n, neither the wanted one nor one of the slot's own so far
+abbrev pub enters : ℕ → ℕ → List ℕ → ℕ → Bool
+enters n want own p = ltb p n && not (eqb p want) && not (member p own)
+
+-- each of these pages is such a page, and no two are the same
 unfoldable pub mayEnter : ℕ → ℕ → List ℕ → List ℕ → Bool
-mayEnter n want own pages =
-    all (λ (p : ℕ). ltb p n && not (eqb p want) && not (member p own)) pages && distinct pages
+mayEnter n want own pages = all (enters n want own) pages && distinct pages
 
 -- the first so many cells of the order name each open slot once and no other
 unfoldable pub namesEach : (ℕ → Bool) → ℕ → List ℕ → Bool

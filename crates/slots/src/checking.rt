@@ -6,7 +6,7 @@ use crate::State;
 use crate::Task;
 use ground::HELD;
 use ground::SLOTS;
-ghost use Prim.Native.Nat.{ℕ, _+_, _≤_, _<_};
+ghost use Prim.Native.Nat.{ℕ, _+_, _≤_};
 ghost use mathlib.Core.Bool.{true, false, not, _&&_};
 ghost use mathlib.Core.List.{_++_};
 ghost use mathlib.Core.Path.{_≡_};
@@ -20,17 +20,20 @@ ghost use Rattle.slots.specs.Locks.{lockOf, isXi};
 ghost use Rattle.slots.specs.Sound.{withinLimits, pagesSound, sound};
 ghost use Rattle.slots.specs.Checking.{mayEnter, namesEach};
 
+// k is 1 to 16, N is 1 to 1,024.
 const LARGEST_K: usize = 16;
 
 const LARGEST_N: usize = 1024;
 
+// A search holds at most 1 page, a deletion at most 9 siblings beside its path.
 const SEARCH_HOLDS: usize = 1;
 
 const SIBLING_HOLDS: usize = 9;
-// Cells for the pages that 16 slots may hold under ξ, 19 each, and under ρ, 1 each.
-const XI_CELLS: usize = 304;
 
-const RHO_CELLS: usize = 16;
+// Cells for all pages that the slots may hold under ξ, and under ρ.
+const XI_CELLS: usize = SLOTS * (HELD + SIBLING_HOLDS);
+
+const RHO_CELLS: usize = SLOTS * SEARCH_HOLDS;
 
 // k and N are in range.
 fn numbers_in_range(k: usize, n: usize) -> bool
@@ -94,19 +97,20 @@ fn within_limits(task: Task, depth: usize, beside: usize) -> bool
     }
 }
 
-// Page x stands in the list from index `from` up to `to`.
+// Page x stands in the list from index `from` up to `to`. In a sound state no scan finds anything, so none is cut short.
 fn stands_between(x: u32, list: &[u32], from: usize, to: usize) -> bool
     requires { ⌜ (from ≤ to) × (to ≤ length (now list)) ⌝ }
     ensures { λ r. ⌜ r ≡ member x (slice from to (now (list .entry))) ⌝ }
 {
+    let mut found = false;
     let mut i = from;
     while i < to {
         if x == list[i] {
-            return true;
+            found = true;
         }
         i += 1;
     }
-    false
+    found
 }
 
 // No page stands twice among the first `count`.
@@ -205,12 +209,10 @@ fn enter_slot(list: &mut [u32], at: usize, n: u32, s: Slot) -> bool
 fn none_of(marks: [bool; SLOTS]) -> bool
     ensures { λ r. ⌜ r ≡ allBelow slotCount (λ (s : ℕ). not (getD marks s false)) ⌝ }
 {
-    let mut i = 0;
-    while i < SLOTS {
-        if marks[i] {
+    for s in 0..SLOTS {
+        if marks[s] {
             return false;
         }
-        i += 1;
     }
     true
 }
@@ -238,7 +240,7 @@ fn order_sound(order: [usize; SLOTS], waiting: usize, busy: [bool; SLOTS]) -> bo
     none_of(unnamed)
 }
 
-// The state is sound.
+// The state is sound. This runs at every call, so the state is never handed on, and one slot at a time is.
 pub fn is_sound(st: State) -> bool
     ensures { λ r. ⌜ r ≡ sound st ⌝ }
 {

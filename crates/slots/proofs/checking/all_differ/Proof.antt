@@ -34,9 +34,9 @@ stands-between-requires c κs = (omega arith, omega arith)
 
 returns : tie.Need-returns Inv-loop μ-loop
 returns c =
-    sym
-    (differ-stop (now (c .before .before .before .before .before .before .args .pages)) (c .before .before .before .before .loop .i) (c .before .before .before .before .before .before .args .count) (omega arith) (omega arith)
-    (sym (c .before .stands-between .ensures) ∙ c .if1 .taken))
+    let a = c .before .before .before .before .before .before .args in
+    let again = sym (c .before .stands-between .ensures) ∙ c .if1 .taken in
+    sym (differ-stop (now (a .pages)) (c .before .before .before .before .loop .i) (a .count) (omega arith) (omega arith) again)
 
 add-i : tie.Need-add-i Inv-loop μ-loop
 add-i c = omega arith
@@ -45,16 +45,16 @@ loop-less : tie.Need-loop-less Inv-loop μ-loop
 loop-less c = omega arith
 
 loop-again : tie.Need-loop-again Inv-loop μ-loop
-loop-again c = (
-  omega arith,
-  differ-on (now (c .before .before .before .before .before .before .args .pages)) (c .before .before .before .before .loop .i) (omega arith) (c .before .before .before .before .loop .inv .1)
-      (sym (c .before .stands-between .ensures) ∙ c .if1 .left),
-)
+loop-again c =
+    let l = c .before .before .before .before .loop in
+    let new = sym (c .before .stands-between .ensures) ∙ c .if1 .left in
+    (omega arith, differ-on (now (c .before .before .before .before .before .before .args .pages)) (l .i) (omega arith) (l .inv .1) new)
 
 returns-2 : tie.Need-returns-2 Inv-loop μ-loop
 returns-2 c =
-    sym
-    (subst (λ (n : ℕ). distinct (take n (now (c .before .before .before .args .pages))) ≡ true) (le-antisymm (c .before .loop .inv .0) (c .loop-test .left)) (c .before .loop .inv .1))
+    let l = c .before .loop in
+    let all-passed = le-antisymm (l .inv .0) (c .loop-test .left) in
+    sym (subst (λ (j : ℕ). distinct (take j (now (c .before .before .before .args .pages))) ≡ true) all-passed (l .inv .1))
 
 pub all-differ-spec : {M : Type 1} → statement M
 all-differ-spec =

@@ -20,7 +20,9 @@ abbrev μ-loop : tie.MeasureT-loop
 μ-loop pages n others m i₀ i = n - i
 
 loop-holds : tie.Need-loop-holds Inv-loop μ-loop
-loop-holds c = (omega arith, apart-none (take (c .before .before .args .m) (now (c .before .before .args .others))))
+loop-holds c =
+    let a = c .before .before .args in
+    (omega arith, apart-none (take (a .m) (now (a .others))))
 
 mul-stands-between : tie.Need-mul-stands-between Inv-loop μ-loop
 mul-stands-between c = search needs
@@ -33,11 +35,9 @@ stands-between-requires c κs = (omega arith, omega arith)
 
 returns : tie.Need-returns Inv-loop μ-loop
 returns c =
-    sym
-    (apart-stop (now (c .before .before .before .before .before .before .before .args .pages)) (take (c .before .before .before .before .before .before .before .args .m) (now (c .before .before .before .before .before .before .before .args .others))) (c .before .before .before .before .loop .i) (c .before .before .before .before .before .before .before .args .n)
-    (omega arith)
-    (omega arith)
-    (sym (c .before .stands-between .ensures) ∙ c .if1 .taken))
+    let a = c .before .before .before .before .before .before .before .args in
+    let there = sym (c .before .stands-between .ensures) ∙ c .if1 .taken in
+    sym (apart-stop (now (a .pages)) (take (a .m) (now (a .others))) (c .before .before .before .before .loop .i) (a .n) (omega arith) (omega arith) there)
 
 add-i : tie.Need-add-i Inv-loop μ-loop
 add-i c = omega arith
@@ -46,20 +46,18 @@ loop-less : tie.Need-loop-less Inv-loop μ-loop
 loop-less c = omega arith
 
 loop-again : tie.Need-loop-again Inv-loop μ-loop
-loop-again c = (
-  omega arith,
-  apart-on (now (c .before .before .before .before .before .before .before .args .pages)) (take (c .before .before .before .before .before .before .before .args .m) (now (c .before .before .before .before .before .before .before .args .others))) (c .before .before .before .before .loop .i)
-      (omega arith)
-      (c .before .before .before .before .loop .inv .1)
-      (sym (c .before .stands-between .ensures) ∙ c .if1 .left),
-)
+loop-again c =
+    let a = c .before .before .before .before .before .before .before .args in
+    let l = c .before .before .before .before .loop in
+    let absent = sym (c .before .stands-between .ensures) ∙ c .if1 .left in
+    (omega arith, apart-on (now (a .pages)) (take (a .m) (now (a .others))) (l .i) (omega arith) (l .inv .1) absent)
 
 returns-2 : tie.Need-returns-2 Inv-loop μ-loop
 returns-2 c =
-    sym
-    (subst (λ (j : ℕ). apart (take j (now (c .before .before .before .before .args .pages))) (take (c .before .before .before .before .args .m) (now (c .before .before .before .before .args .others))) ≡ true)
-    (le-antisymm (c .before .loop .inv .0) (c .loop-test .left))
-    (c .before .loop .inv .1))
+    let a = c .before .before .before .before .args in
+    let l = c .before .loop in
+    let all-passed = le-antisymm (l .inv .0) (c .loop-test .left) in
+    sym (subst (λ (j : ℕ). apart (take j (now (a .pages))) (take (a .m) (now (a .others))) ≡ true) all-passed (l .inv .1))
 
 pub are-apart-spec : {M : Type 1} → statement M
 are-apart-spec =

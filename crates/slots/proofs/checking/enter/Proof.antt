@@ -26,17 +26,23 @@ Inv-loop list₀ from at n want pages count i₀ list i =
 abbrev μ-loop : tie.MeasureT-loop
 μ-loop list₀ from at n want pages count i₀ list i = count - i
 
--- the list as it came, and what the slot had in it
+-- what the slot has in the list as it comes, and the pages
 abbrev own : tie.Start Inv-loop μ-loop → List ℕ
 own s = slice (s .args .from) (s .args .at) (now (s .args .list))
+
+abbrev given-pages : tie.Start Inv-loop μ-loop → List ℕ
+given-pages s = now (s .args .pages)
 
 loop-holds : tie.Need-loop-holds Inv-loop μ-loop
 loop-holds c =
     let s = c .before .before in
-    (omega arith, refl, paste-zero (now (s .args .list)) (s .args .at) (now (s .args .pages)), may-none (s .args .n) (s .args .want) (own s))
+    let a = s .args in
+    (omega arith, refl, paste-zero (now (a .list)) (a .at) (given-pages s), may-none (a .n) (a .want) (own s))
 
 mul-p : tie.Need-mul-p Inv-loop μ-loop
-mul-p c = scaled-fits (c .before .loop .i) (length (now (c .before .before .before .before .args .pages))) 4 (omega arith) (c .before .before .before .before .good .1 .1 .1 .1 .1 .0 .1)
+mul-p c =
+    let s = c .before .before .before .before in
+    scaled-fits (c .before .loop .i) (length (given-pages s)) 4 (omega arith) (s .good .1 .1 .1 .1 .1 .0 .1)
 
 shared-slice-read-p : tie.Need-shared-slice-read-p Inv-loop μ-loop
 shared-slice-read-p c = omega arith
@@ -49,20 +55,22 @@ same-length c = c .before .before .before .loop .inv .1
 
 returns : tie.Need-returns Inv-loop μ-loop
 returns c =
-    let s = c .before .before .before .before .before .before in (
-      sym (may-stop-high (s .args .n) (s .args .want) (own s) (now (s .args .pages)) (c .before .before .before .loop .i) (s .args .count) (omega arith) (omega arith) (c .if1 .taken)),
-      λ t. absurd (false≢true t),
-    )
+    let s = c .before .before .before .before .before .before in
+    let a = s .args in
+    let i = c .before .before .before .loop .i in
+    let stops = may-stop-high (a .n) (a .want) (own s) (given-pages s) i (a .count) (omega arith) (omega arith) (c .if1 .taken) in
+    (sym stops, λ t. absurd (false≢true t))
 
 same-length-2 : tie.Need-same-length-2 Inv-loop μ-loop
 same-length-2 c = c .before .before .before .before .loop .inv .1
 
 returns-2 : tie.Need-returns-2 Inv-loop μ-loop
 returns-2 c =
-    let s = c .before .before .before .before .before .before .before in (
-      sym (may-stop-want (s .args .n) (s .args .want) (own s) (now (s .args .pages)) (c .before .before .before .before .loop .i) (s .args .count) (omega arith) (omega arith) (c .if2 .taken)),
-      λ t. absurd (false≢true t),
-    )
+    let s = c .before .before .before .before .before .before .before in
+    let a = s .args in
+    let i = c .before .before .before .before .loop .i in
+    let stops = may-stop-want (a .n) (a .want) (own s) (given-pages s) i (a .count) (omega arith) (omega arith) (c .if2 .taken) in
+    (sym stops, λ t. absurd (false≢true t))
 
 stands-between-requires : tie.Need-stands-between-requires Inv-loop μ-loop
 stands-between-requires c κs = (omega arith, omega arith)
@@ -73,18 +81,18 @@ same-length-3 c = c .before .before .before .before .before .before .before .loo
 returns-3 : tie.Need-returns-3 Inv-loop μ-loop
 returns-3 c =
     let s = c .before .before .before .before .before .before .before .before .before .before in
+    let a = s .args in
     let l = c .before .before .before .before .before .before .before .loop in
-    let p : ℕ = getD (now (s .args .pages)) (l .i) 0 in (
-      sym (may-stop-twice (s .args .n) (s .args .want) (own s) (now (s .args .pages)) (l .i) (s .args .count) (omega arith) (omega arith)
-          (sym (stands-entered p (s .args .from) (s .args .at) (l .i) (l .list) (now (s .args .list)) (now (s .args .pages)) (l .inv .2) (omega arith) (omega arith) (omega arith))
-          ∙ sym (c .before .stands-between .ensures)
-          ∙ c .if3 .taken)),
-      λ t. absurd (false≢true t),
-    )
+    let p : ℕ = getD (given-pages s) (l .i) 0 in
+    let same = stands-entered p (a .from) (a .at) (l .i) (l .list) (now (a .list)) (given-pages s) (l .inv .2) (omega arith) (omega arith) (omega arith) in
+    let twice = sym same ∙ sym (c .before .stands-between .ensures) ∙ c .if3 .taken in
+    let stops = may-stop-twice (a .n) (a .want) (own s) (given-pages s) (l .i) (a .count) (omega arith) (omega arith) twice in
+    (sym stops, λ t. absurd (false≢true t))
 
 mul-list : tie.Need-mul-list Inv-loop μ-loop
 mul-list c =
-    scaled-fits (c .before .before .before .before .before .before .before .before .before .before .args .at + c .before .before .before .before .before .before .before .loop .i) (length (now (c .before .before .before .before .before .before .before .before .before .before .args .list))) 4 (omega arith) (c .before .before .before .before .before .before .before .before .before .before .good .0 .1)
+    let s = c .before .before .before .before .before .before .before .before .before .before in
+    scaled-fits (s .args .at + c .before .before .before .before .before .before .before .loop .i) (length (now (s .args .list))) 4 (omega arith) (s .good .0 .1)
 
 slice-write-list : tie.Need-slice-write-list Inv-loop μ-loop
 slice-write-list c = omega arith
@@ -98,17 +106,17 @@ loop-less c = omega arith
 loop-again : tie.Need-loop-again Inv-loop μ-loop
 loop-again c =
     let s = c .before .before .before .before .before .before .before .before .before .before in
+    let a = s .args in
     let l = c .before .before .before .before .before .before .before .loop in
-    let p : ℕ = getD (now (s .args .pages)) (l .i) 0 in (
+    let p : ℕ = getD (given-pages s) (l .i) 0 in
+    let same = stands-entered p (a .from) (a .at) (l .i) (l .list) (now (a .list)) (given-pages s) (l .inv .2) (omega arith) (omega arith) (omega arith) in
+    let new = sym same ∙ sym (c .before .stands-between .ensures) ∙ c .if3 .left in (
       omega arith,
-      length-set (l .list) (s .args .at + l .i) p ∙ l .inv .1,
-      ap (λ (r : List ℕ). set r (s .args .at + l .i) p) (l .inv .2)
-          ∙ paste-suc (now (s .args .list)) (s .args .at) (now (s .args .pages)) (l .i) 0 (omega arith) (omega arith)
-          ∙ ap (paste (now (s .args .list)) (s .args .at) (now (s .args .pages))) (sym (add-one (l .i))),
-      may-on (s .args .n) (s .args .want) (own s) (now (s .args .pages)) (l .i) (omega arith) (l .inv .3) (c .before .before .before .before .if1 .left) (c .before .before .before .if2 .left)
-          (sym (stands-entered p (s .args .from) (s .args .at) (l .i) (l .list) (now (s .args .list)) (now (s .args .pages)) (l .inv .2) (omega arith) (omega arith) (omega arith))
-          ∙ sym (c .before .stands-between .ensures)
-          ∙ c .if3 .left),
+      length-set (l .list) (a .at + l .i) p ∙ l .inv .1,
+      ap (λ (r : List ℕ). set r (a .at + l .i) p) (l .inv .2)
+          ∙ paste-suc (now (a .list)) (a .at) (given-pages s) (l .i) 0 (omega arith) (omega arith)
+          ∙ ap (paste (now (a .list)) (a .at) (given-pages s)) (sym (add-one (l .i))),
+      may-on (a .n) (a .want) (own s) (given-pages s) (l .i) (omega arith) (l .inv .3) (c .before .before .before .before .if1 .left) (c .before .before .before .if2 .left) new,
     )
 
 same-length-4 : tie.Need-same-length-4 Inv-loop μ-loop
@@ -117,10 +125,11 @@ same-length-4 c = c .before .loop .inv .1
 returns-4 : tie.Need-returns-4 Inv-loop μ-loop
 returns-4 c =
     let s = c .before .before .before .before in
+    let a = s .args in
     let l = c .before .loop in
     let all-passed = le-antisymm (l .inv .0) (c .loop-test .left) in (
-      sym (subst (λ (j : ℕ). mayEnter (s .args .n) (s .args .want) (own s) (take j (now (s .args .pages))) ≡ true) all-passed (l .inv .3)),
-      λ t. l .inv .2 ∙ ap (paste (now (s .args .list)) (s .args .at) (now (s .args .pages))) all-passed,
+      sym (subst (λ (j : ℕ). mayEnter (a .n) (a .want) (own s) (take j (given-pages s)) ≡ true) all-passed (l .inv .3)),
+      λ t. l .inv .2 ∙ ap (paste (now (a .list)) (a .at) (given-pages s)) all-passed,
     )
 
 pub enter-spec : {M : Type 1} → statement M

@@ -21,25 +21,28 @@ siblings-long c = search needs
 
 returns : tie.Need-returns
 returns c =
-    let s = c .before .before in
-    (sym (slot-high (s .args .n) (s .args .at) (s .args .s) (now (s .args .list)) (c .if1 .taken)), λ t. absurd (false≢true t))
+    let a = c .before .before .args in
+    (sym (slot-high (a .n) (a .at) (a .s) (now (a .list)) (c .if1 .taken)), λ t. absurd (false≢true t))
 
 slice-aggregate-enter : tie.Need-slice-aggregate-enter
 slice-aggregate-enter c = search needs
 
 enter-requires : tie.Need-enter-requires
 unfolding pathHolds
-enter-requires c κs = let s = c .before .before .before .before .before in let cells = path-long s in (omega arith, omega (arith, s .pre), omega (arith, s .pre))
+enter-requires c κs =
+    let s = c .before .before .before .before .before in
+    let cells = path-long s in
+    (omega arith, omega (arith, s .pre), omega (arith, s .pre))
 
 same-length : tie.Need-same-length
 same-length c = c .before .before .before .enter .kept .0
 
 returns-2 : tie.Need-returns-2
 returns-2 c =
-    let s = c .before .before .before .before .before .before .before .before .before in (
-      sym
-          (slot-path (s .args .n) (s .args .at) (s .args .s) (now (s .args .list)) (c .before .before .before .before .before .before .before .if1 .left) (c .before .before .before .enter .result) (c .before .before .before .enter .ensures .0)
-          (not-true (c .before .before .before .enter .result) (c .if2 .taken))),
+    let a = c .before .before .before .before .before .before .before .before .before .args in
+    let first = c .before .before .before .enter in
+    let refused = not-true (first .result) (c .if2 .taken) in (
+      sym (slot-path (a .n) (a .at) (a .s) (now (a .list)) (c .before .before .before .before .before .before .before .if1 .left) (first .result) (first .ensures .0) refused),
       λ t. absurd (false≢true t),
     )
 
@@ -64,15 +67,17 @@ returns-3 : tie.Need-returns-3
 unfolding pathHolds
 returns-3 c =
     let s = c .before .before .before .before .before .before .before .before .before .before .before .before .before .before .before in
+    let a = s .args in
     let first = c .before .before .before .before .before .before .before .before .before .enter in
     let second = c .before .before .enter2 in
     let entered = not-false (first .result) (c .before .before .before .before .before .before .if2 .left) in
     let cells = path-long s in
     let cells₂ = siblings-long s in
     let kept = first .kept .0 in (
-      slot-siblings (s .args .n) (s .args .at) (s .args .s) (now (s .args .list)) (c .before .before .before .before .before .before .before .before .before .before .before .before .before .if1 .left) (first .result) (first .ensures .0)
-          (first .last .0) entered (first .ensures .1 entered) (omega (arith, s .pre)) (omega (arith, s .pre)) (second .result) (second .ensures .0),
-      λ t. slot-held (s .args .n) (s .args .at) (s .args .s) (now (s .args .list)) (c .before .before .before .before .before .before .before .before .before .before .before .before .before .if1 .left) (first .result) (first .ensures .0)
+      slot-siblings (a .n) (a .at) (a .s) (now (a .list)) (c .before .before .before .before .before .before .before .before .before .before .before .before .before .if1 .left) (first .result) (first .ensures .0)
+          (first .last .0) entered (first .ensures .1 entered) (omega (arith, s .pre)) (omega (arith, s .pre))
+          (second .result) (second .ensures .0),
+      λ t. slot-held (a .n) (a .at) (a .s) (now (a .list)) (c .before .before .before .before .before .before .before .before .before .before .before .before .before .if1 .left) (first .result) (first .ensures .0)
           (first .last .0) entered (first .ensures .1 entered) (omega (arith, s .pre)) (omega (arith, s .pre))
           (second .last .0) (second .ensures .1 t) (omega (arith, s .pre)) (omega (arith, s .pre)),
     )

@@ -15,10 +15,10 @@ use Rattle.slots.proofs.checking.none_of.Statement.{statement}
 use Rattle.slots.proofs.checking.none_of.Tie as tie
 
 abbrev Inv-loop : tie.InvT-loop
-Inv-loop marks i₀ i = (i ≤ 16) × (allBelow i (λ (s : ℕ). not (getD marks s false)) ≡ true)
+Inv-loop marks s₀ s = (s ≤ 16) × (allBelow s (λ (t : ℕ). not (getD marks t false)) ≡ true)
 
 abbrev μ-loop : tie.MeasureT-loop
-μ-loop marks i₀ i = 16 - i
+μ-loop marks s₀ s = 16 - s
 
 loop-holds : tie.Need-loop-holds Inv-loop μ-loop
 loop-holds c = (omega arith, allBelow-none _)
@@ -28,21 +28,25 @@ array-read-if1 c = search needs
 
 returns : tie.Need-returns Inv-loop μ-loop
 unfolding slotCount
-returns c = sym (allBelow-stops _ 16 (c .before .before .loop .i) (omega arith) (not-of-true (c .if1 .taken)))
+returns c = sym (allBelow-stops _ 16 (c .before .before .loop .s) (omega arith) (not-of-true (c .if1 .taken)))
 
-add-i : tie.Need-add-i Inv-loop μ-loop
-add-i c = omega arith
+add-s : tie.Need-add-s Inv-loop μ-loop
+add-s c = omega arith
 
 loop-less : tie.Need-loop-less Inv-loop μ-loop
 loop-less c = omega arith
 
 loop-again : tie.Need-loop-again Inv-loop μ-loop
-loop-again c = (omega arith, allBelow-on _ (c .before .before .loop .i) (c .before .before .loop .inv .1) (not-of-false (c .if1 .left)))
+loop-again c =
+    let l = c .before .before .loop in
+    (omega arith, allBelow-on _ (l .s) (l .inv .1) (not-of-false (c .if1 .left)))
 
 returns-2 : tie.Need-returns-2 Inv-loop μ-loop
 unfolding slotCount
-returns-2 c = sym (allBelow-end _ (c .before .loop .i) 16 (omega arith) (omega arith) (c .before .loop .inv .1))
+returns-2 c =
+    let l = c .before .loop in
+    sym (allBelow-end _ (l .s) 16 (omega arith) (omega arith) (l .inv .1))
 
 pub none-of-spec : {M : Type 1} → statement M
 none-of-spec =
-    tie.close (tie.spec Inv-loop μ-loop loop-holds array-read-if1 returns add-i loop-less loop-again returns-2)
+    tie.close (tie.spec Inv-loop μ-loop loop-holds array-read-if1 returns add-s loop-less loop-again returns-2)

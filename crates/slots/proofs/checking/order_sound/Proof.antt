@@ -21,10 +21,14 @@ abbrev μ-loop : tie.MeasureT-loop
 
 returns : tie.Need-returns Inv-loop μ-loop
 unfolding slotCount
-returns c = sym (naming-long (c .before .args .busy) (c .before .args .t1) (c .before .args .waiting) (c .if1 .taken))
+returns c =
+    let a = c .before .args in
+    sym (naming-long (a .busy) (a .t1) (a .waiting) (c .if1 .taken))
 
 loop-holds : tie.Need-loop-holds Inv-loop μ-loop
-loop-holds c = (omega arith, c .if1 .left, search needs, search needs, naming-start (c .before .args .busy) (c .before .args .t1))
+loop-holds c =
+    let a = c .before .args in
+    (omega arith, c .if1 .left, search needs, search needs, naming-start (a .busy) (a .t1))
 
 mul-s : tie.Need-mul-s Inv-loop μ-loop
 mul-s c = omega arith
@@ -35,15 +39,19 @@ array-read-s c = omega arith
 returns-2 : tie.Need-returns-2 Inv-loop μ-loop
 unfolding slotCount
 returns-2 c =
-    sym (naming-high (c .before .before .before .before .args .busy) (c .before .before .loop .unnamed) (c .before .before .before .before .args .t1) (c .before .before .loop .i) (c .before .before .loop .inv .4) (c .before .before .before .before .args .waiting) (omega arith) (omega arith) (c .if2 .taken))
+    let a = c .before .before .before .before .args in
+    let l = c .before .before .loop in
+    sym (naming-high (a .busy) (l .unnamed) (a .t1) (l .i) (l .inv .4) (a .waiting) (omega arith) (omega arith) (c .if2 .taken))
 
 array-read-if3 : tie.Need-array-read-if3 Inv-loop μ-loop
 array-read-if3 c = omega arith
 
 returns-3 : tie.Need-returns-3 Inv-loop μ-loop
 returns-3 c =
-    sym (naming-unmarked (c .before .before .before .before .before .args .busy) (c .before .before .before .loop .unnamed) (c .before .before .before .before .before .args .t1) (c .before .before .before .loop .i) (c .before .before .before .loop .inv .4) (c .before .before .before .before .before .args .waiting) (omega arith) (omega arith)
-    (not-true (getD (c .before .before .before .loop .unnamed) (getD (c .before .before .before .before .before .args .t1) (c .before .before .before .loop .i) 0) false) (c .if3 .taken)))
+    let a = c .before .before .before .before .before .args in
+    let l = c .before .before .before .loop in
+    let unmarked = not-true (getD (l .unnamed) (getD (a .t1) (l .i) 0) false) (c .if3 .taken) in
+    sym (naming-unmarked (a .busy) (l .unnamed) (a .t1) (l .i) (l .inv .4) (a .waiting) (omega arith) (omega arith) unmarked)
 
 array-write-unnamed : tie.Need-array-write-unnamed Inv-loop μ-loop
 array-write-unnamed c = omega arith
@@ -57,13 +65,15 @@ loop-less c = omega arith
 loop-again : tie.Need-loop-again Inv-loop μ-loop
 unfolding slotCount
 loop-again c =
+    let a = c .before .before .before .before .before .args in
     let l = c .before .before .before .loop in
-    let s = getD (c .before .before .before .before .before .args .t1) (l .i) 0 in (
+    let s = getD (a .t1) (l .i) 0 in
+    let marked = not-false (getD (l .unnamed) s false) (c .if3 .left) in (
       omega arith,
       l .inv .1,
       l .inv .2,
-      length-set (l .unnamed) s _ ∙ l .inv .3,
-      naming-on (c .before .before .before .before .before .args .busy) (l .unnamed) (c .before .before .before .before .before .args .t1) (l .i) (l .inv .4) (omega arith) (c .before .if2 .left) (omega arith) (not-false (getD (l .unnamed) s false) (c .if3 .left)),
+      length-set (l .unnamed) _ _ ∙ l .inv .3,
+      naming-on (a .busy) (l .unnamed) (a .t1) (l .i) (l .inv .4) (omega arith) (c .before .if2 .left) (omega arith) marked,
     )
 
 none-of-requires : tie.Need-none-of-requires Inv-loop μ-loop
@@ -72,9 +82,10 @@ none-of-requires c κs = search needs
 returns-4 : tie.Need-returns-4 Inv-loop μ-loop
 unfolding slotCount
 returns-4 c =
+    let a = c .before .before .before .before .args in
     let l = c .before .before .loop in
-    c .none-of .ensures
-    ∙ sym (naming-end (c .before .before .before .before .args .busy) (l .unnamed) (c .before .before .before .before .args .t1) (l .i) (c .before .before .before .before .args .waiting) (l .inv .4) (l .inv .0) (c .before .loop-test .left) (l .inv .1))
+    let rest = naming-end (a .busy) (l .unnamed) (a .t1) (l .i) (a .waiting) (l .inv .4) (l .inv .0) (c .before .loop-test .left) (l .inv .1) in
+    c .none-of .ensures ∙ sym rest
 
 pub order-sound-spec : {M : Type 1} → statement M
 order-sound-spec =
