@@ -1,0 +1,5 @@
+pub mod Examples
+pub mod Ending
+pub mod WordLaws
+pub mod DigitLaws
+pub mod NumberLaws
