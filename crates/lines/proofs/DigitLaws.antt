@@ -1,7 +1,7 @@
 -- Laws of digits and what they are worth. A loop that passes digits keeps what the passed ones are worth, as far as it
 -- counts: what is above the largest number stays above it, whatever digits follow.
-use Prim.Native.Nat.{ℕ, suc, _+_, _*_, _-_, _^_, _≤_, _<_}
-use mathlib.Core.Bool.{Bool, true, false, cond, _&&_}
+use Prim.Native.Nat.{ℕ, _+_, _*_, _-_, _^_, _≤_, _<_}
+use mathlib.Core.Bool.{true, false}
 use mathlib.Core.List.{List, [], _∷_, _++_, append-assoc, append-nil}
 use mathlib.Core.Path.{_≡_, refl, sym, ap, _∙_}
 use native.Mathlib.Nat.{pow-suc, mul-assoc}
@@ -13,7 +13,7 @@ use lib.ListN.{length, getD, drop, length-append, drop-of-length-le}
 use lib.Seq.{drop-cons}
 use Rattle.ground.proofs.Bools.{and-first, and-second, and-both}
 use Rattle.lines.specs.Meaning.{isDigit, digits, value, largest}
-use Rattle.lines.specs.Found.{Alike, Capped, Counted}
+use Rattle.lines.specs.Positions.{Alike, Capped, Counted}
 
 -- ---- a digit
 

@@ -1,12 +1,18 @@
--- Lines computed: those of document 01's example, good lines at the edge, and lines that are just not good.
+-- Lines and answers computed: those of document 01's example, good lines at the edge, lines that are just not good, and
+-- the answers of the example.
+use Prim.Native.Nat.{ℕ}
 use Prim.Native.String.{String}
 use mathlib.Core.List.{List, [], _∷_, map}
 use mathlib.Core.Path.{_≡_, refl}
 use Rattle.slots.specs.declared.Op.the-variants.{Search, Insert, Delete}
+use Rattle.slots.specs.declared.Answer.{Answer}
+use Rattle.slots.specs.declared.Answer.the-variants.{Begun, Waiting, Inserted, Found, SlotIdle, Deleted}
 use Rattle.lines.specs.declared.Command.{Command}
 use Rattle.lines.specs.declared.Command.the-variants.{Begin, Step, Bad}
 use Rattle.lines.specs.Text.{bytes, begins}
 use Rattle.lines.specs.Meaning.{digits, value, front, stepping, searching, deleting, informing, inserting, asking, beginning, meaning}
+use Rattle.lines.specs.Decimal.{digitsWithin, decimal}
+use Rattle.lines.specs.Names.{written}
 
 meanings : List String → List Command
 meanings = map (λ line. meaning (bytes line))
@@ -46,3 +52,14 @@ bad-lines :
     ≡ Bad ∷ Bad ∷ Bad ∷ Bad ∷ Bad ∷ Bad ∷ Bad ∷ Bad ∷ Bad ∷ Bad ∷ Bad ∷ Bad ∷ Bad ∷ Bad ∷ Bad ∷ Bad ∷ []
 unfolding meanings begins digits value front stepping searching deleting informing inserting asking beginning meaning
 bad-lines = refl
+
+-- ---- answers
+
+lines-written : List Answer → List (List ℕ)
+lines-written = map written
+
+answers :
+    lines-written (Begun ∷ Waiting ∷ Inserted ∷ Found 3 ∷ SlotIdle ∷ Found 0 ∷ Deleted 4294967295 ∷ [])
+    ≡ map bytes ("Begun\n" ∷ "Waiting\n" ∷ "Inserted\n" ∷ "Found 3\n" ∷ "SlotIdle\n" ∷ "Found 0\n" ∷ "Deleted 4294967295\n" ∷ [])
+unfolding lines-written digitsWithin decimal
+answers = refl

@@ -1,8 +1,7 @@
 -- Laws of a number at the front: what the digits that were counted there make of it, and what an answer stands for.
-use Prim.Native.Nat.{ℕ, suc, _+_, _≤_, _<_}
-use mathlib.Core.Bool.{Bool, true, false, cond, _&&_}
-use mathlib.Core.List.{List, [], _∷_}
-use mathlib.Core.Path.{_≡_, refl, sym, ap, ap₂, subst, _∙_}
+use Prim.Native.Nat.{ℕ, _≤_, _<_}
+use mathlib.Core.List.{List}
+use mathlib.Core.Path.{_≡_, sym, ap, ap₂, subst, _∙_}
 use native.Mathlib.Omega.{arith}
 use borrow.Author.Tests.{lt-ltb, le-ltb, le-leb, lt-leb}
 use lib.Dec.{leb, ltb}
@@ -11,9 +10,9 @@ use lib.Seq.{drop-cons, drop-drop}
 use Rattle.ground.proofs.Bools.{and-both, and-first-fails, and-second-fails}
 use Rattle.ground.proofs.Choice.{cond-true, cond-false}
 use Rattle.lines.specs.declared.reading.Number.{Number}
-use Rattle.lines.specs.declared.reading.Number.the-variants.{Read, None}
+use Rattle.lines.specs.declared.reading.Number.the-variants.{Read}
 use Rattle.lines.specs.Meaning.{digits, value, largest, Front, noNumber, number, front, alone}
-use Rattle.lines.specs.Found.{Counted, found, behind}
+use Rattle.lines.specs.Positions.{Counted, frontOf, behind}
 
 module _ (line : List ℕ) (from : ℕ) {worth end : ℕ} (c : Counted line from worth end) where
   -- no digit, no number
@@ -40,8 +39,8 @@ module _ (line : List ℕ) (from : ℕ) {worth end : ℕ} (c : Counted line from
       ∙ ap₂ number same (drop-drop (length ds) from line ∙ ap (λ (k : ℕ). drop k line) (sym (c .ends)))
 
 -- what an answer tells of the front that it stands for
-pub told : (line : List ℕ) {r x : Number} {f : Front} → found line r ≡ f → r ≡ x → f ≡ found line x
-told line e t = sym e ∙ ap (found line) t
+pub told : (line : List ℕ) {r x : Number} {f : Front} → frontOf line r ≡ f → r ≡ x → f ≡ frontOf line x
+told line e t = sym e ∙ ap (frontOf line) t
 
 module _ (line : List ℕ) (n : ℕ) {end : ℕ} where
   -- bytes are left behind the number

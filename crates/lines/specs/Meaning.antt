@@ -1,13 +1,12 @@
 -- What a line means: "The little program" of document 01, sentence by sentence. A line is its bytes without the line feed.
 use Prim.Native.Nat.{ℕ, _-_, _+_, _*_, _^_}
 use Prim.Native.String.{String}
-use mathlib.Core.Bool.{Bool, true, false, cond, _&&_}
+use mathlib.Core.Bool.{Bool, cond, _&&_}
 use mathlib.Core.List.{List, [], _∷_}
 use lib.Dec.{leb, ltb}
 use lib.ListN.{length, drop}
 use Rattle.lines.specs.declared.Command.{Command}
 use Rattle.lines.specs.declared.Command.the-variants.{Begin, Step, Bad}
-use Rattle.slots.specs.declared.Op.{Op}
 use Rattle.slots.specs.declared.Op.the-variants.{Search, Insert, Delete}
 use Rattle.lines.specs.Text.{bytes, begins}
 

@@ -3,12 +3,12 @@ use crate::Command;
 use slots::Op;
 ghost use mathlib.Core.Bool.{true};
 ghost use mathlib.Core.Path.{_≡_};
-ghost use Prim.Native.Nat.{ℕ, _+_, _*_, _-_, _≤_, _<_, min, max};
+ghost use Prim.Native.Nat.{_+_, _*_, _-_, _≤_, _<_, max};
 ghost use lib.ListN.{length, drop};
 ghost use Rattle.lines.specs.Text.{begins};
-ghost use Rattle.lines.specs.Meaning.{isDigit, digits, value, front, alone, stepping, searching, deleting, informing, inserting, asking, beginning, meaning};
+ghost use Rattle.lines.specs.Meaning.{isDigit, value, front, alone, stepping, searching, deleting, informing, inserting, asking, beginning, meaning};
 ghost use Rattle.lines.specs.Ends.{lineEnd};
-ghost use Rattle.lines.specs.Found.{found, behind, Capped, Counted};
+ghost use Rattle.lines.specs.Positions.{frontOf, behind, Capped, Counted};
 
 // "a number above 4,294,967,295, gives BadLine"
 const LARGEST: u64 = 4294967295;
@@ -95,7 +95,7 @@ fn read_digits(line: &[u8], from: usize) -> Digits
 // The number at a position: at least one digit, and none above LARGEST.
 fn read_number(line: &[u8], from: usize) -> Number
     requires { ⌜ from ≤ length (now line) ⌝ }
-    ensures { λ r. ⌜ (found (now (line .entry)) r ≡ front (drop from (now (line .entry)))) × (behind r ≤ length (now (line .entry))) ⌝ }
+    ensures { λ r. ⌜ (frontOf (now (line .entry)) r ≡ front (drop from (now (line .entry)))) × (behind r ≤ length (now (line .entry))) ⌝ }
 {
     let read = read_digits(line, from);
     let end = read.end;
@@ -112,7 +112,7 @@ fn read_number(line: &[u8], from: usize) -> Number
 // The number at a position, if the line ends behind it.
 fn read_last(line: &[u8], from: usize) -> Number
     requires { ⌜ from ≤ length (now line) ⌝ }
-    ensures { λ r. ⌜ found (now (line .entry)) r ≡ alone (front (drop from (now (line .entry)))) ⌝ }
+    ensures { λ r. ⌜ frontOf (now (line .entry)) r ≡ alone (front (drop from (now (line .entry)))) ⌝ }
 {
     let Number::Read(value, end) = read_number(line, from) else {
         return Number::None;

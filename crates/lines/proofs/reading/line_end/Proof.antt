@@ -1,7 +1,6 @@
 -- `line_end` meets its contract: until a line feed comes, the line ends where it ends seen from the next byte.
 use Prim.Native.Nat.{_≤_, _-_, max}
 use mathlib.Core.Path.{_≡_, sym, _∙_}
-use native.Mathlib.Omega.{arith}
 use borrow.Author.Needs.{needs}
 use lib.ListN.{length}
 use Rattle.lines.specs.Ends.{lineEnd}

@@ -1,5 +1,5 @@
 -- What the functions that read numbers answer: a number's worth as far as it counts, and positions for the bytes behind.
-use Prim.Native.Nat.{ℕ, _+_, _*_, _-_, _≤_, _<_, min, max}
+use Prim.Native.Nat.{ℕ, _+_, _*_, _-_, _≤_, min, max}
 use mathlib.Core.Path.{_≡_}
 use mathlib.Core.List.{List}
 use lib.ListN.{length, drop}
@@ -8,9 +8,9 @@ use Rattle.lines.specs.declared.reading.Number.the-variants.{Read, None}
 use Rattle.lines.specs.Meaning.{Front, noNumber, number, digits, value, largest}
 
 -- the front that an answer stands for
-abbrev pub found : List ℕ → Number → Front
-found line None = noNumber
-found line (Read n end) = number n (drop end line)
+abbrev pub frontOf : List ℕ → Number → Front
+frontOf line None = noNumber
+frontOf line (Read n end) = number n (drop end line)
 
 -- the position behind the number
 abbrev pub behind : Number → ℕ
