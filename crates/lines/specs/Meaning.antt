@@ -1,0 +1,90 @@
+-- What a line means: "The little program" of document 01, sentence by sentence. A line is its bytes without the line feed.
+use Prim.Native.Nat.{ℕ, _-_, _+_, _*_, _^_}
+use Prim.Native.String.{String}
+use mathlib.Core.Bool.{Bool, cond, _&&_}
+use mathlib.Core.List.{List, [], _∷_}
+use lib.Dec.{leb, ltb}
+use lib.ListN.{length, drop}
+use Rattle.lines.specs.declared.Command.{Command}
+use Rattle.lines.specs.declared.Command.the-variants.{Begin, Step, Bad}
+use Rattle.slots.specs.declared.Op.the-variants.{Search, Insert, Delete}
+use Rattle.lines.specs.Text.{bytes, begins}
+
+-- ---- "Numbers are decimal"
+
+-- the digits are the bytes of `0` to `9`
+abbrev pub isDigit : ℕ → Bool
+isDigit b = leb 48 b && leb b 57
+
+-- the digits at the front of some bytes, as many as there are
+unfoldable pub digits : List ℕ → List ℕ
+digits [] = []
+digits (b ∷ bs) = cond (isDigit b) (b ∷ digits bs) []
+
+-- what digits are worth: each counts ten times what it would count one place further on
+unfoldable pub value : List ℕ → ℕ
+value [] = 0
+value (d ∷ ds) = (d - 48) * 10 ^ length ds + value ds
+
+-- "or a number above 4,294,967,295, gives BadLine"
+abbrev pub largest : ℕ
+largest = 4294967295
+
+-- the front of some bytes: a number with the bytes behind it, or no number
+pub data Front : Type 0 where
+  noNumber : Front
+  number : ℕ → List ℕ → Front
+
+-- a number has at least one digit, and "leading zeros are allowed"
+abbrev pub counted : List ℕ → List ℕ → Front
+counted ds bs = cond (ltb 0 (length ds) && leb (value ds) largest) (number (value ds) (drop (length ds) bs)) noNumber
+
+unfoldable pub front : List ℕ → Front
+front bs = counted (digits bs) bs
+
+-- a number with nothing behind it
+abbrev pub alone : Front → Front
+alone noNumber = noNumber
+alone (number n []) = number n []
+alone (number n (b ∷ bs)) = noNumber
+
+-- ---- the four forms of a line: "Another line .. gives BadLine"
+
+-- what a number means, with the bytes behind it; where there is none, the line is bad
+abbrev pub numbered : Front → (ℕ → List ℕ → Command) → Command
+numbered noNumber means = Bad
+numbered (number n rest) means = means n rest
+
+-- what the bytes behind a word mean; where the word is missing, another form is tried
+abbrev pub after : String → List ℕ → (List ℕ → Command) → Command → Command
+after word bs means other = cond (begins (bytes word) bs) (means (drop (length (bytes word)) bs)) other
+
+-- `t SLOT`
+unfoldable pub stepping : List ℕ → Command
+stepping bs = numbered (alone (front bs)) (λ slot rest. Step slot)
+
+-- `b SLOT s KEY`
+unfoldable pub searching : ℕ → List ℕ → Command
+searching slot bs = numbered (alone (front bs)) (λ key rest. Begin slot (Search key))
+
+-- `b SLOT d KEY`
+unfoldable pub deleting : ℕ → List ℕ → Command
+deleting slot bs = numbered (alone (front bs)) (λ key rest. Begin slot (Delete key))
+
+-- `b SLOT i KEY INFO`, "one space between"
+unfoldable pub informing : ℕ → ℕ → List ℕ → Command
+informing slot key bs = numbered (alone (front bs)) (λ information rest. Begin slot (Insert key information))
+
+unfoldable pub inserting : ℕ → List ℕ → Command
+inserting slot bs = numbered (front bs) (λ key rest. after " " rest (informing slot key) Bad)
+
+-- `b SLOT s KEY`, `b SLOT i KEY INFO`, `b SLOT d KEY`
+unfoldable pub asking : ℕ → List ℕ → Command
+asking slot bs = after " s " bs (searching slot) (after " i " bs (inserting slot) (after " d " bs (deleting slot) Bad))
+
+unfoldable pub beginning : List ℕ → Command
+beginning bs = numbered (front bs) asking
+
+-- the meaning of a line
+unfoldable pub meaning : List ℕ → Command
+meaning line = after "b " line beginning (after "t " line stepping Bad)
