@@ -1,18 +1,16 @@
 -- Small computed rows beside the rules of a change, so that a wrong rule is refused here and not only on the bench.
 use Prim.Native.Nat.{ℕ}
 use mathlib.Core.Path.{_≡_, refl}
-use mathlib.Core.Bool.{cond}
-use mathlib.Core.List.{List, [], _∷_}
-use lib.Dec.{eqb}
+use mathlib.Core.List.{[], _∷_}
 use lib.ListN.{getD}
 use Rattle.ground.specs.Tests.{count, member}
 use Rattle.page.specs.Words.{Page, entry, page, freePage}
 use Rattle.page.specs.Place.{place, without}
 use Rattle.page.specs.Splits.{put, split}
-use Rattle.page.specs.Short.{neighbour, betweenAt, fromRight, fromLeft, joined, lessKey, rekeyed}
-use Rattle.pool.specs.Pool.{Write, write}
+use Rattle.page.specs.Short.{neighbour, betweenAt, fromRight, joined, lessKey, rekeyed}
+use Rattle.pool.specs.Pool.{write}
 use Rattle.change.specs.Insertion.{room, settled, insertion}
-use Rattle.change.specs.Deletion.{Need, nothing, sibling, astray, needs, shares, shrunk, deletion}
+use Rattle.change.specs.Deletion.{nothing, sibling, astray, needs, shares, shrunk, deletion}
 
 -- k = 1: page 0 leads to the leaves 1, 2 and 3, which hold 10, 20 and 30
 three : ℕ → Page

@@ -1,13 +1,13 @@
 -- The whole change of a deletion, as a list of page writes, and which sibling it needs next. "How pages change" of
 -- document 01 and its sentence on siblings. Every value is read from the memory as it was before the change.
 -- A path is given from the leaf upward, siblings likewise: the leaf's first, then the father's, and so on.
-use Prim.Native.Nat.{ℕ, suc, _-_}
-use mathlib.Core.Bool.{Bool, true, false, cond, _&&_, _||_}
-use mathlib.Core.List.{List, [], _∷_, _++_}
+use Prim.Native.Nat.{ℕ}
+use mathlib.Core.Bool.{cond, _&&_, _||_}
+use mathlib.Core.List.{List, [], _∷_}
 use lib.Dec.{leb, ltb, eqb}
-use Rattle.page.specs.Words.{Entry, Page, μ, freePage}
+use Rattle.page.specs.Words.{Page, μ, freePage}
 use Rattle.page.specs.Place.{without}
-use Rattle.page.specs.Splits.{Parted, withEntries}
+use Rattle.page.specs.Splits.{withEntries}
 use Rattle.page.specs.Short.{hasRight, neighbour, betweenAt, moved, merged, lessKey, rekeyed}
 use Rattle.pool.specs.Pool.{Write, write}
 

@@ -1,13 +1,13 @@
 -- The whole change of an insertion, as a list of page writes. "How pages change" of document 01, and its count of room.
 -- Every value is read from the memory as it was before the change: `memory p` is page p then.
 -- A path is given from the leaf upward: the page itself, then its father, and so on.
-use Prim.Native.Nat.{ℕ, suc, _+_, _*_}
+use Prim.Native.Nat.{ℕ, _+_, _*_}
 use mathlib.Core.Bool.{Bool, cond, _&&_}
 use mathlib.Core.List.{List, [], _∷_}
 use lib.Dec.{leb, ltb, eqb}
 use lib.ListN.{getD, drop}
 use Rattle.ground.specs.Tests.{count, member}
-use Rattle.page.specs.Words.{Entry, Page, entry, μ}
+use Rattle.page.specs.Words.{Page, entry, μ}
 use Rattle.page.specs.Place.{place}
 use Rattle.page.specs.Splits.{put, split, raised}
 use Rattle.pool.specs.Pool.{Write, write}

@@ -28,6 +28,10 @@ pathHolds = 10
 unfoldable pub siblingHolds : ℕ
 siblingHolds = 9
 
+-- "one page for each page it holds with μ = 2k, and one more"
+unfoldable pub mostNew : ℕ
+mostNew = 11
+
 -- Keys and information are 32-bit unsigned numbers: all of them are below this.
 unfoldable pub wordRange : ℕ
 wordRange = 4294967296

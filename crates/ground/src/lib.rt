@@ -5,3 +5,6 @@ pub const SLOTS: usize = 16;
 
 // A path has at most 10 pages. Siblings, of which a slot holds fewer, stand in arrays of the same length.
 pub const HELD: usize = 10;
+
+// An insertion takes at most one page for each page on its path, and one more.
+pub const NEW: usize = 11;

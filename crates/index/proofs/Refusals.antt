@@ -1,18 +1,19 @@
 -- A refused call, and one answered Waiting, leaves state and words as given, and no call changes the pool's length.
 use Prim.Native.Nat.{ℕ}
-use mathlib.Core.Bool.{Bool, true, false, cond, not, _&&_, false≢true}
-use mathlib.Core.Path.{_≡_, refl, sym, ap, subst, _∙_}
+use mathlib.Core.Bool.{true, false, not, _&&_, false≢true}
+use mathlib.Core.Path.{_≡_, refl, sym, _∙_}
 use mathlib.Core.List.{List, [], _∷_, _++_, reverse}
 use lib.Dec.{ltb, eqb}
-use lib.ListN.{length, replicate, length-set, length-replicate}
-use lib.Seq.{length-sets}
+use lib.ListN.{length}
 use borrow.Author.Tests.{eqb-true}
 use Rattle.ground.specs.Limits.{slotCount}
-use Rattle.ground.specs.Tests.{all}
+use Rattle.ground.proofs.Bools.{and-second}
 use Rattle.ground.proofs.Choice.{cond-ind}
-use Rattle.page.specs.Words.{Page, isLeaf, encode}
+use Rattle.pool.proofs.WriteLaws.{length-applied}
+use Rattle.pool.proofs.FreshLaws.{length-fresh}
+use Rattle.page.specs.Words.{Page, isLeaf}
 use Rattle.page.specs.Place.{has}
-use Rattle.pool.specs.Pool.{Write, poolLength, start, written, applied, fresh, kInRange, nInRange, pageAt, freePages}
+use Rattle.pool.specs.Pool.{poolLength, kInRange, nInRange, pageAt, freePages}
 use Rattle.change.specs.Insertion.{room}
 use Rattle.change.specs.Deletion.{Need, nothing, sibling, astray, needs}
 use Rattle.slots.specs.declared.Op.{Op}
@@ -22,7 +23,6 @@ use Rattle.slots.specs.declared.Task.the-variants.{Closed, Open}
 use Rattle.slots.specs.declared.Slot.{Slot}
 use Rattle.slots.specs.declared.State.{State}
 use Rattle.slots.specs.declared.Answer.{Answer}
-use Rattle.slots.specs.declared.Answer.the-variants.{Waiting}
 use Rattle.slots.specs.Heard.{refuses, changesNothing}
 use Rattle.slots.specs.Parts.{keyOf, slotAt, idleState, pathOf, siblingsOf}
 use Rattle.slots.specs.Sound.{sound}
@@ -118,23 +118,13 @@ pub empty-unsound : sound (idleState 0 0) ≡ false
 unfolding sound
 empty-unsound = refl
 
--- the same number of words after any writes
-written-length : (k : ℕ) (w : Write) (ws : List ℕ) → length (written k w ws) ≡ length ws
-unfolding written
-written-length k w ws = length-sets ws (start k (w .at)) (encode k (w .value))
-
-applied-length : (k : ℕ) (writes : List Write) (ws : List ℕ) → length (applied k writes ws) ≡ length ws
-unfolding applied
-applied-length k [] ws = refl
-applied-length k (w ∷ rest) ws = applied-length k rest (written k w ws) ∙ written-length k w ws
-
 abbrev SameLength : List ℕ → Left → Type 0
 SameLength ws after = length (after .words) ≡ length ws
 
 acted-length : (st : State) (ws : List ℕ) (s : ℕ) (op : Op) (v : Verdict) → SameLength ws (acted st ws s op v)
 acted-length st ws s op broken = refl
 acted-length st ws s op (goes path siblings want) = refl
-acted-length st ws s op (ends answer writes) = applied-length (st .k) writes ws
+acted-length st ws s op (ends answer writes) = length-applied (st .k) writes ws
 
 task-length : (st : State) (ws : List ℕ) (s : ℕ) (slot : Slot) (task : Task) → SameLength ws (steppedTask st ws s slot task)
 task-length st ws s slot Closed = refl
@@ -152,17 +142,9 @@ step-length st ws s =
     (λ _. cond-ind (SameLength ws) (not (ltb s slotCount)) (λ _. refl)
     (λ _. task-length st ws s (slotAt st s) (slotAt st s .task))))
 
-fresh-length : (k n : ℕ) → length (fresh k n) ≡ poolLength k n
-unfolding fresh
-fresh-length k n = length-set (replicate (poolLength k n) 0) 0 1 ∙ length-replicate (poolLength k n) 0
-
 pub make-length : (k n : ℕ) (ws : List ℕ) → length (made k n ws .words) ≡ length ws
 unfolding made
 make-length k n ws =
     cond-ind (SameLength ws) (kInRange k && nInRange n && eqb (length ws) (poolLength k n))
-    (λ e. fresh-length k n ∙ sym (eqb-true (length ws) (poolLength k n) (and-right (kInRange k && nInRange n) _ e)))
+    (λ e. length-fresh k n ∙ sym (eqb-true (length ws) (poolLength k n) (and-second (kInRange k && nInRange n) (eqb (length ws) (poolLength k n)) e)))
     (λ _. refl)
-  where
-    and-right : (a b : Bool) → (a && b) ≡ true → b ≡ true
-    and-right true b h = h
-    and-right false b h = absurd (false≢true h)

@@ -1,16 +1,15 @@
 -- Small computed rows beside the rules of a granted step, so that a wrong rule is refused here and not only on the bench.
 use Prim.Native.Nat.{ℕ}
 use mathlib.Core.Path.{_≡_, refl}
-use mathlib.Core.List.{List, [], _∷_}
+use mathlib.Core.List.{[], _∷_}
 use lib.ListN.{getD}
 use Rattle.ground.specs.Tests.{count}
 use Rattle.page.specs.Words.{Page, entry, page, freePage}
 use Rattle.page.specs.Place.{place, has}
 use Rattle.page.specs.Short.{neighbour}
 use Rattle.change.specs.Deletion.{needs}
-use Rattle.slots.specs.declared.Op.{Op}
 use Rattle.slots.specs.declared.Op.the-variants.{Search, Insert, Delete}
-use Rattle.index.specs.Granted.{Verdict, goes, deletes, atLeaf, comesDown}
+use Rattle.index.specs.Granted.{goes, deletes, atLeaf, comesDown}
 
 -- case E, k = 1
 caseE : ℕ → Page

@@ -4,7 +4,6 @@ use mathlib.Core.Path.{_≡_, sym, _∙_}
 use mathlib.Core.List.{List}
 use Rattle.slots.specs.declared.State.{State}
 use Rattle.slots.specs.declared.Outcome.{Outcome}
-use Rattle.slots.specs.declared.Answer.{Answer}
 use Rattle.slots.specs.Heard.{heard}
 use Rattle.slots.proofs.Unique.{heard-once}
 use Rattle.index.specs.Statements.{MakeSays, StepSays}

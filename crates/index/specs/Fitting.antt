@@ -3,9 +3,8 @@ use Prim.Native.Nat.{ℕ, _+_}
 use mathlib.Core.Bool.{Bool, true, false, cond, not, _&&_, _||_}
 use mathlib.Core.List.{List, [], _∷_, _++_, reverse}
 use lib.Dec.{eqb}
-use lib.ListN.{drop}
 use Rattle.ground.specs.Tests.{all, member}
-use Rattle.page.specs.Words.{Page, μ, isLeaf}
+use Rattle.page.specs.Words.{Page, μ}
 use Rattle.page.specs.Place.{route, has}
 use Rattle.page.specs.Sound.{soundByItself}
 use Rattle.pool.specs.Pool.{wordsOf, pageAt, freePages}

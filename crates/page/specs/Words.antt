@@ -14,12 +14,15 @@ pub record Keyed (A : Type 0) : Type 0 where
   pub key : ℕ
   pub value : A
 
+abbrev pub keyed : {A : Type 0} → ℕ → A → Keyed A
+keyed x v = record { key = x; value = v }
+
 -- A pair of a leaf: key and information. A pair above the leaves: reference key ri and pointer pi.
 abbrev pub Entry : Type 0
 Entry = Keyed ℕ
 
 abbrev pub entry : ℕ → ℕ → Entry
-entry x v = record { key = x; value = v }
+entry x v = keyed x v
 
 abbrev pub keyOf : Entry → ℕ
 keyOf e = e .key

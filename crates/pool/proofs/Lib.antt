@@ -2,3 +2,5 @@ pub mod FreeLaws
 pub mod FreshLaws
 pub mod StretchLaws
 pub mod WriteLaws
+pub mod LyingLaws
+pub mod PagesLaws

@@ -57,6 +57,10 @@ isFree k ws p = not (eqb p 0) && eqb (getD (wordsOf k p ws) 0 0) 0
 unfoldable pub freePages : ℕ → ℕ → List ℕ → List ℕ
 freePages k n ws = listBelow n (isFree k ws)
 
+-- page p is free, and not below page `from`: where a scan goes on
+abbrev pub freeFrom : ℕ → List ℕ → ℕ → ℕ → Bool
+freeFrom k ws from p = leb from p && isFree k ws p
+
 -- "Making a fresh pool writes every word: all zero but page 0's level, 1."
 unfoldable pub fresh : ℕ → ℕ → List ℕ
 fresh k n = set (replicate (poolLength k n) 0) 0 1

@@ -1,1 +1,3 @@
 // The pool: pages in the lent words.
+pub mod lying;
+pub mod pages;

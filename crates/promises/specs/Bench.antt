@@ -8,7 +8,7 @@ use Rattle.pool.specs.Pool.{wordsOf, pageAt, freePages}
 use Rattle.change.specs.Insertion.{room}
 use Rattle.slots.specs.declared.Op.{Op}
 use Rattle.slots.specs.declared.Op.the-variants.{Search, Insert, Delete}
-use Rattle.slots.specs.declared.Answer.the-variants.{Waiting, Moved, Found, NotFound, Inserted, AlreadyThere, Deleted, NoSuchKey, NoRoom, Begun}
+use Rattle.slots.specs.declared.Answer.the-variants.{Moved, Found, NotFound, AlreadyThere, Deleted, NoRoom, Begun}
 use Rattle.slots.specs.Heard.{heard}
 use Rattle.slots.specs.Parts.{wantAt}
 use Rattle.promises.specs.Run.{Call, begin, step, Told, run, runFresh}

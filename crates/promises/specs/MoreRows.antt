@@ -1,21 +1,18 @@
 -- Lots on the bench that document 01 does not mark to be proved, and the shortcuts that lose a lot: what the rules say
 -- where a shortcut would say something else. Then one row for each refusal.
-use Prim.Native.Nat.{ℕ, zero, suc, _*_}
+use Prim.Native.Nat.{ℕ, _*_}
 use mathlib.Core.List.{List, [], _∷_, _++_}
 use lib.ListN.{set, replicate, take}
 use Rattle.page.specs.Words.{size}
-use Rattle.slots.specs.declared.Op.{Op}
 use Rattle.slots.specs.declared.Op.the-variants.{Search, Insert, Delete}
 use Rattle.slots.specs.declared.Lock.the-variants.{None, Rho, Xi}
-use Rattle.slots.specs.declared.State.{State}
-use Rattle.slots.specs.declared.Answer.{Answer}
-use Rattle.slots.specs.declared.Answer.the-variants.{Waiting, Moved, Found, NotFound, Inserted, AlreadyThere, Deleted, NoSuchKey, NoRoom, Begun, Made, Reported, BadState, BadPool, BadSlot, SlotBusy, SlotIdle, Damaged, BadPage}
+use Rattle.slots.specs.declared.Answer.the-variants.{Waiting, Moved, Found, Deleted, Begun, Made, Reported, BadState, BadPool, BadSlot, SlotBusy, SlotIdle, Damaged, BadPage}
 use Rattle.slots.specs.Heard.{heard}
 use Rattle.slots.specs.Parts.{idleState}
 use Rattle.index.specs.Step.{Left}
 use Rattle.index.specs.Make.{made}
-use Rattle.promises.specs.Run.{Call, begin, step, report, Told, told, run, runFresh}
-use Rattle.promises.specs.Bench.{Row, row, steps, runs, puts, pool, after, caseE, delete10, delete20, pages}
+use Rattle.promises.specs.Run.{Call, begin, step, report, Told, told, run}
+use Rattle.promises.specs.Bench.{Row, row, runs, puts, pool, after, caseE, delete10, delete20, pages}
 
 -- a making with k and n, in words of the right number
 abbrev pub making : ℕ → ℕ → Left

@@ -6,14 +6,15 @@ use mathlib.Core.List.{List, [], _∷_, _++_, append-assoc, append-nil}
 use mathlib.Core.Logic.{⊎-elim}
 use native.Mathlib.Omega.{arith}
 use native.Mathlib.Numerals.{add-one}
-use lib.Dec.{eqb}
 use lib.ListN.{length, getD, take, drop, set, replicate, length-append, length-drop, take-append-drop, drop-of-length-le}
 use lib.Seq.{set-append-seam, set-at, take-suc, drop-cons, drop-append-le, slice-empty, length-take-le, append-snoc, take-take, getD-take}
-use borrow.Author.Tests.{eqb-true, eq-eqb, ne-eqb}
+use borrow.Author.Tests.{eq-eqb, ne-eqb}
 use Rattle.ground.specs.Tests.{member, padded}
 use Rattle.ground.proofs.Choice.{cond-true, cond-false}
-use Rattle.ground.proofs.Bools.{or-cases, not-both}
+use Rattle.ground.proofs.Bools.{not-both}
+use Rattle.ground.proofs.Tests.{member-none}
 use Rattle.slots.specs.Book.{leaving}
+use Rattle.slots.proofs.OrderLaws.{member-cases}
 
 -- a page stored behind a list in its cells
 padded-set : (n : ℕ) (xs : List ℕ) (a : ℕ) → length xs < n → set (padded n xs) (length xs) a ≡ padded n (xs ++ a ∷ [])
@@ -64,13 +65,10 @@ unfolding leaving
 leaving-same s x xs h = cond-true xs (x ∷ leaving s xs) (eq-eqb x s h)
 
 member-other : (s x : ℕ) (xs : List ℕ) → member s (x ∷ xs) ≡ true → (x ≡ s → ⊥) → member s xs ≡ true
-unfolding member
-member-other s x xs h n = ⊎-elim (λ e. absurd (n (sym (eqb-true s x e)))) (λ e. e) (or-cases (eqb s x) (member s xs) h)
+member-other s x xs h n = ⊎-elim (λ e. absurd (n (sym e))) (λ m. m) (member-cases s x xs h)
 
 last-is : (s x : ℕ) (xs : List ℕ) → xs ≡ [] → member s (x ∷ xs) ≡ true → x ≡ s
-unfolding member
-last-is s x xs e h =
-    ⊎-elim (λ f. sym (eqb-true s x f)) (λ f. not-both f (ap (member s) e)) (or-cases (eqb s x) (member s xs) h)
+last-is s x xs e h = ⊎-elim (λ f. sym f) (λ f. not-both f (ap (member s) e ∙ member-none s)) (member-cases s x xs h)
 
 module _ (s : ℕ) (order : List ℕ) (i : ℕ) (inside : i < length order) (p : Passed s order i) where
   opened : drop i order ≡ getD order i 0 ∷ drop (suc i) order

@@ -1,5 +1,5 @@
 -- The lock report for a page, for every argument. "What the caller hears" of document 01.
-use Prim.Native.Nat.{ℕ}
+use Prim.Native.Nat.{ℕ, zero, suc, _+_, _^_}
 use mathlib.Core.Bool.{Bool, cond, not, _&&_}
 use lib.Dec.{ltb, eqb}
 use Rattle.ground.specs.Limits.{slotCount}
@@ -20,6 +20,15 @@ holders st p = countBelow slotCount (λ (s : ℕ). holdsAt st s p)
 -- "the lowest-numbered holder; with no holder: .. 16"
 abbrev pub lowestHolder : State → ℕ → ℕ
 lowestHolder st p = firstBelow slotCount (λ (s : ℕ). holdsAt st s p)
+
+-- the numbers below n that pass, as a mask: bit i stands for i
+unfoldable pub maskBelow : ℕ → (ℕ → Bool) → ℕ
+maskBelow zero p = 0
+maskBelow (suc n) p = cond (p n) (2 ^ n + maskBelow n p) (maskBelow n p)
+
+-- the slots that hold the page, as a mask
+abbrev pub holdersMask : State → ℕ → ℕ
+holdersMask st p = maskBelow slotCount (λ (s : ℕ). holdsAt st s p)
 
 -- "the lock kind .. with no holder: none"
 abbrev pub lockKind : State → ℕ → Lock

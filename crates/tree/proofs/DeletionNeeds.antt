@@ -2,6 +2,7 @@
 -- under the same father is asked for. All pages on the way and all siblings hang in different places.
 use Prim.Native.Nat.{ℕ, zero, suc, _+_, _*_, _≤_, _<_}
 use native.Mathlib.Omega.{arith}
+use native.Mathlib.Numerals.{add-one}
 use mathlib.Core.Bool.{true, cond}
 use mathlib.Core.List.{List, [], _∷_, _++_, append-nil}
 use mathlib.Core.Logic.{inl, inr}
@@ -16,13 +17,13 @@ use Rattle.page.specs.Words.{Keyed, Page, μ}
 use Rattle.page.specs.Place.{has}
 use Rattle.page.specs.Short.{neighbour}
 use Rattle.change.specs.Deletion.{nothing, sibling, astray, satisfied, needs}
-use Rattle.tree.specs.Rows.{headKey, Span, total, followed}
-use Rattle.tree.specs.Tree.{Tr, pageNumber, entriesOf, once, occurs, InRange, Stands, way, Forms}
+use Rattle.tree.specs.Rows.{headKey, Span, total}
+use Rattle.tree.specs.Tree.{Tr, pageNumber, entriesOf, once, occurs, Stands, way, Forms, ChildIn}
 use Rattle.tree.specs.Change.{HeldWay}
 use Rattle.tree.specs.Deletion.{canSpare, Asked, Beside, Wanted, Needed, SiblingsThere}
+use Rattle.tree.proofs.Search.{way-length, way-top}
 use Rattle.tree.proofs.Rows.{by-test, headKey-append, headKey-most, span-left, span-right, total-append, somewhere-right, spot}
 use Rattle.tree.proofs.Memory.{once-same, times, times-append, member-times, times-absent, times-distinct, root-occurs}
-use Rattle.tree.proofs.InsertionTree.{ChildIn}
 use Rattle.tree.proofs.Mend.{treeAt, pageIn, occursIn, StandsIn, stands-top}
 use Rattle.tree.proofs.Pages.{right-neighbour, left-neighbour}
 use Rattle.tree.proofs.DeletionRule.{sibling≢nothing, astray≢nothing, astray≢sibling, sibling-same, needs-spare, needs-ask, needs-next, needs-root, needs-length, needs-held}
@@ -121,32 +122,6 @@ module _ (k x l : ℕ) where
       (left-beside L s c hi F from to)
       span top
 
--- ---- the way through a tree
-
-module _ (k : ℕ) (memory : ℕ → Page) (x : ℕ) where
-  -- a key's way has a page on each level,
-  way-length : (m l : ℕ) (t : Tr l) (lo hi : ℕ) → InRange k m (2 * k) l t lo hi → lo ≤ x → x < hi → length (way x l t) ≡ suc l
-  way-length m zero t lo hi r from to = refl
-  way-length m (suc l) t lo hi r from to =
-      let P = ChildIn k l in
-      let sp = spot P x (t .row) hi (r .children) (omega (arith, r .low)) to in
-      let c = sp .here in
-      let span : Span P (sp .before ++ c ∷ sp .after) hi = subst (λ (row : List (Keyed (Tr l))). Span P row hi) (sp .whole) (r .children) in
-      let range = span-right P (sp .before) (c ∷ sp .after) hi span .1 in
-      let ih : length (way x l (c .value)) ≡ suc l = way-length k l (c .value) (c .key) (headKey (sp .after) hi) range (sp .from) (sp .to) in
-      let path : way x (suc l) t ≡ way x l (c .value) ++ t .at ∷ []
-      = ap (λ (row : List (Keyed (Tr l))). way x (suc l) (treeAt (suc l) (t .at) row)) (sp .whole)
-      ∙ node-way k memory x l (t .at) (sp .before) c (sp .after) hi span (sp .from) (sp .to) in
-      ap length path ∙ length-append (way x l (c .value)) (t .at ∷ []) ∙ omega arith
-
-  -- the root's page last
-  way-top : (m l : ℕ) (t : Tr l) (lo hi : ℕ) → InRange k m (2 * k) l t lo hi → lo ≤ x → x < hi → getD (way x l t) l 0 ≡ pageNumber l t
-  way-top m zero t lo hi r from to = refl
-  way-top m (suc l) t lo hi r from to =
-      let w : List ℕ = followed (way x l) [] x (t .row) in
-      let all : length (w ++ t .at ∷ []) ≡ suc (suc l) = way-length m (suc l) t lo hi r from to in
-      getD-at w (t .at) [] 0 (suc l) (omega (arith, length-append w (t .at ∷ [])))
-
 -- ---- a sibling that is wanted, in a tree
 
 -- s stands beside the page of x's way that has i pages of the way below it, and the father is the next page of the way
@@ -162,7 +137,7 @@ module _ (k : ℕ) (memory : ℕ → Page) (x l n : ℕ) (xs : List (Keyed (Tr l
   child-in = span-right (ChildIn k l) xs (c ∷ ys) hi span .1
 
   child-way : length (way x l (c .value)) ≡ suc l
-  child-way = way-length k memory x k l (c .value) (c .key) (headKey ys hi) child-in low high
+  child-way = way-length k x k (2 * k) l (c .value) (c .key) (headKey ys hi) child-in low high ∙ add-one l
 
   path : way x (suc l) whole ≡ way x l (c .value) ++ n ∷ []
   path = node-way k memory x l n xs c ys hi span low high
@@ -200,7 +175,7 @@ module _ (k : ℕ) (memory : ℕ → Page) (x l n : ℕ) (xs : List (Keyed (Tr l
   beside-child : (s : ℕ) → Neighbour l (xs ++ c ∷ ys) hi (c .value) s → OnWay x (suc l) whole lo hi s l
   beside-child s b =
       let is : pageNumber l (c .value) ≡ getD (way x (suc l) whole) l 0
-      = sym (way-top k memory x k l (c .value) (c .key) (headKey ys hi) child-in low high) ∙ path-at l (omega arith) in
+      = sym (way-top k x k (2 * k) l (c .value) (c .key) (headKey ys hi) child-in low high) ∙ path-at l (omega arith) in
       let father : n ≡ getD (way x (suc l) whole) (suc l) 0
       = sym (ap (λ (w : List ℕ). getD w (suc l) 0) path ∙ getD-at (way x l (c .value)) n [] 0 (suc l) child-way) in
       let ends = child-inside k x l xs c ys hi span in

@@ -10,17 +10,16 @@ use mathlib.Core.Path.{_≡_, refl, sym, ap, _∙_, subst}
 use lib.Dec.{eqb}
 use lib.ListN.{length, length-append}
 use lib.Seq.{append-snoc}
-use Rattle.page.specs.Words.{Keyed, Page, μ, freePage}
+use Rattle.page.specs.Words.{Keyed, Page, μ, freePage, keyed}
 use Rattle.page.specs.Splits.{parted}
 use Rattle.page.specs.Short.{fromRight, fromLeft, neighbour, betweenAt, moved, lessKey, rekeyed}
 use Rattle.pool.specs.Pool.{Write, write}
 use Rattle.change.specs.Deletion.{nothing, needs, shrunk}
 use Rattle.tree.specs.Rows.{headKey, Span, Each}
-use Rattle.tree.specs.Tree.{Tr, pageNumber, once, occurs, Holds}
+use Rattle.tree.specs.Tree.{Tr, pageNumber, once, occurs, Holds, ChildIn}
 use Rattle.tree.specs.Change.{Fitting}
 use Rattle.tree.proofs.Rows.{span-right, total-append, each-right}
 use Rattle.tree.proofs.Memory.{Stores}
-use Rattle.tree.proofs.InsertionTree.{keyed, ChildIn}
 use Rattle.tree.proofs.Mend.{Thing, Things, thingsOf, treeAt, pageIn, tier, Run, occursIn, HoldsIn, number-back, holds-page, range-run, range-least, range-most, run-left, run-right, run-nil, things-μ, things-fit, things-joined, things-fromRight, things-fromLeft}
 use Rattle.tree.proofs.MendPatch.{hits, Patch, graft, opened, opened-run, holds-opened, opened-occurs}
 use Rattle.tree.proofs.MendShort.{page-written, pair-joined, pair-moved}

@@ -11,19 +11,19 @@ use lib.Seq.{append-snoc}
 use Rattle.ground.specs.Limits.{wordRange}
 use Rattle.ground.proofs.Bools.{and-first-fails}
 use Rattle.ground.proofs.Choice.{cond-false}
-use Rattle.page.specs.Words.{Keyed, Entry, Page, μ, freePage}
+use Rattle.page.specs.Words.{Keyed, Entry, Page, μ, freePage, keyed}
 use Rattle.page.specs.Place.{has, without}
 use Rattle.page.specs.Splits.{withEntries}
 use Rattle.pool.specs.Pool.{Write, write}
 use Rattle.change.specs.Deletion.{Need, nothing, astray, needs, shrunk, deletion}
 use Rattle.tree.specs.Rows.{headKey, Span, gathered}
-use Rattle.tree.specs.Tree.{Tr, pageNumber, entriesOf, occurs, InRange, rootLeast, Holds, way, Forms}
+use Rattle.tree.specs.Tree.{Tr, pageNumber, entriesOf, occurs, InRange, rootLeast, Holds, way, Forms, ChildIn}
 use Rattle.tree.proofs.Rows.{spot, followed-spot, total-append, gathered-append}
-use Rattle.tree.proofs.Sorted.{within-without, length-without, has-parts}
+use Rattle.page.proofs.PlaceLaws.{length-without}
+use Rattle.tree.proofs.Sorted.{within-without, has-parts}
 use Rattle.tree.proofs.Memory.{once-same, root-occurs}
 use Rattle.tree.proofs.Mend.{treeAt, pageIn, Run, occursIn, run-left, run-right, run-within}
 use Rattle.tree.proofs.MendPatch.{Patch}
-use Rattle.tree.proofs.InsertionTree.{keyed, ChildIn}
 use Rattle.tree.proofs.MendShort.{page-written, page-kept}
 use Rattle.tree.proofs.DeletionStep.{Settled, Reached, Joined, Step, stays, evens, joins, Row, child-range, child-held, child-different, child-step}
 

@@ -1,6 +1,6 @@
 -- Insertion leads from the tree to a tree with the new entry: the subtree's theorem at the root, where the rule writes
 -- page 0 or splits it under a new root, and the memory after the writes.
-use Prim.Native.Nat.{ℕ, zero, suc, _+_, _*_, _≤_, _<_}
+use Prim.Native.Nat.{ℕ, suc, _+_, _*_, _≤_, _<_}
 use mathlib.Core.List.{List, [], _∷_, _++_, append-nil}
 use mathlib.Core.Logic.{inl, inr, ⊎-elim}
 use mathlib.Core.Path.{_≡_, refl, sym, ap, ap₂, _∙_, subst}
@@ -12,11 +12,11 @@ use lib.ListN.{length, take, drop}
 use lib.Seq.{drop-drop}
 use Rattle.ground.specs.Limits.{wordRange}
 use Rattle.ground.specs.Tests.{member}
-use Rattle.page.specs.Words.{Entry, Page, μ}
+use Rattle.page.specs.Words.{Entry, Page, μ, keyed}
 use Rattle.page.specs.Splits.{Parted, raised}
 use Rattle.pool.specs.Pool.{Write, write}
 use Rattle.change.specs.Insertion.{lowest, room, settled, insertion}
-use Rattle.tree.specs.Tree.{Node, Tr, pageNumber, pageOf, entriesOf, once, occurs, InRange, rootLeast, Holds, Stands, way, Forms}
+use Rattle.tree.specs.Tree.{Node, Tr, pageNumber, pageOf, entriesOf, once, occurs, InRange, rootLeast, Holds, Stands, way, Forms, node}
 use Rattle.tree.specs.Sorted.{inserted}
 use Rattle.tree.specs.Change.{memoryAfter, writtenPages, Fitting, Leads, FreeFor}
 use Rattle.tree.specs.Insertion.{fillings, newPages, treeRoom, InsertionLeads, RoomOfTree}
@@ -25,7 +25,8 @@ use Rattle.tree.proofs.Pages.{rowPage-raised}
 use Rattle.tree.proofs.Memory.{times, times-cut, times-member, member-times, absent-times, distinct-times, times-distinct, times-written, unwritten, Stores, stores-left, stores-right, written-stores, fitting-append, fits-page, holds-top}
 use Rattle.tree.proofs.InsertionWay.{newPages-full, settled-fits, settled-raises}
 use Rattle.tree.proofs.InsertionSplit.{Halves, halves}
-use Rattle.tree.proofs.InsertionTree.{node, keyed, tree-most, tree-shrink, taken-last, begun, Change, Grown, grown, Piece, piece-stopped, piece-written}
+use Rattle.tree.proofs.Search.{pageOf-level}
+use Rattle.tree.proofs.InsertionTree.{tree-most, tree-shrink, taken-last, begun, Change, Grown, grown, Piece, piece-stopped, piece-written}
 use Rattle.tree.proofs.InsertionHeld.{held-rule, held-pages, room-tree}
 
 -- What the writes make of the whole tree, before they are put into the memory.
@@ -91,11 +92,6 @@ made-leads k n memory free l t writes es forms f made =
       fitting = made .fitting;
       keeps = λ q level a b m s. made .keeps q level a b (absent-times q (writtenPages writes) m) s;
     }
-
--- the level of a tree's root page
-level-of : (l : ℕ) (t : Tr l) → pageOf l t .level ≡ suc l
-level-of zero t = refl
-level-of (suc l) t = refl
 
 -- a root over two trees: page 0, with the key r between them
 abbrev over : {C : Type 0} → C → ℕ → C → Node C
@@ -235,7 +231,7 @@ module _ (k : ℕ) (memory : ℕ → Page) (x v : ℕ) (free : List ℕ) (l : �
       next (h .pages)
       ∙ ap (λ (P : Page). write a (pageOf l (h .left)) ∷ write b (pageOf l (h .right)) ∷ write (pageNumber l t) P ∷ [])
       (rowPage-raised l (pageNumber l) (pageOf l tree) (keyed 0 (h .left)) (keyed (h .between) (h .right)) a (h .between) b
-      (level-of l tree) (h .leftAt) refl (h .rightAt))
+      (pageOf-level l tree ∙ add-one l) (h .leftAt) refl (h .rightAt))
 
   -- they make a tree one level higher
   made-raised : (taken : ℕ) (tree : Tr l) (writes : List Write)

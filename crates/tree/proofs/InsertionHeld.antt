@@ -21,7 +21,8 @@ use Rattle.tree.specs.Change.{writtenPages, topOf, HeldWay}
 use Rattle.tree.specs.Insertion.{hasSpace, fillings, newPages, treeRoom}
 use Rattle.tree.proofs.Rows.{spot, followed-spot, middle-has, each-right}
 use Rattle.tree.proofs.Memory.{once-same, times, times-append, times-member, times-absent, way-occurs}
-use Rattle.tree.proofs.InsertionWay.{μ-put, AtMost, FullBelow, numbers, full-below, Stops, newPages-stops, room-way, settled-stops, settled-pages}
+use Rattle.page.proofs.PutLaws.{put-μ}
+use Rattle.tree.proofs.InsertionWay.{AtMost, FullBelow, numbers, full-below, Stops, newPages-stops, room-way, settled-stops, settled-pages}
 use Rattle.tree.proofs.InsertionTree.{tree-most, begun}
 
 -- the last page of a way
@@ -173,7 +174,7 @@ module _ (k : ℕ) (memory : ℕ → Page) where
     held-rule v free =
         ap (begun k memory x v free) (append-nil (way x l t) ∙ held .whole)
         ∙ settled-stops k memory x free leaf (put (place x (memory leaf .entries)) (entry x v) (memory leaf))
-        fathers (held .above) (μ-put _ _ _) held-stops
+        fathers (held .above) (put-μ _ _ _) held-stops
 
     -- the pages that the rule writes: the held ones, and as many from the front of the free list as the count of room says
     pub held-pages : (v : ℕ) (free : List ℕ) → room k memory leaf (leaf ∷ fathers) ≤ length free
@@ -183,6 +184,6 @@ module _ (k : ℕ) (memory : ℕ → Page) where
     unfolding insertion
     held-pages v free enough q =
         settled-pages k memory x q free leaf (put (place x (memory leaf .entries)) (entry x v) (memory leaf))
-        fathers (μ-put _ _ _) held-most held-full
+        fathers (put-μ _ _ _) held-most held-full
         (subst (λ (i : ℕ). i ≤ length free) held-room enough)
         ∙ ap (λ (i : ℕ). times q (leaf ∷ fathers) + times q (take i free)) (sym held-room)

@@ -7,10 +7,11 @@ use native.Mathlib.Omega.{arith}
 use lib.ListN.{length, length-append}
 use Rattle.page.specs.Words.{Keyed, Entry, Page, μ}
 use Rattle.page.specs.Splits.{split, parted}
-use Rattle.tree.specs.Rows.{headKey, Span, rowPage}
+use Rattle.tree.specs.Rows.{headKey, Span}
 use Rattle.tree.specs.Tree.{Tr, pageNumber, pageOf, entriesOf, once, occurs, LeafIn, NodeIn, InRange, HoldsBelow, Holds, Stands}
+use Rattle.tree.proofs.Ways.{row-μ}
 use Rattle.tree.proofs.Rows.{headKey-append, span-left, span-right, headKey-most, gathered-append, total-append, each-left, each-right, somewhere-cases}
-use Rattle.tree.proofs.Pages.{leaf-split, rowPage-split, rowPage-μ}
+use Rattle.tree.proofs.Pages.{leaf-split, rowPage-split}
 use Rattle.tree.proofs.Memory.{once-not}
 
 -- The halves of t, the left one at page p and the right one at page a.
@@ -125,14 +126,6 @@ cut {A} (suc n) (a ∷ rest) h =
       long = ap suc (c .long);
     }
 
--- a page of a row has one reference key less than children
-pub node-μ : (l : ℕ) (t : Tr (suc l)) → 0 < length (t .row) → suc (μ (pageOf (suc l) t)) ≡ length (t .row)
-node-μ l t h = go (t .row) h
-  where
-    go : (row : List (Keyed (Tr l))) → 0 < length row → suc (μ (rowPage (suc (suc l)) (pageNumber l) row)) ≡ length row
-    go [] h = absurd (omega arith)
-    go (d ∷ ds) h = ap suc (rowPage-μ (suc (suc l)) (pageNumber l) d ds)
-
 -- a tree with 2k + 1 in its root page splits into two trees in range
 pub halves : (k m l : ℕ) (t : Tr l) (lo hi p a : ℕ)
     → 1 ≤ k → InRange k m (2 * k + 1) l t lo hi → 2 * k < μ (pageOf l t) → Halves k l t lo hi p a
@@ -145,7 +138,7 @@ halves k m zero t lo hi p a one r n =
     (subst (λ (es : List Entry). LeafIn m (2 * k + 1) (record { at = t .at; entries = es }) lo hi) (sym (c .whole)) r)
     (c .long) (omega (arith, r .most, c .long)))
 halves k m (suc l) t lo hi p a one r n =
-    let count : suc (μ (pageOf (suc l) t)) ≡ length (t .row) = node-μ l t (omega (arith, r .least)) in
+    let count : suc (μ (pageOf (suc l) t)) ≡ length (t .row) = row-μ (suc (suc l)) (pageNumber l) (t .row) (omega (arith, r .least)) in
     let c = cut (suc k) (t .row) (omega arith) in
     let size = length-append (c .before) (c .here ∷ c .after) in
     let same : length (c .before ++ c .here ∷ c .after) ≡ length (t .row) = ap length (c .whole) in

@@ -11,13 +11,13 @@ use borrow.Author.Tests.{leb-true, leb-false}
 use lib.Dec.{leb}
 use lib.ListN.{length, take, drop, length-append}
 use lib.Seq.{drop-drop}
-use Rattle.page.specs.Words.{Keyed, Entry, Page, entry, page, μ}
+use Rattle.page.specs.Words.{Keyed, Entry, Page, entry, page, μ, keyed}
 use Rattle.page.specs.Place.{place, has}
 use Rattle.page.specs.Splits.{Parted, put}
 use Rattle.pool.specs.Pool.{Write, write}
 use Rattle.change.specs.Insertion.{lowest, settled, insertion}
 use Rattle.tree.specs.Rows.{headKey, Span, Somewhere, Each, gathered, total}
-use Rattle.tree.specs.Tree.{Leaf, Node, Tr, pageNumber, pageOf, entriesOf, once, occurs, LeafIn, NodeIn, InRange, Holds, HoldsBelow, Stands, way}
+use Rattle.tree.specs.Tree.{Leaf, Tr, pageNumber, pageOf, entriesOf, once, occurs, LeafIn, NodeIn, InRange, Holds, HoldsBelow, Stands, way, node, ChildIn}
 use Rattle.tree.specs.Sorted.{inserted}
 use Rattle.tree.specs.Change.{writtenPages, Fitting}
 use Rattle.tree.specs.Insertion.{fillings, newPages}
@@ -26,37 +26,20 @@ use Rattle.tree.proofs.Sorted.{Within, within-gathered, has-parts, inse
 use Rattle.tree.proofs.Pages.{rowPage-place, rowPage-same, rowPage-put, rowPage-μ-around}
 use Rattle.tree.proofs.Memory.{once-same, times, times-cut, times-written, Stores, stores-left, stores-right, fitting-append, fits-page, holds-top, top-holds, root-occurs, row-same, total-middle}
 use Rattle.tree.proofs.InsertionWay.{newPages-full, newPages-space, settled-fits, settled-splits}
-use Rattle.tree.proofs.InsertionSplit.{Halves, halves, node-μ}
-
--- an upper page with its children
-abbrev pub node : {C : Type 0} → ℕ → List (Keyed C) → Node C
-node p row = record { at = p; row = row }
-
--- a thing behind a key
-abbrev pub keyed : {C : Type 0} → ℕ → C → Keyed C
-keyed r c = record { key = r; value = c }
-
--- a tree below the root, in its range
-abbrev pub ChildIn : ℕ → (l : ℕ) → Tr l → ℕ → ℕ → Type 0
-ChildIn k l = InRange k k (2 * k) l
-
--- the entries of a tree rise in its range
-pub tree-within : (k m M l : ℕ) (t : Tr l) (lo hi : ℕ) → InRange k m M l t lo hi → Within lo (entriesOf l t) hi
-tree-within k m M zero t lo hi r = (r .low, r .rising)
-tree-within k m M (suc l) t lo hi r =
-    subst (λ (n : ℕ). Within n (entriesOf (suc l) t) hi) (r .low)
-    (within-gathered (ChildIn k l) (entriesOf l) (t .row) hi (λ c a b h. tree-within k k (2 * k) l c a b) (r .children))
+use Rattle.tree.proofs.Search.{within-entries}
+use Rattle.tree.proofs.InsertionSplit.{Halves, halves}
+use Rattle.tree.proofs.Ways.{row-μ}
 
 -- the root page of a tree in range has no more than the range allows
 pub tree-most : (k m M l : ℕ) (t : Tr l) (lo hi : ℕ) → InRange k m M l t lo hi → μ (pageOf l t) ≤ M
 tree-most k m M zero t lo hi r = r .most
-tree-most k m M (suc l) t lo hi r = let n = node-μ l t (omega (arith, r .least)) in omega (arith, r .most)
+tree-most k m M (suc l) t lo hi r = let n = row-μ (suc (suc l)) (pageNumber l) (t .row) (omega (arith, r .least)) in omega (arith, r .most)
 
 -- and is in range with a smaller bound that its root page meets
 pub tree-shrink : (k m M M′ l : ℕ) (t : Tr l) (lo hi : ℕ) → InRange k m M l t lo hi → μ (pageOf l t) ≤ M′ → InRange k m M′ l t lo hi
 tree-shrink k m M M′ zero t lo hi r h = record { least = r .least; most = h; low = r .low; rising = r .rising }
 tree-shrink k m M M′ (suc l) t lo hi r h =
-    let n = node-μ l t (omega (arith, r .least)) in
+    let n = row-μ (suc (suc l)) (pageNumber l) (t .row) (omega (arith, r .least)) in
     record { least = r .least; most = omega arith; low = r .low; children = r .children }
 
 -- one page more taken from the front of a free list
@@ -170,13 +153,13 @@ module _ (k : ℕ) (memory : ℕ → Page) (x v : ℕ) (free : List ℕ) where
     -- the entries before d's
     before-within : Within (headKey xs (d .key)) (gathered (entriesOf l) xs) (d .key)
     before-within =
-        within-gathered (ChildIn k l) (entriesOf l) xs (d .key) (λ c a b h. tree-within k k (2 * k) l c a b)
+        within-gathered (ChildIn k l) (entriesOf l) xs (d .key) (λ c a b h. within-entries k k (2 * k) l c a b)
         (middle-before (ChildIn k l) xs d ys hi span)
 
     -- the entries behind d's
     after-within : Within (headKey ys hi) (gathered (entriesOf l) ys) hi
     after-within =
-        within-gathered (ChildIn k l) (entriesOf l) ys hi (λ c a b h. tree-within k k (2 * k) l c a b)
+        within-gathered (ChildIn k l) (entriesOf l) ys hi (λ c a b h. within-entries k k (2 * k) l c a b)
         (middle-after (ChildIn k l) xs d ys hi span)
 
     -- x is sought among d's entries

@@ -8,11 +8,11 @@ use mathlib.Core.Path.{_≡_, refl, sym, ap, _∙_}
 use native.Mathlib.Omega.{arith}
 use borrow.Author.Tests.{ltb-true, ltb-false, leb-true, leb-false, le-leb, lt-leb, eqb-true, eqb-false, eq-eqb, ne-eqb, not-true}
 use lib.Dec.{leb, ltb, eqb}
-use lib.ListN.{length, take, drop, length-append, length-drop, take-append-drop}
+use lib.ListN.{length, take, drop, length-drop}
 use Rattle.ground.specs.Tests.{all, count, member}
 use Rattle.ground.proofs.Bools.{and-first, and-second}
 use Rattle.ground.proofs.Choice.{cond-true, cond-false}
-use Rattle.page.specs.Words.{Entry, Page, entry, μ}
+use Rattle.page.specs.Words.{Page, entry, μ}
 use Rattle.page.specs.Place.{place}
 use Rattle.page.specs.Splits.{put, split, raised}
 use Rattle.pool.specs.Pool.{Write, write}
@@ -20,17 +20,9 @@ use Rattle.change.specs.Insertion.{lowest, isFull, room, settled}
 use Rattle.tree.specs.Tree.{once}
 use Rattle.tree.specs.Change.{writtenPages, topOf, belowTop}
 use Rattle.tree.specs.Insertion.{hasSpace, newPages}
+use Rattle.page.proofs.PutLaws.{put-μ}
 use Rattle.tree.proofs.Rows.{by-test}
 use Rattle.tree.proofs.Memory.{times}
-
--- a page with one pair more
-pub μ-put : (i : ℕ) (e : Entry) (P : Page) → μ (put i e P) ≡ suc (μ P)
-unfolding put
-μ-put i e P =
-    let es : List Entry = P .entries in
-    let whole : length (take i es ++ drop i es) ≡ length es = ap length (take-append-drop i es) in
-    let parts = length-append (take i es) (drop i es) in
-    length-append (take i es) (e ∷ drop i es) ∙ omega arith
 
 -- a full page takes one new page more than those above it,
 pub newPages-full : (k n : ℕ) (ns : List ℕ) → n ≡ 2 * k → newPages k (n ∷ ns) ≡ suc (newPages k ns)
@@ -172,7 +164,7 @@ module _ (k : ℕ) (memory : ℕ → Page) where
         let more = leb-false (μ P) (2 * k) t in
         settled-splits free f (up ++ above) p P more
         ∙ ap (λ (W : List Write). write (lowest free) (split k P .right) ∷ write p (split k P .left) ∷ W)
-        (settled-stops (drop 1 free) f (fatherWith f P (lowest free)) up above (μ-put _ _ _) (inr e))
+        (settled-stops (drop 1 free) f (fatherWith f P (lowest free)) up above (put-μ _ _ _) (inr e))
         ∙ sym (settled-splits free f up p P more))
 
     -- the rule writes each page of the way once, and each page that it takes, which are the first ones of the free list
@@ -204,6 +196,6 @@ module _ (k : ℕ) (memory : ℕ → Page) where
         let first = taken-first q free n (omega arith) in
         let count : times q (take (newPages k (numbers (p ∷ g ∷ up))) free) ≡ times q (take (suc n) free)
         = ap (λ (i : ℕ). times q (take i free)) full in
-        let above = settled-pages q (drop 1 free) g (fatherWith g P (lowest free)) up (μ-put _ _ _) (a .1) (f .1)
+        let above = settled-pages q (drop 1 free) g (fatherWith g P (lowest free)) up (put-μ _ _ _) (a .1) (f .1)
         (rw (length-drop 1 free) (omega arith)) in
         ap (λ (W : List Write). times q (writtenPages W)) (settled-splits free g up p P (omega (arith, f .0))) ∙ omega arith

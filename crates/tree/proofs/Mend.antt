@@ -11,12 +11,12 @@ use Rattle.page.specs.Splits.{parted}
 use Rattle.page.specs.Short.{joined, fromRight, fromLeft}
 use Rattle.page.proofs.Fits.{Fits}
 use Rattle.tree.specs.Rows.{headKey, Span, Somewhere, Each, gathered, total, rowPage}
-use Rattle.tree.specs.Tree.{Tr, pageNumber, pageOf, entriesOf, once, occurs, InRange, Holds, Stands}
+use Rattle.tree.specs.Tree.{Tr, pageNumber, pageOf, entriesOf, once, occurs, InRange, Holds, Stands, ChildIn}
 use Rattle.tree.proofs.Rows.{headKey-append, span-left, span-right, span-append, gathered-append, total-append, each-append, each-left, each-right, somewhere-left, somewhere-right, somewhere-cases}
 use Rattle.tree.proofs.Sorted.{Within, within-append, within-left, within-right, within-gathered}
 use Rattle.tree.proofs.Memory.{row-same, top-holds, fits-page}
 use Rattle.tree.proofs.Pages.{leaf-joined, leaf-fromRight, leaf-fromLeft, rowPage-joined, rowPage-fromRight, rowPage-fromLeft, rowPage-μ}
-use Rattle.tree.proofs.InsertionTree.{ChildIn, tree-within}
+use Rattle.tree.proofs.Search.{within-entries}
 
 -- what stands behind a key: the information of an entry, or a child
 abbrev pub Thing : ℕ → Type 0
@@ -215,7 +215,7 @@ pub run-within : (k l : ℕ) (ts : Things l) (lo hi : ℕ) → Run k l ts lo hi 
 run-within k zero ts lo hi r = r
 run-within k (suc l) ts lo hi r =
     subst (λ (n : ℕ). Within n (entriesIn (suc l) ts) hi) (r .0)
-    (within-gathered (ChildIn k l) (entriesOf l) ts hi (λ c a b h s. tree-within k k (2 * k) l c a b s) (r .1))
+    (within-gathered (ChildIn k l) (entriesOf l) ts hi (λ c a b h s. within-entries k k (2 * k) l c a b s) (r .1))
 
 -- things are held by a memory that agrees on their pages
 pub things-same : (M M′ : ℕ → Page) (l : ℕ) (ts : Things l) → ((q : ℕ) → 1 ≤ occursIn q l ts → M′ q ≡ M q)

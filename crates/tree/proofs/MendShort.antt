@@ -5,15 +5,14 @@ use native.Mathlib.Omega.{arith}
 use mathlib.Core.List.{List, [], _∷_, _++_, append-nil}
 use mathlib.Core.Path.{_≡_, refl, sym, ap₂, _∙_, subst, subst₂}
 use lib.ListN.{length}
-use Rattle.page.specs.Words.{Keyed, Page, freePage}
+use Rattle.page.specs.Words.{Keyed, Page, freePage, keyed}
 use Rattle.pool.specs.Pool.{Write, write}
 use Rattle.tree.specs.Rows.{headKey, Span}
-use Rattle.tree.specs.Tree.{Tr, pageNumber, pageOf, once, occurs}
+use Rattle.tree.specs.Tree.{Tr, pageNumber, pageOf, once, occurs, ChildIn}
 use Rattle.tree.specs.Change.{Fitting}
 use Rattle.tree.proofs.Rows.{headKey-most}
 use Rattle.tree.proofs.Sorted.{Anything}
 use Rattle.tree.proofs.Memory.{Stores}
-use Rattle.tree.proofs.InsertionTree.{keyed, ChildIn}
 use Rattle.tree.proofs.Mend.{Things, thingsOf, treeAt, pageIn, tier, Run, occursIn, things-back, number-back, page-back, run-range, run-left, run-right, things-μ}
 use Rattle.tree.proofs.MendPatch.{hits, Patch, opened, closed, top-kept, top-written, tops-moved, tops-joined}
 

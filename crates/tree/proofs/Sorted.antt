@@ -270,17 +270,6 @@ within-without x lo hi (e ∷ es) w =
     (λ t. (omega (arith, w .0, w .1 .0), w .1 .2))
     (λ t. (w .0, (ih .0, tt, ih .1)))
 
--- a list with a key taken out is one shorter
-pub length-without : (x : ℕ) (es : List Entry) → has x es ≡ true → suc (length (without x es)) ≡ length es
-unfolding without has
-length-without x [] h = absurd (true≢false (sym h))
-length-without x (e ∷ es) h =
-    by-test (eqb (e .key) x)
-    (λ t. ap (λ (l : List Entry). suc (length l)) (cond-true es (e ∷ without x es) t))
-    (λ t.
-    ap (λ (l : List Entry). suc (length l)) (cond-false es (e ∷ without x es) t)
-    ∙ ap suc (length-without x es (sym (ap (λ (b : Bool). b || has x es) t) ∙ h)))
-
 -- a list lacks a key that was taken out of it
 lacks-without : (x lo hi : ℕ) (es : List Entry) → Within lo es hi → Lacks x (without x es)
 unfolding without

@@ -1,8 +1,8 @@
 -- Rows: things in order, each behind a key. The entries of a leaf are a row, and so are the children of an upper page,
 -- where the first child's key is the lower end of the page's range and the others are its reference keys. So what is
 -- said of cutting and joining is said once for both.
-use Prim.Native.Nat.{ℕ, suc, _+_, _<_}
-use mathlib.Core.Bool.{Bool, cond}
+use Prim.Native.Nat.{ℕ, _+_, _<_}
+use mathlib.Core.Bool.{cond}
 use mathlib.Core.List.{List, [], _∷_, _++_, map}
 use mathlib.Core.Logic.{_⊎_}
 use lib.Dec.{leb}

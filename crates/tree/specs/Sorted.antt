@@ -1,6 +1,6 @@
 -- The plain sorted list that the tree stands for.
 use Prim.Native.Nat.{ℕ}
-use mathlib.Core.List.{List, [], _∷_, _++_}
+use mathlib.Core.List.{List, _∷_, _++_}
 use lib.ListN.{take, drop}
 use Rattle.page.specs.Words.{Entry, entry}
 use Rattle.page.specs.Place.{place}

@@ -1,7 +1,7 @@
 -- The B*-tree of 000 with parameter k, as document 01 fixes it, and when a pool's words are one.
 -- `Tr l` is a tree whose root page has level l + 1: all its leaves are on level 1 by its type.
 use Prim.Native.Nat.{ℕ, zero, suc, _+_, _*_, _≤_, _<_}
-use mathlib.Core.Bool.{Bool, cond}
+use mathlib.Core.Bool.{cond}
 use mathlib.Core.Path.{_≡_}
 use mathlib.Core.List.{List, [], _∷_, _++_}
 use mathlib.Core.Logic.{_⊎_}
@@ -21,6 +21,9 @@ pub record Leaf : Type 0 where
 pub record Node (C : Type 0) : Type 0 where
   pub at : ℕ
   pub row : List (Keyed C)
+
+abbrev pub node : {C : Type 0} → ℕ → List (Keyed C) → Node C
+node p row = record { at = p; row = row }
 
 abbrev pub Tr : ℕ → Type 0
 Tr zero = Leaf
@@ -68,6 +71,10 @@ pub record NodeIn {C : Type 0} (P : C → ℕ → ℕ → Type 0) (m M : ℕ) (t
 abbrev pub InRange : ℕ → ℕ → ℕ → (l : ℕ) → Tr l → ℕ → ℕ → Type 0
 InRange k m M zero t lo hi = LeafIn m M t lo hi
 InRange k m M (suc l) t lo hi = NodeIn (InRange k k (2 * k) l) m M t lo hi
+
+-- a tree below the root, in its range
+abbrev pub ChildIn : ℕ → (l : ℕ) → Tr l → ℕ → ℕ → Type 0
+ChildIn k l = InRange k k (2 * k) l
 
 -- "Page 0 is always the root: 1 to 2k, or 0 to 2k when it is a leaf"
 abbrev pub rootLeast : ℕ → ℕ

@@ -44,7 +44,8 @@ fn spoil(random: &mut Random, build: &mut Build, slot: &mut Slot) {
     let start = page as usize * size;
     let other = random.below(u64::from(build.n)) as u32;
     let key = slot.op.map_or(0, Op::key);
-    match random.below(12) {
+    match random.below(16) {
+        12..=15 => turn_back(random, build, slot),
         0 => slot.op = Some(Op::Delete(key)),
         1 => slot.op = Some(Op::Insert(key, 1)),
         2 => slot.op = Some(Op::Delete(random.below(build.keys) as u32)),
@@ -52,10 +53,7 @@ fn spoil(random: &mut Random, build: &mut Build, slot: &mut Slot) {
         5 => build.words[start] = (build.words[start] + random.one(&[1, 2, 10])) % 12,
         6 => want_copy(build, slot, other),
         7 if slot.beside > 0 => slot.beside -= 1,
-        8 if slot.beside + 1 < slot.depth => {
-            slot.siblings[slot.beside] = other;
-            slot.beside += 1;
-        }
+        8 => add_sibling(random, build, slot, other),
         9 if slot.depth > 1 => {
             slot.path.rotate_left(1);
             slot.depth -= 1;
@@ -65,6 +63,35 @@ fn spoil(random: &mut Random, build: &mut Build, slot: &mut Slot) {
             let at = start + random.below(size as u64) as usize;
             build.words[at] = random.below(5) as u32;
         }
+    }
+}
+
+/// A page points at one that is held or wanted: where the next sibling would be read, if the
+/// slot stands at its leaf, otherwise anywhere.
+fn turn_back(random: &mut Random, build: &mut Build, slot: &Slot) {
+    let size = page_words(build.k);
+    let pages = [slot.held(), vec![slot.want]].concat();
+    let key = slot.op.map_or(0, Op::key);
+    let next = slot.depth.checked_sub(3 + slot.beside);
+    let page = match next {
+        Some(at) if random.percent(70) => slot.path[at],
+        _ => random.one(&[slot.path(), &[slot.want]].concat()),
+    };
+    let start = page as usize * size;
+    if build.words[start] > 1 && build.words[start + 1] > 0 {
+        let (place, beside) = places(build, page, key);
+        let at = random.one(&[place, beside, beside]);
+        build.words[start + 2 + 2 * at] = random.one(&pages);
+    }
+}
+
+/// A sibling more than the rules took: the page is sound by itself.
+fn add_sibling(random: &mut Random, build: &mut Build, slot: &mut Slot, other: u32) {
+    if slot.beside + 1 < slot.depth && !slot.holds(other) && other != slot.want && other != 0 {
+        let (level, k) = (1 + random.below(3) as u32, build.k);
+        write(random, build, other, level, k, None);
+        slot.siblings[slot.beside] = other;
+        slot.beside += 1;
     }
 }
 
@@ -219,12 +246,18 @@ fn different(random: &mut Random, count: usize, n: u32) -> Vec<u32> {
 
 /// Where an upper page sends a key, and which page is the neighbour of the one there.
 fn leads(build: &Build, page: u32, key: u32) -> (u32, u32) {
+    let pointers = &build.words[page as usize * page_words(build.k) + 2..];
+    let (place, beside) = places(build, page, key);
+    (pointers[2 * place], pointers[2 * beside])
+}
+
+/// The places of those two among the pointers.
+fn places(build: &Build, page: u32, key: u32) -> (usize, usize) {
     let size = page_words(build.k);
     let part = &build.words[page as usize * size..][..size];
     let count = part[1] as usize;
     let place = (0..count).filter(|i| part[3 + 2 * i] <= key).count();
-    let beside = if place < count { place + 1 } else { place - 1 };
-    (part[2 + 2 * place], part[2 + 2 * beside])
+    (place, if place < count { place + 1 } else { place - 1 })
 }
 
 /// Draws where the operation stands, and writes the pages it holds and wants.

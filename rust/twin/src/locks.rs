@@ -12,11 +12,8 @@ pub fn must_wait(state: &State, number: usize) -> bool {
     let is_clash = holders(state, want)
         .iter()
         .any(|&(other, its)| other != number && clash(op, its));
-    let older = state.order().iter().take_while(|&&slot| slot != number);
-    is_clash
-        || older
-            .into_iter()
-            .any(|&slot| state.slots[slot].want == want)
+    let mut older = state.order().iter().take_while(|&&slot| slot != number);
+    is_clash || older.any(|&slot| state.slots[slot].want == want)
 }
 
 /// Two ρ go together; ξ goes with nothing.

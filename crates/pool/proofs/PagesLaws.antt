@@ -1,0 +1,50 @@
+-- A part of the lent words that is a page: read it is the page's words, written it is the page written.
+use Prim.Native.Nat.{ℕ, _+_, _-_}
+use mathlib.Core.List.{List, _++_, append-assoc}
+use mathlib.Core.Path.{_≡_, sym, ap, ap₂, _∙_}
+use native.Mathlib.Omega.{arith}
+use lib.ListN.{length, getD, take, drop}
+use lib.Seq.{sets-eq, drop-drop}
+use Rattle.page.specs.Words.{Page, size, μ, encode, view}
+use Rattle.page.specs.Reading.{Readable}
+use Rattle.page.proofs.ReadingLaws.{readable-μ}
+use Rattle.pool.specs.Pool.{start, wordsOf, pageAt, write, written}
+use Rattle.pool.specs.Wrapped.{InPool, Lies}
+use Rattle.pool.specs.declared.pages.Stretch.{Stretch}
+use Rattle.pool.proofs.StretchLaws.{length-wordsOf}
+
+-- the part where page p lies is the page's words
+pub lies-words : {k n p : ℕ} {s : Stretch} (ws : List ℕ) → Lies k n p s → take (s .to - s .from) (drop (s .from) ws) ≡ wordsOf k p ws
+unfolding wordsOf
+lies-words {k} {n} {p} {s} ws lies =
+    let long : s .to - s .from ≡ size k = omega arith in
+    ap₂ (λ (m i : ℕ). take m (drop i ws)) long (lies .from)
+
+-- the page has a page's number of words
+pub in-pool-size : {k n p : ℕ} {ws : List ℕ} → InPool k n p ws → length (wordsOf k p ws) ≡ size k
+in-pool-size {k} {n} {p} {ws} h = length-wordsOf k n p ws (h .inside) (h .whole)
+
+-- word 1 of a page that can be read is the number of its pairs
+pub in-pool-μ : {k n p : ℕ} {ws : List ℕ} → InPool k n p ws → Readable (wordsOf k p ws)
+    → μ (pageAt k ws p) ≡ getD (wordsOf k p ws) 1 0
+unfolding pageAt
+in-pool-μ {k} {n} {p} {ws} h r = readable-μ (wordsOf k p ws) r
+
+-- Page p's part, with the words of a value that is made of the page's, put back: page p is written with that value.
+pub part-written : {k n p : ℕ} {s : Stretch} (f : Page → Page) (ws part : List ℕ) → InPool k n p ws → Lies k n p s
+    → part ≡ encode k (f (view (take (s .to - s .from) (drop (s .from) ws))))
+    → length part ≡ length (take (s .to - s .from) (drop (s .from) ws))
+    → take (s .from) ws ++ (part ++ drop (s .to - s .from) (drop (s .from) ws)) ≡ written k (write p (f (pageAt k ws p))) ws
+unfolding written pageAt
+part-written {k} {n} {p} {s} f ws part h lies value kept =
+    let words = lies-words ws lies in
+    let new : List ℕ = encode k (f (view (wordsOf k p ws))) in
+    let same : part ≡ new = value ∙ ap (λ (l : List ℕ). encode k (f (view l))) words in
+    let long : length new ≡ size k = sym (ap length same) ∙ kept ∙ ap length words ∙ in-pool-size h in
+    let end : s .from + (s .to - s .from) ≡ start k p + length new = omega arith in
+    ap (λ (l : List ℕ). take (s .from) ws ++ (part ++ l)) (drop-drop (s .to - s .from) (s .from) ws)
+    ∙ sym (append-assoc (take (s .from) ws) part (drop (s .from + (s .to - s .from)) ws))
+    ∙ ap₂ (λ (l r : List ℕ). l ++ r)
+    (ap₂ (λ (i : ℕ) (l : List ℕ). take i ws ++ l) (lies .from) same)
+    (ap (λ (i : ℕ). drop i ws) end)
+    ∙ sym (sets-eq new ws (start k p) (omega arith))

@@ -1,0 +1,21 @@
+-- The page's words are lent to the function that reads them.
+use native.Mathlib.Omega.{arith}
+use borrow.Author.Needs.{needs}
+use Rattle.pool.specs.Pool.{pageAt}
+use Rattle.pool.proofs.PagesLaws.{in-pool-μ}
+use Rattle.pool.proofs.pages.neighbour_of.Statement.{statement}
+use Rattle.pool.proofs.pages.neighbour_of.Tie as tie
+
+page-words-requires : tie.Need-page-words-requires
+page-words-requires c κs = search needs
+
+neighbour-requires : tie.Need-neighbour-requires
+unfolding pageAt
+neighbour-requires c κs = rw (c .page-words .ensures) (c .before .before .pre .1 .0, (c .before .before .pre .1 .1 .0, (c .before .before .pre .1 .1 .1 .0, omega (arith, in-pool-μ (c .before .before .pre .0) (c .before .before .pre .1 .0)))))
+
+returns : tie.Need-returns
+unfolding pageAt
+returns c = rw (← c .before .page-words .ensures) (c .neighbour .ensures)
+
+pub neighbour-of-spec : {M : Type 1} → statement M
+neighbour-of-spec = tie.close (tie.spec page-words-requires neighbour-requires returns)
