@@ -4,6 +4,11 @@ pub mod PutLaws
 pub mod RiseLaws
 pub mod SoundPage
 pub mod WordLaws
+pub mod PasteLaws
+pub mod FlatLaws
+pub mod WritingLaws
+pub mod LayLaws
+pub mod SheetLaws
 pub mod SmallRows
 pub mod ReadingLaws
 pub mod CheckingLaws

@@ -17,6 +17,7 @@ use Rattle.ground.proofs.Tests.{listBelow-same, listBelow-fails, listBelow-firs
 use Rattle.page.specs.Words.{size}
 use Rattle.pool.specs.Pool.{start, wordsOf, isFree, freePages, freeFrom}
 use Rattle.pool.specs.Scan.{Scanned}
+use Rattle.pool.specs.declared.lying.Taken.{Taken}
 
 -- a pool has few words
 pub start-few : (k p : ℕ) → k ≤ largestK → p ≤ largestN → start k p ≤ largestN * size largestK
@@ -98,6 +99,21 @@ pub length-padded : (n : ℕ) (xs : List ℕ) → length xs ≤ n → length (pa
 unfolding padded
 length-padded n xs h = omega (arith, length-append xs (replicate (n - length xs) 0), length-replicate {A = ℕ} (n - length xs) 0)
 
+-- a cell holds what stands there in the list, and 0 behind it
+padded-at : (n : ℕ) (xs : List ℕ) (i : ℕ) → getD (padded n xs) i 0 ≡ getD xs i 0
+unfolding padded
+padded-at n xs i = behind xs (n - length xs) i
+  where
+    zeros : (m j : ℕ) → getD {A = ℕ} (replicate m 0) j 0 ≡ 0
+    zeros zero j = refl
+    zeros (suc m) zero = refl
+    zeros (suc m) (suc j) = zeros m j
+
+    behind : (ys : List ℕ) (m j : ℕ) → getD (ys ++ replicate m 0) j 0 ≡ getD ys j 0
+    behind [] m j = zeros m j
+    behind (y ∷ ys) m zero = refl
+    behind (y ∷ ys) m (suc j) = behind ys m j
+
 -- the next cell stored is the list with one more
 pub padded-more : (n : ℕ) (xs : List ℕ) (i v : ℕ) → length xs ≡ i → i < n → set (padded n xs) i v ≡ padded n (xs ++ v ∷ [])
 unfolding padded
@@ -177,3 +193,11 @@ module _ (k n need : ℕ) (ws : List ℕ) where
           pages = λ t. absurd (false≢true t);
           cells = ap length (was .cells) ∙ length-padded mostNew (was .taken) (omega (arith, was .few, was .counted));
         }
+
+-- of enough pages found, the one in cell i is the free page at index i
+pub scanned-at : {need : ℕ} {free : List ℕ} {r : Taken} → Scanned need free r → r .enough ≡ true
+    → (i : ℕ) → i < need → getD (r .pages) i 0 ≡ getD free i 0
+scanned-at {need} {free} found all i h =
+    ap (λ (ps : List ℕ). getD ps i 0) (found .pages all)
+    ∙ padded-at mostNew (take need free) i
+    ∙ getD-take need free i 0 h
