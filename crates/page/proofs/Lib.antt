@@ -9,6 +9,8 @@ pub mod FlatLaws
 pub mod WritingLaws
 pub mod LayLaws
 pub mod SheetLaws
+pub mod ExactLaws
+pub mod MoveLaws
 pub mod SmallRows
 pub mod ReadingLaws
 pub mod CheckingLaws

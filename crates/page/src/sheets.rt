@@ -94,7 +94,7 @@ pub fn lay_run(
     c: usize,
     n: usize,
 )
-    requires { ⌜ (length (now w) ≡ size k) × (k ≤ largestK) × (n ≤ 2 * k) × (c + n ≤ 50) ⌝ }
+    requires { ⌜ (length (now w) ≡ size k) × (n ≤ 2 * k) × (c + n ≤ 50) ⌝ }
     ensures { λ _. ⌜ now (w .exit) ≡ encode k (page level first (pairs n (drop (2 * c) (now (words .entry))))) ⌝ }
 {
     let at = put_front(w, level, n as u32, first);
@@ -104,7 +104,7 @@ pub fn lay_run(
 
 // The sheet's page.
 pub fn lay(w: &mut [u32], k: usize, s: Sheet)
-    requires { ⌜ (length (now w) ≡ size k) × (k ≤ largestK) × (s .count ≤ 2 * k) ⌝ }
+    requires { ⌜ (length (now w) ≡ size k) × (s .count ≤ 2 * k) × (k ≤ largestK) ⌝ }
     ensures { λ _. ⌜ now (w .exit) ≡ encode k (sheetPage s) ⌝ }
 {
     lay_run(w, k, s.level, s.first, &s.pairs, 0, s.count);
@@ -112,7 +112,7 @@ pub fn lay(w: &mut [u32], k: usize, s: Sheet)
 
 // The sheet's page cut at pair c: the left part.
 pub fn lay_left(w: &mut [u32], k: usize, c: usize, s: Sheet)
-    requires { ⌜ (length (now w) ≡ size k) × (k ≤ largestK) × (c ≤ 2 * k) × (c < s .count) ⌝ }
+    requires { ⌜ (length (now w) ≡ size k) × (c < s .count) × (c ≤ 2 * k) × (k ≤ largestK) ⌝ }
     ensures { λ _. ⌜ now (w .exit) ≡ encode k (split c (sheetPage s) .left) ⌝ }
 {
     lay_run(w, k, s.level, s.first, &s.pairs, 0, c);
@@ -129,7 +129,7 @@ pub fn cut_key(c: usize, s: Sheet) -> u32
 
 // The right part: in a leaf the other pairs, above them what is behind the middle key and its pointer.
 pub fn lay_right(w: &mut [u32], k: usize, c: usize, s: Sheet)
-    requires { ⌜ (length (now w) ≡ size k) × (k ≤ largestK) × (s .count ≤ c + 2 * k) × (c < s .count) × (s .count ≤ 50) ⌝ }
+    requires { ⌜ (length (now w) ≡ size k) × (c < s .count) × (s .count ≤ c + 2 * k) × (s .count ≤ 50) ⌝ }
     ensures { λ _. ⌜ now (w .exit) ≡ encode k (split c (sheetPage s) .right) ⌝ }
 {
     if s.level == 1 {

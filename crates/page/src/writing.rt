@@ -111,7 +111,7 @@ pub fn put_in(w: &mut [u32], k: usize, i: usize, x: u32, v: u32)
 // The pair at place i taken out: in a leaf an entry, above a reference key with the pointer right of it.
 pub fn take_out(w: &mut [u32], k: usize, i: usize)
     requires { ⌜ Exact k (now w) ⌝ }
-    requires { ⌜ (k ≤ largestK) × (i < μ (view (now w))) ⌝ }
+    requires { ⌜ i < μ (view (now w)) ⌝ }
     ensures { λ _. ⌜ now (w .exit) ≡ encode k (lessKey i (view (now (w .entry)))) ⌝ }
 {
     let m = w[1];
@@ -123,7 +123,7 @@ pub fn take_out(w: &mut [u32], k: usize, i: usize)
 // Another key at place i.
 pub fn rekey(w: &mut [u32], k: usize, i: usize, r: u32)
     requires { ⌜ Exact k (now w) ⌝ }
-    requires { ⌜ (k ≤ largestK) × (i < μ (view (now w))) ⌝ }
+    requires { ⌜ i < μ (view (now w)) ⌝ }
     ensures { λ _. ⌜ now (w .exit) ≡ encode k (rekeyed i r (view (now (w .entry)))) ⌝ }
 {
     let at = pairs_from(w[0]);

@@ -8,7 +8,7 @@ use native.Mathlib.Nat.{not-suc-le-zero, le-of-suc-le-suc}
 use native.Mathlib.Numerals.{add-one}
 use lib.Dec.{eqb}
 use lib.ListN.{length, getD, take, drop, length-take, length-map, drop-of-length-le}
-use lib.Seq.{drop-cons, take-all, length-take-le, getD-take}
+use lib.Seq.{drop-cons, take-all, getD-take}
 use borrow.Author.Tests.{eq-eqb, ne-eqb}
 use Rattle.ground.specs.Limits.{slotCount}
 use Rattle.ground.specs.Tests.{all, allBelow, member}
@@ -23,6 +23,7 @@ use Rattle.slots.specs.declared.Lock.the-variants.{None, Rho, Xi}
 use Rattle.slots.specs.Parts.{slotAt, wantAt, holdsAt, held, pathOf, siblingsOf, waitingOrder}
 use Rattle.slots.specs.Locks.{lockOf, lockAt, clash}
 use Rattle.slots.specs.Grant.{olderThan, noClash, noOlder}
+use Rattle.slots.proofs.OrderLaws.{length-waiting}
 
 -- the absent lock clashes with nothing
 pub none-clashes : (b : Lock) → false ≡ clash None b
@@ -54,6 +55,10 @@ among-all p cells count i h l none =
 
 -- ---- a slot read out of a state
 
+-- the slots of a state that came in, counted as the logic has them
+pub counted : {A B : Type 0} (f : A → B) (l : List A) (n : ℕ) → length (map f l) ≡ n → length l ≡ n
+counted f l n e = sym (length-map l f) ∙ e
+
 -- what is read where no slot stands
 abbrev blank : Slot
 blank = record { task = Closed; want = 0; path = []; depth = 0; siblings = []; beside = 0 }
@@ -66,9 +71,12 @@ default-other (x ∷ xs) (suc i) a b h = default-other xs i a b (le-of-suc-le-su
 pub slot-read : (st : State) (i : ℕ) → length (st .slots) ≡ slotCount → i < slotCount → getD (st .slots) i blank ≡ slotAt st i
 slot-read st i e h = default-other (st .slots) i blank _ (omega arith)
 
+pub want-read : (st : State) (i : ℕ) → length (st .slots) ≡ slotCount → i < slotCount → getD (st .slots) i blank .want ≡ wantAt st i
+want-read st i e h = ap (λ (x : Slot). x .want) (slot-read st i e h)
+
 -- ---- the slots one by one
 
--- slot t does not keep slot s from what it wants
+-- slot t lets slot s have what it wants
 unfoldable pub letsPass : State → ℕ → ℕ → Bool
 letsPass st s t = eqb t s || not (holdsAt st t (wantAt st s) && clash (lockAt st t) (lockAt st s))
 
@@ -88,13 +96,13 @@ pub slots-stop : (st : State) (s t : ℕ) → t < slotCount → letsPass st s t 
 unfolding noClash letsPass
 slots-stop st s t h f = sym (allBelow-stops (letsPass st s) slotCount t h f)
 
--- slot s does not keep itself from anything
+-- slot s lets itself have it
 pub own-passes : (st : State) (s t : ℕ) → t ≡ s → letsPass st s t ≡ true
 unfolding letsPass
 own-passes st s t e = or-first _ (eq-eqb t s e)
 
--- any other slot does where it holds the page under a clashing lock
-pub other-passes : (st : State) (s t : ℕ) → (t ≡ s → ⊥) → letsPass st s t ≡ not (holdsAt st t (wantAt st s) && clash (lockAt st t) (lockAt st s))
+-- any other slot does so unless it holds the page under a clashing lock
+other-passes : (st : State) (s t : ℕ) → (t ≡ s → ⊥) → letsPass st s t ≡ not (holdsAt st t (wantAt st s) && clash (lockAt st t) (lockAt st s))
 unfolding letsPass
 other-passes st s t n = ap (λ (b : Bool). b || not (holdsAt st t (wantAt st s) && clash (lockAt st t) (lockAt st s))) (ne-eqb t s n)
 
@@ -129,43 +137,43 @@ pub older-none : (st : State) (s : ℕ) → noOlder st s ≡ noOlderFrom st s 0
 unfolding noOlder noOlderFrom
 older-none st s = refl
 
-module _ (st : State) (s i : ℕ) (long : length (st .order) ≡ slotCount) (fits : st .waiting ≤ slotCount) where
-  names : ℕ
-  names = getD (st .order) i 0
-
-  waits : length (waitingOrder st) ≡ st .waiting
+-- the slot at place i of the order, where one waits there
+module _ (st : State) (i : ℕ) (long : length (st .order) ≡ slotCount) (fits : st .waiting ≤ slotCount) (inside : i < st .waiting) where
+  named : getD (waitingOrder st) i 0 ≡ getD (st .order) i 0
   unfolding waitingOrder
-  waits = length-take-le (st .waiting) (st .order) (omega arith)
+  named = getD-take (st .waiting) (st .order) i 0 inside
 
+  within : i < length (waitingOrder st)
+  within = omega (arith, length-waiting st (omega arith))
+
+  pub order-names : member (getD (st .order) i 0) (waitingOrder st) ≡ true
+  order-names = member-from (getD (st .order) i 0) (waitingOrder st) i 0 within named
+
+module _ (st : State) (s i : ℕ) (long : length (st .order) ≡ slotCount) (fits : st .waiting ≤ slotCount) where
   -- behind the last that waits there is none
   pub older-end : st .waiting ≤ i → noOlderFrom st s i ≡ true
   unfolding noOlderFrom rest
-  older-end h = rest-end (λ (t : ℕ). not (eqb (wantAt st t) (wantAt st s))) s (waitingOrder st) i (omega (arith, waits))
+  older-end h = rest-end (λ (t : ℕ). not (eqb (wantAt st t) (wantAt st s))) s (waitingOrder st) i (omega (arith, length-waiting st (omega arith)))
 
   module _ (inside : i < st .waiting) where
-    named : getD (waitingOrder st) i 0 ≡ getD (st .order) i 0
-    unfolding waitingOrder
-    named = getD-take (st .waiting) (st .order) i 0 inside
+    at-i : getD (waitingOrder st) i 0 ≡ getD (st .order) i 0
+    at-i = named st i long fits inside
 
-    within : i < length (waitingOrder st)
-    within = omega (arith, waits)
-
-    -- the slot named at place i waits
-    pub order-names : member (getD (st .order) i 0) (waitingOrder st) ≡ true
-    order-names = member-from (getD (st .order) i 0) (waitingOrder st) i 0 within named
+    place : i < length (waitingOrder st)
+    place = within st i long fits inside
 
     -- slot s itself: no want from there on is older
     pub older-here : getD (st .order) i 0 ≡ s → noOlderFrom st s i ≡ true
     unfolding noOlderFrom rest
-    older-here e = rest-here (λ (t : ℕ). not (eqb (wantAt st t) (wantAt st s))) s (waitingOrder st) i within (named ∙ e)
+    older-here e = rest-here (λ (t : ℕ). not (eqb (wantAt st t) (wantAt st s))) s (waitingOrder st) i place (at-i ∙ e)
 
     module _ (other : getD (st .order) i 0 ≡ s → ⊥) where
       at-other : noOlderFrom st s i ≡ not (eqb (wantAt st (getD (st .order) i 0)) (wantAt st s)) && noOlderFrom st s (i + 1)
       unfolding noOlderFrom rest
       at-other =
           let q : ℕ → Bool = λ (t : ℕ). not (eqb (wantAt st t) (wantAt st s)) in
-          rest-other q s (waitingOrder st) i within (λ e. other (sym named ∙ e))
-          ∙ ap (λ (t : ℕ). q t && all q (olderThan s (drop (suc i) (waitingOrder st)))) named
+          rest-other q s (waitingOrder st) i place (λ e. other (sym at-i ∙ e))
+          ∙ ap (λ (t : ℕ). q t && all q (olderThan s (drop (suc i) (waitingOrder st)))) at-i
           ∙ ap (λ (n : ℕ). q (getD (st .order) i 0) && all q (olderThan s (drop n (waitingOrder st)))) (sym (add-one i))
 
       -- an older want for the same page
@@ -175,10 +183,6 @@ module _ (st : State) (s i : ℕ) (long : length (st .order) ≡ slotCount) (fit
       -- an older want for another page
       pub older-more : (wantAt st (getD (st .order) i 0) ≡ wantAt st s → ⊥) → noOlderFrom st s i ≡ noOlderFrom st s (i + 1)
       older-more n = at-other ∙ ap (λ (b : Bool). b && noOlderFrom st s (i + 1)) (not-of-false (ne-eqb _ _ n))
-
--- the slots of a state that came in, counted as the logic has them
-pub counted : {A B : Type 0} (f : A → B) (l : List A) (n : ℕ) → length (map f l) ≡ n → length l ≡ n
-counted f l n e = sym (length-map l f) ∙ e
 
 -- what bars slot s from its want, as read off the slot that may bar it
 pub barred : (st : State) (s t : ℕ) (other : Slot) (want : ℕ) (kind : Lock) (b : Bool) → other ≡ slotAt st t → want ≡ wantAt st s → kind ≡ lockAt st s

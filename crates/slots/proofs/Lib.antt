@@ -11,3 +11,8 @@ pub mod Keeping
 pub mod GrantLaws
 pub mod Holders
 pub mod ReportLaws
+pub mod CheckingLaws
+pub mod CheckingLawsOrder
+pub mod CheckingLawsHeld
+pub mod CheckingLawsSlot
+pub mod CheckingLawsSound

@@ -60,7 +60,7 @@ returns-2 c =
     let s = given .t4 in
     c .before .before .lay-run2 .ensures
     ∙ ap (encode (given .k))
-    (cut-right-upper (given .c) (s .level) (s .first) (s .count) (s .pairs) (c .before .before .before .before .before .before .before .if1 .left) (c .before .before .before .before .before .before .before .before .before .pre .3) (omega (arith, hundred (c .before .before .before .before .before .before .before .before .before))))
+    (cut-right-upper (given .c) (s .level) (s .first) (s .count) (s .pairs) (c .before .before .before .before .before .before .before .if1 .left) (c .before .before .before .before .before .before .before .before .before .pre .1) (omega (arith, hundred (c .before .before .before .before .before .before .before .before .before))))
 
 pub lay-right-spec : {M : Type 1} → statement M
 lay-right-spec =

@@ -6,7 +6,6 @@ use lib.ListN.{length, drop, length-drop}
 use denote.Ref.{now}
 use Rattle.page.specs.Words.{pairsFrom}
 use Rattle.page.proofs.WordLaws.{pairsFrom-most}
-use Rattle.page.proofs.WritingLaws.{small-k}
 use Rattle.page.proofs.LayLaws.{lay-encoded}
 use Rattle.page.proofs.sheets.lay_run.Statement.{statement}
 use Rattle.page.proofs.sheets.lay_run.Tie as tie
@@ -15,11 +14,8 @@ use Rattle.page.proofs.sheets.lay_run.Tie as tie
 most : (c : tie.Start) → pairsFrom (c .args .level) ≤ 3
 most c = pairsFrom-most (c .args .level)
 
-small : (c : tie.Start) → c .args .k ≤ 16
-small c = small-k (c .pre .1)
-
 cast-put-front : tie.Need-cast-put-front
-cast-put-front c = omega (arith, small (c .before .before))
+cast-put-front c = omega arith
 
 put-front-requires : tie.Need-put-front-requires
 put-front-requires c κs = omega arith
@@ -31,7 +27,7 @@ mul-copy-words-2 : tie.Need-mul-copy-words-2
 mul-copy-words-2 c = omega arith
 
 copy-words-requires : tie.Need-copy-words-requires
-copy-words-requires c κs = omega (arith, most (c .before .before .before .before .before .before .before), small (c .before .before .before .before .before .before .before))
+copy-words-requires c κs = omega (arith, most (c .before .before .before .before .before .before .before))
 
 mul-wipe : tie.Need-mul-wipe
 mul-wipe c = omega arith
@@ -53,7 +49,7 @@ returns c =
     length-drop (2 * given .c) (now (given .words)) in
     lay-encoded (given .k) (given .level) (given .first) (given .n) (now (given .w)) (c .before .before .before .before .before .before .before .before .before .before .before .before .before .before .pre .0) (fronted .0) (fronted .1)
     (drop (2 * given .c) (now (given .words)))
-    (c .before .before .before .before .before .before .before .before .before .before .before .before .before .before .pre .2)
+    (c .before .before .before .before .before .before .before .before .before .before .before .before .before .before .pre .1)
     (omega arith)
     (c .before .before .before .before .before .before .copy-words .ensures)
     (c .before .before .wipe .ensures)

@@ -8,8 +8,6 @@ use borrow.Author.Needs.{needs}
 use Rattle.ground.specs.Tests.{member}
 use Rattle.ground.proofs.Tests.{member-none}
 use Rattle.slots.proofs.GrantingLaws.{among-more, among-found, among-all}
-use Prim.Native.Nat.{_≤_, _-_}
-use mathlib.Core.Path.{_≡_}
 use Rattle.slots.proofs.granting.among.Statement.{statement}
 use Rattle.slots.proofs.granting.among.Tie as tie
 

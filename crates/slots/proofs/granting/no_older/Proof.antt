@@ -1,15 +1,13 @@
 -- The answer is that of the walk from place i on: at the end, at slot s and at an older want for the same page it is known.
 use Prim.Native.Nat.{_≤_, _-_}
-use mathlib.Core.Path.{_≡_, sym, ap, _∙_}
+use mathlib.Core.Path.{_≡_, sym, _∙_}
 use native.Mathlib.Omega.{arith}
 use lib.ListN.{length, getD}
 use borrow.Author.Needs.{needs}
 use Rattle.ground.specs.Limits.{slotCount}
-use Rattle.slots.specs.declared.Slot.{Slot}
 use Rattle.slots.specs.Parts.{wantAt}
 use Rattle.slots.specs.Grant.{noOlder}
-use Rattle.slots.proofs.GrantingLaws.{slot-read, counted, noOlderFrom, order-names, older-none, older-end, older-here, older-stops, older-more}
-use Prim.Native.Nat.{_-_}
+use Rattle.slots.proofs.GrantingLaws.{want-read, counted, noOlderFrom, order-names, older-none, older-end, older-here, older-stops, older-more}
 use Rattle.slots.proofs.granting.no_older.Statement.{statement}
 use Rattle.slots.proofs.granting.no_older.Tie as tie
 
@@ -44,20 +42,18 @@ unfolding slotCount
 mul-if3 c =
     let was = c .before .before .before .before in
     let st = was .args .t1 in
-    let s = was .args .s in
     let i = c .before .before .before .loop .i in
     let inv = c .before .before .before .loop .inv in
-    omega (arith, was .pre .2 (getD (st .order) i 0) (order-names st s i (inv .2) (was .pre .1) (omega arith)))
+    omega (arith, was .pre .2 (getD (st .order) i 0) (order-names st i (inv .2) (was .pre .1) (omega arith)))
 
 element-copy-out-if3 : tie.Need-element-copy-out-if3 Inv-loop μ-loop
 unfolding slotCount
 element-copy-out-if3 c =
     let was = c .before .before .before .before in
     let st = was .args .t1 in
-    let s = was .args .s in
     let i = c .before .before .before .loop .i in
     let inv = c .before .before .before .loop .inv in
-    was .pre .2 (getD (st .order) i 0) (order-names st s i (inv .2) (was .pre .1) (omega arith))
+    was .pre .2 (getD (st .order) i 0) (order-names st i (inv .2) (was .pre .1) (omega arith))
 
 add-i : tie.Need-add-i Inv-loop μ-loop
 add-i c = search needs
@@ -73,10 +69,10 @@ loop-again c =
     let i = c .before .before .before .before .loop .i in
     let inv = c .before .before .before .before .loop .inv in
     let t = getD (st .order) i 0 in
-    let below = was .pre .2 t (order-names st s i (inv .2) (was .pre .1) (omega arith)) in
+    let below = was .pre .2 t (order-names st i (inv .2) (was .pre .1) (omega arith)) in
     let same : (wantAt st t ≡ wantAt st s) → ⊥ = λ e.
     c .if3 .left
-    (ap (λ (x : Slot). x .want) (slot-read st t (inv .3) below) ∙ e ∙ sym (ap (λ (x : Slot). x .want) (slot-read st s (inv .3) (was .pre .0)))) in
+    (want-read st t (inv .3) below ∙ e ∙ sym (want-read st s (inv .3) (was .pre .0))) in
     (omega arith, inv .1 ∙ older-more st s i (inv .2) (was .pre .1) (omega arith) (c .before .if2 .left) same, inv .2, inv .3)
 
 returns : tie.Need-returns Inv-loop μ-loop
@@ -105,11 +101,11 @@ returns-3 c =
     let i = c .before .before .before .before .loop .i in
     let inv = c .before .before .before .before .loop .inv in
     let t = getD (st .order) i 0 in
-    let below = was .pre .2 t (order-names st s i (inv .2) (was .pre .1) (omega arith)) in
+    let below = was .pre .2 t (order-names st i (inv .2) (was .pre .1) (omega arith)) in
     sym
     (inv .1
     ∙ older-stops st s i (inv .2) (was .pre .1) (omega arith) (c .before .if2 .left)
-    (sym (ap (λ (x : Slot). x .want) (slot-read st t (inv .3) below)) ∙ c .if3 .taken ∙ ap (λ (x : Slot). x .want) (slot-read st s (inv .3) (was .pre .0))))
+    (sym (want-read st t (inv .3) below) ∙ c .if3 .taken ∙ want-read st s (inv .3) (was .pre .0)))
 
 pub no-older-spec : {M : Type 1} → statement M
 no-older-spec =

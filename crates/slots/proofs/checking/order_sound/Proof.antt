@@ -1,0 +1,97 @@
+-- `slots::checking::order_sound` meets its contract. The loop's invariant: what the order has named so far are open slots,
+-- none twice, and the marks left are those of the other open slots.
+use Prim.Native.Nat.{_≤_, _-_}
+use mathlib.Core.Bool.{false}
+use mathlib.Core.Path.{_≡_, sym, _∙_}
+use native.Mathlib.Omega.{arith}
+use lib.ListN.{length, getD, length-set}
+use borrow.Author.Needs.{needs}
+use borrow.Author.Tests.{not-true, not-false}
+use Rattle.ground.specs.Limits.{slotCount}
+use Rattle.slots.proofs.CheckingLawsOrder.{Naming, naming-start, naming-long, naming-on, naming-high, naming-unmarked, naming-end}
+use Rattle.slots.proofs.checking.order_sound.Statement.{statement}
+use Rattle.slots.proofs.checking.order_sound.Tie as tie
+
+abbrev Inv-loop : tie.InvT-loop
+Inv-loop waiting order unnamed₀ i₀ unnamed i =
+    (i ≤ waiting) × (waiting ≤ 16) × (length order ≡ 16) × (length unnamed ≡ 16) × Naming unnamed₀ unnamed order i
+
+abbrev μ-loop : tie.MeasureT-loop
+μ-loop waiting order unnamed₀ i₀ unnamed i = waiting - i
+
+returns : tie.Need-returns Inv-loop μ-loop
+unfolding slotCount
+returns c = sym (naming-long (c .before .args .busy) (c .before .args .t1) (c .before .args .waiting) (c .if1 .taken))
+
+loop-holds : tie.Need-loop-holds Inv-loop μ-loop
+loop-holds c = (omega arith, c .if1 .left, search needs, search needs, naming-start (c .before .args .busy) (c .before .args .t1))
+
+mul-s : tie.Need-mul-s Inv-loop μ-loop
+mul-s c = omega arith
+
+array-read-s : tie.Need-array-read-s Inv-loop μ-loop
+array-read-s c = omega arith
+
+returns-2 : tie.Need-returns-2 Inv-loop μ-loop
+unfolding slotCount
+returns-2 c =
+    sym (naming-high (c .before .before .before .before .args .busy) (c .before .before .loop .unnamed) (c .before .before .before .before .args .t1) (c .before .before .loop .i) (c .before .before .loop .inv .4) (c .before .before .before .before .args .waiting) (omega arith) (omega arith) (c .if2 .taken))
+
+array-read-if3 : tie.Need-array-read-if3 Inv-loop μ-loop
+array-read-if3 c = omega arith
+
+returns-3 : tie.Need-returns-3 Inv-loop μ-loop
+returns-3 c =
+    sym (naming-unmarked (c .before .before .before .before .before .args .busy) (c .before .before .before .loop .unnamed) (c .before .before .before .before .before .args .t1) (c .before .before .before .loop .i) (c .before .before .before .loop .inv .4) (c .before .before .before .before .before .args .waiting) (omega arith) (omega arith)
+    (not-true (getD (c .before .before .before .loop .unnamed) (getD (c .before .before .before .before .before .args .t1) (c .before .before .before .loop .i) 0) false) (c .if3 .taken)))
+
+array-write-unnamed : tie.Need-array-write-unnamed Inv-loop μ-loop
+array-write-unnamed c = omega arith
+
+add-i : tie.Need-add-i Inv-loop μ-loop
+add-i c = omega arith
+
+loop-less : tie.Need-loop-less Inv-loop μ-loop
+loop-less c = omega arith
+
+loop-again : tie.Need-loop-again Inv-loop μ-loop
+unfolding slotCount
+loop-again c =
+    let l = c .before .before .before .loop in
+    let s = getD (c .before .before .before .before .before .args .t1) (l .i) 0 in (
+      omega arith,
+      l .inv .1,
+      l .inv .2,
+      length-set (l .unnamed) s _ ∙ l .inv .3,
+      naming-on (c .before .before .before .before .before .args .busy) (l .unnamed) (c .before .before .before .before .before .args .t1) (l .i) (l .inv .4) (omega arith) (c .before .if2 .left) (omega arith) (not-false (getD (l .unnamed) s false) (c .if3 .left)),
+    )
+
+none-of-requires : tie.Need-none-of-requires Inv-loop μ-loop
+none-of-requires c κs = search needs
+
+returns-4 : tie.Need-returns-4 Inv-loop μ-loop
+unfolding slotCount
+returns-4 c =
+    let l = c .before .before .loop in
+    c .none-of .ensures
+    ∙ sym (naming-end (c .before .before .before .before .args .busy) (l .unnamed) (c .before .before .before .before .args .t1) (l .i) (c .before .before .before .before .args .waiting) (l .inv .4) (l .inv .0) (c .before .loop-test .left) (l .inv .1))
+
+pub order-sound-spec : {M : Type 1} → statement M
+order-sound-spec =
+    tie.close
+    (tie.spec
+    Inv-loop
+    μ-loop
+    returns
+    loop-holds
+    mul-s
+    array-read-s
+    returns-2
+    array-read-if3
+    returns-3
+    array-write-unnamed
+    add-i
+    loop-less
+    loop-again
+    none-of-requires
+    returns-4)
