@@ -4,17 +4,22 @@ use crate::lying::start_of;
 use page::checking;
 use page::reading;
 use page::reading::Lot;
+use page::sheets;
+use page::sheets::Sheet;
+use page::writing;
 ghost use mathlib.Core.Path.{_≡_};
+ghost use mathlib.Core.List.{[], _∷_};
 ghost use mathlib.Core.Bool.{true, false};
-ghost use Prim.Native.Nat.{_≤_, _<_};
-ghost use Rattle.ground.specs.Limits.{largestK, largestN};
-ghost use Rattle.page.specs.Words.{μ, isLeaf};
+ghost use Prim.Native.Nat.{_+_, _*_, _≤_, _<_};
+ghost use Rattle.ground.specs.Limits.{largestK, largestN, wordRange};
+ghost use Rattle.page.specs.Words.{entry, page, μ, isLeaf, freePage};
 ghost use Rattle.page.specs.Place.{place, pointer, route};
 ghost use Rattle.page.specs.Sound.{rises, soundByItself};
-ghost use Rattle.page.specs.Splits.{entryAt};
-ghost use Rattle.page.specs.Short.{hasRight, neighbour, betweenAt};
+ghost use Rattle.page.specs.Splits.{entryAt, put, split};
+ghost use Rattle.page.specs.Short.{hasRight, neighbour, betweenAt, joined, lessKey, rekeyed};
 ghost use Rattle.page.specs.Reading.{Readable, looked};
-ghost use Rattle.pool.specs.Pool.{wordsOf, pageAt};
+ghost use Rattle.page.specs.Sheets.{Exact, Holds, sheetPage};
+ghost use Rattle.pool.specs.Pool.{wordsOf, pageAt, write, written};
 ghost use Rattle.pool.specs.Wrapped.{InPool, Lies};
 
 // The words from one place up to another.
@@ -174,4 +179,132 @@ pub fn sound_of(words: &[u32], k: usize, n: usize, p: u32) -> bool
     ensures { λ r. ⌜ r ≡ soundByItself k n p (wordsOf k p (now (words .entry))) ⌝ }
 {
     checking::sound_page(page_words(words, k, n, p), k, n, p)
+}
+
+// The page with one pair more, put in at place i, in a buffer.
+pub fn over_of(words: &[u32], k: usize, n: usize, p: u32, i: usize, x: u32, v: u32) -> Sheet
+    requires { ⌜ InPool k n p (now words) ⌝ }
+    requires { ⌜ Exact k (wordsOf k p (now words)) ⌝ }
+    requires { ⌜ i ≤ μ (pageAt k (now words) p) ⌝ }
+    ensures { λ s. ⌜ Holds (put i (entry x v) (pageAt k (now (words .entry)) p)) s ⌝ }
+{
+    sheets::over(page_words(words, k, n, p), k, i, x, v)
+}
+
+// The pages l and w joined, in a buffer. Above the leaves the reference key r comes down between them.
+pub fn join_of(words: &[u32], k: usize, n: usize, l: u32, r: u32, w: u32) -> Sheet
+    requires { ⌜ (InPool k n l (now words)) × (InPool k n w (now words)) ⌝ }
+    requires { ⌜ (Exact k (wordsOf k l (now words))) × (Exact k (wordsOf k w (now words))) ⌝ }
+    requires { ⌜ isLeaf (pageAt k (now words) l) ≡ isLeaf (pageAt k (now words) w) ⌝ }
+    requires { ⌜ μ (pageAt k (now words) l) + μ (pageAt k (now words) w) + 1 ≤ 50 ⌝ }
+    ensures { λ s. ⌜ Holds (joined r (pageAt k (now (words .entry)) l) (pageAt k (now (words .entry)) w)) s ⌝ }
+{
+    sheets::join(page_words(words, k, n, l), r, page_words(words, k, n, w), k)
+}
+
+// One pair more, put in at place i.
+pub fn put_in_at(words: &mut [u32], k: usize, n: usize, p: u32, i: usize, x: u32, v: u32)
+    requires { ⌜ InPool k n p (now words) ⌝ }
+    requires { ⌜ Exact k (wordsOf k p (now words)) ⌝ }
+    requires { ⌜ (μ (pageAt k (now words) p) < 2 * k) × (i ≤ μ (pageAt k (now words) p)) ⌝ }
+    ensures { λ _. ⌜ now (words .exit) ≡ written k (write p (put i (entry x v) (pageAt k (now (words .entry)) p))) (now (words .entry)) ⌝ }
+{
+    let at = stretch_of(k, n, p);
+    let a = at.from;
+    let e = at.to;
+    writing::put_in(&mut words[a..e], k, i, x, v);
+}
+
+// The pair at place i taken out: in a leaf an entry, above a reference key with the pointer right of it.
+pub fn take_out_at(words: &mut [u32], k: usize, n: usize, p: u32, i: usize)
+    requires { ⌜ InPool k n p (now words) ⌝ }
+    requires { ⌜ Exact k (wordsOf k p (now words)) ⌝ }
+    requires { ⌜ i < μ (pageAt k (now words) p) ⌝ }
+    ensures { λ _. ⌜ now (words .exit) ≡ written k (write p (lessKey i (pageAt k (now (words .entry)) p))) (now (words .entry)) ⌝ }
+{
+    let at = stretch_of(k, n, p);
+    let a = at.from;
+    let e = at.to;
+    writing::take_out(&mut words[a..e], k, i);
+}
+
+// Another key at place i.
+pub fn rekey_at(words: &mut [u32], k: usize, n: usize, p: u32, i: usize, r: u32)
+    requires { ⌜ InPool k n p (now words) ⌝ }
+    requires { ⌜ Exact k (wordsOf k p (now words)) ⌝ }
+    requires { ⌜ i < μ (pageAt k (now words) p) ⌝ }
+    ensures { λ _. ⌜ now (words .exit) ≡ written k (write p (rekeyed i r (pageAt k (now (words .entry)) p))) (now (words .entry)) ⌝ }
+{
+    let at = stretch_of(k, n, p);
+    let a = at.from;
+    let e = at.to;
+    writing::rekey(&mut words[a..e], k, i, r);
+}
+
+// A page laid out from a buffer.
+pub fn lay_at(words: &mut [u32], k: usize, n: usize, p: u32, s: Sheet)
+    requires { ⌜ InPool k n p (now words) ⌝ }
+    requires { ⌜ s .count ≤ 2 * k ⌝ }
+    ensures { λ _. ⌜ now (words .exit) ≡ written k (write p (sheetPage s)) (now (words .entry)) ⌝ }
+{
+    let at = stretch_of(k, n, p);
+    let a = at.from;
+    let e = at.to;
+    sheets::lay(&mut words[a..e], k, s);
+}
+
+// The left part of a buffer's page cut at pair c.
+pub fn lay_left_at(words: &mut [u32], k: usize, n: usize, p: u32, c: usize, s: Sheet)
+    requires { ⌜ InPool k n p (now words) ⌝ }
+    requires { ⌜ (c ≤ 2 * k) × (c < s .count) ⌝ }
+    ensures { λ _. ⌜ now (words .exit) ≡ written k (write p (split c (sheetPage s) .left)) (now (words .entry)) ⌝ }
+{
+    let at = stretch_of(k, n, p);
+    let a = at.from;
+    let e = at.to;
+    sheets::lay_left(&mut words[a..e], k, c, s);
+}
+
+// The right part of a buffer's page cut at pair c.
+pub fn lay_right_at(words: &mut [u32], k: usize, n: usize, p: u32, c: usize, s: Sheet)
+    requires { ⌜ InPool k n p (now words) ⌝ }
+    requires { ⌜ (s .count ≤ c + 2 * k) × (c < s .count) × (s .count ≤ 50) ⌝ }
+    ensures { λ _. ⌜ now (words .exit) ≡ written k (write p (split c (sheetPage s) .right)) (now (words .entry)) ⌝ }
+{
+    let at = stretch_of(k, n, p);
+    let a = at.from;
+    let e = at.to;
+    sheets::lay_right(&mut words[a..e], k, c, s);
+}
+
+// A root a level above the pages `left` and `right`, with the reference key r between them.
+pub fn lay_root_at(
+    words: &mut [u32],
+    k: usize,
+    n: usize,
+    p: u32,
+    level: u32,
+    left: u32,
+    r: u32,
+    right: u32,
+)
+    requires { ⌜ InPool k n p (now words) ⌝ }
+    requires { ⌜ (1 ≤ k) × (level + 1 < wordRange) ⌝ }
+    ensures { λ _. ⌜ now (words .exit) ≡ written k (write p (page (level + 1) left (entry r right ∷ []))) (now (words .entry)) ⌝ }
+{
+    let at = stretch_of(k, n, p);
+    let a = at.from;
+    let e = at.to;
+    writing::lay_root(&mut words[a..e], k, level, left, r, right);
+}
+
+// A page freed.
+pub fn clear_at(words: &mut [u32], k: usize, n: usize, p: u32)
+    requires { ⌜ InPool k n p (now words) ⌝ }
+    ensures { λ _. ⌜ now (words .exit) ≡ written k (write p freePage) (now (words .entry)) ⌝ }
+{
+    let at = stretch_of(k, n, p);
+    let a = at.from;
+    let e = at.to;
+    writing::clear(&mut words[a..e]);
 }

@@ -30,18 +30,22 @@ start-of-requires : tie.Need-start-of-requires Inv-loop μ-loop
 start-of-requires c κs = search needs
 
 loop-holds : tie.Need-loop-holds Inv-loop μ-loop
-loop-holds c = (search needs, search needs, c .start-of .ensures, scan-starts (c .before .before .before .args .k) (c .before .before .before .args .words .now) (c .before .before .before .args .from))
+loop-holds c =
+    let outset = c .before .before .before in
+    (search needs, search needs, c .start-of .ensures, scan-starts (outset .args .k) (outset .args .words .now) (outset .args .from))
 
 mul-if2 : tie.Need-mul-if2 Inv-loop μ-loop
 unfolding largestK largestN
 mul-if2 c =
-    let few = start-few (c .before .before .before .before .before .args .k) (c .before .loop .p) (omega arith) (omega arith) in
+    let outset = c .before .before .before .before .before in
+    let few = start-few (outset .args .k) (c .before .loop .p) (omega arith) (omega arith) in
     omega (arith, c .before .loop .inv .2)
 
 shared-slice-read-if2 : tie.Need-shared-slice-read-if2 Inv-loop μ-loop
 shared-slice-read-if2 c =
-    let inside = ends-in-pool (c .before .before .before .before .before .before .args .k) (c .before .before .before .before .before .before .args .n) (c .before .before .loop .p) (omega arith) in
-    omega (arith, c .before .before .loop .inv .2, c .before .before .before .before .before .before .pre .2)
+    let outset = c .before .before .before .before .before .before in
+    let inside = ends-in-pool (outset .args .k) (outset .args .n) (c .before .before .loop .p) (omega arith) in
+    omega (arith, c .before .before .loop .inv .2, outset .pre .2)
 
 add-p : tie.Need-add-p Inv-loop μ-loop
 unfolding largestN
@@ -50,7 +54,8 @@ add-p c = omega arith
 add-at : tie.Need-add-at Inv-loop μ-loop
 unfolding largestK largestN
 add-at c =
-    let few = start-few (c .before .before .before .before .before .before .before .args .k) (c .before .before .before .loop .p) (omega arith) (omega arith) in
+    let outset = c .before .before .before .before .before .before .before in
+    let few = start-few (outset .args .k) (c .before .before .before .loop .p) (omega arith) (omega arith) in
     omega (arith, c .before .before .before .loop .inv .2, c .before .before .before .before .before .page-size .ensures)
 
 loop-less : tie.Need-loop-less Inv-loop μ-loop
@@ -58,31 +63,36 @@ loop-less c = omega arith
 
 loop-again : tie.Need-loop-again Inv-loop μ-loop
 loop-again c =
-    let k : ℕ = c .before .before .before .before .before .before .before .args .k in
-    let p : ℕ = c .before .before .before .loop .p in
-    let from : ℕ = c .before .before .before .before .before .before .before .args .from in
-    let ws : List ℕ = c .before .before .before .before .before .before .before .args .words .now in
-    let passed : freeFrom k ws from p ≡ false = scan-passes k ws from p (c .before .before .before .loop .at) (c .before .before .before .loop .inv .2) (c .if2 .left) in
+    let outset = c .before .before .before .before .before .before .before in
+    let k : ℕ = outset .args .k in
+    let turn = c .before .before .before in
+    let p : ℕ = turn .loop .p in
+    let from : ℕ = outset .args .from in
+    let ws : List ℕ = outset .args .words .now in
+    let passed : freeFrom k ws from p ≡ false = scan-passes k ws from p (turn .loop .at) (turn .loop .inv .2) (c .if2 .left) in
     let none : firstBelow (p + 1) (freeFrom k ws from) ≡ p + 1 =
     subst (λ (q : ℕ). firstBelow q (freeFrom k ws from) ≡ q) (sym (add-one p))
-    (firstBelow-goes-on (freeFrom k ws from) p (c .before .before .before .loop .inv .3) passed) in
+    (firstBelow-goes-on (freeFrom k ws from) p (turn .loop .inv .3) passed) in
     let next : start k (p + 1) ≡ start k p + size k = ap (start k) (add-one p) ∙ start-suc k p in
-    (omega arith, omega arith, omega (arith, c .before .before .before .loop .inv .2, c .before .before .before .before .before .page-size .ensures), none)
+    (omega arith, omega arith, omega (arith, turn .loop .inv .2, turn .before .before .page-size .ensures), none)
 
 returns : tie.Need-returns Inv-loop μ-loop
 returns c =
-    let first : ℕ → Bool = freeFrom (c .before .before .before .before .before .args .k) (c .before .before .before .before .before .args .words .now) (c .before .before .before .before .before .args .from) in
+    let outset = c .before .before .before .before .before in
+    let first : ℕ → Bool = freeFrom (outset .args .k) (outset .args .words .now) (outset .args .from) in
     sym (subst (λ (q : ℕ). firstBelow q first ≡ q) (c .if1 .taken) (c .before .loop .inv .3))
 
 returns-2 : tie.Need-returns-2 Inv-loop μ-loop
 returns-2 c =
-    let k : ℕ = c .before .before .before .before .before .before .before .args .k in
-    let p : ℕ = c .before .before .before .loop .p in
-    let from : ℕ = c .before .before .before .before .before .before .before .args .from in
-    let ws : List ℕ = c .before .before .before .before .before .before .before .args .words .now in
+    let outset = c .before .before .before .before .before .before .before in
+    let k : ℕ = outset .args .k in
+    let turn = c .before .before .before in
+    let p : ℕ = turn .loop .p in
+    let from : ℕ = outset .args .from in
+    let ws : List ℕ = outset .args .words .now in
     let found : freeFrom k ws from p ≡ true =
-    scan-finds k ws from p (c .before .before .before .loop .at) (c .before .before .before .loop .inv .2) (omega arith) (omega arith) (c .if2 .taken) in
-    sym (firstBelow-stops (freeFrom k ws from) (c .before .before .before .before .before .before .before .args .n) p (omega arith) (c .before .before .before .loop .inv .3) found)
+    scan-finds k ws from p (turn .loop .at) (turn .loop .inv .2) (omega arith) (omega arith) (c .if2 .taken) in
+    sym (firstBelow-stops (freeFrom k ws from) (outset .args .n) p (omega arith) (turn .loop .inv .3) found)
 
 pub next-free-spec : {M : Type 1} → statement M
 next-free-spec =

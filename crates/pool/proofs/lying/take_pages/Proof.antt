@@ -19,14 +19,17 @@ abbrev μ-loop : tie.MeasureT-loop
 
 loop-holds : tie.Need-loop-holds Inv-loop μ-loop
 unfolding mostNew padded
-loop-holds c = taking-starts (c .before .args .k) (c .before .args .n) (c .before .args .need) (c .before .args .words .now) (c .before .pre .1)
+loop-holds c =
+    let outset = c .before in
+    taking-starts (outset .args .k) (outset .args .n) (outset .args .need) (outset .args .words .now) (outset .pre .1)
 
 next-free-requires : tie.Need-next-free-requires Inv-loop μ-loop
 next-free-requires c κs = search needs
 
 returns : tie.Need-returns Inv-loop μ-loop
 returns c =
-    taking-stops (c .before .before .before .before .before .args .k) (c .before .before .before .before .before .args .n) (c .before .before .before .before .before .args .need) (c .before .before .before .before .before .args .words .now) (c .before .before .before .before .before .pre .4)
+    let outset = c .before .before .before .before .before in
+    taking-stops (outset .args .k) (outset .args .n) (outset .args .need) (outset .args .words .now) (outset .pre .4)
     (c .before .before .before .loop .pages)
     (c .before .before .before .loop .from)
     (c .before .before .before .loop .i)
@@ -37,7 +40,8 @@ returns c =
 cast-pages : tie.Need-cast-pages Inv-loop μ-loop
 unfolding largestN
 cast-pages c =
-    omega (arith, firstBelow-most (freeFrom (c .before .before .before .before .before .args .k) (c .before .before .before .before .before .args .words .now) (c .before .before .before .loop .from)) (c .before .before .before .before .before .args .n))
+    let outset = c .before .before .before .before .before in
+    omega (arith, firstBelow-most (freeFrom (outset .args .k) (outset .args .words .now) (c .before .before .before .loop .from)) (outset .args .n))
 
 mul-pages : tie.Need-mul-pages Inv-loop μ-loop
 unfolding mostNew
@@ -50,7 +54,8 @@ array-write-pages c = omega arith
 add-from : tie.Need-add-from Inv-loop μ-loop
 unfolding largestN
 add-from c =
-    omega (arith, firstBelow-most (freeFrom (c .before .before .before .before .before .args .k) (c .before .before .before .before .before .args .words .now) (c .before .before .before .loop .from)) (c .before .before .before .before .before .args .n))
+    let outset = c .before .before .before .before .before in
+    omega (arith, firstBelow-most (freeFrom (outset .args .k) (outset .args .words .now) (c .before .before .before .loop .from)) (outset .args .n))
 
 add-i : tie.Need-add-i Inv-loop μ-loop
 unfolding mostNew
@@ -61,7 +66,8 @@ loop-less c = omega arith
 
 loop-again : tie.Need-loop-again Inv-loop μ-loop
 loop-again c =
-    taking-on (c .before .before .before .before .before .args .k) (c .before .before .before .before .before .args .n) (c .before .before .before .before .before .args .need) (c .before .before .before .before .before .args .words .now) (c .before .before .before .before .before .pre .4)
+    let outset = c .before .before .before .before .before in
+    taking-on (outset .args .k) (outset .args .n) (outset .args .need) (outset .args .words .now) (outset .pre .4)
     (c .before .before .before .loop .pages)
     (c .before .before .before .loop .from)
     (c .before .before .before .loop .i)
@@ -73,7 +79,8 @@ loop-again c =
 
 returns-2 : tie.Need-returns-2 Inv-loop μ-loop
 returns-2 c =
-    taking-done (c .before .before .before .args .k) (c .before .before .before .args .n) (c .before .before .before .args .need) (c .before .before .before .args .words .now) (c .before .before .before .pre .4)
+    let outset = c .before .before .before in
+    taking-done (outset .args .k) (outset .args .n) (outset .args .need) (outset .args .words .now) (outset .pre .4)
     (c .before .loop .pages)
     (c .before .loop .from)
     (c .before .loop .i)

@@ -11,11 +11,18 @@ page-words-requires c κs = search needs
 
 between-at-requires : tie.Need-between-at-requires
 unfolding pageAt
-between-at-requires c κs = rw (c .page-words .ensures) (c .before .before .pre .1 .0, (c .before .before .pre .1 .1 .0, omega (arith, in-pool-μ (c .before .before .pre .0) (c .before .before .pre .1 .0))))
+between-at-requires c κs =
+    let outset = c .before .before in
+    rw (c .page-words .ensures)
+    (outset .pre .1 .0, (outset .pre .1 .1 .0, omega (arith, in-pool-μ (outset .pre .0) (outset .pre .1 .0))))
 
 returns : tie.Need-returns
 unfolding pageAt
-returns c = (rw (← c .before .page-words .ensures) (c .between-at .ensures .0), rw (in-pool-μ (c .before .before .before .pre .0) (c .before .before .before .pre .1 .0), ← c .before .page-words .ensures) (c .between-at .ensures .1))
+returns c =
+    let outset = c .before .before .before in (
+      rw (← c .before .page-words .ensures) (c .between-at .ensures .0),
+      rw (in-pool-μ (outset .pre .0) (outset .pre .1 .0), ← c .before .page-words .ensures) (c .between-at .ensures .1),
+    )
 
 pub between-of-spec : {M : Type 1} → statement M
 between-of-spec = tie.close (tie.spec page-words-requires between-at-requires returns)

@@ -12,7 +12,9 @@ count-requires : tie.Need-count-requires
 count-requires c κs = rw (c .page-words .ensures) (omega (arith, in-pool-size (c .before .before .pre .0)))
 
 returns : tie.Need-returns
-returns c = rw (in-pool-μ (c .before .before .before .pre .0) (c .before .before .before .pre .1), ← c .before .page-words .ensures) (c .count .ensures)
+returns c =
+    let outset = c .before .before .before in
+    rw (in-pool-μ (outset .pre .0) (outset .pre .1), ← c .before .page-words .ensures) (c .count .ensures)
 
 pub count-of-spec : {M : Type 1} → statement M
 count-of-spec = tie.close (tie.spec page-words-requires count-requires returns)

@@ -11,7 +11,12 @@ page-words-requires c κs = search needs
 
 neighbour-requires : tie.Need-neighbour-requires
 unfolding pageAt
-neighbour-requires c κs = rw (c .page-words .ensures) (c .before .before .pre .1 .0, (c .before .before .pre .1 .1 .0, (c .before .before .pre .1 .1 .1 .0, omega (arith, in-pool-μ (c .before .before .pre .0) (c .before .before .pre .1 .0)))))
+neighbour-requires c κs =
+    let outset = c .before .before in
+    rw (c .page-words .ensures) (
+      outset .pre .1 .0,
+      (outset .pre .1 .1 .0, (outset .pre .1 .1 .1 .0, omega (arith, in-pool-μ (outset .pre .0) (outset .pre .1 .0)))),
+    )
 
 returns : tie.Need-returns
 unfolding pageAt

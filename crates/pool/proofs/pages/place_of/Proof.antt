@@ -14,7 +14,11 @@ place-requires c κs = rw (c .page-words .ensures) (c .before .before .pre .1)
 
 returns : tie.Need-returns
 unfolding pageAt
-returns c = (rw (← c .before .page-words .ensures) (c .place .ensures .0), rw (in-pool-μ (c .before .before .before .pre .0) (c .before .before .before .pre .1 .0), ← c .before .page-words .ensures) (c .place .ensures .1))
+returns c =
+    let outset = c .before .before .before in (
+      rw (← c .before .page-words .ensures) (c .place .ensures .0),
+      rw (in-pool-μ (outset .pre .0) (outset .pre .1 .0), ← c .before .page-words .ensures) (c .place .ensures .1),
+    )
 
 pub place-of-spec : {M : Type 1} → statement M
 place-of-spec = tie.close (tie.spec page-words-requires place-requires returns)

@@ -16,11 +16,16 @@ page-words-requires c κs = search needs
 
 pointer-requires : tie.Need-pointer-requires
 unfolding pageAt
-pointer-requires c κs = rw (c .page-words .ensures) (c .before .before .pre .1 .0, (c .before .before .pre .1 .1 .0, omega (arith, in-pool-μ (c .before .before .pre .0) (c .before .before .pre .1 .0))))
+pointer-requires c κs =
+    let outset = c .before .before in
+    rw (c .page-words .ensures)
+    (outset .pre .1 .0, (outset .pre .1 .1 .0, omega (arith, in-pool-μ (outset .pre .0) (outset .pre .1 .0))))
 
 returns : tie.Need-returns
 unfolding pageAt
-returns c = c .pointer .ensures ∙ ap (λ (l : List ℕ). pointer (c .before .before .before .args .i) (view l)) (c .before .page-words .ensures)
+returns c =
+    let outset = c .before .before .before in
+    c .pointer .ensures ∙ ap (λ (l : List ℕ). pointer (outset .args .i) (view l)) (c .before .page-words .ensures)
 
 pub pointer-of-spec : {M : Type 1} → statement M
 pointer-of-spec = tie.close (tie.spec page-words-requires pointer-requires returns)

@@ -21,7 +21,8 @@ add-t6 c =
 
 returns : tie.Need-returns
 returns c =
-    let inside = ends-in-pool (c .before .before .args .k) (c .before .before .args .n) (c .before .before .args .p) (omega arith) in
+    let outset = c .before .before in
+    let inside = ends-in-pool (outset .args .k) (outset .args .n) (outset .args .p) (omega arith) in
     omega arith
 
 pub stretch-of-spec : {M : Type 1} → statement M

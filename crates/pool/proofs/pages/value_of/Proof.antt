@@ -11,7 +11,9 @@ page-words-requires c κs = search needs
 
 value-at-requires : tie.Need-value-at-requires
 unfolding pageAt
-value-at-requires c κs = rw (c .page-words .ensures) (c .before .before .pre .1 .0, omega (arith, in-pool-μ (c .before .before .pre .0) (c .before .before .pre .1 .0)))
+value-at-requires c κs =
+    let outset = c .before .before in
+    rw (c .page-words .ensures) (outset .pre .1 .0, omega (arith, in-pool-μ (outset .pre .0) (outset .pre .1 .0)))
 
 returns : tie.Need-returns
 unfolding pageAt
