@@ -1,11 +1,11 @@
 -- What is known of a page that an operation holds, and the path's array as a list that goes upward.
 use Prim.Native.Nat.{ℕ, zero, suc, _+_, _-_, _*_, _≤_, _<_}
-use mathlib.Core.Bool.{Bool, true, false, cond}
+use mathlib.Core.Bool.{Bool, true, false, cond, or-false}
 use mathlib.Core.List.{List, [], _∷_, _++_, reverse, reverse-append}
 use mathlib.Core.Path.{_≡_, refl, sym, ap, ap₂, _∙_, subst}
 use native.Mathlib.Nat.{not-suc-le-zero}
 use native.Mathlib.Omega.{arith}
-use borrow.Author.Tests.{ne-eqb}
+use borrow.Author.Tests.{ne-eqb, eqb-true}
 use lib.Dec.{eqb}
 use lib.ListN.{length, getD, take, drop}
 use lib.Seq.{length-take-le, getD-take, take-suc}
@@ -97,10 +97,28 @@ upward-reverse (suc i) path h =
     ∙ sym (reverse-append (take i path) (getD path i 0 ∷ []))
     ∙ sym (ap reverse (take-suc path i 0 (omega arith)))
 
--- what is known of a page of an insertion's path
+-- a page of an insertion's path is held
+pub holding-page : {k n : ℕ} {ws path : List ℕ} {depth : ℕ} → Holding k n ws path depth → (i : ℕ) → i < depth
+    → HeldPage k n ws (getD path i 0)
+holding-page {path = path} {depth = depth} h i l =
+    let long : depth ≤ length path = omega arith in
+    h .held .each (getD path i 0)
+    (member-from (getD path i 0) (take depth path) i 0 (omega (arith, length-take-le depth path long)) (getD-take depth path i 0 l))
+
+-- what is known of it
 pub holding-known : {k n : ℕ} {ws path : List ℕ} {depth : ℕ} → Holding k n ws path depth → (i : ℕ) → i < depth
     → Known k n ws (getD path i 0)
-holding-known {path = path} {depth = depth} h i l =
-    let long : depth ≤ length path = omega arith in
-    held-known (h .held) (getD path i 0)
-    (member-from (getD path i 0) (take depth path) i 0 (omega (arith, length-take-le depth path long)) (getD-take depth path i 0 l))
+holding-known h i l = held-page (h .held .width) (h .held .most) (h .held .whole) (holding-page h i l)
+
+-- one page alone is held
+pub one-held : {k n : ℕ} {ws : List ℕ} {p : ℕ} → 1 ≤ k → k ≤ largestK → n ≤ largestN → length ws ≡ poolLength k n → HeldPage k n ws p
+    → Held k n ws (p ∷ [])
+unfolding member
+one-held {k} {n} {ws} {p} least width most whole page =
+    record {
+      least = least;
+      width = width;
+      most = most;
+      whole = whole;
+      each = λ q m. subst (HeldPage k n ws) (sym (eqb-true q p (sym (or-false (eqb q p)) ∙ m))) page;
+    }
