@@ -1,12 +1,12 @@
 -- Which words are exactly a page's: those that pass the test of a page sound by itself, and those of a value that fits.
-use Prim.Native.Nat.{ℕ, suc, _+_, _-_, _*_, _≤_, _<_}
+use Prim.Native.Nat.{ℕ, suc, _+_, _*_, _≤_, _<_}
 use mathlib.Core.Bool.{Bool, true, false, cond}
-use mathlib.Core.List.{List, [], _∷_, _++_}
+use mathlib.Core.List.{List, _∷_, _++_}
 use mathlib.Core.Path.{_≡_, refl, sym, ap, _∙_, subst}
 use native.Mathlib.Omega.{arith}
 use borrow.Author.Tests.{ne-eqb}
 use lib.ListN.{length, getD, take, drop, replicate, length-append, length-take, length-drop}
-use Rattle.ground.proofs.Bools.{not-both, true-or-false}
+use Rattle.ground.proofs.Bools.{not-both}
 use Rattle.ground.proofs.Choice.{cond-ind, cond-true}
 use Rattle.page.specs.Words.{Entry, Page, entry, page, μ, isLeaf, freePage, encode, view, size}
 use Rattle.page.specs.Sound.{soundByItself}

@@ -7,7 +7,7 @@ use native.Mathlib.Omega.{arith}
 use lib.Dec.{eqb}
 use lib.ListN.{length, getD, take, drop, replicate}
 use lib.Seq.{drop-nil}
-use Rattle.page.specs.Words.{Entry, Page, entry, page, μ, flat, used, encode, pairs, pairsFrom, size}
+use Rattle.page.specs.Words.{Entry, Page, entry, μ, flat, used, encode, pairs, pairsFrom, size}
 use Rattle.page.specs.Splits.{entryAt}
 use Rattle.page.specs.Sheets.{front}
 use Rattle.page.proofs.WordLaws.{length-used}

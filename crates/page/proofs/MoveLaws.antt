@@ -6,7 +6,7 @@ use mathlib.Core.List.{List, [], _∷_, _++_}
 use mathlib.Core.Path.{_≡_, refl, sym, ap, _∙_}
 use native.Mathlib.Omega.{arith}
 use lib.Dec.{eqb}
-use lib.ListN.{length, getD, take, drop, List·getD-append}
+use lib.ListN.{length, take, drop, List·getD-append}
 use lib.Seq.{take-append-le, drop-append-le, drop-cons, drop-length, drop-at}
 use Rattle.page.specs.Words.{Entry, Page, entry, page, μ, isLeaf, keyOf, valueOf}
 use Rattle.page.specs.Splits.{Parted, parted, withEntries, entryAt, split}

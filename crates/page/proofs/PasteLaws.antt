@@ -5,7 +5,7 @@ use mathlib.Core.Path.{_≡_, refl, sym, ap, _∙_, subst}
 use native.Mathlib.Numerals.{add-one}
 use native.Mathlib.Omega.{arith}
 use lib.ListN.{length, getD, set, take, drop, replicate, length-set, length-drop, length-replicate, getD-replicate, drop-of-length-le}
-use lib.Seq.{paste, paste-zero, paste-suc, length-paste-head, getD-append-add, getD-drop, take-all, take-paste, drop-paste, drop-drop, sets, sets-eq}
+use lib.Seq.{paste, paste-zero, paste-suc, length-paste-head, getD-append-add, getD-drop, take-all, take-paste, drop-paste, drop-drop, sets-eq}
 
 -- w is d with a run of s pasted in from word a up to word j.
 pub record Pasted (d : List ℕ) (a : ℕ) (s : List ℕ) (j : ℕ) (w : List ℕ) : Type 0 where

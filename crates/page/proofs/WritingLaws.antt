@@ -7,7 +7,7 @@ use mathlib.Core.Path.{_≡_, refl, sym, ap, _∙_}
 use native.Mathlib.Omega.{arith}
 use borrow.Author.Tests.{eq-eqb, ne-eqb}
 use lib.Dec.{eqb}
-use lib.ListN.{length, getD, set, take, drop, replicate, length-append, length-take, length-drop, take-append-drop}
+use lib.ListN.{length, getD, set, take, drop, replicate, length-append, length-drop, take-append-drop}
 use lib.Seq.{paste, take-at, drop-at, set-at, drop-drop, drop-append-add, split-at, length-take-le}
 use Rattle.ground.specs.Limits.{largestK}
 use Rattle.page.specs.Words.{Entry, Page, entry, page, μ, flat, encode, view, pairsFrom, size}

@@ -256,7 +256,7 @@ pub fn lay_at(words: &mut [u32], k: usize, n: usize, p: u32, s: Sheet)
 // The left part of a buffer's page cut at pair c.
 pub fn lay_left_at(words: &mut [u32], k: usize, n: usize, p: u32, c: usize, s: Sheet)
     requires { ⌜ InPool k n p (now words) ⌝ }
-    requires { ⌜ (c ≤ 2 * k) × (c < s .count) ⌝ }
+    requires { ⌜ (c < s .count) × (c ≤ 2 * k) ⌝ }
     ensures { λ _. ⌜ now (words .exit) ≡ written k (write p (split c (sheetPage s) .left)) (now (words .entry)) ⌝ }
 {
     let at = stretch_of(k, n, p);
@@ -268,7 +268,7 @@ pub fn lay_left_at(words: &mut [u32], k: usize, n: usize, p: u32, c: usize, s: S
 // The right part of a buffer's page cut at pair c.
 pub fn lay_right_at(words: &mut [u32], k: usize, n: usize, p: u32, c: usize, s: Sheet)
     requires { ⌜ InPool k n p (now words) ⌝ }
-    requires { ⌜ (s .count ≤ c + 2 * k) × (c < s .count) × (s .count ≤ 50) ⌝ }
+    requires { ⌜ (c < s .count) × (s .count ≤ c + 2 * k) × (s .count ≤ 50) ⌝ }
     ensures { λ _. ⌜ now (words .exit) ≡ written k (write p (split c (sheetPage s) .right)) (now (words .entry)) ⌝ }
 {
     let at = stretch_of(k, n, p);

@@ -60,7 +60,7 @@ pub counted : {A B : Type 0} (f : A → B) (l : List A) (n : ℕ) → length (ma
 counted f l n e = sym (length-map l f) ∙ e
 
 -- what is read where no slot stands
-abbrev blank : Slot
+abbrev pub blank : Slot
 blank = record { task = Closed; want = 0; path = []; depth = 0; siblings = []; beside = 0 }
 
 default-other : (slots : List Slot) (i : ℕ) (a b : Slot) → i < length slots → getD slots i a ≡ getD slots i b

@@ -85,11 +85,12 @@ pub fn fresh_slot(op: Op) -> Slot
 pub fn holding_one(op: Op, want: u32, p: u32) -> Slot
     ensures { λ r. ⌜ r ≡ openSlot op want (p ∷ []) [] ⌝ }
 {
-    let none = [0u32; HELD];
+    let mut path = [0u32; HELD];
+    path[0] = p;
     Slot {
         task: Task::Open(op),
         want,
-        path: with_page(none, 0, p),
+        path,
         depth: 1,
         siblings: [0u32; HELD],
         beside: 0,

@@ -1,6 +1,8 @@
 // The lock report for a page: which kind of lock, how many slots hold it, and the lowest-numbered of them.
+use crate::Answer;
 use crate::Lock;
 use crate::State;
+use crate::checking::is_sound;
 use crate::granting::holds;
 use crate::granting::lock_of;
 use ground::SLOTS;
@@ -11,6 +13,7 @@ ghost use Rattle.ground.specs.Limits.{slotCount};
 ghost use Rattle.slots.specs.declared.Lock;
 ghost use Rattle.slots.specs.Locks.{lockAt};
 ghost use Rattle.slots.specs.Report.{holdersMask};
+ghost use Rattle.slots.specs.Statements.{ReportSays};
 
 // The slots that hold page p, one bit for each.
 pub fn holders(st: State, p: u32) -> u16
@@ -39,4 +42,21 @@ pub fn kind_at(st: State, s: u32) -> Lock
     let slot = st.slots[at];
     let task = slot.task;
     lock_of(task)
+}
+
+// What page p is held by.
+pub fn report(st: State, p: u32) -> Answer
+    ensures { λ r. ⌜ ReportSays st p r ⌝ }
+{
+    if !is_sound(st) {
+        return Answer::BadState;
+    }
+    let n = st.n;
+    if n <= p as usize {
+        return Answer::BadPage;
+    }
+    let mask = holders(st, p);
+    let count = u16::count_ones(mask);
+    let lowest = u16::trailing_zeros(mask);
+    Answer::Reported(kind_at(st, lowest), count, lowest)
 }

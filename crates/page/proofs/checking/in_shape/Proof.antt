@@ -1,6 +1,6 @@
 -- The tests are those of `inShape`, in its order: each that fails makes the whole fail, and the last tells the rest.
 use mathlib.Core.Path.{refl}
-use borrow.Author.Needs.{needs}
+use native.Mathlib.Omega.{arith}
 use lib.ListN.{getD}
 use Rattle.ground.specs.Limits.{tallest}
 use Rattle.page.proofs.CheckingLaws.{level-low, level-high, μ-low, μ-high}
@@ -8,7 +8,7 @@ use Rattle.page.proofs.checking.in_shape.Statement.{statement}
 use Rattle.page.proofs.checking.in_shape.Tie as tie
 
 level-requires : tie.Need-level-requires
-level-requires c κs = search needs
+level-requires c κs = omega arith
 
 returns : tie.Need-returns
 returns c =
@@ -26,10 +26,10 @@ returns-2 c =
     (c .if2 .taken)
 
 count-requires : tie.Need-count-requires
-count-requires c κs = search needs
+count-requires c κs = omega arith
 
 least-requires : tie.Need-least-requires
-least-requires c κs = search needs
+least-requires c κs = omega arith
 
 returns-3 : tie.Need-returns-3
 returns-3 c =
@@ -40,7 +40,7 @@ returns-3 c =
     (rw (← c .before .least .ensures) (c .if3 .taken))
 
 mul-result : tie.Need-mul-result
-mul-result c = search needs
+mul-result c = omega arith
 
 returns-4 : tie.Need-returns-4
 unfolding tallest

@@ -1,12 +1,12 @@
 -- The branch is the test by which the rule chooses.
 use mathlib.Core.Path.{sym, _∙_}
-use borrow.Author.Needs.{needs}
+use native.Mathlib.Omega.{arith}
 use Rattle.ground.proofs.Choice.{cond-true, cond-false}
 use Rattle.page.proofs.checking.pointers_sound.Statement.{statement}
 use Rattle.page.proofs.checking.pointers_sound.Tie as tie
 
 is-leaf-requires : tie.Need-is-leaf-requires
-is-leaf-requires c κs = search needs
+is-leaf-requires c κs = omega arith
 
 returns : tie.Need-returns
 returns c = sym (cond-true _ _ (sym (c .before .is-leaf .ensures) ∙ c .if1 .taken))

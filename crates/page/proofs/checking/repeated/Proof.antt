@@ -3,7 +3,6 @@ use Prim.Native.Nat.{ℕ, _-_, _≤_, _<_}
 use mathlib.Core.Path.{_≡_, sym, _∙_}
 use native.Mathlib.Omega.{arith}
 use borrow.Author.Count.{below-none, below-more}
-use borrow.Author.Needs.{needs}
 use Rattle.page.specs.Words.{view, pointers}
 use Rattle.page.specs.Place.{pointer}
 use Rattle.page.proofs.CheckingLaws.{repeated-found, repeated-done}
@@ -18,13 +17,13 @@ abbrev μ-loop : tie.MeasureT-loop
 μ-loop w i q j₀ j = i - j
 
 mul-q : tie.Need-mul-q Inv-loop μ-loop
-mul-q c = search needs
+mul-q c = omega arith
 
 add-q : tie.Need-add-q Inv-loop μ-loop
-add-q c = search needs
+add-q c = omega arith
 
 mul-q-2 : tie.Need-mul-q-2 Inv-loop μ-loop
-mul-q-2 c = search needs
+mul-q-2 c = omega arith
 
 shared-slice-read-q : tie.Need-shared-slice-read-q Inv-loop μ-loop
 shared-slice-read-q c =
@@ -35,13 +34,13 @@ loop-holds : tie.Need-loop-holds Inv-loop μ-loop
 loop-holds c = (omega arith, below-none _)
 
 mul-if1 : tie.Need-mul-if1 Inv-loop μ-loop
-mul-if1 c = search needs
+mul-if1 c = omega arith
 
 add-if1 : tie.Need-add-if1 Inv-loop μ-loop
-add-if1 c = search needs
+add-if1 c = omega arith
 
 mul-if1-2 : tie.Need-mul-if1-2 Inv-loop μ-loop
-mul-if1-2 c = search needs
+mul-if1-2 c = omega arith
 
 shared-slice-read-if1 : tie.Need-shared-slice-read-if1 Inv-loop μ-loop
 shared-slice-read-if1 c =
@@ -59,10 +58,10 @@ returns c =
     (word at (omega arith) ∙ c .if1 .taken ∙ sym (word (start .args .i) (start .pre .1 .1)))
 
 add-j : tie.Need-add-j Inv-loop μ-loop
-add-j c = search needs
+add-j c = omega arith
 
 loop-less : tie.Need-loop-less Inv-loop μ-loop
-loop-less c = search needs
+loop-less c = omega arith
 
 loop-again : tie.Need-loop-again Inv-loop μ-loop
 loop-again c =

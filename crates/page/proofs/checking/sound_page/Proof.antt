@@ -4,7 +4,6 @@ use mathlib.Core.Bool.{true}
 use mathlib.Core.Path.{_≡_, sym, _∙_}
 use native.Mathlib.Omega.{arith}
 use borrow.Author.Tests.{not-true, not-false}
-use borrow.Author.Needs.{needs}
 use Rattle.page.specs.Words.{view}
 use Rattle.page.specs.Sound.{rises}
 use Rattle.page.specs.Reading.{Readable, inShape}
@@ -25,7 +24,7 @@ words c =
     shape-readable (start .args .k) (start .args .p) (start .args .w .now) (start .pre) (shape-held c)
 
 in-shape-requires : tie.Need-in-shape-requires
-in-shape-requires c κs = search needs
+in-shape-requires c κs = omega arith
 
 returns : tie.Need-returns
 returns c =
@@ -64,7 +63,7 @@ add-unused : tie.Need-add-unused
 add-unused c = omega (arith, words (c .before .before .before .before .before .before) .inside)
 
 unused-requires : tie.Need-unused-requires
-unused-requires c κs = search needs
+unused-requires c κs = omega arith
 
 returns-4 : tie.Need-returns-4
 returns-4 c =

@@ -1,20 +1,21 @@
 -- The branch is the test by which `betweenAt` chooses. With at least one key, a place that is not below μ is not 0.
 use mathlib.Core.Path.{sym, _∙_}
 use native.Mathlib.Omega.{arith}
-use borrow.Author.Needs.{needs}
 use Rattle.page.specs.Words.{view}
 use Rattle.page.proofs.ReadingLaws.{readable-μ, between-right, between-left}
 use Rattle.page.proofs.reading.between_at.Statement.{statement}
 use Rattle.page.proofs.reading.between_at.Tie as tie
 
 count-requires : tie.Need-count-requires
-count-requires c κs = search needs
+count-requires c κs = omega arith
 
 place-requires : tie.Need-place-requires
-place-requires c κs = search needs
+place-requires c κs =
+    let start = c .before .before in
+    (start .pre .0, start .pre .1 .0)
 
 sub-result : tie.Need-sub-result
-sub-result c = search needs
+sub-result c = omega arith
 
 returns : tie.Need-returns
 returns c =

@@ -1,6 +1,6 @@
 -- On rising keys a key that stands does so just before its place: there is no entry there, or another key, or x.
 use mathlib.Core.Path.{sym, ap, _∙_}
-use borrow.Author.Needs.{needs}
+use native.Mathlib.Omega.{arith}
 use Rattle.page.specs.Words.{view}
 use Rattle.page.specs.declared.reading.Lot.the-variants.{There}
 use Rattle.page.proofs.ReadingLaws.{look-none, look-other, look-there}
@@ -8,7 +8,7 @@ use Rattle.page.proofs.reading.look.Statement.{statement}
 use Rattle.page.proofs.reading.look.Tie as tie
 
 place-requires : tie.Need-place-requires
-place-requires c κs = search needs
+place-requires c κs = c .before .pre
 
 returns : tie.Need-returns
 returns c =
@@ -18,10 +18,10 @@ returns c =
     (c .if1 .taken)
 
 sub-key-at : tie.Need-sub-key-at
-sub-key-at c = search needs
+sub-key-at c = omega arith
 
 key-at-requires : tie.Need-key-at-requires
-key-at-requires c κs = search needs
+key-at-requires c κs = omega arith
 
 returns-2 : tie.Need-returns-2
 returns-2 c =
@@ -31,10 +31,10 @@ returns-2 c =
     (λ same. c .if2 .taken (c .before .key-at .ensures ∙ same))
 
 sub-value-at : tie.Need-sub-value-at
-sub-value-at c = search needs
+sub-value-at c = omega arith
 
 value-at-requires : tie.Need-value-at-requires
-value-at-requires c κs = search needs
+value-at-requires c κs = omega arith
 
 returns-3 : tie.Need-returns-3
 returns-3 c =

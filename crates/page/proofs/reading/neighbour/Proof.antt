@@ -1,28 +1,34 @@
 -- The branch is the test by which `neighbour` chooses. With at least one key, a place that is not below μ is not 0.
 use mathlib.Core.Path.{sym, _∙_}
-use borrow.Author.Needs.{needs}
+use native.Mathlib.Omega.{arith}
 use Rattle.page.specs.Words.{view}
 use Rattle.page.proofs.ReadingLaws.{readable-μ, neighbour-right, neighbour-left}
 use Rattle.page.proofs.reading.neighbour.Statement.{statement}
 use Rattle.page.proofs.reading.neighbour.Tie as tie
 
 count-requires : tie.Need-count-requires
-count-requires c κs = search needs
+count-requires c κs = omega arith
 
 place-requires : tie.Need-place-requires
-place-requires c κs = search needs
+place-requires c κs =
+    let start = c .before .before in
+    (start .pre .0, start .pre .1 .1 .0)
 
 add-pointer : tie.Need-add-pointer
-add-pointer c = search needs
+add-pointer c = omega arith
 
 pointer-requires : tie.Need-pointer-requires
-pointer-requires c κs = search needs
+pointer-requires c κs =
+    let start = c .before .before .before .before in
+    (start .pre .0, (start .pre .1 .0, omega arith))
 
 sub-pointer : tie.Need-sub-pointer
-sub-pointer c = search needs
+sub-pointer c = omega arith
 
 pointer-requires-2 : tie.Need-pointer-requires-2
-pointer-requires-2 c κs = search needs
+pointer-requires-2 c κs =
+    let start = c .before .before .before .before in
+    (start .pre .0, (start .pre .1 .0, omega arith))
 
 returns : tie.Need-returns
 returns c =

@@ -1,13 +1,13 @@
 -- The test on word 0 is the one by which `pairsFrom` chooses.
 use mathlib.Core.Path.{sym}
+use native.Mathlib.Omega.{arith}
 use borrow.Author.Tests.{eq-eqb, ne-eqb}
-use borrow.Author.Needs.{needs}
 use Rattle.ground.proofs.Choice.{cond-true, cond-false}
 use Rattle.page.proofs.reading.pairs_from.Statement.{statement}
 use Rattle.page.proofs.reading.pairs_from.Tie as tie
 
 shared-slice-read-if1 : tie.Need-shared-slice-read-if1
-shared-slice-read-if1 c = search needs
+shared-slice-read-if1 c = omega arith
 
 returns : tie.Need-returns
 returns c = sym (cond-true 2 3 (eq-eqb _ _ (c .if1 .taken)))

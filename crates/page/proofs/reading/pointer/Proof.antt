@@ -1,18 +1,18 @@
 -- Above the leaves the pairs begin behind p0, so pi is the word before the key of pair i.
 use mathlib.Core.Path.{sym}
-use borrow.Author.Needs.{needs}
+use native.Mathlib.Omega.{arith}
 use Rattle.page.proofs.ReadingLaws.{pointer-inside, pointer-word}
 use Rattle.page.proofs.reading.pointer.Statement.{statement}
 use Rattle.page.proofs.reading.pointer.Tie as tie
 
 mul-result : tie.Need-mul-result
-mul-result c = search needs
+mul-result c = omega arith
 
 add-result : tie.Need-add-result
-add-result c = search needs
+add-result c = omega arith
 
 mul-result-2 : tie.Need-mul-result-2
-mul-result-2 c = search needs
+mul-result-2 c = omega arith
 
 shared-slice-read-result : tie.Need-shared-slice-read-result
 shared-slice-read-result c =

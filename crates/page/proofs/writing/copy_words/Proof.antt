@@ -8,8 +8,6 @@ use lib.Seq.{paste}
 use Rattle.page.proofs.PasteLaws.{Pasted, pasted-none, copied-more}
 use Rattle.page.proofs.writing.copy_words.Statement.{statement}
 use Rattle.page.proofs.writing.copy_words.Tie as tie
-use Rattle.page.proofs.writing.copy_words.Reads as reads
-use Rattle.page.proofs.writing.copy_words.Lts as lts
 
 abbrev Inv-loop : tie.InvT-loop
 Inv-loop src a dst₀ b n j₀ dst j = (j ≤ n) × Pasted dst₀ b (drop a src) (b + j) dst

@@ -7,8 +7,6 @@ use lib.ListN.{drop, length-set}
 use Rattle.page.proofs.PasteLaws.{Pasted, pasted-none, pulled-more, pulled-end}
 use Rattle.page.proofs.writing.pull_two.Statement.{statement}
 use Rattle.page.proofs.writing.pull_two.Tie as tie
-use Rattle.page.proofs.writing.pull_two.Reads as reads
-use Rattle.page.proofs.writing.pull_two.Lts as lts
 
 abbrev Inv-loop : tie.InvT-loop
 Inv-loop w₀ a e last j₀ w j = (j ≤ last) × Pasted w₀ a (drop (a + 2) w₀) j w

@@ -10,8 +10,6 @@ use lib.Seq.{paste}
 use Rattle.page.proofs.PasteLaws.{Pushed, pushed-none, pushed-more}
 use Rattle.page.proofs.writing.push_two.Statement.{statement}
 use Rattle.page.proofs.writing.push_two.Tie as tie
-use Rattle.page.proofs.writing.push_two.Reads as reads
-use Rattle.page.proofs.writing.push_two.Lts as lts
 
 abbrev Inv-loop : tie.InvT-loop
 Inv-loop w₀ a e x v end hand₀ next₀ j₀ w hand next j = (j ≤ end) × Pushed w₀ a x v j w hand next

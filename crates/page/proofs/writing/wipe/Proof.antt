@@ -6,8 +6,6 @@ use lib.ListN.{length, replicate}
 use Rattle.page.proofs.PasteLaws.{Pasted, pasted-none, pasted-zeros, zeroed-more}
 use Rattle.page.proofs.writing.wipe.Statement.{statement}
 use Rattle.page.proofs.writing.wipe.Tie as tie
-use Rattle.page.proofs.writing.wipe.Reads as reads
-use Rattle.page.proofs.writing.wipe.Lts as lts
 
 abbrev Inv-loop : tie.InvT-loop
 Inv-loop w₀ a j₀ w j = (j ≤ length w₀) × Pasted w₀ a (replicate (length w₀ - a) 0) j w

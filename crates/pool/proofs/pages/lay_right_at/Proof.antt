@@ -27,7 +27,7 @@ lay-right-requires : tie.Need-lay-right-requires
 lay-right-requires c κs =
     let outset = c .before .before .before in
     rw (lies-words (outset .args .words .now) (c .before .stretch-of .ensures))
-    (in-pool-size (outset .pre .0), outset .pre .0 .width, outset .pre .1 .0, outset .pre .1 .1, outset .pre .1 .2)
+    (in-pool-size (outset .pre .0), outset .pre .1 .0, outset .pre .1 .1, outset .pre .1 .2)
 
 same-length : tie.Need-same-length
 same-length c = search needs

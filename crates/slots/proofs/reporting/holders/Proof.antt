@@ -28,27 +28,21 @@ unfolding slotCount
 loop-holds c = (omega arith, sym (mask-none (λ (s : ℕ). holdsAt (c .args .t1) s (c .args .p))), search (needs, counted))
 
 mul-slot : tie.Need-mul-slot Inv-loop μ-loop
-unfolding slotCount
 mul-slot c = search needs
 
 element-copy-out-slot : tie.Need-element-copy-out-slot Inv-loop μ-loop
-unfolding slotCount
 element-copy-out-slot c = search needs
 
 holds-requires : tie.Need-holds-requires Inv-loop μ-loop
-unfolding slotCount
 holds-requires c κs = search needs
 
 cast-mask : tie.Need-cast-mask Inv-loop μ-loop
-unfolding slotCount
 cast-mask c = search needs
 
 shl-mask : tie.Need-shl-mask Inv-loop μ-loop
-unfolding slotCount
 shl-mask c = search needs
 
 add-s : tie.Need-add-s Inv-loop μ-loop
-unfolding slotCount
 add-s c = search needs
 
 loop-less : tie.Need-loop-less Inv-loop μ-loop

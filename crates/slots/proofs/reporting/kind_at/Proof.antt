@@ -17,15 +17,12 @@ unfolding slotCount
 returns c = sym (cond-false (lockAt (c .before .args .t1) (c .before .args .s)) None (le-ltb (c .before .args .s) slotCount (c .if1 .taken)))
 
 mul-slot : tie.Need-mul-slot
-unfolding slotCount
 mul-slot c = search needs
 
 element-copy-out-slot : tie.Need-element-copy-out-slot
-unfolding slotCount
 element-copy-out-slot c = search needs
 
 lock-of-requires : tie.Need-lock-of-requires
-unfolding slotCount
 lock-of-requires c κs = search needs
 
 returns-2 : tie.Need-returns-2
