@@ -25,3 +25,7 @@ found-short v h = omega (arith, word-short v h, length-append (decimal v) (10 �
 
 pub deleted-short : (v : ℕ) → v < 2 ^ 32 → length (written (Deleted v)) ≤ 32
 deleted-short v h = omega (arith, word-short v h, length-append (decimal v) (10 ∷ []))
+
+-- where there is room for 32 bytes, there is room for fewer
+pub room : (at n : ℕ) {long : ℕ} → at + 32 ≤ long → n ≤ 32 → at + n ≤ long
+room at n h k = omega (arith, h, k)

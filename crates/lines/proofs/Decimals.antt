@@ -18,7 +18,7 @@ use Rattle.lines.specs.Decimal.{lastDigit, digitsWithin, decimal}
 use Rattle.lines.proofs.DigitLaws.{digit-between, value-snoc}
 use Rattle.lines.proofs.Grammar.{front-numeral}
 
--- any two counts of parts above the number do the same
+-- any two bounds above the number do the same
 within-same : (f g n : ℕ) → n < f → n < g → digitsWithin f n ≡ digitsWithin g n
 unfolding digitsWithin
 within-same zero g n h k = absurd (not-suc-le-zero h)

@@ -1,4 +1,4 @@
--- A number in decimal, "without leading zeros": what the program writes. Reading it back is in `proofs/Decimals.antt`.
+-- A number in decimal, without leading zeros, as the program writes it. That it is read back is in `proofs/Decimals.antt`.
 use Prim.Native.Nat.{ℕ, zero, suc, _+_, _/_, _%_}
 use mathlib.Core.Bool.{cond}
 use mathlib.Core.List.{List, [], _∷_, _++_}
@@ -8,12 +8,12 @@ use lib.Dec.{ltb}
 abbrev pub lastDigit : ℕ → ℕ
 lastDigit n = 48 + n % 10
 
--- the digits of a number: those of its tenth part, if it is 10 or more, and its last. The tenth part is smaller, so
--- that a number above n parts is enough.
+-- the digits of a number: those of its tenth part, if it is 10 or more, and its last. `most` is how many there may be:
+-- n + 1 are always enough for n.
 unfoldable pub digitsWithin : ℕ → ℕ → List ℕ
 digitsWithin zero n = []
-digitsWithin (suc parts) n =
-    let front = digitsWithin parts (n / 10) in
+digitsWithin (suc most) n =
+    let front = digitsWithin most (n / 10) in
     cond (ltb n 10) [] front ++ lastDigit n ∷ []
 
 -- the number in decimal; 0 is `0`

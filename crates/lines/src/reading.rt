@@ -3,10 +3,10 @@ use crate::Command;
 use slots::Op;
 ghost use mathlib.Core.Bool.{true};
 ghost use mathlib.Core.Path.{_≡_};
-ghost use Prim.Native.Nat.{_+_, _*_, _-_, _≤_, _<_, max};
+ghost use Prim.Native.Nat.{_≤_, max};
 ghost use lib.ListN.{length, drop};
 ghost use Rattle.lines.specs.Text.{begins};
-ghost use Rattle.lines.specs.Meaning.{isDigit, value, front, alone, stepping, searching, deleting, informing, inserting, asking, beginning, meaning};
+ghost use Rattle.lines.specs.Meaning.{isDigit, front, alone, stepping, searching, deleting, informing, inserting, asking, beginning, meaning};
 ghost use Rattle.lines.specs.Ends.{lineEnd};
 ghost use Rattle.lines.specs.Positions.{frontOf, behind, Capped, Counted};
 
