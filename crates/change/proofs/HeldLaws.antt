@@ -1,21 +1,21 @@
 -- What is known of a page that an operation holds, and the path's array as a list that goes upward.
-use Prim.Native.Nat.{ℕ, zero, suc, _+_, _-_, _*_, _≤_, _<_}
-use mathlib.Core.Bool.{Bool, true, false, cond, or-false}
+use Prim.Native.Nat.{ℕ, zero, suc, _-_, _≤_, _<_}
+use mathlib.Core.Bool.{true, false, or-false}
 use mathlib.Core.List.{List, [], _∷_, _++_, reverse, reverse-append}
-use mathlib.Core.Path.{_≡_, refl, sym, ap, ap₂, _∙_, subst}
+use mathlib.Core.Path.{_≡_, refl, sym, ap, _∙_, subst}
 use native.Mathlib.Nat.{not-suc-le-zero}
 use native.Mathlib.Omega.{arith}
-use borrow.Author.Tests.{ne-eqb, eqb-true}
+use borrow.Author.Tests.{eqb-true}
 use lib.Dec.{eqb}
-use lib.ListN.{length, getD, take, drop}
+use lib.ListN.{length, getD, take}
 use lib.Seq.{length-take-le, getD-take, take-suc}
 use Rattle.ground.specs.Limits.{largestK, largestN}
 use Rattle.ground.specs.Tests.{member}
 use Rattle.ground.proofs.Bools.{or-first, or-second}
 use Rattle.ground.proofs.Choice.{cond-ind, cond-false}
 use Rattle.ground.proofs.Tests.{member-append, member-from}
-use Rattle.page.specs.Words.{Page, μ, isLeaf, size}
-use Rattle.page.specs.Sound.{rises, least, soundByItself}
+use Rattle.page.specs.Words.{Page, μ, isLeaf}
+use Rattle.page.specs.Sound.{least}
 use Rattle.page.specs.Reading.{Readable}
 use Rattle.page.specs.Sheets.{Exact}
 use Rattle.page.proofs.ReadingLaws.{sound-readable}

@@ -1,37 +1,33 @@
 -- An insertion on its way up. The pages above the one that it stands at are as they were before the change, since no page
 -- stands twice among those held and those taken; so what the code reads there is what the rule reads.
 use Prim.Native.Nat.{ℕ, zero, suc, _+_, _-_, _*_, _≤_, _<_}
-use mathlib.Core.Bool.{Bool, true, false, cond, _&&_}
-use mathlib.Core.List.{List, [], _∷_, _++_}
+use mathlib.Core.Bool.{true, cond, _&&_}
+use mathlib.Core.List.{List, [], _∷_}
 use mathlib.Core.Logic.{⊎-elim, _≢_}
 use mathlib.Core.Path.{_≡_, refl, sym, ap, ap₂, _∙_, subst}
 use native.Mathlib.Nat.{eq-or-lt-of-le}
-use native.Mathlib.Numerals.{add-one}
 use native.Mathlib.Omega.{arith}
-use borrow.Author.Tests.{le-ltb, eq-eqb, eqb-true}
-use lib.Dec.{eqb, ltb}
+use borrow.Author.Tests.{le-ltb, leb-true, leb-false, eq-eqb, eqb-true}
+use lib.Dec.{leb}
 use lib.ListN.{length, getD, take, drop}
 use lib.Seq.{length-take-le, getD-take, getD-drop, drop-drop}
-use Rattle.ground.specs.Limits.{pathHolds, mostNew}
-use Rattle.ground.specs.Tests.{count, member, distinct}
-use Rattle.ground.proofs.Bools.{and-both}
+use Rattle.ground.specs.Tests.{count, member}
+use Rattle.ground.proofs.Bools.{and-both, true-or-false}
 use Rattle.ground.proofs.Choice.{cond-true, cond-false}
 use Rattle.ground.proofs.Tests.{count-more, member-from, distinct-front, distinct-apart, distinct-at, apart-member, not-member-at}
-use Rattle.page.specs.Words.{Page, entry, μ, isLeaf, size, encode, view}
+use Rattle.page.specs.Words.{Page, μ, isLeaf, size, encode, view}
 use Rattle.page.specs.Sound.{soundByItself}
-use Rattle.page.specs.Place.{place}
 use Rattle.page.specs.Splits.{put, split}
-use Rattle.page.proofs.Fits.{Fits}
 use Rattle.page.proofs.WordLaws.{length-encode}
 use Rattle.page.proofs.ExactLaws.{left-fits, right-fits}
-use Rattle.pool.specs.Pool.{Write, poolLength, wordsOf, pageAt, write, written, applied}
+use Rattle.pool.specs.Pool.{Write, wordsOf, pageAt, write, written, applied}
 use Rattle.pool.proofs.WriteLaws.{length-written, wordsOf-written-other}
 use Rattle.change.specs.Insertion.{isFull, lowest, room, settled, insertion}
-use Rattle.change.specs.Held.{HeldPage, Held, Holding, Inserting, upward, leafOf, fathersOf, grown, settledAs}
+use Rattle.change.specs.Held.{Held, Inserting, upward, leafOf, fathersOf, grown, settledAs}
 use Rattle.change.specs.declared.inserting.Settled.{Settled}
 use Rattle.change.specs.declared.inserting.Settled.the-variants.{Done, Up}
 use Rattle.change.proofs.HeldLaws.{Known, holding-known, holding-page, one-held, upward-top, upward-father}
-use Rattle.change.proofs.SettleLaws.{grown-μ, settled-top, settled-done, settled-on}
+use Rattle.change.proofs.SettleLaws.{grown-μ, settled-fits, settled-splits, settled-top, settled-done, settled-on}
 
 -- from index i on all pages are full, so there are as many full pages
 count-suffix : (k : ℕ) (memory : ℕ → Page) (path : List ℕ) (i m : ℕ) → i + m ≤ length path
@@ -127,6 +123,46 @@ module _ {k n : ℕ} {ws₀ path : List ℕ} {depth : ℕ} {pages : List ℕ} (x
       let counted = subst (λ (d : ℕ). suc m ≤ count (isFull k (pageAt k ws₀)) (take d path)) e many in
       subst (λ (r : ℕ). suc m + extra ≤ r) (sym counting) (omega arith)
 
+  -- the page at index i is full, and those below it are: all from index i on are
+  full-from : (i : ℕ) → i < depth → ((j : ℕ) → i < j → j < depth → isFull k (pageAt k ws₀) (getD path j 0) ≡ true)
+      → 2 * k ≤ μ (pageAt k ws₀ (getD path i 0))
+      → (j : ℕ)
+      → i ≤ j
+      → j < depth
+      → isFull k (pageAt k ws₀) (getD path j 0) ≡ true
+  full-from i low below over j l u =
+      let few = holding-known (h .holding) i low .facts .room in
+      let here = eq-eqb (μ (pageAt k ws₀ (getD path i 0))) (2 * k) (omega arith) in
+      ⊎-elim
+      (λ e. subst (λ (m : ℕ). isFull k (pageAt k ws₀) (getD path m 0) ≡ true) e here)
+      (λ b. below j b u)
+      (eq-or-lt-of-le l)
+
+  -- then a new page is there for it
+  one-needed : (i t : ℕ) → t + suc i ≡ depth → ((j : ℕ) → i < j → j < depth → isFull k (pageAt k ws₀) (getD path j 0) ≡ true)
+      → 2 * k ≤ μ (pageAt k ws₀ (getD path i 0))
+      → t < need
+  one-needed i t e below over =
+      let many = need-least i t (omega arith) (full-from i (omega arith) below over) in
+      omega arith
+
+  -- and two for the top, which is page 0
+  two-needed : (t : ℕ) → t + 1 ≡ depth → ((j : ℕ) → 0 < j → j < depth → isFull k (pageAt k ws₀) (getD path j 0) ≡ true)
+      → 2 * k ≤ μ (pageAt k ws₀ (getD path 0 0))
+      → t + 1 < need
+  two-needed t e below over =
+      let full = full-from 0 (omega arith) below over in
+      let topFull = full 0 (omega arith) (omega arith) in
+      let many = need-least 0 t (omega arith) full in
+      let long = length-take-le depth path path-long in
+      ⊎-elim
+      (λ root. let there = member-from 0 (take depth path) 0 0 (omega arith) (getD-take depth path 0 0 (omega arith) ∙ root) in
+      let isZero = subst (λ (q : ℕ). isFull k (pageAt k ws₀) q ≡ true) root topFull in
+      let one = cond-true {A = ℕ} 1 0 (and-both there isZero) in
+      omega arith)
+      (λ space. absurd (omega arith))
+      (h .top)
+
   module _ {ws : List ℕ} (i t key value : ℕ) (a : Along k ws₀ path depth pages x v ws i t key value) where
     -- what is known of the page at index j as it was
     was : (j : ℕ) → j ≤ i → Known k n ws₀ (getD path j 0)
@@ -149,43 +185,13 @@ module _ {k n : ℕ} {ws₀ path : List ℕ} {depth : ℕ} {pages : List ℕ} (x
         })
 
     module _ (over : 2 * k ≤ μ (pageAt k ws (getD path i 0))) where
-      -- it is full, and so are those below it
-      all-full : (j : ℕ) → i ≤ j → j < depth → isFull k (pageAt k ws₀) (getD path j 0) ≡ true
-      all-full j l u =
-          let few = was i (omega arith) .facts .room in
-          let pairs = ap μ (same-page i (omega arith)) in
-          let here = eq-eqb (μ (pageAt k ws₀ (getD path i 0))) (2 * k) (omega arith) in
-          ⊎-elim
-          (λ e. subst (λ (m : ℕ). isFull k (pageAt k ws₀) (getD path m 0) ≡ true) e here)
-          (λ b. a .full j b u)
-          (eq-or-lt-of-le l)
+      -- it was full
+      full-before : 2 * k ≤ μ (pageAt k ws₀ (getD path i 0))
+      full-before = subst (λ (F : Page). 2 * k ≤ μ F) (same-page i (omega arith)) over
 
       -- a new page is there for it
-      next-needed : t < need
-      next-needed = let many = need-least i t (omega (arith, a .risen)) all-full in omega arith
-
       pub along-new : getD pages t 0 < n
-      along-new = h .inside t next-needed
-
-      -- and two at the top
-      pub along-two : i ≡ 0 → (getD pages t 0 < n) × (getD pages (t + 1) 0 < n)
-      along-two z =
-          ⊎-elim
-          (λ root. (along-new, h .inside (t + 1) (two-needed root)))
-          (λ space. absurd (let full = eqb-true (μ (pageAt k ws₀ (getD path 0 0))) (2 * k) top-full in omega arith))
-          (h .top)
-        where
-          top-full : isFull k (pageAt k ws₀) (getD path 0 0) ≡ true
-          top-full = all-full 0 (omega arith) (omega (arith, a .risen))
-
-          two-needed : getD path 0 0 ≡ 0 → t + 1 < need
-          two-needed root =
-              let long = length-take-le depth path path-long in
-              let there = member-from 0 (take depth path) 0 0 (omega (arith, a .risen)) (getD-take depth path 0 0 (omega (arith, a .risen)) ∙ root) in
-              let isZero = subst (λ (q : ℕ). isFull k (pageAt k ws₀) q ≡ true) root top-full in
-              let one = cond-true {A = ℕ} 1 0 (and-both there isZero) in
-              let many = need-least i t (omega (arith, a .risen)) all-full in
-              omega arith
+      along-new = h .inside t (one-needed i t (a .risen) (a .full) full-before)
 
     -- the page fits: the change is made
     pub along-done : {r : Settled} {after : List ℕ} → r ≡ Done
@@ -217,7 +223,6 @@ module _ {k n : ℕ} {ws₀ path : List ℕ} {depth : ℕ} {pages : List ℕ} (x
         let pairs = grown-μ x key value F in
         let few = known .facts .room in
         let full : 2 * k ≤ μ F = omega (arith, s₀ .0) in
-        let over : 2 * k ≤ μ (pageAt k ws p) = subst (λ (E : Page). 2 * k ≤ μ E) (sym (same-page i (omega arith))) full in
         let sizes = cut-sizes k G (h .holding .held .least) (omega arith) (grown-first x key value F (known .facts .leafFirst)) in
         let first : List ℕ = written k (write new (split k G .right)) ws in
         record {
@@ -230,9 +235,9 @@ module _ {k n : ℕ} {ws₀ path : List ℕ} {depth : ℕ} {pages : List ℕ} (x
           same = λ j l.
               ap (wordsOf k (getD path j 0)) (s₀ .2)
               ∙ wordsOf-written-other k p (getD path j 0) (split k G .left) first (path-differ i j (omega arith) (omega (arith, a .risen))) (sizes .0)
-              ∙ wordsOf-written-other k new (getD path j 0) (split k G .right) ws (path-old j t (omega (arith, a .risen)) (next-needed over)) (sizes .1)
+              ∙ wordsOf-written-other k new (getD path j 0) (split k G .right) ws (path-old j t (omega (arith, a .risen)) (one-needed i t (a .risen) (a .full) full)) (sizes .1)
               ∙ a .same j (omega arith);
-          full = λ j l u. all-full over j (omega arith) u;
+          full = λ j l u. full-from i (omega (arith, a .risen)) (a .full) full j (omega arith) u;
           rest =
               a .rest
               ∙ settled-on k (pageAt k ws₀) x (drop t pages) (drop (t + 1) pages) (upward i path) (getD path (i - 1) 0) (upward (i - 1) path) p G new up
@@ -241,6 +246,14 @@ module _ {k n : ℕ} {ws₀ path : List ℕ} {depth : ℕ} {pages : List ℕ} (x
       where
         next-page : lowest (drop t pages) ≡ getD pages t 0
         next-page = let e : t + 0 ≡ t = omega arith in getD-drop t pages 0 0 ∙ ap (λ (m : ℕ). getD pages m 0) e
+
+  -- two new pages are there for the top
+  pub along-two : {ws : List ℕ} (t key value : ℕ) → Along k ws₀ path depth pages x v ws 0 t key value
+      → 2 * k ≤ μ (pageAt k ws (getD path 0 0))
+      → (getD pages t 0 < n) × (getD pages (t + 1) 0 < n)
+  along-two t key value a over =
+      let was = full-before 0 t key value a over in
+      (h .inside t (one-needed 0 t (a .risen) (a .full) was), h .inside (t + 1) (two-needed t (omega (arith, a .risen)) (a .full) was))
 
   -- the top is written, or it is page 0 and rises: the change is made
   pub along-top : {ws after : List ℕ} (t key value : ℕ) → Along k ws₀ path depth pages x v ws 0 t key value
@@ -264,3 +277,73 @@ module _ {k n : ℕ} {ws₀ path : List ℕ} {depth : ℕ} {pages : List ℕ} (x
       (settled-top k (pageAt k ws₀) x (pageAt k ws) (drop t pages) (getD pages t 0) (getD pages (t + 1) 0) p (grown x key value F) first second))
       ∙ sym (ap (λ (up : List ℕ). applied k (settled k (pageAt k ws₀) x (drop t pages) up p (grown x key value F)) ws) (upward-top 0 path refl))
       ∙ sym (a .rest)
+
+  -- A list that begins with the same new pages gives the same change: the array's cells behind them do not matter.
+  module _ (free : List ℕ) (agree : (t : ℕ) → t < need → getD free t 0 ≡ getD pages t 0) where
+    -- the first of the pages left, and the second
+    first-left : (t : ℕ) (l : List ℕ) → lowest (drop t l) ≡ getD l t 0
+    first-left t l = let e : t + 0 ≡ t = omega arith in getD-drop t l 0 0 ∙ ap (λ (m : ℕ). getD l m 0) e
+
+    second-left : (t : ℕ) (l : List ℕ) → lowest (drop 1 (drop t l)) ≡ getD l (t + 1) 0
+    second-left t l = getD-drop 1 (drop t l) 0 0 ∙ getD-drop t l 1 0
+
+    rest-same : (i t : ℕ) (P : Page) → t + suc i ≡ depth
+        → ((j : ℕ) → i < j → j < depth → isFull k (pageAt k ws₀) (getD path j 0) ≡ true)
+        → μ P ≡ suc (μ (pageAt k ws₀ (getD path i 0)))
+        → settled k (pageAt k ws₀) x (drop t free) (upward i path) (getD path i 0) P
+        ≡ settled k (pageAt k ws₀) x (drop t pages) (upward i path) (getD path i 0) P
+    unfolding upward
+    rest-same zero t P e below more =
+        let p : ℕ = getD path 0 0 in
+        ⊎-elim
+        (λ fits. let l = leb-true (μ P) (2 * k) fits in
+        settled-fits k (pageAt k ws₀) x (drop t free) [] p P l ∙ sym (settled-fits k (pageAt k ws₀) x (drop t pages) [] p P l))
+        (λ over. let l = leb-false (μ P) (2 * k) over in
+        let one = one-needed 0 t e below (omega arith) in
+        let two = two-needed t (omega arith) below (omega arith) in
+        settled-top k (pageAt k ws₀) x (pageAt k ws₀) (drop t free) (getD pages t 0) (getD pages (t + 1) 0) p P
+        (first-left t free ∙ agree t one)
+        (second-left t free ∙ agree (t + 1) two)
+        ∙ sym
+        (settled-top k (pageAt k ws₀) x (pageAt k ws₀) (drop t pages) (getD pages t 0) (getD pages (t + 1) 0) p P
+        (first-left t pages)
+        (second-left t pages)))
+        (true-or-false (leb (μ P) (2 * k)))
+    rest-same (suc i) t P e below more =
+        let p : ℕ = getD path (suc i) 0 in
+        let f : ℕ = getD path i 0 in
+        let up : List ℕ = upward i path in
+        ⊎-elim
+        (λ fits. let l = leb-true (μ P) (2 * k) fits in
+        settled-fits k (pageAt k ws₀) x (drop t free) (f ∷ up) p P l ∙ sym (settled-fits k (pageAt k ws₀) x (drop t pages) (f ∷ up) p P l))
+        (λ over. let l = leb-false (μ P) (2 * k) over in
+        let full : 2 * k ≤ μ (pageAt k ws₀ p) = omega arith in
+        let one = one-needed (suc i) t e below full in
+        let new : ℕ = getD pages t 0 in
+        let F : Page = pageAt k ws₀ f in
+        let G : Page = grown x (split k P .between) new F in
+        let above = rest-same i (t + 1) G (omega arith) (λ j b u. full-from (suc i) (omega arith) below full j b u) (grown-μ x (split k P .between) new F) in
+        settled-splits k (pageAt k ws₀) x (drop t free) f up p P l
+        ∙ ap₂
+        (λ (b : ℕ) (rest : List ℕ).
+        write b (split k P .right) ∷ write p (split k P .left) ∷ settled k (pageAt k ws₀) x rest up f (grown x (split k P .between) b F))
+        (first-left t free ∙ agree t one)
+        (drop-drop 1 t free)
+        ∙ ap (λ (ws : List Write). write new (split k P .right) ∷ write p (split k P .left) ∷ ws) above
+        ∙ sym
+        (settled-splits k (pageAt k ws₀) x (drop t pages) f up p P l
+        ∙ ap₂
+        (λ (b : ℕ) (rest : List ℕ).
+        write b (split k P .right) ∷ write p (split k P .left) ∷ settled k (pageAt k ws₀) x rest up f (grown x (split k P .between) b F))
+        (first-left t pages)
+        (drop-drop 1 t pages)))
+        (true-or-false (leb (μ P) (2 * k)))
+
+    pub insertion-same : insertion k (pageAt k ws₀) x v free (leafOf depth path) (fathersOf depth path)
+        ≡ insertion k (pageAt k ws₀) x v pages (leafOf depth path) (fathersOf depth path)
+    unfolding insertion
+    insertion-same =
+        rest-same (depth - 1) 0 (grown x x v (pageAt k ws₀ (leafOf depth path)))
+        (omega (arith, h .holding .some))
+        (λ j l u. absurd (omega arith))
+        (grown-μ x x v (pageAt k ws₀ (leafOf depth path)))

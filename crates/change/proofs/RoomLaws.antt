@@ -1,19 +1,19 @@
 -- The count of room, a page of the path at a time.
-use Prim.Native.Nat.{ℕ, suc, _+_, _*_, _≤_, _<_}
+use Prim.Native.Nat.{ℕ, _+_, _*_, _≤_, _<_}
 use mathlib.Core.Bool.{Bool, true, false, cond, _&&_, _||_}
-use mathlib.Core.List.{List, [], _∷_}
+use mathlib.Core.List.{List}
 use mathlib.Core.Logic.{_≢_}
 use mathlib.Core.Path.{_≡_, refl, sym, ap, ap₂, _∙_, subst}
 use native.Mathlib.Numerals.{add-one}
 use native.Mathlib.Omega.{arith}
 use borrow.Author.Tests.{lt-ltb, le-ltb, eq-eqb, ne-eqb, eqb-true}
-use lib.Dec.{eqb, ltb}
+use lib.Dec.{eqb}
 use lib.ListN.{length, getD, take}
 use lib.Seq.{length-take-le}
 use Rattle.ground.specs.Tests.{count, member}
-use Rattle.ground.proofs.Bools.{and-both, or-second, not-both}
+use Rattle.ground.proofs.Bools.{and-both, or-second}
 use Rattle.ground.proofs.Choice.{cond-ind, cond-true, cond-false}
-use Rattle.ground.proofs.Tests.{count-more, count-most, member-more, member-none}
+use Rattle.ground.proofs.Tests.{count-more, count-most, member-more}
 use Rattle.page.specs.Words.{Page, μ}
 use Rattle.change.specs.Insertion.{isFull, room}
 
@@ -34,9 +34,6 @@ module _ (k : ℕ) (memory : ℕ → Page) (path : List ℕ) where
   counted-none = record { pages = refl; top = refl }
 
   module _ {i full root : ℕ} (inside : i < length path) (was : Counted i full root) where
-    page : ℕ
-    page = getD path i 0
-
     -- what the next page adds
     more-pages : {b : Bool} → isFull k memory (getD path i 0) ≡ b → count (isFull k memory) (take (i + 1) path) ≡ full + cond b 1 0
     more-pages {b} e =

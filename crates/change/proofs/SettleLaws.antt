@@ -1,9 +1,9 @@
 -- The rule of settling a page with one pair more: where it is written, where it is split, and where page 0 rises. The code
 -- writes in the rule's order, so that its words are those of the rule's list.
 use Prim.Native.Nat.{ℕ, suc, _+_, _*_, _≤_, _<_}
-use mathlib.Core.Bool.{Bool, true, false, cond}
+use mathlib.Core.Bool.{false, cond}
 use mathlib.Core.List.{List, [], _∷_}
-use mathlib.Core.Path.{_≡_, refl, sym, ap, ap₂, _∙_, subst}
+use mathlib.Core.Path.{_≡_, refl, sym, ap, ap₂, _∙_}
 use native.Mathlib.Omega.{arith}
 use borrow.Author.Tests.{le-leb, lt-leb, eq-eqb}
 use lib.Dec.{leb}
@@ -16,11 +16,10 @@ use Rattle.page.specs.Place.{place}
 use Rattle.page.specs.Splits.{put, split, raised}
 use Rattle.page.specs.Sheets.{Holds, sheetPage}
 use Rattle.page.proofs.PutLaws.{put-μ, put-level}
-use Rattle.pool.specs.Pool.{Write, write, written, applied, pageAt}
+use Rattle.pool.specs.Pool.{Write, write, written, applied}
 use Rattle.pool.specs.Wrapped.{InPool}
 use Rattle.change.specs.Insertion.{lowest, settled}
 use Rattle.change.specs.Held.{Held, grown, settledAs}
-use Rattle.change.specs.declared.inserting.Settled.{Settled}
 use Rattle.change.specs.declared.inserting.Settled.the-variants.{Done, Up}
 use Rattle.page.specs.declared.sheets.Sheet.{Sheet}
 use Rattle.change.proofs.HeldLaws.{Known, held-known}

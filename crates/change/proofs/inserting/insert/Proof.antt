@@ -1,8 +1,7 @@
 -- Each turn settles one page as the rule does and goes up to its father, which is as it was before the change. What the rule
 -- has still to write, written to the words so far, is the whole change.
-use Prim.Native.Nat.{ℕ, _+_, _*_, _≤_, _<_}
-use mathlib.Core.List.{List, [], _∷_}
-use mathlib.Core.Path.{_≡_, refl, sym, ap, _∙_}
+use Prim.Native.Nat.{_≤_}
+use mathlib.Core.Path.{_∙_}
 use native.Mathlib.Omega.{arith}
 use borrow.Author.Needs.{needs}
 use Rattle.ground.specs.Limits.{pathHolds}
@@ -97,7 +96,7 @@ settle-top-requires c κs =
     let low : c .before .before .before .before .before .loop .i ≤ 0 = c .before .before .before .before .loop-test .left in
     let a = (at-top (c .before .before .before .before .before .before .before .args .k) (c .before .before .before .before .before .before .before .args .words .now) (c .before .before .before .before .before .before .before .args .path .now) (c .before .before .before .before .before .before .before .args .depth) (c .before .before .before .before .before .before .before .args .pages .now) (c .before .before .before .before .before .before .before .args .x) (c .before .before .before .before .before .before .before .args .v) (c .before .before .before .before .before .loop .t) (c .before .before .before .before .before .loop .key) (c .before .before .before .before .before .loop .value) (c .before .before .before .before .before .loop .inv) (omega arith)) in (
       along-held (c .before .before .before .before .before .before .before .args .x) (c .before .before .before .before .before .before .before .args .v) (c .before .before .before .before .before .before .before .pre) 0 (c .before .before .before .before .before .loop .t) (c .before .before .before .before .before .loop .key) (c .before .before .before .before .before .loop .value) a,
-      λ over. along-two (c .before .before .before .before .before .before .before .args .x) (c .before .before .before .before .before .before .before .args .v) (c .before .before .before .before .before .before .before .pre) 0 (c .before .before .before .before .before .loop .t) (c .before .before .before .before .before .loop .key) (c .before .before .before .before .before .loop .value) a over refl,
+      λ over. along-two (c .before .before .before .before .before .before .before .args .x) (c .before .before .before .before .before .before .before .args .v) (c .before .before .before .before .before .before .before .pre) (c .before .before .before .before .before .loop .t) (c .before .before .before .before .before .loop .key) (c .before .before .before .before .before .loop .value) a over,
     )
 
 same-length-2 : tie.Need-same-length-2 Inv-loop μ-loop

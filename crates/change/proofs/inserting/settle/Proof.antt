@@ -1,9 +1,6 @@
 -- The code tests μ before the pair is put in, the rule after: a page with fewer than 2k has at most 2k then.
-use Prim.Native.Nat.{ℕ, _+_, _*_, _≤_, _<_}
-use mathlib.Core.List.{List, [], _∷_}
-use mathlib.Core.Path.{_≡_, sym, ap, _∙_}
+use Prim.Native.Nat.{_*_, _≤_}
 use native.Mathlib.Omega.{arith}
-use borrow.Author.Needs.{needs}
 use Rattle.ground.specs.Limits.{largestK}
 use Rattle.page.specs.Words.{μ}
 use Rattle.pool.specs.Pool.{pageAt}

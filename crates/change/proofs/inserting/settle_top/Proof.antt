@@ -1,9 +1,6 @@
 -- With no father held the rule writes the page, or splits it under a new root: so does the code.
-use Prim.Native.Nat.{ℕ, _+_, _*_, _≤_, _<_}
-use mathlib.Core.List.{List, [], _∷_}
-use mathlib.Core.Path.{_≡_, sym, ap, _∙_}
+use Prim.Native.Nat.{_*_, _≤_}
 use native.Mathlib.Omega.{arith}
-use borrow.Author.Needs.{needs}
 use Rattle.ground.specs.Limits.{largestK}
 use Rattle.page.specs.Words.{μ}
 use Rattle.pool.specs.Pool.{pageAt}

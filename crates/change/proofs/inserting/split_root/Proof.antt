@@ -1,9 +1,8 @@
 -- The three writes are the rule's, in its order.
-use Prim.Native.Nat.{ℕ, _+_, _*_, _≤_, _<_}
-use mathlib.Core.List.{List, [], _∷_}
-use mathlib.Core.Path.{_≡_, sym, ap, _∙_}
+use Prim.Native.Nat.{ℕ, _+_}
+use mathlib.Core.List.{[], _∷_}
+use mathlib.Core.Path.{ap, _∙_}
 use native.Mathlib.Omega.{arith}
-use borrow.Author.Needs.{needs}
 use Rattle.ground.specs.Limits.{largestK, tallest, wordRange}
 use Rattle.page.specs.Words.{entry, page}
 use Rattle.pool.specs.Pool.{write, written}

@@ -1,9 +1,6 @@
 -- The two writes are the rule's, in its order.
-use Prim.Native.Nat.{ℕ, _+_, _*_, _≤_, _<_}
-use mathlib.Core.List.{List, [], _∷_}
-use mathlib.Core.Path.{_≡_, sym, ap, _∙_}
+use mathlib.Core.Path.{_∙_}
 use native.Mathlib.Omega.{arith}
-use borrow.Author.Needs.{needs}
 use Rattle.ground.specs.Limits.{largestK}
 use Rattle.change.proofs.SettleLaws.{applied-two, in-pool-kept}
 use Rattle.change.proofs.inserting.split_to.Statement.{statement}

@@ -1,7 +1,7 @@
 -- What is needed is the same from the leaf on and from the page at index i on with the siblings from index j on: each turn
 -- goes one page up along the rule.
 use Prim.Native.Nat.{_-_, _≤_, _<_}
-use mathlib.Core.Path.{_≡_, refl, sym, ap, _∙_}
+use mathlib.Core.Path.{_≡_, refl, sym, _∙_}
 use native.Mathlib.Omega.{arith}
 use borrow.Author.Needs.{needs}
 use lib.ListN.{getD, take, drop}
@@ -12,12 +12,6 @@ use Rattle.change.specs.Held.{upward, leafOf, fathersOf}
 use Rattle.change.proofs.NeedLaws.{path-known, sibling-known, father-upper, father-key, stop-spared, stop-top, stop-sibling, stop-astray, stop-shares, goes-up}
 use Rattle.change.proofs.needing.needs.Statement.{statement}
 use Rattle.change.proofs.needing.needs.Tie as tie
-use Rattle.change.proofs.needing.needs.Reads as reads
-use Rattle.change.proofs.needing.needs.Lts as lts
-use Rattle.change.proofs.needing.satisfied.Reads as satisfied-reads
-use Rattle.change.proofs.needing.spares.Reads as spares-reads
-use Rattle.pool.proofs.pages.count_of.Reads as count-of-reads
-use Rattle.pool.proofs.pages.neighbour_of.Reads as neighbour-of-reads
 
 abbrev Inv-loop : tie.InvT-loop
 Inv-loop words k n x path depth siblings beside i₀ j₀ i j =

@@ -1,11 +1,6 @@
 -- Page 0 is told by its number, and any other page by the count of its pairs.
-use mathlib.Core.Path.{sym, ap, _∙_}
-use mathlib.Core.Bool.{Bool, _||_}
 use borrow.Author.Needs.{needs}
 use borrow.Author.Tests.{eq-eqb, ne-eqb}
-use lib.Dec.{ltb}
-use Rattle.page.specs.Words.{μ}
-use Rattle.pool.specs.Pool.{pageAt}
 use Rattle.change.proofs.needing.spares.Statement.{statement}
 use Rattle.change.proofs.needing.spares.Tie as tie
 
