@@ -1,1 +1,4 @@
 pub mod SmallRows
+pub mod HeldLaws
+pub mod NeedLaws
+pub mod RoomLaws

@@ -1,1 +1,3 @@
 // The whole change of an operation along the pages that it holds.
+pub mod inserting;
+pub mod needing;
