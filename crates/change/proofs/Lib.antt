@@ -2,3 +2,5 @@ pub mod SmallRows
 pub mod HeldLaws
 pub mod NeedLaws
 pub mod RoomLaws
+pub mod AppliedLaws
+pub mod DeleteLaws

@@ -1,0 +1,81 @@
+-- What the functions of a deletion ask of two neighbours under one father, and what one round of the rule writes.
+use Prim.Native.Nat.{ℕ, _+_, _*_, _≤_, _<_}
+use mathlib.Core.Bool.{Bool, true, false, cond, _&&_}
+use mathlib.Core.List.{List, [], _∷_}
+use mathlib.Core.Logic.{_≢_}
+use mathlib.Core.Path.{_≡_}
+use lib.Dec.{eqb}
+use Rattle.page.specs.Words.{Page, μ, isLeaf, freePage}
+use Rattle.page.specs.Splits.{split}
+use Rattle.page.specs.Short.{joined, lessKey, rekeyed}
+use Rattle.page.specs.Sheets.{Exact, Holds, sheetPage}
+use Rattle.page.specs.declared.sheets.Sheet.{Sheet}
+use Rattle.pool.specs.Pool.{wordsOf, pageAt, Write, write}
+use Rattle.pool.specs.Wrapped.{InPool}
+
+-- The page f of the pool, which has a key at place b, and two other pages l and w.
+pub record Three (k n : ℕ) (ws : List ℕ) (f b l w : ℕ) : Type 0 where
+  pub father : InPool k n f ws
+  pub left : InPool k n l ws
+  pub right : InPool k n w ws
+  pub overLeft : f ≢ l
+  pub overRight : f ≢ w
+  pub exact : Exact k (wordsOf k f ws)
+  pub key : b < μ (pageAt k ws f)
+
+-- The buffer holds a page, and no p0 if that is a leaf.
+pub record Sheeted (s : Sheet) : Type 0 where
+  pub holds : Holds (sheetPage s) s
+  pub leafFirst : isLeaf (sheetPage s) ≡ true → s .first ≡ 0
+
+-- Its page can be cut at pair c into two with room for each.
+pub record Cutting (k n : ℕ) (ws : List ℕ) (f b l w c : ℕ) (s : Sheet) : Type 0 where
+  pub three : Three k n ws f b l w
+  pub sheet : Sheeted s
+  pub leftRoom : c ≤ 2 * k
+  pub cut : c < s .count
+  pub rightRoom : s .count ≤ c + 2 * k
+  pub few : s .count ≤ 50
+
+-- Its page has room in one.
+pub record Joining (k n : ℕ) (ws : List ℕ) (f b l w : ℕ) (s : Sheet) : Type 0 where
+  pub three : Three k n ws f b l w
+  pub sheet : Sheeted s
+  pub room : s .count ≤ 2 * k
+
+-- the joined page J of the neighbours l and w cut at pair c, and the father's key between them
+abbrev pub sharing : ℕ → Page → ℕ → ℕ → ℕ → ℕ → Page → List Write
+sharing f F b l w c J =
+    write l (split c J .left) ∷ write w (split c J .right) ∷ write f (rekeyed b (split c J .between) F) ∷ []
+
+-- page 0 takes the joined page
+abbrev pub collapsing : ℕ → ℕ → ℕ → Page → List Write
+collapsing f l w J = write f J ∷ write l freePage ∷ write w freePage ∷ []
+
+-- the left page takes the joined page, and the father loses a key
+abbrev pub uniting : ℕ → Page → ℕ → ℕ → ℕ → Page → List Write
+uniting f F b l w J = write l J ∷ write w freePage ∷ write f (lessKey b F) ∷ []
+
+-- page 0 would be left with no key
+abbrev pub emptied : ℕ → Page → ℕ → Bool
+emptied f F b = eqb f 0 && eqb (μ (lessKey b F)) 0
+
+-- What one round writes: the neighbours share, if one can spare; or page 0 collapses; or they unite.
+unfoldable pub paired : Bool → ℕ → Page → ℕ → ℕ → ℕ → ℕ → Page → List Write
+paired spares f F b l w c J = cond spares (sharing f F b l w c J) (cond (emptied f F b) (collapsing f l w J) (uniting f F b l w J))
+
+-- the father lost a key
+unfoldable pub lost : Bool → ℕ → Page → ℕ → Bool
+lost spares f F b = cond spares false (cond (emptied f F b) false true)
+
+-- The neighbours l and w under f, with the key r between them: whether one spares one, and at which pair the two are cut.
+pub record Settling (k n : ℕ) (ws : List ℕ) (f b r l w : ℕ) (spares : Bool) (c : ℕ) : Type 0 where
+  pub three : Three k n ws f b l w
+  pub leftExact : Exact k (wordsOf k l ws)
+  pub rightExact : Exact k (wordsOf k w ws)
+  pub level : pageAt k ws l .level ≡ pageAt k ws w .level
+  pub few : μ (pageAt k ws l) + μ (pageAt k ws w) + 1 ≤ 50
+  pub leftRoom : spares ≡ true → c ≤ 2 * k
+  pub cut : spares ≡ true → c < μ (joined r (pageAt k ws l) (pageAt k ws w))
+  pub rightRoom : spares ≡ true → μ (joined r (pageAt k ws l) (pageAt k ws w)) ≤ c + 2 * k
+  pub room : spares ≡ false → μ (joined r (pageAt k ws l) (pageAt k ws w)) ≤ 2 * k
