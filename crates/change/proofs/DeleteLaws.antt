@@ -157,7 +157,7 @@ joined-most r L R =
     omega arith
 
 -- a page joined has the left one's p0
-joined-first : {k : ℕ} (r : ℕ) (L R : Page) → Fits k L → isLeaf (joined r L R) ≡ true → joined r L R .first ≡ 0
+pub joined-first : {k : ℕ} (r : ℕ) (L R : Page) → Fits k L → isLeaf (joined r L R) ≡ true → joined r L R .first ≡ 0
 unfolding joined
 joined-first r L R fits leaf = fits .leafFirst leaf
 

@@ -4,3 +4,4 @@ pub mod NeedLaws
 pub mod RoomLaws
 pub mod AppliedLaws
 pub mod DeleteLaws
+pub mod MendLaws

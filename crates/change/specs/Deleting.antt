@@ -4,14 +4,16 @@ use mathlib.Core.Bool.{Bool, true, false, cond, _&&_}
 use mathlib.Core.List.{List, [], _∷_}
 use mathlib.Core.Logic.{_≢_}
 use mathlib.Core.Path.{_≡_}
-use lib.Dec.{eqb}
+use lib.Dec.{ltb, eqb}
 use Rattle.page.specs.Words.{Page, μ, isLeaf, freePage}
 use Rattle.page.specs.Splits.{split}
-use Rattle.page.specs.Short.{joined, lessKey, rekeyed}
+use Rattle.page.specs.Sound.{rises}
+use Rattle.page.specs.Short.{betweenAt, joined, merged, lessKey, rekeyed}
 use Rattle.page.specs.Sheets.{Exact, Holds, sheetPage}
 use Rattle.page.specs.declared.sheets.Sheet.{Sheet}
 use Rattle.pool.specs.Pool.{wordsOf, pageAt, Write, write}
 use Rattle.pool.specs.Wrapped.{InPool}
+use Rattle.change.specs.Deletion.{leftOne, rightOne, shares}
 
 -- The page f of the pool, which has a key at place b, and two other pages l and w.
 pub record Three (k n : ℕ) (ws : List ℕ) (f b l w : ℕ) : Type 0 where
@@ -79,3 +81,29 @@ pub record Settling (k n : ℕ) (ws : List ℕ) (f b r l w : ℕ) (spares : Bool
   pub cut : spares ≡ true → c < μ (joined r (pageAt k ws l) (pageAt k ws w))
   pub rightRoom : spares ≡ true → μ (joined r (pageAt k ws l) (pageAt k ws w)) ≤ c + 2 * k
   pub room : spares ≡ false → μ (joined r (pageAt k ws l) (pageAt k ws w)) ≤ 2 * k
+
+-- The short page p and its sibling s, under the father f, are three pages of the pool.
+pub record Mending (k n : ℕ) (ws : List ℕ) (f p s : ℕ) : Type 0 where
+  pub father : InPool k n f ws
+  pub page : InPool k n p ws
+  pub beside : InPool k n s ws
+  pub overPage : f ≢ p
+  pub overBeside : f ≢ s
+  pub apart : p ≢ s
+  pub fatherExact : Exact k (wordsOf k f ws)
+  pub pageExact : Exact k (wordsOf k p ws)
+  pub besideExact : Exact k (wordsOf k s ws)
+  pub rising : rises (pageAt k ws f .entries) ≡ true
+  pub key : 1 ≤ μ (pageAt k ws f)
+  pub level : pageAt k ws p .level ≡ pageAt k ws s .level
+  pub short : μ (pageAt k ws p) < k
+  pub some : 1 ≤ μ (pageAt k ws s)
+
+-- What one round of the rule writes where the page is short: all up to the father's own value.
+unfoldable pub round : ℕ → ℕ → ℕ → Page → ℕ → Page → ℕ → Page → List Write
+round k x p P s S f F =
+    let b = betweenAt x F in
+    let J = merged x F P S in
+    let left = leftOne x F p s in
+    let right = rightOne x F p s in
+    cond (ltb k (μ S)) (shares x p P s S f F) (cond (emptied f F b) (collapsing f left right J) (uniting f F b left right J))

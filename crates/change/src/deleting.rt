@@ -2,9 +2,12 @@
 // shares with its sibling or joins it, and then its father lost one.
 use page::sheets::Sheet;
 use page::sheets::cut_key;
+use pool::pages::between_of;
 use pool::pages::clear_at;
 use pool::pages::count_of;
+use pool::pages::has_right_of;
 use pool::pages::join_of;
+use pool::pages::key_of;
 use pool::pages::lay_at;
 use pool::pages::lay_left_at;
 use pool::pages::lay_right_at;
@@ -12,14 +15,14 @@ use pool::pages::rekey_at;
 use pool::pages::take_out_at;
 ghost use mathlib.Core.Path.{_≡_};
 ghost use mathlib.Core.Bool.{_&&_};
-ghost use lib.Dec.{eqb};
+ghost use lib.Dec.{eqb, ltb};
 ghost use Rattle.page.specs.Words.{μ};
-ghost use Rattle.page.specs.Short.{joined};
+ghost use Rattle.page.specs.Short.{betweenAt, joined};
 ghost use Rattle.page.specs.Reading.{Readable};
 ghost use Rattle.page.specs.Sheets.{sheetPage};
 ghost use Rattle.pool.specs.Pool.{wordsOf, pageAt, applied};
 ghost use Rattle.pool.specs.Wrapped.{InPool};
-ghost use Rattle.change.specs.Deleting.{Cutting, Joining, Settling, sharing, collapsing, uniting, paired, lost};
+ghost use Rattle.change.specs.Deleting.{Cutting, Joining, Settling, Mending, sharing, collapsing, uniting, paired, lost, round};
 
 // Two neighbours and the key between them: the joined row cut at pair c.
 fn share(
@@ -101,4 +104,20 @@ fn settle(
     }
     unite(words, k, n, f, b, l, w, s);
     true
+}
+
+// The short page p, to which f routes x and which has `own` pairs, and its sibling s. Whether the father lost a key.
+fn mend(words: &mut [u32], k: usize, n: usize, x: u32, f: u32, p: u32, s: u32, own: usize) -> bool
+    requires { ⌜ Mending k n (now words) f p s ⌝ }
+    requires { ⌜ own ≡ μ (pageAt k (now words) p) ⌝ }
+    ensures { λ _. ⌜ now (words .exit) ≡ applied k (round k x p (pageAt k (now (words .entry)) p) s (pageAt k (now (words .entry)) s) f (pageAt k (now (words .entry)) f)) (now (words .entry)) ⌝ }
+    ensures { λ up. ⌜ up ≡ lost (ltb k (μ (pageAt k (now (words .entry)) s))) f (pageAt k (now (words .entry)) f) (betweenAt x (pageAt k (now (words .entry)) f)) ⌝ }
+{
+    let b = between_of(words, k, n, f, x);
+    let r = key_of(words, k, n, f, b);
+    let spare = count_of(words, k, n, s);
+    if has_right_of(words, k, n, f, x) {
+        return settle(words, k, n, f, b, r, p, s, k < spare, own + 1);
+    }
+    settle(words, k, n, f, b, r, s, p, k < spare, spare - 1)
 }
