@@ -3,25 +3,32 @@
 use Prim.Native.Nat.{ℕ, suc, _+_, _-_, _*_, _≤_, _<_}
 use mathlib.Core.Bool.{Bool, true, false, cond}
 use mathlib.Core.List.{List, [], _∷_}
+use mathlib.Core.Logic.{⊎-elim}
 use mathlib.Core.Path.{_≡_, refl, sym, ap, _∙_, subst}
 use native.Mathlib.Numerals.{add-one}
 use native.Mathlib.Omega.{arith}
-use borrow.Author.Tests.{ltb-true, ltb-false}
+use borrow.Author.Tests.{ltb-true, ltb-false, eq-eqb}
 use lib.Dec.{ltb, eqb}
 use lib.ListN.{length}
 use Rattle.ground.specs.Limits.{largestK}
+use Rattle.ground.specs.Tests.{member}
+use Rattle.ground.proofs.Bools.{true-or-false, or-first, or-second}
 use Rattle.ground.proofs.Choice.{cond-ind}
-use Rattle.page.specs.Words.{Page, μ, isLeaf}
+use Rattle.page.specs.Words.{Page, μ, isLeaf, freePage}
+use Rattle.page.specs.Place.{place}
 use Rattle.page.specs.Splits.{Parted, entryAt, split}
-use Rattle.page.specs.Short.{hasRight, betweenAt, keyBetween, fromRight, fromLeft, joined, rekeyed}
+use Rattle.page.specs.Short.{hasRight, betweenAt, keyBetween, fromRight, fromLeft, joined, lessKey, rekeyed}
 use Rattle.page.specs.Reading.{Readable}
 use Rattle.page.specs.Sheets.{Exact}
 use Rattle.page.proofs.Fits.{Fits}
-use Rattle.page.proofs.ExactLaws.{exact-fits, left-fits, right-fits, joined-μ}
+use Rattle.page.proofs.ExactLaws.{exact-fits, lessKey-fits, rekeyed-fits, left-fits, right-fits, joined-fits, joined-μ}
+use Rattle.page.proofs.WordLaws.{free-fits}
+use Rattle.page.proofs.PlaceLaws.{place-most}
 use Rattle.page.proofs.MoveLaws.{Neighbours, fromRight-cut, fromLeft-cut}
 use Rattle.page.proofs.ReadingLaws.{readable}
 use Rattle.pool.specs.Pool.{poolLength, wordsOf, pageAt, Write, write, written, applied}
 use Rattle.pool.specs.Wrapped.{InPool}
+use Rattle.pool.proofs.WriteLaws.{FitWrite, AllFit, namedBy}
 use Rattle.change.specs.Deletion.{shares}
 use Rattle.change.specs.Deleting.{Three, Settling, Mending, sharing, collapsing, uniting, emptied, paired, lost, round}
 use Rattle.change.proofs.AppliedLaws.{written-swap}
@@ -49,6 +56,61 @@ exchanged f F b l w M = write w (M .right) ∷ write l (M .left) ∷ write f (re
 
 abbrev joining : ℕ → Page → ℕ → ℕ → ℕ → Page → List Write
 joining f F b l w J = cond (emptied f F b) (collapsing f l w J) (uniting f F b l w J)
+
+-- every page that a list writes fits, and page p is one of them
+abbrev pub Covers : ℕ → ℕ → ℕ → List Write → Type 0
+Covers k n p list = (AllFit k n list) × (member p (namedBy list) ≡ true)
+
+member-here : (p : ℕ) (rest : List ℕ) → member p (p ∷ rest) ≡ true
+unfolding member
+member-here p rest = or-first (member p rest) (eq-eqb p p refl)
+
+member-there : (p q : ℕ) (rest : List ℕ) → member p rest ≡ true → member p (q ∷ rest) ≡ true
+unfolding member
+member-there p q rest m = or-second (eqb p q) m
+
+-- what neighbours and their father are given fits
+module _ {k n f b r l w : ℕ} {ws : List ℕ} {spares : Bool} {c : ℕ} (h : Settling k n ws f b r l w spares c) where
+  abbrev whole : Page
+  whole = joined r (pageAt k ws l) (pageAt k ws w)
+
+  left-room : Fits k (pageAt k ws l)
+  unfolding pageAt
+  left-room = exact-fits (h .leftExact)
+
+  above-room : Fits k (pageAt k ws f)
+  unfolding pageAt
+  above-room = exact-fits (h .three .exact)
+
+  cut-left : spares ≡ true → FitWrite k n (write l (split c whole .left))
+  cut-left t =
+      record {
+        inPool = h .three .left .inside;
+        fits = left-fits k c whole (joined-first r (pageAt k ws l) (pageAt k ws w) left-room) (h .leftRoom t);
+      }
+
+  cut-right : spares ≡ true → FitWrite k n (write w (split c whole .right))
+  cut-right t =
+      record {
+        inPool = h .three .right .inside;
+        fits = right-fits k c whole (joined-first r (pageAt k ws l) (pageAt k ws w) left-room) (h .rightRoom t);
+      }
+
+  keyed-fit : (q : ℕ) → FitWrite k n (write f (rekeyed b q (pageAt k ws f)))
+  keyed-fit q = record { inPool = h .three .father .inside; fits = rekeyed-fits above-room b q (h .three .key) }
+
+  less-fit : FitWrite k n (write f (lessKey b (pageAt k ws f)))
+  less-fit = record { inPool = h .three .father .inside; fits = lessKey-fits above-room b }
+
+  whole-fit : (p : ℕ) → p < n → spares ≡ false → FitWrite k n (write p whole)
+  whole-fit p inside t =
+      record {
+        inPool = inside;
+        fits = joined-fits k r (pageAt k ws l) (pageAt k ws w) (left-room .leafFirst) (h .room t);
+      }
+
+  free-fit : (p : ℕ) → p < n → FitWrite k n (write p freePage)
+  free-fit p inside = record { inPool = inside; fits = free-fits k }
 
 module _ (k x p : ℕ) (P : Page) (s : ℕ) (S : Page) (f : ℕ) (F : Page) where
   -- a round where the page has a right neighbour, and where it has none
@@ -219,3 +281,55 @@ module _ {k n : ℕ} {ws : List ℕ} {f p s : ℕ} (h : Mending k n ws f p s) wh
       e .0 ∙ rw (rIs, bIs, spareIs) (left-rule x (sym told ∙ t)),
       e .1 ∙ rw (bIs, spareIs),
     )
+
+  -- ---- the pages that a round writes
+
+  father-fits : Fits k F
+  unfolding pageAt
+  father-fits = exact-fits (h .fatherExact)
+
+  -- the father has the key between the two
+  between-inside : (x : ℕ) → betweenAt x F < μ F
+  unfolding betweenAt
+  between-inside x =
+      let most : place x (F .entries) ≤ μ F = place-most x (F .entries) in
+      let key : 1 ≤ μ F = h .key in
+      cond-ind (λ (m : ℕ). m < μ F) (hasRight x F) (λ t. ltb-true (place x (F .entries)) (μ F) t) (λ t. omega arith)
+
+  -- the round as a list where the page is the right one
+  left-list : (x : ℕ) → hasRight x F ≡ false
+      → cond (ltb k (μ S)) (exchanged f F (betweenAt x F) s p (split (μ S - 1) (joined (keyBetween x F) S P)))
+      (joining f F (betweenAt x F) s p (joined (keyBetween x F) S P))
+      ≡ round k x p P s S f F
+  left-list x t =
+      let b : ℕ = betweenAt x F in
+      let r : ℕ = keyBetween x F in
+      let J : Page = joined r S P in
+      sym
+      (round-left k x p P s S f F t
+      ∙ ap (λ (M : Parted). cond (ltb k (μ S)) (exchanged f F b s p M) (joining f F b s p J)) (fromLeft-cut r S P left-neighbours (h .some)))
+
+  -- every page that a round writes fits, and the page is one of them
+  pub round-covers : (x : ℕ) → Covers k n p (round k x p P s S f F)
+  unfolding paired
+  round-covers x =
+      ⊎-elim
+      (λ t.
+      let g = settling-right {b = betweenAt x F} {r = keyBetween x F} (between-inside x) refl refl in
+      subst (Covers k n p) (right-rule x t)
+      (cond-ind (Covers k n p) (ltb k (μ S))
+      (λ u. ((cut-left g u, (cut-right g u, (keyed-fit g _, tt))), member-here p (s ∷ f ∷ [])))
+      (λ u.
+      cond-ind (Covers k n p) (emptied f F (betweenAt x F))
+      (λ v. ((whole-fit g f (h .father .inside) u, (free-fit g p (h .page .inside), (free-fit g s (h .beside .inside), tt))), member-there p f (p ∷ s ∷ []) (member-here p (s ∷ []))))
+      (λ v. ((whole-fit g p (h .page .inside) u, (free-fit g s (h .beside .inside), (less-fit g, tt))), member-here p (s ∷ f ∷ []))))))
+      (λ t.
+      let g = settling-left {b = betweenAt x F} {r = keyBetween x F} (between-inside x) refl refl in
+      subst (Covers k n p) (left-list x t)
+      (cond-ind (Covers k n p) (ltb k (μ S))
+      (λ u. ((cut-right g u, (cut-left g u, (keyed-fit g _, tt))), member-here p (s ∷ f ∷ [])))
+      (λ u.
+      cond-ind (Covers k n p) (emptied f F (betweenAt x F))
+      (λ v. ((whole-fit g f (h .father .inside) u, (free-fit g s (h .beside .inside), (free-fit g p (h .page .inside), tt))), member-there p f (s ∷ p ∷ []) (member-there p s (p ∷ []) (member-here p []))))
+      (λ v. ((whole-fit g s (h .beside .inside) u, (free-fit g p (h .page .inside), (less-fit g, tt))), member-there p s (p ∷ f ∷ []) (member-here p (f ∷ [])))))))
+      (true-or-false (hasRight x F))

@@ -5,13 +5,15 @@ use mathlib.Core.List.{List, [], _∷_}
 use mathlib.Core.Logic.{_≢_}
 use mathlib.Core.Path.{_≡_}
 use lib.Dec.{ltb, eqb}
+use lib.ListN.{length, getD}
+use Rattle.ground.specs.Limits.{pathHolds}
 use Rattle.page.specs.Words.{Page, μ, isLeaf, freePage}
 use Rattle.page.specs.Splits.{split}
 use Rattle.page.specs.Sound.{rises}
 use Rattle.page.specs.Short.{betweenAt, joined, merged, lessKey, rekeyed}
 use Rattle.page.specs.Sheets.{Exact, Holds, sheetPage}
 use Rattle.page.specs.declared.sheets.Sheet.{Sheet}
-use Rattle.pool.specs.Pool.{wordsOf, pageAt, Write, write}
+use Rattle.pool.specs.Pool.{poolLength, wordsOf, pageAt, Write, write}
 use Rattle.pool.specs.Wrapped.{InPool}
 use Rattle.change.specs.Deletion.{leftOne, rightOne, shares}
 
@@ -107,3 +109,24 @@ round k x p P s S f F =
     let left = leftOne x F p s in
     let right = rightOne x F p s in
     cond (ltb k (μ S)) (shares x p P s S f F) (cond (emptied f F b) (collapsing f left right J) (uniting f F b left right J))
+
+-- The arrays hold a path and siblings of a deletion whose leaf lost x: every page can be read and written, those above the
+-- leaf have keys, a sibling lies beside its page and is not empty, and no page stands twice.
+pub record Climbing (k n : ℕ) (ws path : List ℕ) (depth : ℕ) (siblings : List ℕ) (beside : ℕ) : Type 0 where
+  pub pathCells : length path ≡ pathHolds
+  pub besideCells : length siblings ≡ pathHolds
+  pub some : 1 ≤ depth
+  pub deep : depth ≤ pathHolds
+  pub few : beside ≤ pathHolds
+  pub whole : length ws ≡ poolLength k n
+  pub pathIn : (i : ℕ) → i < depth → InPool k n (getD path i 0) ws
+  pub pathExact : (i : ℕ) → i < depth → Exact k (wordsOf k (getD path i 0) ws)
+  pub rising : (i : ℕ) → i + 1 < depth → rises (pageAt k ws (getD path i 0) .entries) ≡ true
+  pub key : (i : ℕ) → i + 1 < depth → 1 ≤ μ (pageAt k ws (getD path i 0))
+  pub besideIn : (j : ℕ) → j < beside → InPool k n (getD siblings j 0) ws
+  pub besideExact : (j : ℕ) → j < beside → Exact k (wordsOf k (getD siblings j 0) ws)
+  pub besideSome : (j : ℕ) → j < beside → 1 ≤ μ (pageAt k ws (getD siblings j 0))
+  pub levels : (i j : ℕ) → j < beside → i + j + 1 ≡ depth → pageAt k ws (getD path i 0) .level ≡ pageAt k ws (getD siblings j 0) .level
+  pub pathApart : (i t : ℕ) → i < t → t < depth → getD path i 0 ≢ getD path t 0
+  pub besideApart : (j t : ℕ) → j < t → t < beside → getD siblings j 0 ≢ getD siblings t 0
+  pub across : (i j : ℕ) → i < depth → j < beside → getD path i 0 ≢ getD siblings j 0
