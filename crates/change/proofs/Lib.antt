@@ -5,3 +5,4 @@ pub mod RoomLaws
 pub mod AppliedLaws
 pub mod DeleteLaws
 pub mod MendLaws
+pub mod ClimbLaws

@@ -1,5 +1,6 @@
 // A deletion's whole change, from the leaf upward. A page that lost one is written where it lies; if it is short, it
 // shares with its sibling or joins it, and then its father lost one.
+use ground::HELD;
 use page::sheets::Sheet;
 use page::sheets::cut_key;
 use pool::pages::between_of;
@@ -16,13 +17,16 @@ use pool::pages::take_out_at;
 ghost use mathlib.Core.Path.{_≡_};
 ghost use mathlib.Core.Bool.{_&&_};
 ghost use lib.Dec.{eqb, ltb};
+ghost use lib.ListN.{take};
 ghost use Rattle.page.specs.Words.{μ};
 ghost use Rattle.page.specs.Short.{betweenAt, joined};
 ghost use Rattle.page.specs.Reading.{Readable};
 ghost use Rattle.page.specs.Sheets.{sheetPage};
 ghost use Rattle.pool.specs.Pool.{wordsOf, pageAt, applied};
 ghost use Rattle.pool.specs.Wrapped.{InPool};
-ghost use Rattle.change.specs.Deleting.{Cutting, Joining, Settling, Mending, sharing, collapsing, uniting, paired, lost, round};
+ghost use Rattle.change.specs.Deletion as rule;
+ghost use Rattle.change.specs.Held.{leafOf, fathersOf};
+ghost use Rattle.change.specs.Deleting.{Cutting, Joining, Settling, Mending, Climbing, sharing, collapsing, uniting, paired, lost, round};
 
 // Two neighbours and the key between them: the joined row cut at pair c.
 fn share(
@@ -120,4 +124,36 @@ fn mend(words: &mut [u32], k: usize, n: usize, x: u32, f: u32, p: u32, s: u32, o
         return settle(words, k, n, f, b, r, p, s, k < spare, own + 1);
     }
     settle(words, k, n, f, b, r, s, p, k < spare, spare - 1)
+}
+
+// The leaf lost one: whatever follows from that, from the leaf upward.
+fn climb(
+    words: &mut [u32],
+    k: usize,
+    n: usize,
+    x: u32,
+    path: &[u32; HELD],
+    depth: usize,
+    siblings: &[u32; HELD],
+    beside: usize,
+)
+    requires { ⌜ Climbing k n (now words) (now path) depth (now siblings) beside ⌝ }
+    ensures { λ _. ⌜ now (words .exit) ≡ applied k (rule.shrunk k (pageAt k (now (words .entry))) x (fathersOf depth (now (path .entry))) (take beside (now (siblings .entry))) (leafOf depth (now (path .entry))) (pageAt k (now (words .entry)) (leafOf depth (now (path .entry))))) (now (words .entry)) ⌝ }
+{
+    let mut i = depth - 1;
+    let mut j = 0;
+    while j < beside {
+        if i == 0 {
+            return;
+        }
+        let own = count_of(words, k, n, path[i]);
+        if k <= own {
+            return;
+        }
+        if !mend(words, k, n, x, path[i - 1], path[i], siblings[j], own) {
+            return;
+        }
+        i -= 1;
+        j += 1;
+    }
 }
