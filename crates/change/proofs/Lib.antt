@@ -4,3 +4,7 @@ pub mod NeedLaws
 pub mod RoomLaws
 pub mod SettleLaws
 pub mod InsertLaws
+pub mod AppliedLaws
+pub mod DeleteLaws
+pub mod MendLaws
+pub mod ClimbLaws

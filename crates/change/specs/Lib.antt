@@ -1,3 +1,4 @@
 pub mod Insertion
 pub mod Deletion
 pub mod Held
+pub mod Deleting
