@@ -129,9 +129,9 @@ module _ {k n : ℕ} {ws₀ path : List ℕ} {depth : ℕ} {siblings : List ℕ}
   all = applied k (shrunk k (pageAt k ws₀) x (fathersOf depth path) (take beside siblings) (leafOf depth path) (pageAt k ws₀ (leafOf depth path))) ws₀
 
   -- at the leaf
-  pub climb-starts : Underway k n ws₀ x path depth siblings beside ws₀ (depth - 1) 0
+  unfoldable starts-here : Underway k n ws₀ x path depth siblings beside ws₀ (depth - 1) 0
   unfolding pageAt
-  climb-starts =
+  starts-here =
       let some : 1 ≤ depth = h .some in
       let inside : depth - 1 < depth = omega arith in
       let exact : Exact k (wordsOf k (leafOf depth path) ws₀) = h .pathExact (depth - 1) inside in
@@ -152,6 +152,9 @@ module _ {k n : ℕ} {ws₀ path : List ℕ} {depth : ℕ} {siblings : List ℕ}
         pathKept = λ t l. refl;
         besideKept = λ t l m. refl;
       }
+
+  pub climb-starts : Underway k n ws₀ x path depth siblings beside ws₀ (depth - 1) 0
+  climb-starts = starts-here
 
   module _ {ws : List ℕ} {i j : ℕ} (u : Underway k n ws₀ x path depth siblings beside ws i j) where
     here : i < depth
@@ -478,3 +481,29 @@ module _ {k n : ℕ} {ws₀ path : List ℕ} {depth : ℕ} {siblings : List ℕ}
       (λ none. alone-covers _ (fit-here x h u) (still-alone x h u (ltb-false j beside none)))
       (true-or-false (ltb j beside)))
       (true-or-false (eqb i 0))
+
+  -- the rule's writes over the words before the leaf was written
+  pub climbed-over : (ws : List ℕ) (P : Page) → length ws ≡ poolLength k n → Fits k P → ws₀ ≡ written k (write (leafOf depth path) P) ws
+      → applied k (shrunk k (pageAt k ws₀) x (fathersOf depth path) (take beside siblings) (leafOf depth path) (pageAt k ws₀ (leafOf depth path))) ws₀
+      ≡ applied k (shrunk k (pageAt k ws₀) x (fathersOf depth path) (take beside siblings) (leafOf depth path) (pageAt k ws₀ (leafOf depth path))) ws
+  unfolding starts-here
+  climbed-over ws P whole fits e =
+      let some : 1 ≤ depth = h .some in
+      let list : List Write = shrunk k (pageAt k ws₀) x (fathersOf depth path) (take beside siblings) (leafOf depth path) (pageAt k ws₀ (leafOf depth path)) in
+      let cover : Covers k n (leafOf depth path) list = way-covers depth (starts-here x h) (omega arith) in
+      ap (applied k list) e
+      ∙ applied-over k n list (write (leafOf depth path) P) ws whole (cover .0)
+      (record { inPool = h .pathIn (depth - 1) (omega arith) .inside; fits = fits })
+      (cover .1)
+
+-- memories that agree on the pages above and beside
+pub shrunk-memory : (k : ℕ) (m m′ : ℕ → Page) (x : ℕ) (fathers siblings : List ℕ) (p : ℕ) (P : Page)
+    → ((q : ℕ) → member q fathers ≡ true → m q ≡ m′ q)
+    → ((q : ℕ) → member q siblings ≡ true → m q ≡ m′ q)
+    → shrunk k m x fathers siblings p P ≡ shrunk k m′ x fathers siblings p P
+unfolding shrunk member
+shrunk-memory k m m′ x [] siblings p P a b = refl
+shrunk-memory k m m′ x (f ∷ up) [] p P a b = refl
+shrunk-memory k m m′ x (f ∷ up) (s ∷ siblings) p P a b =
+    let more = shrunk-memory k m m′ x up siblings f (lessKey (betweenAt x (m′ f)) (m′ f)) (λ q t. a q (or-second (eqb q f) t)) (λ q t. b q (or-second (eqb q s) t)) in
+    rw (a f (or-first (member f up) (eq-eqb f f refl)), b s (or-first (member s siblings) (eq-eqb s s refl)), more)
