@@ -1,11 +1,21 @@
 -- The leaf loses x where it lies; every other page is as it was, so that the way up can begin.
-use Prim.Native.Nat.{ℕ, suc, _+_, _-_, _≤_, _<_}
+use Prim.Native.Nat.{ℕ, zero, suc, _+_, _-_, _≤_, _<_}
 use mathlib.Core.Bool.{true, cond}
 use mathlib.Core.List.{List}
-use mathlib.Core.Logic.{_≢_}
+use mathlib.Core.Logic.{_≢_, ⊎-elim}
 use mathlib.Core.Path.{_≡_, refl, sym, ap, _∙_, subst}
 use native.Mathlib.Omega.{arith}
-use borrow.Author.Tests.{ne-eqb}
+use borrow.Author.Tests.{ne-eqb, eqb-true}
+use lib.Dec.{eqb}
+use lib.Seq.{length-take-le, getD-take}
+use Rattle.ground.specs.Tests.{member}
+use Rattle.ground.proofs.Bools.{not-both, or-cases}
+use Rattle.ground.proofs.Tests.{member-at}
+use Rattle.page.specs.Place.{place, without}
+use Rattle.page.specs.Splits.{withEntries}
+use Rattle.page.proofs.RiseLaws.{keyAt}
+use Rattle.page.proofs.PlaceLaws.{place-most, has-place, without-at}
+use Rattle.change.specs.Deletion.{shrunk, deletion}
 use lib.ListN.{length, getD, take}
 use Rattle.ground.proofs.Choice.{cond-false}
 use Rattle.page.specs.Words.{Page, μ, isLeaf, encode, view}
@@ -16,12 +26,13 @@ use Rattle.page.proofs.Fits.{Fits}
 use Rattle.page.proofs.SoundPage.{sound-fits}
 use Rattle.page.proofs.ExactLaws.{exact-encode, lessKey-fits}
 use Rattle.page.proofs.WordLaws.{length-encode}
-use Rattle.pool.specs.Pool.{poolLength, wordsOf, pageAt, write, written}
+use Rattle.pool.specs.Pool.{poolLength, wordsOf, pageAt, Write, write, written, applied}
 use Rattle.pool.proofs.WriteLaws.{length-written, wordsOf-written-same, pageAt-written-same, FitWrite}
-use Rattle.change.specs.Held.{leafOf}
+use Rattle.change.specs.Held.{upward, leafOf, fathersOf}
 use Rattle.change.specs.Deleting.{Climbing, Deleting}
 use Rattle.change.proofs.AppliedLaws.{same-or-not, elsewhere}
 use Rattle.change.proofs.DeleteLaws.{in-pool-kept}
+use Rattle.change.proofs.ClimbLaws.{climbed-over, shrunk-memory}
 use Rattle.change.proofs.NeedLaws.{path-known, sibling-known, father-key}
 
 module _ {k n : ℕ} {ws : List ℕ} {x : ℕ} {path : List ℕ} {depth : ℕ} {siblings : List ℕ} {beside : ℕ}
@@ -123,3 +134,64 @@ module _ {k n : ℕ} {ws : List ℕ} {x : ℕ} {path : List ℕ} {depth : ℕ} {
         besideApart = h .besideApart;
         across = h .across;
       }
+
+-- a page above the leaf stands at an index of the path
+above-index : (i : ℕ) (path : List ℕ) (q : ℕ) → member q (upward i path) ≡ true → (t : ℕ) × (t < i) × (getD path t 0 ≡ q)
+unfolding upward member
+above-index zero path q m = not-both m refl
+above-index (suc i) path q m =
+    ⊎-elim
+    (λ e. (i, omega arith, sym (eqb-true q (getD path i 0) e)))
+    (λ later. let found = above-index i path q later in (found .0, omega arith, found .2))
+    (or-cases (eqb q (getD path i 0)) (member q (upward i path)) m)
+
+module _ {k n : ℕ} {ws : List ℕ} {x : ℕ} {path : List ℕ} {depth : ℕ} {siblings : List ℕ} {beside : ℕ}
+    (h : Deleting k n ws x path depth siblings beside) where
+  abbrev was : Page
+  was = pageAt k ws (leafOf depth path)
+
+  leaf-rises : rises (was .entries) ≡ true
+  leaf-rises = let some : 1 ≤ depth = h .held .some in path-known x (h .held) (depth - 1) (omega arith) .facts .rising
+
+  -- x stands just before its place
+  pub stands-at : {at : ℕ} → at ≡ place x (was .entries) → (0 < at) × (at - 1 < μ was)
+  stands-at e =
+      let found = has-place x (was .entries) leaf-rises (h .stands) in
+      let most = place-most x (was .entries) in
+      (omega arith, omega arith)
+
+  -- the leaf less the key
+  lost-x : {at : ℕ} → at ≡ place x (was .entries) → lessKey (at - 1) was ≡ withEntries was (without x (was .entries))
+  unfolding lessKey
+  lost-x {at} e =
+      let found = has-place x (was .entries) leaf-rises (h .stands) in
+      ap (withEntries was)
+      (sym
+      (without-at x (was .entries) leaf-rises (at - 1) (stands-at e .1)
+      (ap (λ (t : ℕ). keyAt (t - 1) (was .entries)) e ∙ found .1)))
+
+  -- the whole change
+  pub deleted : {at : ℕ} {vs out : List ℕ} → at ≡ place x (was .entries)
+      → vs ≡ written k (write (leafOf depth path) (lessKey (at - 1) was)) ws
+      → out ≡ applied k (shrunk k (pageAt k vs) x (fathersOf depth path) (take beside siblings) (leafOf depth path) (pageAt k vs (leafOf depth path))) vs
+      → out ≡ applied k (deletion k (pageAt k ws) x (leafOf depth path) (fathersOf depth path) (take beside siblings)) ws
+  unfolding deletion
+  deleted {at} {vs} {out} e done climbed =
+      let few : beside ≤ length siblings = omega (arith, h .held .few, h .held .besideCells) in
+      climbed
+      ∙ climbed-over x (leaf-climbs h (at - 1) done) ws (lessKey (at - 1) was) (h .held .held .whole) (left-fit h (at - 1) done .fits) done
+      ∙ ap (λ (list : List Write). applied k list ws)
+      (shrunk-memory k (pageAt k vs) (pageAt k ws) x (fathersOf depth path) (take beside siblings) (leafOf depth path) (pageAt k vs (leafOf depth path))
+      (λ q m.
+      let found = above-index (depth - 1) path q m in
+      kept-value h (at - 1) done q
+      (λ z. h .pathApart (found .0) (depth - 1) (found .1) (let some : 1 ≤ depth = h .held .some in omega arith) (found .2 ∙ z)))
+      (λ q m.
+      let found = member-at q (take beside siblings) 0 m in
+      let inside : found .0 < beside = omega (arith, length-take-le beside siblings few) in
+      kept-value h (at - 1) done q
+      (λ z.
+      h .across (depth - 1) (found .0) (let some : 1 ≤ depth = h .held .some in omega arith) inside
+      (sym z ∙ sym (found .2) ∙ getD-take beside siblings (found .0) 0 inside)))
+      ∙ ap (λ (P : Page). shrunk k (pageAt k ws) x (fathersOf depth path) (take beside siblings) (leafOf depth path) P)
+      (leaf-value h (at - 1) done ∙ lost-x e))
