@@ -1,17 +1,18 @@
 -- Going up, the page that lost one is written already, and the rule would write it only now. What the rule has still to write
 -- holds that page again or leaves it as it is, so that the words come to the same.
 use Prim.Native.Nat.{ℕ, zero, suc, _+_, _-_, _*_, _≤_, _<_}
-use mathlib.Core.Bool.{Bool, true, false, cond}
+use mathlib.Core.Bool.{Bool, true, false, cond, _||_}
 use mathlib.Core.List.{List, [], _∷_}
 use mathlib.Core.Logic.{_≢_, ⊎-elim}
 use mathlib.Core.Path.{_≡_, refl, sym, ap, ap₂, _∙_, subst}
 use native.Mathlib.Numerals.{add-one}
 use native.Mathlib.Omega.{arith}
-use borrow.Author.Tests.{le-leb, lt-leb}
+use borrow.Author.Tests.{le-leb, lt-leb, leb-true, leb-false, ltb-true, ltb-false, eq-eqb, eqb-true, eqb-false}
 use lib.Dec.{leb, ltb, eqb}
 use lib.ListN.{length, getD, take, drop, length-drop, drop-of-length-le}
 use lib.Seq.{length-take-le, getD-take, drop-cons}
-use Rattle.ground.proofs.Bools.{not-both, true-or-false}
+use Rattle.ground.specs.Tests.{member}
+use Rattle.ground.proofs.Bools.{not-both, true-or-false, or-first, or-second}
 use Rattle.ground.proofs.Choice.{cond-true, cond-false}
 use Rattle.page.specs.Words.{Page, μ, freePage, encode, view}
 use Rattle.page.specs.Short.{hasRight, betweenAt, merged, lessKey}
@@ -128,9 +129,9 @@ module _ {k n : ℕ} {ws₀ path : List ℕ} {depth : ℕ} {siblings : List ℕ}
   all = applied k (shrunk k (pageAt k ws₀) x (fathersOf depth path) (take beside siblings) (leafOf depth path) (pageAt k ws₀ (leafOf depth path))) ws₀
 
   -- at the leaf
-  pub climb-starts : Underway k n ws₀ x path depth siblings beside ws₀ (depth - 1) 0
+  unfoldable starts-here : Underway k n ws₀ x path depth siblings beside ws₀ (depth - 1) 0
   unfolding pageAt
-  climb-starts =
+  starts-here =
       let some : 1 ≤ depth = h .some in
       let inside : depth - 1 < depth = omega arith in
       let exact : Exact k (wordsOf k (leafOf depth path) ws₀) = h .pathExact (depth - 1) inside in
@@ -152,6 +153,9 @@ module _ {k n : ℕ} {ws₀ path : List ℕ} {depth : ℕ} {siblings : List ℕ}
         besideKept = λ t l m. refl;
       }
 
+  pub climb-starts : Underway k n ws₀ x path depth siblings beside ws₀ (depth - 1) 0
+  climb-starts = starts-here
+
   module _ {ws : List ℕ} {i j : ℕ} (u : Underway k n ws₀ x path depth siblings beside ws i j) where
     here : i < depth
     here = let turn : i + j + 1 ≡ depth = u .turn in omega arith
@@ -162,21 +166,25 @@ module _ {k n : ℕ} {ws₀ path : List ℕ} {depth : ℕ} {siblings : List ℕ}
     unfolding applied
     finished e = u .done ∙ sym (u .rest ∙ ap (λ (list : List Write). applied k list (u .was)) e)
 
-    -- at the top of the path
-    pub climb-top : i ≡ 0 → ws ≡ all
-    climb-top z =
-        finished
+    still-top : i ≡ 0 → shrunk k (pageAt k ws₀) x (upward i path) (drop j (take beside siblings)) (getD path i 0) (u .value) ≡ write (getD path i 0) (u .value) ∷ []
+    still-top z =
         (ap (λ (up : List ℕ). shrunk k (pageAt k ws₀) x up (drop j (take beside siblings)) (getD path i 0) (u .value)) (upward-top i path z)
         ∙ shrunk-top k (pageAt k ws₀) x (getD path i 0) (u .value) (drop j (take beside siblings)))
 
+    -- at the top of the path
+    pub climb-top : i ≡ 0 → ws ≡ all
+    climb-top z = finished (still-top z)
+
     -- behind the last sibling
-    pub climb-alone : beside ≤ j → ws ≡ all
-    climb-alone l =
+    still-alone : beside ≤ j → shrunk k (pageAt k ws₀) x (upward i path) (drop j (take beside siblings)) (getD path i 0) (u .value) ≡ write (getD path i 0) (u .value) ∷ []
+    still-alone l =
         let few : beside ≤ length siblings = omega (arith, h .few, h .besideCells) in
         let none : length (take beside siblings) ≤ j = omega (arith, length-take-le beside siblings few) in
-        finished
         (ap (λ (ss : List ℕ). shrunk k (pageAt k ws₀) x (upward i path) ss (getD path i 0) (u .value)) (drop-of-length-le (take beside siblings) none)
         ∙ shrunk-alone k (pageAt k ws₀) x (getD path i 0) (u .value) (upward i path))
+
+    pub climb-alone : beside ≤ j → ws ≡ all
+    climb-alone l = finished (still-alone l)
 
     -- the page's words and value
     page-words : wordsOf k (getD path i 0) ws ≡ encode k (u .value)
@@ -344,9 +352,9 @@ module _ {k n : ℕ} {ws₀ path : List ℕ} {depth : ℕ} {siblings : List ℕ}
             ∙ shrunk-stays k (pageAt k ws₀) x p (u .value) f (upward (i - 1) path) s (drop (j + 1) (take beside siblings)) short-value (sym told ∙ t)))
 
         -- the father lost one
-        pub climb-goes : up ≡ true → Underway k n ws₀ x path depth siblings beside vs (i - 1) (j + 1)
+        unfoldable goes-on : up ≡ true → Underway k n ws₀ x path depth siblings beside vs (i - 1) (j + 1)
         unfolding applied lessKey
-        climb-goes t =
+        goes-on t =
             let lostIt : lost (ltb k (μ S)) f F (betweenAt x F) ≡ true = sym told ∙ t in
             let J : Page = merged x F (u .value) S in
             let L : ℕ = leftOne x F p s in
@@ -384,3 +392,118 @@ module _ {k n : ℕ} {ws₀ path : List ℕ} {depth : ℕ} {siblings : List ℕ}
                   kept (getD siblings q 0) (λ e. h .across i q here m (sym e)) (λ e. h .besideApart j q (omega arith) m (sym e))
                   ∙ u .besideKept q (omega arith) m;
             }
+
+        pub climb-goes : up ≡ true → Underway k n ws₀ x path depth siblings beside vs (i - 1) (j + 1)
+        climb-goes t = goes-on t
+
+-- ---- the pages that the rule has still to write
+
+-- one of the two is the page
+member-pair : (x : ℕ) (F : Page) (p s : ℕ) (rest : List ℕ) → member p (leftOne x F p s ∷ rightOne x F p s ∷ rest) ≡ true
+unfolding member
+member-pair x F p s rest =
+    ⊎-elim
+    (λ t. or-first (eqb p (rightOne x F p s) || member p rest) (eq-eqb p (leftOne x F p s) (sym (cond-true p s t))))
+    (λ t. or-second (eqb p (leftOne x F p s)) (or-first (member p rest) (eq-eqb p (rightOne x F p s) (sym (cond-false s p t)))))
+    (true-or-false (hasRight x F))
+
+alone-covers : {k n p : ℕ} {P : Page} (list : List Write) → FitWrite k n (write p P) → list ≡ write p P ∷ [] → Covers k n p list
+unfolding member
+alone-covers {k} {n} {p} list fit e = subst (Covers k n p) (sym e) ((fit, tt), or-first false (eq-eqb p p refl))
+
+-- a number that is not 0 is more
+pos : (i : ℕ) → (i ≡ 0 → ⊥) → 0 < i
+pos zero ne = absurd (ne refl)
+pos (suc i) ne = omega arith
+
+module _ {k n : ℕ} {ws₀ path : List ℕ} {depth : ℕ} {siblings : List ℕ} {beside : ℕ} (x : ℕ) (h : Climbing k n ws₀ path depth siblings beside)
+    {ws : List ℕ} {i j : ℕ} (u : Underway k n ws₀ x path depth siblings beside ws i j) (below : 0 < i) (more : j < beside)
+    (short : μ (pageAt k ws (getD path i 0)) < k) where
+  abbrev down : ℕ
+  down = getD path (i - 1) 0
+
+  abbrev left : ℕ
+  left = getD siblings j 0
+
+  abbrev after : List ℕ
+  after =
+      applied k (round k x (getD path i 0) (pageAt k ws (getD path i 0)) left (pageAt k ws left) down (pageAt k ws down)) ws
+
+  abbrev answer : Bool
+  answer = lost (ltb k (μ (pageAt k ws left))) down (pageAt k ws down) (betweenAt x (pageAt k ws down))
+
+  -- one round, and what is above if the father lost a key
+  round-or-up : ((v : Underway k n ws₀ x path depth siblings beside after (i - 1) (j + 1))
+      → Covers k n down (shrunk k (pageAt k ws₀) x (upward (i - 1) path) (drop (j + 1) (take beside siblings)) down (v .value)))
+      → Covers k n (getD path i 0) (shrunk k (pageAt k ws₀) x (upward i path) (drop j (take beside siblings)) (getD path i 0) (u .value))
+  unfolding goes-on
+  round-or-up above =
+      ⊎-elim
+      (λ t.
+      let v = goes-on x h u below more refl short (refl, refl) t in
+      let lostIt = sym (told x h u below more refl short {vs = after} {up = answer} (refl, refl)) ∙ t in
+      let fit = subst (AllFit k n) (round-goes k (pageAt k ws₀) x (getD path i 0) (u .value) down (upward (i - 1) path) left (drop (j + 1) (take beside siblings)) (short-value x h u below more refl short {vs = after} {up = answer} (refl, refl)) lostIt) (covers x h u below more refl short {vs = after} {up = answer} (refl, refl) .0) in
+      subst (Covers k n (getD path i 0))
+      (sym
+      (by-father x h u below more refl short {vs = after} {up = answer} (refl, refl)
+      ∙ shrunk-goes k (pageAt k ws₀) x (getD path i 0) (u .value) down (upward (i - 1) path) left (drop (j + 1) (take beside siblings)) (short-value x h u below more refl short {vs = after} {up = answer} (refl, refl)) lostIt))
+      ((fit .0, (fit .1 .0, above v .0)), member-pair x (pageAt k ws₀ down) (getD path i 0) left _))
+      (λ t.
+      subst (Covers k n (getD path i 0))
+      (sym
+      (by-father x h u below more refl short {vs = after} {up = answer} (refl, refl)
+      ∙ shrunk-stays k (pageAt k ws₀) x (getD path i 0) (u .value) down (upward (i - 1) path) left (drop (j + 1) (take beside siblings)) (short-value x h u below more refl short {vs = after} {up = answer} (refl, refl))
+      (sym (told x h u below more refl short {vs = after} {up = answer} (refl, refl)) ∙ t)))
+      (covers x h u below more refl short {vs = after} {up = answer} (refl, refl)))
+      (true-or-false answer)
+
+module _ {k n : ℕ} {ws₀ path : List ℕ} {depth : ℕ} {siblings : List ℕ} {beside : ℕ} (x : ℕ) (h : Climbing k n ws₀ path depth siblings beside) where
+  -- each page that the rule has still to write fits, and the page at index i is one of them
+  pub way-covers : (fuel : ℕ) {ws : List ℕ} {i j : ℕ} (u : Underway k n ws₀ x path depth siblings beside ws i j) → i ≤ fuel
+      → Covers k n (getD path i 0) (shrunk k (pageAt k ws₀) x (upward i path) (drop j (take beside siblings)) (getD path i 0) (u .value))
+  way-covers zero {ws} {i} {j} u l = alone-covers _ (fit-here x h u) (still-top x h u (omega arith))
+  way-covers (suc fuel) {ws} {i} {j} u l =
+      ⊎-elim
+      (λ t. alone-covers _ (fit-here x h u) (still-top x h u (eqb-true i 0 t)))
+      (λ inner.
+      ⊎-elim
+      (λ more.
+      ⊎-elim
+      (λ t. alone-covers _ (fit-here x h u)
+      (shrunk-enough k (pageAt k ws₀) x (getD path i 0) (u .value) (upward i path) (drop j (take beside siblings)) (leb-true k (μ (u .value)) t)))
+      (λ t.
+      let below : 0 < i = pos i (eqb-false i 0 inner) in
+      let besides : j < beside = ltb-true j beside more in
+      let short : μ (pageAt k ws (getD path i 0)) < k = subst (λ (m : ℕ). m < k) (sym (ap μ (page-value x h u))) (leb-false k (μ (u .value)) t) in
+      round-or-up x h u below besides short
+      (λ v. way-covers fuel v (omega arith)))
+      (true-or-false (leb k (μ (u .value)))))
+      (λ none. alone-covers _ (fit-here x h u) (still-alone x h u (ltb-false j beside none)))
+      (true-or-false (ltb j beside)))
+      (true-or-false (eqb i 0))
+
+  -- the rule's writes over the words before the leaf was written
+  pub climbed-over : (ws : List ℕ) (P : Page) → length ws ≡ poolLength k n → Fits k P → ws₀ ≡ written k (write (leafOf depth path) P) ws
+      → applied k (shrunk k (pageAt k ws₀) x (fathersOf depth path) (take beside siblings) (leafOf depth path) (pageAt k ws₀ (leafOf depth path))) ws₀
+      ≡ applied k (shrunk k (pageAt k ws₀) x (fathersOf depth path) (take beside siblings) (leafOf depth path) (pageAt k ws₀ (leafOf depth path))) ws
+  unfolding starts-here
+  climbed-over ws P whole fits e =
+      let some : 1 ≤ depth = h .some in
+      let list : List Write = shrunk k (pageAt k ws₀) x (fathersOf depth path) (take beside siblings) (leafOf depth path) (pageAt k ws₀ (leafOf depth path)) in
+      let cover : Covers k n (leafOf depth path) list = way-covers depth (starts-here x h) (omega arith) in
+      ap (applied k list) e
+      ∙ applied-over k n list (write (leafOf depth path) P) ws whole (cover .0)
+      (record { inPool = h .pathIn (depth - 1) (omega arith) .inside; fits = fits })
+      (cover .1)
+
+-- memories that agree on the pages above and beside
+pub shrunk-memory : (k : ℕ) (m m′ : ℕ → Page) (x : ℕ) (fathers siblings : List ℕ) (p : ℕ) (P : Page)
+    → ((q : ℕ) → member q fathers ≡ true → m q ≡ m′ q)
+    → ((q : ℕ) → member q siblings ≡ true → m q ≡ m′ q)
+    → shrunk k m x fathers siblings p P ≡ shrunk k m′ x fathers siblings p P
+unfolding shrunk member
+shrunk-memory k m m′ x [] siblings p P a b = refl
+shrunk-memory k m m′ x (f ∷ up) [] p P a b = refl
+shrunk-memory k m m′ x (f ∷ up) (s ∷ siblings) p P a b =
+    let more = shrunk-memory k m m′ x up siblings f (lessKey (betweenAt x (m′ f)) (m′ f)) (λ q t. a q (or-second (eqb q f) t)) (λ q t. b q (or-second (eqb q s) t)) in
+    rw (a f (or-first (member f up) (eq-eqb f f refl)), b s (or-first (member s siblings) (eq-eqb s s refl)), more)

@@ -8,3 +8,4 @@ pub mod AppliedLaws
 pub mod DeleteLaws
 pub mod MendLaws
 pub mod ClimbLaws
+pub mod DeleteLawsLeaf

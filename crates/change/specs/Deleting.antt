@@ -9,6 +9,7 @@ use lib.ListN.{length, getD}
 use Rattle.ground.specs.Limits.{pathHolds}
 use Rattle.page.specs.Words.{Page, μ, isLeaf, freePage}
 use Rattle.page.specs.Splits.{split}
+use Rattle.page.specs.Place.{has}
 use Rattle.page.specs.Sound.{rises}
 use Rattle.page.specs.Short.{betweenAt, joined, merged, lessKey, rekeyed}
 use Rattle.page.specs.Sheets.{Exact, Holds, sheetPage}
@@ -16,6 +17,7 @@ use Rattle.page.specs.declared.sheets.Sheet.{Sheet}
 use Rattle.pool.specs.Pool.{poolLength, wordsOf, pageAt, Write, write}
 use Rattle.pool.specs.Wrapped.{InPool}
 use Rattle.change.specs.Deletion.{leftOne, rightOne, shares}
+use Rattle.change.specs.Held.{Needing, leafOf}
 
 -- The page f of the pool, which has a key at place b, and two other pages l and w.
 pub record Three (k n : ℕ) (ws : List ℕ) (f b l w : ℕ) : Type 0 where
@@ -127,6 +129,17 @@ pub record Climbing (k n : ℕ) (ws path : List ℕ) (depth : ℕ) (siblings : L
   pub besideExact : (j : ℕ) → j < beside → Exact k (wordsOf k (getD siblings j 0) ws)
   pub besideSome : (j : ℕ) → j < beside → 1 ≤ μ (pageAt k ws (getD siblings j 0))
   pub levels : (i j : ℕ) → j < beside → i + j + 1 ≡ depth → pageAt k ws (getD path i 0) .level ≡ pageAt k ws (getD siblings j 0) .level
+  pub pathApart : (i t : ℕ) → i < t → t < depth → getD path i 0 ≢ getD path t 0
+  pub besideApart : (j t : ℕ) → j < t → t < beside → getD siblings j 0 ≢ getD siblings t 0
+  pub across : (i j : ℕ) → i < depth → j < beside → getD path i 0 ≢ getD siblings j 0
+
+-- The arrays hold the pages of a deletion of x that stands at its leaf, and x stands there. A sibling lies beside its page and
+-- is not page 0, and no page stands twice.
+pub record Deleting (k n : ℕ) (ws : List ℕ) (x : ℕ) (path : List ℕ) (depth : ℕ) (siblings : List ℕ) (beside : ℕ) : Type 0 where
+  pub held : Needing k n ws path depth siblings beside
+  pub stands : has x (pageAt k ws (leafOf depth path) .entries) ≡ true
+  pub levels : (i j : ℕ) → j < beside → i + j + 1 ≡ depth → pageAt k ws (getD path i 0) .level ≡ pageAt k ws (getD siblings j 0) .level
+  pub others : (j : ℕ) → j < beside → getD siblings j 0 ≢ 0
   pub pathApart : (i t : ℕ) → i < t → t < depth → getD path i 0 ≢ getD path t 0
   pub besideApart : (j t : ℕ) → j < t → t < beside → getD siblings j 0 ≢ getD siblings t 0
   pub across : (i j : ℕ) → i < depth → j < beside → getD path i 0 ≢ getD siblings j 0

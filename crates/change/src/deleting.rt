@@ -12,6 +12,7 @@ use pool::pages::key_of;
 use pool::pages::lay_at;
 use pool::pages::lay_left_at;
 use pool::pages::lay_right_at;
+use pool::pages::place_of;
 use pool::pages::rekey_at;
 use pool::pages::take_out_at;
 ghost use mathlib.Core.Path.{_≡_};
@@ -26,7 +27,7 @@ ghost use Rattle.pool.specs.Pool.{wordsOf, pageAt, applied};
 ghost use Rattle.pool.specs.Wrapped.{InPool};
 ghost use Rattle.change.specs.Deletion as rule;
 ghost use Rattle.change.specs.Held.{leafOf, fathersOf};
-ghost use Rattle.change.specs.Deleting.{Cutting, Joining, Settling, Mending, Climbing, sharing, collapsing, uniting, paired, lost, round};
+ghost use Rattle.change.specs.Deleting.{Cutting, Joining, Settling, Mending, Climbing, Deleting, sharing, collapsing, uniting, paired, lost, round};
 
 // Two neighbours and the key between them: the joined row cut at pair c.
 fn share(
@@ -156,4 +157,24 @@ fn climb(
         i -= 1;
         j += 1;
     }
+}
+
+// The whole change of the deletion of x, which stands at the last page of its path and holds these siblings.
+pub fn delete(
+    words: &mut [u32],
+    k: usize,
+    n: usize,
+    x: u32,
+    path: &[u32; HELD],
+    depth: usize,
+    siblings: &[u32; HELD],
+    beside: usize,
+)
+    requires { ⌜ Deleting k n (now words) x (now path) depth (now siblings) beside ⌝ }
+    ensures { λ _. ⌜ now (words .exit) ≡ applied k (rule.deletion k (pageAt k (now (words .entry))) x (leafOf depth (now (path .entry))) (fathersOf depth (now (path .entry))) (take beside (now (siblings .entry)))) (now (words .entry)) ⌝ }
+{
+    let leaf = path[depth - 1];
+    let at = place_of(words, k, n, leaf, x);
+    take_out_at(words, k, n, leaf, at - 1);
+    climb(words, k, n, x, path, depth, siblings, beside);
 }
