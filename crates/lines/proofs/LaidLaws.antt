@@ -1,20 +1,14 @@
--- Laws of a word laid over a row of bytes: its length, two words one behind the other, and one byte more.
+-- Laws of a word laid over a row of bytes: one byte more, a word copied byte by byte, and two words one behind the other.
 use Prim.Native.Nat.{ℕ, suc, _+_, _≤_, _<_}
 use mathlib.Core.List.{List, [], _∷_, _++_, append-assoc}
 use mathlib.Core.Path.{_≡_, sym, ap, ap₂, _∙_}
 use native.Mathlib.Numerals.{add-one}
 use native.Mathlib.Omega.{arith}
 use lib.ListN.{length, getD, take, drop, set, length-append, length-set}
-use lib.Seq.{take-length, length-take-le, paste, paste-suc, length-paste, take-at, drop-at, drop-drop, drop-cons, take-set-le, drop-set-lt, getD-set-same, set-split, append-snoc}
+use lib.Seq.{take-length, length-take-le, paste, paste-suc, take-at, drop-at, drop-drop, drop-cons, take-set-le, drop-set-lt, getD-set-same, set-split, append-snoc}
 use Rattle.lines.specs.Text.{laid}
 
 module _ (out : List ℕ) (at : ℕ) where
-  -- a row of bytes keeps its length
-  pub length-laid : (word : List ℕ) → at + length word ≤ length out → length (laid out at word) ≡ length out
-  length-laid word h =
-      ap (λ (w : List ℕ). length (take at out ++ w ++ drop (at + length word) out)) (sym (take-length word))
-      ∙ length-paste out at word (length word) h (omega arith)
-
   -- one byte is laid by a store
   pub laid-one : (b : ℕ) → at < length out → set out at b ≡ laid out at (b ∷ [])
   laid-one b h =
