@@ -1,19 +1,18 @@
 -- A page that is written twice has its last value, and writes of different pages may change places: so a page that was
 -- written too early, and that a list of writes writes again, leaves no trace.
-use Prim.Native.Nat.{ℕ, _<_}
-use mathlib.Core.Bool.{Bool, true, false}
+use Prim.Native.Nat.{ℕ}
+use mathlib.Core.Bool.{true}
 use mathlib.Core.List.{List, [], _∷_}
-use mathlib.Core.Logic.{⊎-elim, _≢_}
+use mathlib.Core.Logic.{⊎-elim}
 use mathlib.Core.Path.{_≡_, refl, sym, ap, _∙_}
 use borrow.Author.Tests.{eqb-true, eqb-false}
 use lib.Dec.{eqb}
 use lib.ListN.{length}
 use Rattle.ground.specs.Tests.{member}
 use Rattle.ground.proofs.Bools.{true-or-false, not-both, or-cases}
-use Rattle.page.specs.Words.{Page, encode}
-use Rattle.page.proofs.Fits.{Fits}
+use Rattle.page.specs.Words.{encode}
 use Rattle.page.proofs.WordLaws.{length-encode}
-use Rattle.pool.specs.Pool.{poolLength, wordsOf, Write, write, written, applied}
+use Rattle.pool.specs.Pool.{poolLength, wordsOf, Write, written, applied}
 use Rattle.pool.proofs.StretchLaws.{pool-by-pages}
 use Rattle.pool.proofs.WriteLaws.{length-written, wordsOf-written-same, wordsOf-written-other, FitWrite, AllFit, namedBy}
 

@@ -17,7 +17,7 @@ use Rattle.ground.proofs.Tests.{member-append, member-from}
 use Rattle.page.specs.Words.{Page, μ, isLeaf}
 use Rattle.page.specs.Sound.{least}
 use Rattle.page.specs.Reading.{Readable}
-use Rattle.page.specs.Sheets.{Exact}
+use Rattle.page.specs.Exact.{Exact}
 use Rattle.page.proofs.ReadingLaws.{sound-readable}
 use Rattle.page.proofs.SoundPage.{SoundPage, sound-facts}
 use Rattle.page.proofs.ExactLaws.{exact-sound}

@@ -1,11 +1,4 @@
 pub mod SmallRows
 pub mod HeldLaws
 pub mod NeedLaws
-pub mod RoomLaws
-pub mod SettleLaws
-pub mod InsertLaws
 pub mod AppliedLaws
-pub mod DeleteLaws
-pub mod MendLaws
-pub mod ClimbLaws
-pub mod DeleteLawsLeaf

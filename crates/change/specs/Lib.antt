@@ -1,4 +1,3 @@
 pub mod Insertion
 pub mod Deletion
 pub mod Held
-pub mod Deleting

@@ -1,4 +1,2 @@
-// The whole change of an operation along the pages that it holds.
-pub mod deleting;
-pub mod inserting;
+// The rules of a change along the pages that an operation holds, and what a deletion needs.
 pub mod needing;

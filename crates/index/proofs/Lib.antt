@@ -1,3 +1,5 @@
 pub mod Unique
 pub mod Refusals
-pub mod SmallRows
+pub mod ActLaws
+pub mod MakeLaws
+pub mod StepLaws

@@ -27,8 +27,8 @@ use Rattle.slots.specs.Heard.{refuses, changesNothing}
 use Rattle.slots.specs.Parts.{keyOf, slotAt, idleState, pathOf, siblingsOf}
 use Rattle.slots.specs.Sound.{sound}
 use Rattle.slots.specs.Grant.{grants}
-use Rattle.index.specs.Granted.{Verdict, broken, goes, ends, kept, byNeed, deletes, atLeaf, fromLeaf, comesDown, besides, atItsLeaf, granted}
-use Rattle.index.specs.Fitting.{soundForStep, verdict}
+use Rattle.grant.specs.Granted.{Verdict, broken, goes, ends, kept, byNeed, deletes, atLeaf, fromLeaf, comesDown, besides, atItsLeaf, granted}
+use Rattle.grant.specs.Fitting.{soundForStep, verdict}
 use Rattle.index.specs.Step.{Left, left, acted, steppedTask, stepped}
 use Rattle.index.specs.Make.{made}
 

@@ -1,5 +1,4 @@
-pub mod Granted
-pub mod Fitting
 pub mod Step
 pub mod Make
+pub mod Acting
 pub mod Statements

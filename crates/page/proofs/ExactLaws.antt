@@ -8,11 +8,11 @@ use borrow.Author.Tests.{ne-eqb}
 use lib.ListN.{length, getD, take, drop, replicate, length-append, length-take, length-drop}
 use Rattle.ground.proofs.Bools.{not-both}
 use Rattle.ground.proofs.Choice.{cond-ind, cond-true}
-use Rattle.page.specs.Words.{Entry, Page, entry, page, μ, isLeaf, freePage, encode, view, size}
+use Rattle.page.specs.Words.{Entry, Page, entry, μ, isLeaf, freePage, encode, view, size}
 use Rattle.page.specs.Sound.{soundByItself}
 use Rattle.page.specs.Splits.{put, split, raised, entryAt}
 use Rattle.page.specs.Short.{joined, lessKey, rekeyed}
-use Rattle.page.specs.Sheets.{Exact}
+use Rattle.page.specs.Exact.{Exact}
 use Rattle.page.proofs.Fits.{Fits}
 use Rattle.page.proofs.WordLaws.{length-encode, view-encode, encode-μ, view-μ, free-fits, encode-free}
 use Rattle.page.proofs.SoundPage.{sound-facts, sound-words, sound-μ}

@@ -4,11 +4,6 @@ pub mod PutLaws
 pub mod RiseLaws
 pub mod SoundPage
 pub mod WordLaws
-pub mod PasteLaws
-pub mod FlatLaws
-pub mod WritingLaws
-pub mod LayLaws
-pub mod SheetLaws
 pub mod ExactLaws
 pub mod MoveLaws
 pub mod SmallRows

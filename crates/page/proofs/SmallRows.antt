@@ -1,9 +1,8 @@
 -- Small computed rows beside the rules of a page, so that a wrong rule is refused here and not only on the bench.
-use Prim.Native.Nat.{ℕ}
 use mathlib.Core.Path.{_≡_, refl}
-use mathlib.Core.List.{List, [], _∷_}
+use mathlib.Core.List.{[], _∷_}
 use Rattle.ground.specs.Tests.{count}
-use Rattle.page.specs.Words.{Page, entry, page}
+use Rattle.page.specs.Words.{entry, page}
 use Rattle.page.specs.Place.{place, route}
 use Rattle.page.specs.Splits.{parted, split}
 

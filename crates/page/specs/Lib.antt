@@ -4,4 +4,4 @@ pub mod Sound
 pub mod Splits
 pub mod Short
 pub mod Reading
-pub mod Sheets
+pub mod Exact

@@ -1,10 +1,10 @@
 -- A page left with k-1 and its neighbour. "How pages change" of document 01, short pages.
 use Prim.Native.Nat.{ℕ, suc, _-_}
 use mathlib.Core.Bool.{Bool, cond}
-use mathlib.Core.List.{List, [], _∷_, _++_}
+use mathlib.Core.List.{[], _∷_, _++_}
 use lib.Dec.{ltb}
 use lib.ListN.{take, drop}
-use Rattle.page.specs.Words.{Entry, Page, entry, page, μ, isLeaf}
+use Rattle.page.specs.Words.{Page, entry, page, μ, isLeaf}
 use Rattle.page.specs.Place.{place, pointer}
 use Rattle.page.specs.Splits.{Parted, parted, withEntries, entryAt}
 

@@ -1,12 +1,12 @@
 -- A page sound by itself: what document 01 asks of one page's words, whatever the other pages hold.
-use Prim.Native.Nat.{ℕ, suc, _+_, _*_}
-use mathlib.Core.Bool.{Bool, true, false, cond, not, _&&_}
+use Prim.Native.Nat.{ℕ, _+_, _*_}
+use mathlib.Core.Bool.{Bool, true, cond, _&&_}
 use mathlib.Core.List.{List, [], _∷_}
 use lib.Dec.{leb, ltb, eqb}
 use lib.ListN.{getD, drop}
 use Rattle.ground.specs.Limits.{tallest}
 use Rattle.ground.specs.Tests.{all, distinct}
-use Rattle.page.specs.Words.{Entry, Page, isLeaf, pointers, pairsFrom, view}
+use Rattle.page.specs.Words.{Entry, isLeaf, pointers, pairsFrom, view}
 
 -- "Keys in a page rise strictly."
 unfoldable pub risesFrom : ℕ → List Entry → Bool

@@ -1,6 +1,6 @@
 -- A page with one pair more, and a page cut in two. "How pages change" of document 01, splits.
 use Prim.Native.Nat.{ℕ, suc, _+_}
-use mathlib.Core.Bool.{Bool, cond}
+use mathlib.Core.Bool.{cond}
 use mathlib.Core.List.{List, [], _∷_, _++_}
 use lib.ListN.{getD, take, drop}
 use Rattle.page.specs.Words.{Entry, Page, entry, page, isLeaf}

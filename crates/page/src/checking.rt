@@ -5,6 +5,7 @@ use crate::reading::is_leaf;
 use crate::reading::level;
 use crate::reading::pairs_from;
 use crate::reading::wide;
+use ground::TALLEST;
 ghost use Prim.Native.Nat.{ℕ, _≤_};
 ghost use lib.Dec.{leb, ltb, eqb};
 ghost use lib.ListN.{length, getD, take, drop};
@@ -15,9 +16,6 @@ ghost use Rattle.page.specs.Place.{pointer};
 ghost use Rattle.page.specs.Reading.{Readable, inShape};
 ghost use Rattle.page.specs.Sound.{rises, least as leastOf, goodPointers, soundByItself};
 ghost use Rattle.page.specs.Words.{size, view, isLeaf, pointers};
-
-// Level 1 to 10.
-pub const TALLEST: u32 = 10;
 
 // A pointer leaves its mark by its remainder.
 const MARKS: usize = 256;

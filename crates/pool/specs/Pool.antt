@@ -1,9 +1,9 @@
 -- Pages in the lent words: reading and writing one, the fresh pool, free pages. "Pool and pages" of document 01.
-use Prim.Native.Nat.{ℕ, zero, suc, _+_, _*_}
-use mathlib.Core.Bool.{Bool, cond, not, _&&_}
+use Prim.Native.Nat.{ℕ, _*_}
+use mathlib.Core.Bool.{Bool, not, _&&_}
 use mathlib.Core.List.{List, [], _∷_}
 use lib.Dec.{leb, eqb}
-use lib.ListN.{length, getD, take, drop, set, replicate}
+use lib.ListN.{getD, take, drop, set, replicate}
 use lib.Seq.{sets}
 use Rattle.ground.specs.Limits.{largestK, largestN}
 use Rattle.ground.specs.Tests.{listBelow}

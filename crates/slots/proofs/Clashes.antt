@@ -1,10 +1,9 @@
 -- In a sound state no two locks clash.
 use Prim.Native.Nat.{ℕ, _<_}
-use mathlib.Core.Bool.{Bool, true, false}
+use mathlib.Core.Bool.{true, false}
 use mathlib.Core.Logic.{⊎-elim, _≢_}
 use mathlib.Core.Path.{_≡_, refl, sym}
 use Rattle.ground.specs.Limits.{slotCount}
-use Rattle.ground.specs.Tests.{apart}
 use Rattle.ground.proofs.Bools.{true-or-false, not-both}
 use Rattle.ground.proofs.Tests.{apart-member}
 use Rattle.slots.specs.declared.Lock.{Lock}

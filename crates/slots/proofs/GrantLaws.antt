@@ -1,17 +1,16 @@
 -- A granted want clashes with nothing, so a slot that takes it keeps the locks apart.
 use Prim.Native.Nat.{ℕ, _<_}
-use mathlib.Core.Bool.{Bool, true, false, not, _&&_, _||_}
-use mathlib.Core.Logic.{_≢_, _⊎_, inl, inr, ⊎-elim}
-use mathlib.Core.Path.{_≡_, refl, sym, ap, ap₂, subst, _∙_}
-use mathlib.Core.List.{List, [], _∷_, _++_}
+use mathlib.Core.Bool.{true, false, not, _&&_, _||_}
+use mathlib.Core.Logic.{_≢_, _⊎_, ⊎-elim}
+use mathlib.Core.Path.{_≡_, refl, sym, ap₂, subst}
+use mathlib.Core.List.{List, _++_}
 use lib.Dec.{eqb}
 use lib.ListN.{take}
 use borrow.Author.Tests.{eqb-true, ne-eqb, not-true}
 use Rattle.ground.specs.Limits.{slotCount}
-use Rattle.ground.specs.Tests.{member, apart, allBelow}
+use Rattle.ground.specs.Tests.{member, apart}
 use Rattle.ground.proofs.Bools.{not-both, false-if-not-true, and-first, and-second, and-both, or-cases}
 use Rattle.ground.proofs.Tests.{member-none, apart-member, apart-from, apart-swap, allBelow-at}
-use Rattle.slots.specs.declared.Op.{Op}
 use Rattle.slots.specs.declared.Op.the-variants.{Search, Insert, Delete}
 use Rattle.slots.specs.declared.Task.{Task}
 use Rattle.slots.specs.declared.Task.the-variants.{Closed, Open}

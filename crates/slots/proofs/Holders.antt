@@ -1,17 +1,14 @@
 -- What a lock report says of the held pages.
-use Prim.Native.Nat.{ℕ, suc, _+_, _<_, _≤_}
-use mathlib.Core.Bool.{Bool, true, false, cond, _&&_}
-use mathlib.Core.Logic.{_≢_, ⊎-elim}
-use mathlib.Core.Path.{_≡_, refl, sym, ap, _∙_}
+use Prim.Native.Nat.{ℕ, _+_, _<_}
+use mathlib.Core.Bool.{true, false, _&&_}
+use mathlib.Core.Path.{_≡_, refl, sym, _∙_}
 use native.Mathlib.Omega.{arith}
-use lib.Dec.{eqb}
-use borrow.Author.Tests.{eq-eqb, ne-eqb, eqb-true, eqb-false}
+use borrow.Author.Tests.{eq-eqb, ne-eqb}
 use Rattle.ground.specs.Limits.{slotCount}
-use Rattle.ground.specs.Tests.{anyBelow, countBelow, firstBelow}
-use Rattle.ground.proofs.Bools.{true-or-false, not-both, and-both, and-first, and-second}
+use Rattle.ground.specs.Tests.{countBelow}
+use Rattle.ground.proofs.Bools.{and-both}
 use Rattle.ground.proofs.Choice.{cond-true, cond-false}
-use Rattle.ground.proofs.Tests.{anyBelow-at, anyBelow-from, countBelow-fails, countBelow-less, firstBelow-passes, firstBelow-before, firstBelow-fails}
-use Rattle.slots.specs.declared.Lock.{Lock}
+use Rattle.ground.proofs.Tests.{anyBelow-from, countBelow-fails, countBelow-less, firstBelow-passes, firstBelow-before, firstBelow-fails}
 use Rattle.slots.specs.declared.Lock.the-variants.{None, Rho, Xi}
 use Rattle.slots.specs.declared.State.{State}
 use Rattle.slots.specs.Parts.{holdsAt}

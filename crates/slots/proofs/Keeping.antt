@@ -1,30 +1,26 @@
 -- Beginning, going on and closing keep a sound state sound, and leave every other slot as it was.
 -- Arrays are lists to the prover, so the lengths are said: a state is shaped as its type says.
 use Prim.Native.Nat.{ℕ, zero, suc, _+_, _-_, _≤_, _<_, zero-le}
-use mathlib.Core.Bool.{Bool, true, false, not, _&&_, _||_, or-false}
-use mathlib.Core.Logic.{_≢_, _⊎_, inl, inr, ⊎-elim}
+use mathlib.Core.Bool.{Bool, true, false, not, _||_, or-false}
+use mathlib.Core.Logic.{_≢_, _⊎_, ⊎-elim}
 use mathlib.Core.Path.{_≡_, refl, sym, ap, ap₂, subst, _∙_}
 use mathlib.Core.List.{List, [], _∷_, _++_}
 use native.Mathlib.Omega.{arith}
-use native.Mathlib.Numerals.{add-one}
-use lib.Dec.{eqb}
 use lib.ListN.{length, getD, take, drop, set, replicate, length-set, length-append, length-drop, length-replicate}
-use lib.Seq.{getD-set-same, getD-set-other, take-append-seam, take-suc-set}
-use borrow.Author.Tests.{eq-eqb}
+use lib.Seq.{getD-set-same, getD-set-other, take-append-seam}
 use Rattle.ground.specs.Limits.{largestK, largestN, slotCount, searchHolds, pathHolds, siblingHolds}
 use Rattle.ground.specs.Tests.{member, distinct, apart, padded}
 use Rattle.ground.proofs.Bools.{false-if-not-true, not-both, and-both, or-cases, or-first, or-second}
 use Rattle.ground.proofs.Tests.{member-none, member-append, distinct-none, distinct-snoc, apart-from, apart-swap}
 use Rattle.slots.specs.declared.Op.{Op}
 use Rattle.slots.specs.declared.Op.the-variants.{Search, Insert, Delete}
-use Rattle.slots.specs.declared.Task.{Task}
-use Rattle.slots.specs.declared.Task.the-variants.{Closed, Open}
+use Rattle.slots.specs.declared.Task.the-variants.{Open}
 use Rattle.slots.specs.declared.Slot.{Slot}
 use Rattle.slots.specs.declared.State.{State}
-use Rattle.slots.specs.Parts.{isOpen, held, pathOf, siblingsOf, slotAt, openAt, wantAt, waitingOrder, openSlot, closedSlot, idleState}
+use Rattle.slots.specs.Parts.{isOpen, held, pathOf, siblingsOf, slotAt, openAt, waitingOrder, openSlot, closedSlot, idleState}
 use Rattle.slots.specs.Locks.{lockOf, lockAt, isXi}
 use Rattle.slots.specs.Sound.{withinLimits}
-use Rattle.slots.specs.Book.{rewritten, leaving, begins, requeued, goesOn, closes}
+use Rattle.slots.specs.Book.{rewritten, leaving, begins, goesOn, closes}
 use Rattle.slots.proofs.SoundFacts.{SoundSlot, SoundState}
 use Rattle.slots.proofs.OrderLaws.{same-or-not, member-here, member-cases, length-waiting, length-leaving, member-leaving, leaving-gone, distinct-leaving, leaving-was, order-has-room, waiting-begins, waiting-requeued, waiting-closes}
 

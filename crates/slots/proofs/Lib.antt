@@ -2,17 +2,9 @@ pub mod Unique
 pub mod Refusals
 pub mod BookLaws
 pub mod GrantingLaws
-pub mod MaskLaws
-pub mod CallLaws
 pub mod SoundFacts
 pub mod OrderLaws
 pub mod Clashes
 pub mod Keeping
 pub mod GrantLaws
 pub mod Holders
-pub mod ReportLaws
-pub mod CheckingLaws
-pub mod CheckingLawsOrder
-pub mod CheckingLawsHeld
-pub mod CheckingLawsSlot
-pub mod CheckingLawsSound

@@ -1,6 +1,6 @@
 -- A refused beginning leaves the state as given.
 use Prim.Native.Nat.{ℕ}
-use mathlib.Core.Bool.{Bool, true, false, cond, not, false≢true}
+use mathlib.Core.Bool.{true, false, not, false≢true}
 use mathlib.Core.Path.{_≡_, refl}
 use lib.Dec.{ltb}
 use Rattle.ground.specs.Limits.{slotCount}
@@ -8,12 +8,10 @@ use Rattle.ground.proofs.Choice.{cond-ind}
 use Rattle.slots.specs.declared.Op.{Op}
 use Rattle.slots.specs.declared.State.{State}
 use Rattle.slots.specs.declared.Outcome.{Outcome}
-use Rattle.slots.specs.declared.Answer.the-variants.{Begun, BadState, BadSlot, SlotBusy}
 use Rattle.slots.specs.Heard.{refuses}
 use Rattle.slots.specs.Parts.{openAt}
 use Rattle.slots.specs.Sound.{sound}
-use Rattle.slots.specs.Book.{begins}
-use Rattle.slots.specs.Begin.{outcome, begun}
+use Rattle.slots.specs.Begin.{begun}
 
 pub begin-refused : (st : State) (s : ℕ) (op : Op) → refuses (begun st s op .answer) ≡ true → begun st s op .state ≡ st
 unfolding begun

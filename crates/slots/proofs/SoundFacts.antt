@@ -1,14 +1,13 @@
 -- A sound state as facts: the test of document 01, taken apart and put together again.
 use Prim.Native.Nat.{ℕ, _≤_, _<_}
 use mathlib.Core.Bool.{Bool, true, false, not, _&&_, _||_}
-use mathlib.Core.Logic.{⊎-elim}
-use mathlib.Core.Path.{_≡_, refl, sym}
-use mathlib.Core.List.{List, [], _∷_}
+use mathlib.Core.Path.{_≡_, refl}
+use mathlib.Core.List.{_∷_}
 use lib.Dec.{leb, ltb, eqb}
-use borrow.Author.Tests.{leb-true, le-leb, ltb-true, lt-ltb, eqb-true, eq-eqb, ne-eqb, not-true, not-false}
+use borrow.Author.Tests.{leb-true, le-leb, ltb-true, lt-ltb, eq-eqb, ne-eqb}
 use Rattle.ground.specs.Limits.{largestK, largestN, slotCount}
 use Rattle.ground.specs.Tests.{all, allBelow, member, distinct, apart}
-use Rattle.ground.proofs.Bools.{true-or-false, not-both, and-first, and-second, and-both, or-first, or-second, or-cases, not-of-false}
+use Rattle.ground.proofs.Bools.{not-both, and-first, and-second, and-both}
 use Rattle.ground.proofs.Tests.{all-member, all-from-members, allBelow-at, allBelow-from}
 use Rattle.slots.specs.declared.Task.{Task}
 use Rattle.slots.specs.declared.Task.the-variants.{Closed, Open}

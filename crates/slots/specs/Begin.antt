@@ -1,6 +1,6 @@
 -- Beginning an operation, for every argument. "What the caller hears" of document 01.
 use Prim.Native.Nat.{ℕ}
-use mathlib.Core.Bool.{Bool, cond, not}
+use mathlib.Core.Bool.{cond, not}
 use lib.Dec.{ltb}
 use Rattle.ground.specs.Limits.{slotCount}
 use Rattle.slots.specs.declared.Op.{Op}

@@ -3,7 +3,6 @@ pub mod Locks
 pub mod Book
 pub mod Heard
 pub mod Sound
-pub mod Checking
 pub mod Grant
 pub mod Begin
 pub mod Report

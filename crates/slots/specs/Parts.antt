@@ -1,7 +1,7 @@
 -- What a slot and a state are made of, read off as lists, and one maker for each. "Slots, locks and steps" of document 01.
 use Prim.Native.Nat.{ℕ}
 use mathlib.Core.Bool.{Bool, true, false}
-use mathlib.Core.List.{List, [], _∷_, _++_}
+use mathlib.Core.List.{List, [], _++_}
 use lib.ListN.{length, getD, take, replicate}
 use Rattle.ground.specs.Limits.{pathHolds, slotCount}
 use Rattle.ground.specs.Tests.{member, padded}

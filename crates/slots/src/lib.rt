@@ -1,9 +1,6 @@
 // Slots and locks: who holds what, who waits for whom. The state and what the caller hears.
 pub mod book;
-pub mod calls;
-pub mod checking;
 pub mod granting;
-pub mod reporting;
 
 use ground::HELD;
 use ground::SLOTS;

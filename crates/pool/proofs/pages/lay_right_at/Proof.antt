@@ -3,7 +3,7 @@ use native.Mathlib.Omega.{arith}
 use borrow.Author.Needs.{needs}
 use Rattle.page.specs.Words.{Page}
 use Rattle.page.specs.Splits.{split}
-use Rattle.page.specs.Sheets.{sheetPage}
+use Rattle.sheet.specs.Sheets.{sheetPage}
 use Rattle.pool.proofs.PagesLaws.{lies-words, part-written, in-pool-size}
 use Rattle.pool.proofs.pages.lay_right_at.Statement.{statement}
 use Rattle.pool.proofs.pages.lay_right_at.Tie as tie

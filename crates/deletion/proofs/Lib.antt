@@ -1,0 +1,4 @@
+pub mod DeleteLaws
+pub mod MendLaws
+pub mod ClimbLaws
+pub mod DeleteLawsLeaf

@@ -1,0 +1,5 @@
+pub mod SmallRows
+pub mod StandLaws
+pub mod LookLaws
+pub mod KeepLaws
+pub mod JudgeLaws

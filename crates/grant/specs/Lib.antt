@@ -1,0 +1,4 @@
+pub mod Granted
+pub mod Fitting
+pub mod Standing
+pub mod Judged

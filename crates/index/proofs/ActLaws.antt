@@ -1,0 +1,273 @@
+-- What the functions of an insertion and of a deletion ask, from where the operation stands; and each course, carried out, as the
+-- rule's word for it.
+use Prim.Native.Nat.{ℕ, _+_, _-_, _*_, _≤_, _<_}
+use mathlib.Core.Bool.{Bool, true, false, cond}
+use mathlib.Core.List.{List, [], _++_, reverse}
+use mathlib.Core.Logic.{_⊎_, inl, inr, ⊎-elim}
+use mathlib.Core.Path.{_≡_, refl, sym, ap, _∙_, subst}
+use native.Mathlib.Omega.{arith}
+use borrow.Author.Tests.{leb-true, leb-false, ltb-true, lt-ltb, le-ltb}
+use lib.Dec.{ltb}
+use lib.ListN.{length, getD, take, drop, replicate, take-append-drop}
+use lib.Seq.{length-take-le, getD-take, take-at}
+use Rattle.ground.specs.Limits.{pathHolds, mostNew}
+use Rattle.ground.specs.Tests.{member, distinct, padded}
+use Rattle.ground.proofs.Bools.{or-first, false-if-not-true}
+use Rattle.ground.proofs.Choice.{cond-true, cond-false}
+use Rattle.ground.proofs.Tests.{member-append, member-from, not-member-at, distinct-front, distinct-back, distinct-apart, distinct-at, distinct-join, apart-member, apart-from, listBelow-distinct}
+use Rattle.page.specs.Words.{μ}
+use Rattle.pool.specs.Pool.{Write, pageAt, freePages, isFree, applied}
+use Rattle.pool.specs.Scan.{Scanned}
+use Rattle.pool.specs.declared.lying.Taken.{Taken}
+use Rattle.pool.proofs.LyingLaws.{scanned-at}
+use Rattle.pool.proofs.FreeLaws.{Free, freePages-at, freePages-free}
+use Rattle.change.specs.Insertion.{room, insertion}
+use Rattle.change.specs.Deletion.{deletion}
+use Rattle.change.proofs.HeldLaws.{held-known}
+use Rattle.insertion.specs.Inserting.{Inserting}
+use Rattle.insertion.proofs.InsertLaws.{insertion-same}
+use Rattle.deletion.specs.Deleting.{Deleting}
+use Rattle.slots.specs.declared.Op.{Op}
+use Rattle.slots.specs.declared.Op.the-variants.{Insert}
+use Rattle.slots.specs.declared.Slot.{Slot}
+use Rattle.slots.specs.declared.State.{State}
+use Rattle.slots.specs.declared.Answer.{Answer}
+use Rattle.slots.specs.declared.Answer.the-variants.{Moved, Inserted, Deleted, NoRoom, Damaged}
+use Rattle.slots.specs.declared.Outcome.{Outcome}
+use Rattle.slots.specs.Parts.{pathOf, siblingsOf}
+use Rattle.slots.specs.Begin.{outcome}
+use Rattle.slots.specs.Book.{requeued, goesOn, closes}
+use Rattle.grant.specs.declared.judging.Course.{Course}
+use Rattle.grant.specs.declared.judging.Course.the-variants.{Broken, Goes, Ends, Inserts, Deletes}
+use Rattle.grant.specs.Granted.{Verdict, ends, fromLeaf}
+use Rattle.grant.specs.Standing.{Stands}
+use Rattle.grant.specs.Judged.{courseOf, ready, standsLast}
+use Rattle.grant.proofs.JudgeLaws.{standing-needing, standing-holding, stand-upward}
+use Rattle.index.specs.Step.{acted}
+use Rattle.index.specs.Acting.{Leaves, Acts, wanting, standLeaf, standFathers, lacksRoom, roomAnswer, afterInsertion, afterDeletion}
+
+-- ---- an operation that stands somewhere
+
+module _ {op : Op} {k n : ℕ} {ws : List ℕ} {stand : Slot} (h : Stands op k n ws stand) where
+  -- the lists are as long as the slot says
+  path-long : length (pathOf stand) ≡ stand .depth
+  path-long = sym (ap (λ (s : Slot). s .depth) (h .exact))
+
+  siblings-long : length (siblingsOf stand) ≡ stand .beside
+  siblings-long = sym (ap (λ (s : Slot). s .beside) (h .exact))
+
+  -- and what stands in them stands in the arrays
+  path-cell : (i : ℕ) → i < stand .depth → getD (pathOf stand) i 0 ≡ getD (stand .path) i 0
+  unfolding pathOf
+  path-cell i l = getD-take (stand .depth) (stand .path) i 0 l
+
+  sibling-cell : (j : ℕ) → j < stand .beside → getD (siblingsOf stand) j 0 ≡ getD (stand .siblings) j 0
+  unfolding siblingsOf
+  sibling-cell j l = getD-take (stand .beside) (stand .siblings) j 0 l
+
+  -- a deletion may be made of the key that stands at its leaf
+  stand-deleting : (x : ℕ) → standsLast (pageAt k ws) x (reverse (pathOf stand))
+      → Deleting k n ws x (stand .path) (stand .depth) (stand .siblings) (stand .beside)
+  stand-deleting x there =
+      let s = h .standing in
+      let longPath = path-long in
+      let longSiblings = siblings-long in
+      record {
+        held = standing-needing h;
+        stands = subst (standsLast (pageAt k ws) x) (stand-upward h) there;
+        levels = λ i j l e.
+            ap (λ (p : ℕ). pageAt k ws p .level) (sym (path-cell i (omega arith)))
+            ∙ s .levels i j (omega arith) (omega arith)
+            ∙ ap (λ (p : ℕ). pageAt k ws p .level) (sibling-cell j l);
+        others = λ j l e. s .others j (omega arith) (sibling-cell j l ∙ e);
+        pathApart = λ i t l u e. distinct-at (pathOf stand) 0 (distinct-front (pathOf stand) (siblingsOf stand) (s .different)) i t l (omega arith)
+            (path-cell i (omega arith) ∙ e ∙ sym (path-cell t u));
+        besideApart = λ j t l u e. distinct-at (siblingsOf stand) 0 (distinct-back (pathOf stand) (siblingsOf stand) (s .different)) j t l (omega arith)
+            (sibling-cell j (omega arith) ∙ e ∙ sym (sibling-cell t u));
+        across = λ i j l u e.
+            let on = member-from (getD (stand .path) i 0) (pathOf stand) i 0 (omega arith) (path-cell i l) in
+            let off = apart-member (pathOf stand) (siblingsOf stand) (distinct-apart (pathOf stand) (siblingsOf stand) (s .different)) (getD (stand .path) i 0) on in
+            not-member-at (getD (stand .path) i 0) (siblingsOf stand) 0 off j (omega arith) (sibling-cell j u ∙ sym e);
+      }
+
+-- ---- pages found by a scan
+
+module _ (k n : ℕ) (ws : List ℕ) {need : ℕ} {r : Taken} (found : Scanned need (freePages k n ws) r) (all : r .enough ≡ true) where
+  -- as many are free
+  free-enough : need ≤ length (freePages k n ws)
+  free-enough = leb-true need (length (freePages k n ws)) (sym (found .enough) ∙ all)
+
+  -- they are the first of the free ones
+  taken-first : take need (r .pages) ≡ take need (freePages k n ws)
+  unfolding padded
+  taken-first =
+      ap (take need) (found .pages all)
+      ∙ take-at (take need (freePages k n ws)) (replicate (mostNew - length (take need (freePages k n ws))) 0) need
+      (length-take-le need (freePages k n ws) free-enough)
+
+  -- each of them is free
+  taken-free : (p : ℕ) → member p (take need (r .pages)) ≡ true → Free k n ws p
+  taken-free p m =
+      let front = take need (freePages k n ws) in
+      let back = drop need (freePages k n ws) in
+      freePages-free k n ws p
+      (subst (λ (l : List ℕ). member p l ≡ true) (take-append-drop need (freePages k n ws))
+      (member-append p front back ∙ or-first (member p back) (sym (ap (member p) taken-first) ∙ m)))
+
+  -- none is taken twice
+  taken-distinct : distinct (take need (r .pages)) ≡ true
+  unfolding freePages
+  taken-distinct =
+      ap distinct taken-first
+      ∙ distinct-front (take need (freePages k n ws)) (drop need (freePages k n ws))
+      (subst (λ (l : List ℕ). distinct l ≡ true) (sym (take-append-drop need (freePages k n ws))) (listBelow-distinct (isFree k ws) n))
+
+  -- each of them is one of the pool
+  taken-inside : (t : ℕ) → t < need → getD (r .pages) t 0 < n
+  taken-inside t l =
+      let many = free-enough in
+      subst (λ (p : ℕ). p < n) (sym (scanned-at found all t l)) (freePages-at k n ws t 0 (omega arith) .inPool)
+
+-- ---- an insertion
+
+-- the top of the path is page 0 or has space
+stand-top : {x v k n : ℕ} {ws : List ℕ} {stand : Slot} → Stands (Insert x v) k n ws stand
+    → (getD (stand .path) 0 0 ≡ 0) ⊎ (μ (pageAt k ws (getD (stand .path) 0 0)) < 2 * k)
+stand-top {k = k} {ws = ws} {stand = stand} h =
+    let some : 0 < stand .depth = omega (arith, h .standing .some, path-long h) in
+    subst (λ (p : ℕ). (p ≡ 0) ⊎ (μ (pageAt k ws p) < 2 * k)) (path-cell h 0 some)
+    (⊎-elim inl (λ e. inr (ltb-true (μ (pageAt k ws (getD (pathOf stand) 0 0))) (2 * k) e)) (h .standing .top))
+
+-- The pages that the count of room asks for are found.
+module _
+    {x v k n : ℕ} {ws : List ℕ} {stand : Slot} (h : Stands (Insert x v) k n ws stand)
+    {need : ℕ} {r : Taken} (found : Scanned need (freePages k n ws) r) (count : need ≡ room k (pageAt k ws) (standLeaf stand) (pathOf stand))
+  where
+    -- the words after the change with new pages from this list
+    abbrev changed : List ℕ → List ℕ
+    changed free = applied k (insertion k (pageAt k ws) x v free (standLeaf stand) (standFathers stand)) ws
+
+    -- no page held is free
+    held-taken : r .enough ≡ true → (p : ℕ) → member p (pathOf stand) ≡ true → member p (take need (r .pages)) ≡ false
+    held-taken all p m =
+        let known = held-known (h .standing .held) p (member-append p (pathOf stand) (siblingsOf stand) ∙ or-first (member p (siblingsOf stand)) m) in
+        false-if-not-true (member p (take need (r .pages)))
+        (λ t. let low = taken-free k n ws found all p t .level in
+        let high = known .facts .lowest in
+        omega arith)
+
+    -- so the change may be made
+    pub taken-inserting : need ≤ stand .depth + 1 → r .enough ≡ true → Inserting k n ws (stand .path) (stand .depth) (r .pages)
+    unfolding pathOf pathHolds mostNew
+    taken-inserting few all =
+        let deep = standing-holding h .deep in
+        let here : List ℕ = pathOf stand in
+        subst (λ (m : ℕ). m ≤ mostNew → ((t : ℕ) → t < m → getD (r .pages) t 0 < n) → distinct (here ++ take m (r .pages)) ≡ true → Inserting k n ws (stand .path) (stand .depth) (r .pages))
+        (sym count)
+        (λ most inside apart. record { holding = standing-holding h; top = stand-top h; cells = found .cells; enough = most; inside = inside; apart = apart })
+        (omega arith)
+        (taken-inside k n ws found all)
+        (distinct-join here (take need (r .pages)) (distinct-front here (siblingsOf stand) (h .standing .different)) (taken-distinct k n ws found all)
+        (apart-from here (take need (r .pages)) (held-taken all)))
+
+    -- too few pages are free
+    pub room-lacks : r .enough ≡ false → (NoRoom ≡ roomAnswer k n ws stand) × (ws ≡ afterInsertion k n ws x v stand)
+    room-lacks none =
+        let few = leb-false need (length (freePages k n ws)) (sym (found .enough) ∙ none) in
+        let lacks : lacksRoom k n ws stand ≡ true = lt-ltb (length (freePages k n ws)) (room k (pageAt k ws) (standLeaf stand) (pathOf stand)) (omega arith) in
+        (sym (cond-true NoRoom Inserted lacks), sym (cond-true ws (changed (freePages k n ws)) lacks))
+
+    -- the change was made with the pages found, which are those that the rule takes
+    pub room-enough : need ≤ stand .depth + 1 → r .enough ≡ true → {after : List ℕ} → after ≡ changed (r .pages)
+        → (Inserted ≡ roomAnswer k n ws stand) × (after ≡ afterInsertion k n ws x v stand)
+    unfolding pathOf
+    room-enough few all made =
+        let many = free-enough k n ws found all in
+        let room-is : lacksRoom k n ws stand ≡ false = le-ltb (length (freePages k n ws)) (room k (pageAt k ws) (standLeaf stand) (pathOf stand)) (omega arith) in
+        let agree : (t : ℕ) → t < room k (pageAt k ws) (standLeaf stand) (pathOf stand) → getD (freePages k n ws) t 0 ≡ getD (r .pages) t 0
+        = λ t l. sym (scanned-at found all t (omega arith)) in
+        let same = insertion-same x v (taken-inserting few all) (freePages k n ws) agree in (
+          sym (cond-false NoRoom Inserted room-is),
+          made ∙ sym (ap (λ (ws′ : List Write). applied k ws′ ws) same) ∙ sym (cond-false ws (changed (freePages k n ws)) room-is),
+        )
+
+-- ---- each course, carried out
+
+module _ {st : State} {ws : List ℕ} {s : ℕ} {op : Op} {stand : Slot} (a : Acts st ws s op stand) where
+  -- the rule's word for a course, and what it leaves
+  abbrev said : Course → Verdict
+  said = courseOf (st .k) (pageAt (st .k) ws) (freePages (st .k) (st .n) ws) (pathOf stand) (siblingsOf stand)
+
+  abbrev leaves : Course → Outcome → List ℕ → Type 0
+  leaves course r after = Leaves (acted st ws s op (said course)) r after
+
+  pub acts-broken : {course : Course} → course ≡ Broken → leaves course (outcome Damaged st) ws
+  acts-broken is = subst (λ (c : Course). leaves c (outcome Damaged st) ws) (sym is) (record { answer = refl; state = refl; words = refl })
+
+  pub acts-goes : {course : Course} {next : ℕ} {r : Outcome} → course ≡ Goes next → r ≡ outcome Moved (requeued st s (wanting next stand)) → leaves course r ws
+  unfolding goesOn
+  acts-goes {next = next} {r = r} is e =
+      subst (λ (c : Course). leaves c r ws) (sym is)
+      (record {
+        answer = ap (λ (o : Outcome). o .answer) e;
+        state = ap (λ (o : Outcome). o .state) e ∙ ap (λ (slot : Slot). requeued st s (wanting next slot)) (a .stands .exact);
+        words = refl;
+      })
+
+  pub acts-ends : {course : Course} {answer : Answer} {after : State} → course ≡ Ends answer → after ≡ closes st s → leaves course (outcome answer after) ws
+  unfolding applied
+  acts-ends {answer = answer} {after = after} is e =
+      subst (λ (c : Course). leaves c (outcome answer after) ws) (sym is) (record { answer = refl; state = e; words = refl })
+
+  -- an insertion: with room or without
+  pub acts-inserts : {course : Course} {x v : ℕ} {answer : Answer} {after : State} {words : List ℕ} → course ≡ Inserts x v
+      → answer ≡ roomAnswer (st .k) (st .n) ws stand
+      → words ≡ afterInsertion (st .k) (st .n) ws x v stand
+      → after ≡ closes st s
+      → leaves course (outcome answer after) words
+  unfolding applied
+  acts-inserts {x = x} {v = v} {answer = answer} {after = after} {words = words} is heard written e =
+      subst (λ (c : Course). leaves c (outcome answer after) words) (sym is)
+      (subst (λ (up : List ℕ). Leaves (acted st ws s op (fromLeaf change up)) (outcome answer after) words) (sym (stand-upward (a .stands)))
+      (split (lacksRoom (st .k) (st .n) ws stand) heard written))
+    where
+      free : List ℕ
+      free = freePages (st .k) (st .n) ws
+
+      change : ℕ → List ℕ → Verdict
+      change leaf fathers =
+          cond (ltb (length free) (room (st .k) (pageAt (st .k) ws) leaf (pathOf stand)))
+          (ends NoRoom [])
+          (ends Inserted (insertion (st .k) (pageAt (st .k) ws) x v free leaf fathers))
+
+      made : List Write
+      made = insertion (st .k) (pageAt (st .k) ws) x v free (standLeaf stand) (standFathers stand)
+
+      split : (b : Bool) → answer ≡ cond b NoRoom Inserted → words ≡ cond b ws (applied (st .k) made ws)
+          → Leaves (acted st ws s op (cond b (ends NoRoom []) (ends Inserted made))) (outcome answer after) words
+      split true h w = record { answer = h; state = e; words = w }
+      split false h w = record { answer = h; state = e; words = w }
+
+  -- a deletion
+  pub acts-deletes : {course : Course} {x v : ℕ} {after : State} {words : List ℕ} → course ≡ Deletes x v
+      → words ≡ afterDeletion (st .k) ws x stand
+      → after ≡ closes st s
+      → leaves course (outcome (Deleted v) after) words
+  acts-deletes {x = x} {v = v} {after = after} {words = words} is written e =
+      subst (λ (c : Course). leaves c (outcome (Deleted v) after) words) (sym is)
+      (subst (λ (up : List ℕ). Leaves (acted st ws s op (fromLeaf change up)) (outcome (Deleted v) after) words) (sym (stand-upward (a .stands)))
+      (record { answer = refl; state = e; words = written }))
+    where
+      change : ℕ → List ℕ → Verdict
+      change leaf fathers = ends (Deleted v) (deletion (st .k) (pageAt (st .k) ws) x leaf fathers (siblingsOf stand))
+
+  -- what a change may count on
+  module _ (course : Course) (fit : ready op (pageAt (st .k) ws) (pathOf stand) course) where
+    pub inserts-stands : {x v : ℕ} → course ≡ Inserts x v → Stands (Insert x v) (st .k) (st .n) ws stand
+    inserts-stands is =
+        let same = subst (ready op (pageAt (st .k) ws) (pathOf stand)) is fit in
+        subst (λ (o : Op). Stands o (st .k) (st .n) ws stand) same (a .stands)
+
+    pub deletes-stands : {x v : ℕ} → course ≡ Deletes x v
+        → Deleting (st .k) (st .n) ws x (stand .path) (stand .depth) (stand .siblings) (stand .beside)
+    deletes-stands {x = x} is = stand-deleting (a .stands) x (subst (ready op (pageAt (st .k) ws) (pathOf stand)) is fit)

@@ -1,0 +1,68 @@
+-- What the functions that carry a course out ask and promise. A slot's arrays stand for the rule's lists as they do for a change.
+use Prim.Native.Nat.{ℕ, _≤_, _<_}
+use mathlib.Core.Bool.{Bool, true, cond}
+use mathlib.Core.List.{List}
+use mathlib.Core.Path.{_≡_}
+use lib.Dec.{ltb}
+use lib.ListN.{length}
+use Rattle.ground.specs.Limits.{slotCount}
+use Rattle.ground.specs.Tests.{member}
+use Rattle.pool.specs.Pool.{pageAt, freePages, applied}
+use Rattle.change.specs.Insertion.{room, insertion}
+use Rattle.change.specs.Deletion.{deletion}
+use Rattle.change.specs.Held.{leafOf, fathersOf}
+use Rattle.slots.specs.declared.Op.{Op}
+use Rattle.slots.specs.declared.Slot.{Slot}
+use Rattle.slots.specs.declared.State.{State}
+use Rattle.slots.specs.declared.Answer.{Answer}
+use Rattle.slots.specs.declared.Answer.the-variants.{Inserted, NoRoom}
+use Rattle.slots.specs.declared.Outcome.{Outcome}
+use Rattle.slots.specs.Parts.{pathOf, siblingsOf, waitingOrder}
+use Rattle.grant.specs.Standing.{Stands}
+use Rattle.index.specs.Step.{Left}
+
+-- A call gives back and leaves just this.
+pub record Leaves (l : Left) (r : Outcome) (after : List ℕ) : Type 0 where
+  pub answer : r .answer ≡ l .answer
+  pub state : r .state ≡ l .state
+  pub words : after ≡ l .words
+
+-- Slot s of the state waits for its want.
+pub record Waits (st : State) (s : ℕ) : Type 0 where
+  pub inside : s < slotCount
+  pub few : st .waiting ≤ slotCount
+  pub named : member s (waitingOrder st) ≡ true
+
+-- It was granted, and the operation stands here.
+pub record Acts (st : State) (ws : List ℕ) (s : ℕ) (op : Op) (stand : Slot) : Type 0 where
+  pub waits : Waits st s
+  pub stands : Stands op (st .k) (st .n) ws stand
+
+-- the slot with another want
+abbrev pub wanting : ℕ → Slot → Slot
+wanting want slot = record { task = slot .task; want = want; path = slot .path; depth = slot .depth; siblings = slot .siblings; beside = slot .beside }
+
+-- the leaf that an operation stands at, and the pages above it, upward
+abbrev pub standLeaf : Slot → ℕ
+standLeaf stand = leafOf (stand .depth) (stand .path)
+
+abbrev pub standFathers : Slot → List ℕ
+standFathers stand = fathersOf (stand .depth) (stand .path)
+
+-- too few pages are free for the insertion that stands here
+abbrev pub lacksRoom : ℕ → ℕ → List ℕ → Slot → Bool
+lacksRoom k n ws stand = ltb (length (freePages k n ws)) (room k (pageAt k ws) (standLeaf stand) (pathOf stand))
+
+-- what it answers, and the words that it leaves
+abbrev pub roomAnswer : ℕ → ℕ → List ℕ → Slot → Answer
+roomAnswer k n ws stand = cond (lacksRoom k n ws stand) NoRoom Inserted
+
+abbrev pub afterInsertion : ℕ → ℕ → List ℕ → ℕ → ℕ → Slot → List ℕ
+afterInsertion k n ws x v stand =
+    cond (lacksRoom k n ws stand)
+    ws
+    (applied k (insertion k (pageAt k ws) x v (freePages k n ws) (standLeaf stand) (standFathers stand)) ws)
+
+-- the words that a deletion leaves
+abbrev pub afterDeletion : ℕ → List ℕ → ℕ → Slot → List ℕ
+afterDeletion k ws x stand = applied k (deletion k (pageAt k ws) x (standLeaf stand) (standFathers stand) (siblingsOf stand)) ws

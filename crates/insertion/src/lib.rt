@@ -1,0 +1,2 @@
+// The whole change of an insertion along the pages that it holds.
+pub mod inserting;

@@ -1,0 +1,5 @@
+pub mod PasteLaws
+pub mod FlatLaws
+pub mod WritingLaws
+pub mod LayLaws
+pub mod SheetLaws

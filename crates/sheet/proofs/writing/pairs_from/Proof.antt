@@ -1,0 +1,13 @@
+-- `pairs_from` tests for level 1 as the rule does.
+use borrow.Author.Tests.{eq-eqb, ne-eqb}
+use Rattle.sheet.proofs.writing.pairs_from.Statement.{statement}
+use Rattle.sheet.proofs.writing.pairs_from.Tie as tie
+
+returns : tie.Need-returns
+returns c = simp (eq-eqb _ _ (c .if1 .taken))
+
+returns-2 : tie.Need-returns-2
+returns-2 c = simp (ne-eqb _ _ (c .if1 .left))
+
+pub pairs-from-spec : {M : Type 1} → statement M
+pairs-from-spec = tie.close (tie.spec returns returns-2)

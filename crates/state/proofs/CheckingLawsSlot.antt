@@ -1,0 +1,262 @@
+-- Laws for the test of one slot: its path and its siblings are put into a list one after the other, and what its task
+-- allows it to hold.
+use Prim.Native.Nat.{ℕ, _+_, _≤_, _<_}
+use mathlib.Core.Bool.{Bool, true, false, not, _&&_, _||_, false≢true, true≢false}
+use mathlib.Core.List.{List, [], _∷_, _++_, append-assoc}
+use mathlib.Core.Logic.{⊎-elim}
+use mathlib.Core.Path.{_≡_, refl, sym, ap, _∙_, subst}
+use native.Mathlib.Nat.{le-refl, add-assoc}
+use native.Mathlib.Omega.{arith}
+use borrow.Author.Tests.{lt-ltb, le-ltb, ne-eqb, eq-eqb, eqb-true, leb-true, not-true}
+use lib.Dec.{eqb, ltb, leb}
+use lib.ListN.{length, take}
+use lib.Seq.{slice, slice-empty, paste, take-paste}
+use Rattle.ground.specs.Limits.{searchHolds, pathHolds, siblingHolds}
+use Rattle.ground.specs.Tests.{all, member, distinct, apart}
+use Rattle.ground.proofs.Bools.{and-both, and-first, and-second, and-first-fails, or-first-fails, or-second-fails, or-none, not-both, not-of-false, false-if-not-true, same-if-true-together, true-or-false}
+use Rattle.ground.proofs.Tests.{all-append, all-member, all-from-members, member-none, member-append, distinct-front, distinct-back, distinct-apart, distinct-join, apart-member, apart-from, apart-swap}
+use Rattle.slots.specs.declared.Op.the-variants.{Search, Insert, Delete}
+use Rattle.slots.specs.declared.Task.{Task}
+use Rattle.slots.specs.declared.Task.the-variants.{Closed, Open}
+use Rattle.slots.specs.declared.Slot.{Slot}
+use Rattle.slots.specs.Parts.{isOpen, held, pathOf, siblingsOf}
+use Rattle.slots.specs.Locks.{lockOf, isXi}
+use Rattle.slots.specs.Sound.{withinLimits, pagesSound, ifOpen, slotSound}
+use Rattle.state.specs.Checking.{enters, mayEnter}
+use Rattle.state.proofs.CheckingLaws.{slice-entered}
+
+-- ---- the pages of one slot
+
+-- all pages are below n
+abbrev low : ℕ → List ℕ → Bool
+low n pages = all (λ (p : ℕ). ltb p n) pages
+
+-- what may enter, by its four parts
+module _ (n want : ℕ) (own pages : List ℕ) where
+  enter-from : low n pages ≡ true → member want pages ≡ false → apart pages own ≡ true → distinct pages ≡ true → mayEnter n want own pages ≡ true
+  unfolding mayEnter
+  enter-from below other others differ =
+      and-both
+      (all-from-members (enters n want own) pages
+      (λ x m. and-both
+      (and-both (all-member (λ (p : ℕ). ltb p n) pages below x m) (not-of-false (ne-eqb x want (λ e. not-both (subst (λ (z : ℕ). member z pages ≡ true) e m) other))))
+      (not-of-false (apart-member pages own others x m))))
+      differ
+
+  module _ (t : mayEnter n want own pages ≡ true) where
+    enter-each : (x : ℕ) → member x pages ≡ true → enters n want own x ≡ true
+    unfolding mayEnter
+    enter-each = all-member (enters n want own) pages (and-first (all (enters n want own) pages) (distinct pages) t)
+
+    enter-low : low n pages ≡ true
+    enter-low =
+        all-from-members (λ (p : ℕ). ltb p n) pages
+        (λ x m. and-first (ltb x n) (not (eqb x want)) (and-first (ltb x n && not (eqb x want)) (not (member x own)) (enter-each x m)))
+
+    enter-other : member want pages ≡ false
+    enter-other =
+        false-if-not-true (member want pages)
+        (λ m. not-both (eq-eqb want want refl)
+        (not-true (eqb want want)
+        (and-second (ltb want n) (not (eqb want want)) (and-first (ltb want n && not (eqb want want)) (not (member want own)) (enter-each want m)))))
+
+    enter-apart : apart pages own ≡ true
+    enter-apart =
+        apart-from pages own
+        (λ x m. not-true (member x own) (and-second (ltb x n && not (eqb x want)) (not (member x own)) (enter-each x m)))
+
+    enter-differ : distinct pages ≡ true
+    unfolding mayEnter
+    enter-differ = and-second (all (enters n want own) pages) (distinct pages) t
+
+-- the wanted page and those held, path and siblings
+abbrev asked : ℕ → ℕ → List ℕ → List ℕ → Bool
+asked n want path siblings = low n (want ∷ path ++ siblings) && distinct (want ∷ path ++ siblings)
+
+module _ (n want : ℕ) (path siblings : List ℕ) where
+  -- what holds of all pages lets the path enter, and the siblings behind it
+  asked-enter : asked n want path siblings ≡ true → mayEnter n want [] path && mayEnter n want path siblings ≡ true
+  unfolding all distinct
+  asked-enter y =
+      and-both
+      (enter-from n want [] path
+      (and-first (low n path) (low n siblings) below)
+      (or-first-fails (member want path) (member want siblings) other)
+      (apart-from path [] (λ x m. member-none x))
+      (distinct-front path siblings differ))
+      (enter-from n want path siblings
+      (and-second (low n path) (low n siblings) below)
+      (or-second-fails (member want path) (member want siblings) other)
+      (apart-swap path siblings (distinct-apart path siblings differ))
+      (distinct-back path siblings differ))
+    where
+      both : distinct (want ∷ path ++ siblings) ≡ true
+      both = and-second (low n (want ∷ path ++ siblings)) (distinct (want ∷ path ++ siblings)) y
+
+      below : low n path && low n siblings ≡ true
+      below =
+          sym (all-append (λ (p : ℕ). ltb p n) path siblings)
+          ∙ and-second (ltb want n) (low n (path ++ siblings)) (and-first (low n (want ∷ path ++ siblings)) (distinct (want ∷ path ++ siblings)) y)
+
+      differ : distinct (path ++ siblings) ≡ true
+      differ = and-second (not (member want (path ++ siblings))) (distinct (path ++ siblings)) both
+
+      other : member want path || member want siblings ≡ false
+      other =
+          sym (member-append want path siblings)
+          ∙ not-true (member want (path ++ siblings)) (and-first (not (member want (path ++ siblings))) (distinct (path ++ siblings)) both)
+
+  -- and the other way round, where the wanted page is below n
+  enter-asked : want < n → mayEnter n want [] path && mayEnter n want path siblings ≡ true → asked n want path siblings ≡ true
+  unfolding all distinct
+  enter-asked first-low y =
+      let first = and-first (mayEnter n want [] path) (mayEnter n want path siblings) y in
+      let second = and-second (mayEnter n want [] path) (mayEnter n want path siblings) y in
+      and-both
+      (and-both (lt-ltb want n first-low)
+      (all-append (λ (p : ℕ). ltb p n) path siblings ∙ and-both (enter-low n want [] path first) (enter-low n want path siblings second)))
+      (and-both
+      (not-of-false (member-append want path siblings ∙ or-none (enter-other n want [] path first) (enter-other n want path siblings second)))
+      (distinct-join path siblings (enter-differ n want [] path first) (enter-differ n want path siblings second)
+      (apart-swap siblings path (enter-apart n want path siblings second))))
+
+  -- path and siblings put in one after the other
+  asked-is : want < n → asked n want path siblings ≡ mayEnter n want [] path && mayEnter n want path siblings
+  asked-is first-low =
+      same-if-true-together (asked n want path siblings) (mayEnter n want [] path && mayEnter n want path siblings) asked-enter (enter-asked first-low)
+
+  -- the wanted page is not below n
+  asked-high : n ≤ want → asked n want path siblings ≡ false
+  unfolding all
+  asked-high high =
+      and-first-fails (distinct (want ∷ path ++ siblings)) (and-first-fails (low n (path ++ siblings)) (le-ltb want n high))
+
+-- ---- path and siblings of a slot put into a list, the one behind the other
+
+module _ (n at : ℕ) (s : Slot) (list : List ℕ) where
+  -- the wanted page is not below n
+  pub slot-high : n ≤ s .want → pagesSound n s ≡ false
+  slot-high = asked-high n (s .want) (pathOf s) (siblingsOf s)
+
+  module _ (below : s .want < n) (r : Bool) (said : r ≡ mayEnter n (s .want) (slice at at list) (take (s .depth) (s .path))) where
+    path-said : r ≡ mayEnter n (s .want) [] (pathOf s)
+    unfolding pathOf
+    path-said = said ∙ ap (λ (own : List ℕ). mayEnter n (s .want) own (take (s .depth) (s .path))) (slice-empty at list)
+
+    -- the path may not enter
+    pub slot-path : r ≡ false → pagesSound n s ≡ false
+    slot-path f =
+        asked-is n (s .want) (pathOf s) (siblingsOf s) below
+        ∙ and-first-fails (mayEnter n (s .want) (pathOf s) (siblingsOf s)) (sym path-said ∙ f)
+
+    module _ (list₁ : List ℕ) (t : r ≡ true) (is : list₁ ≡ paste list at (s .path) (s .depth)) (room : at + s .depth ≤ length list) (whole : s .depth ≤ length (s .path)) where
+      -- the path has entered: the siblings decide
+      pub slot-siblings : (r₁ : Bool) → r₁ ≡ mayEnter n (s .want) (slice at (at + s .depth) list₁) (take (s .beside) (s .siblings)) → r₁ ≡ pagesSound n s
+      unfolding siblingsOf pathOf
+      slot-siblings r₁ said₁ =
+          said₁
+          ∙ ap (λ (own : List ℕ). mayEnter n (s .want) own (siblingsOf s))
+          (ap (slice at (at + s .depth)) is
+          ∙ slice-entered at at (s .depth) list (s .path) (le-refl at) room whole
+          ∙ ap (λ (own : List ℕ). own ++ pathOf s) (slice-empty at list))
+          ∙ sym (ap (λ (b : Bool). b && mayEnter n (s .want) (pathOf s) (siblingsOf s)) (sym path-said ∙ t))
+          ∙ sym (asked-is n (s .want) (pathOf s) (siblingsOf s) below)
+
+      -- all that the slot holds stands in the list
+      pub slot-held : (list₂ : List ℕ) → list₂ ≡ paste list₁ (at + s .depth) (s .siblings) (s .beside) → at + s .depth ≤ length list₁ → s .beside ≤ length (s .siblings)
+          → take (at + (s .depth + s .beside)) list₂ ≡ take at list ++ held s
+      unfolding siblingsOf pathOf
+      slot-held list₂ is₂ room₂ whole₂ =
+          ap (λ (j : ℕ). take j list₂) (sym (add-assoc at (s .depth) (s .beside)))
+          ∙ ap (take (at + s .depth + s .beside)) is₂
+          ∙ take-paste list₁ (at + s .depth) (s .siblings) (s .beside) room₂ whole₂
+          ∙ ap (λ (front : List ℕ). front ++ siblingsOf s) (ap (take (at + s .depth)) is ∙ take-paste list at (s .path) (s .depth) (omega arith) whole)
+          ∙ append-assoc (take at list) (pathOf s) (siblingsOf s)
+
+-- ---- what a task allows
+
+-- a slot that holds pages under ξ is open
+pub xi-open : (t : Task) → isXi (lockOf t) ≡ true → isOpen t ≡ true
+xi-open Closed e = e
+xi-open (Open op) e = refl
+
+-- no slot holds more than 10 pages on its path and 9 siblings
+pub limits-all : (t : Task) (depth beside : ℕ) → withinLimits t depth beside ≡ true → (depth ≤ 10) × (beside ≤ 9)
+unfolding searchHolds pathHolds siblingHolds
+limits-all Closed depth beside y =
+    let d = eqb-true depth 0 (and-first (eqb depth 0) (eqb beside 0) y) in
+    let b = eqb-true beside 0 (and-second (eqb depth 0) (eqb beside 0) y) in
+    (omega arith, omega arith)
+limits-all (Open (Search x)) depth beside y =
+    let d = leb-true depth 1 (and-first (leb depth 1) (eqb beside 0) y) in
+    let b = eqb-true beside 0 (and-second (leb depth 1) (eqb beside 0) y) in
+    (omega arith, omega arith)
+limits-all (Open (Insert x v)) depth beside y =
+    let b = eqb-true beside 0 (and-second (leb depth 10) (eqb beside 0) y) in
+    (leb-true depth 10 (and-first (leb depth 10) (eqb beside 0) y), omega arith)
+limits-all (Open (Delete x)) depth beside y =
+    let both = and-first (leb depth 10 && leb beside 9) (eqb beside 0 || ltb beside depth) y in
+    (leb-true depth 10 (and-first (leb depth 10) (leb beside 9) both), leb-true beside 9 (and-second (leb depth 10) (leb beside 9) both))
+
+-- a slot that holds nothing under ξ holds at most 1 page
+pub limits-rho : (t : Task) (depth beside : ℕ) → isXi (lockOf t) ≡ false → withinLimits t depth beside ≡ true → (depth ≤ 1) × (beside ≡ 0)
+unfolding searchHolds
+limits-rho Closed depth beside e y =
+    let d = eqb-true depth 0 (and-first (eqb depth 0) (eqb beside 0) y) in
+    (omega arith, eqb-true beside 0 (and-second (eqb depth 0) (eqb beside 0) y))
+limits-rho (Open (Search x)) depth beside e y =
+    (leb-true depth 1 (and-first (leb depth 1) (eqb beside 0) y), eqb-true beside 0 (and-second (leb depth 1) (eqb beside 0) y))
+limits-rho (Open (Insert x v)) depth beside e y = absurd (true≢false e)
+limits-rho (Open (Delete x)) depth beside e y = absurd (true≢false e)
+
+-- a closed slot holds nothing
+pub limits-closed : (t : Task) (depth beside : ℕ) → isOpen t ≡ false → withinLimits t depth beside ≡ true → (depth ≡ 0) × (beside ≡ 0)
+limits-closed Closed depth beside e y =
+    (eqb-true depth 0 (and-first (eqb depth 0) (eqb beside 0) y), eqb-true beside 0 (and-second (eqb depth 0) (eqb beside 0) y))
+limits-closed (Open op) depth beside e y = absurd (true≢false e)
+
+-- ---- one slot
+
+if-open : (t : Task) (b : Bool) → isOpen t ≡ true → ifOpen t b ≡ b
+if-open Closed b e = absurd (false≢true e)
+if-open (Open op) b e = refl
+
+if-closed : (t : Task) (b : Bool) → isOpen t ≡ false → ifOpen t b ≡ true
+if-closed Closed b e = refl
+if-closed (Open op) b e = absurd (true≢false e)
+
+module _ (n : ℕ) (s : Slot) where
+  -- it holds more than its task allows
+  pub slot-limits : withinLimits (s .task) (s .depth) (s .beside) ≡ false → slotSound n s ≡ false
+  unfolding slotSound
+  slot-limits f = and-first-fails (ifOpen (s .task) (pagesSound n s)) f
+
+  module _ (y : withinLimits (s .task) (s .depth) (s .beside) ≡ true) where
+    -- an open slot is sound where its pages are
+    pub slot-open : isOpen (s .task) ≡ true → slotSound n s ≡ pagesSound n s
+    unfolding slotSound
+    slot-open o = ap (λ (b : Bool). b && ifOpen (s .task) (pagesSound n s)) y ∙ if-open (s .task) (pagesSound n s) o
+
+    -- a closed slot is sound
+    pub slot-closed : isOpen (s .task) ≡ false → slotSound n s ≡ true
+    unfolding slotSound
+    slot-closed o = and-both y (if-closed (s .task) (pagesSound n s) o)
+
+    -- a closed slot holds nothing
+    pub held-closed : isOpen (s .task) ≡ false → held s ≡ []
+    unfolding pathOf siblingsOf
+    held-closed o =
+        let none = limits-closed (s .task) (s .depth) (s .beside) o y in
+        ap (λ (d : ℕ). take d (s .path) ++ take (s .beside) (s .siblings)) (none .0) ∙ ap (λ (b : ℕ). take b (s .siblings)) (none .1)
+
+  -- a sound slot holds no page twice
+  pub slot-differ : slotSound n s ≡ true → distinct (held s) ≡ true
+  unfolding slotSound distinct
+  slot-differ t =
+      let y = and-first (withinLimits (s .task) (s .depth) (s .beside)) (ifOpen (s .task) (pagesSound n s)) t in
+      ⊎-elim
+      (λ o. let sound = sym (slot-open y o) ∙ t in
+      and-second (not (member (s .want) (held s))) (distinct (held s))
+      (and-second (low n (s .want ∷ held s)) (distinct (s .want ∷ held s)) sound))
+      (λ o. ap distinct (held-closed y o))
+      (true-or-false (isOpen (s .task)))
