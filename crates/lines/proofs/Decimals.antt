@@ -96,7 +96,7 @@ decimal-leads =
     (sym (ap (λ (l : List ℕ). getD l 0 0) (decimal-more n h) ∙ List·getD-append (decimal (n / 10)) (lastDigit n ∷ []) 0 0 (decimal-some (n / 10))) ∙ e))
 
 -- its digits are digits
-decimal-digital : (n : ℕ) → all isDigit (decimal n) ≡ true
+pub decimal-digital : (n : ℕ) → all isDigit (decimal n) ≡ true
 unfolding all
 decimal-digital =
     by-digits (λ (n : ℕ). all isDigit (decimal n) ≡ true)

@@ -19,31 +19,45 @@ pub fn answers(input: &[u8]) -> Vec<u8> {
     if input.len() > MOST {
         return b"TooLong\n".to_vec();
     }
-    let mut words = vec![0; N as usize * page_words(K)];
-    let (_, mut state) = make(K, N, &mut words);
-    let mut output = Vec::new();
-    for piece in input.split_inclusive(|&byte| byte == b'\n') {
-        let line = piece.strip_suffix(b"\n").and_then(parse);
-        output.extend(answer_line(line, &mut state, &mut words));
-    }
-    output
+    let mut talk = Talk::default();
+    input
+        .split_inclusive(|&byte| byte == b'\n')
+        .flat_map(|piece| talk.answer(piece))
+        .collect()
 }
 
-/// The answer to one line, with its line feed.
-fn answer_line(line: Option<Line>, state: &mut State, words: &mut [u32]) -> Vec<u8> {
-    let Some(line) = line else {
-        return b"BadLine\n".to_vec();
-    };
-    let (answer, next) = match line {
-        Line::Begin(slot, op) => begin(state, slot as usize, op),
-        Line::Step(slot) => step(state, words, slot as usize),
-    };
-    *state = next;
-    match answer {
-        Answer::Found(information) | Answer::Deleted(information) => {
-            format!("{} {}\n", answer.name(), information).into_bytes()
+/// The pool between two lines.
+pub struct Talk {
+    pub state: State,
+    pub words: Vec<u32>,
+}
+
+impl Default for Talk {
+    /// A pool just made.
+    fn default() -> Self {
+        let mut words = vec![0; N as usize * page_words(K)];
+        let (_, state) = make(K, N, &mut words);
+        Talk { state, words }
+    }
+}
+
+impl Talk {
+    /// The answer to one line, given with its line feed if it has one.
+    pub fn answer(&mut self, piece: &[u8]) -> Vec<u8> {
+        let Some(line) = piece.strip_suffix(b"\n").and_then(parse) else {
+            return b"BadLine\n".to_vec();
+        };
+        let (answer, next) = match line {
+            Line::Begin(slot, op) => begin(&self.state, slot as usize, op),
+            Line::Step(slot) => step(&self.state, &mut self.words, slot as usize),
+        };
+        self.state = next;
+        match answer {
+            Answer::Found(information) | Answer::Deleted(information) => {
+                format!("{} {}\n", answer.name(), information).into_bytes()
+            }
+            _ => format!("{}\n", answer.name()).into_bytes(),
         }
-        _ => format!("{}\n", answer.name()).into_bytes(),
     }
 }
 

@@ -1,0 +1,4 @@
+// The little program: answers each line of standard input by one.
+fn main() {
+    talk::serve();
+}

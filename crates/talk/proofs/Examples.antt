@@ -1,0 +1,47 @@
+-- The little program computed: document 01's example, the making of its pool, and inputs at the edge.
+use mathlib.Core.List.{[]}
+use mathlib.Core.Path.{_≡_, refl}
+use Rattle.ground.specs.Limits.{largestK, largestN, tallest, slotCount, searchHolds, pathHolds, siblingHolds}
+use Rattle.ground.specs.Tests.{all, count, member, distinct, apart, allBelow, listBelow, padded}
+use Rattle.page.specs.Words.{flat, encode, pairs, view}
+use Rattle.page.specs.Place.{place, has, information}
+use Rattle.page.specs.Sound.{risesFrom, rises, soundByItself}
+use Rattle.page.specs.Splits.{put, split}
+use Rattle.pool.specs.Pool.{poolLength, start, wordsOf, pageAt, written, applied, isFree, freePages, fresh}
+use Rattle.change.specs.Insertion.{room, settled, insertion}
+use Rattle.slots.specs.declared.Answer.the-variants.{Made}
+use Rattle.slots.specs.Parts.{pathOf, siblingsOf, waitingOrder, idleState}
+use Rattle.slots.specs.Grant.{olderThan, noClash, noOlder}
+use Rattle.slots.specs.Book.{leaving, begins, goesOn, closes}
+use Rattle.slots.specs.Sound.{orderSound, slotSound, noClashingHolds, sound}
+use Rattle.slots.specs.Begin.{begun}
+use Rattle.lines.specs.Text.{bytes, begins as begins-with}
+use Rattle.lines.specs.Meaning.{digits, value, front, stepping, searching, deleting, informing, inserting, asking, beginning, meaning}
+use Rattle.lines.specs.Decimal.{digitsWithin, decimal}
+use Rattle.grant.specs.Granted.{atLeaf, comesDown, granted}
+use Rattle.grant.specs.Fitting.{pagesSound, descends, sameLevels, fitting, soundForStep, verdict}
+use Rattle.index.specs.Step.{left, stepped}
+use Rattle.index.specs.Make.{made}
+use Rattle.talk.specs.Split.{linesOf}
+use Rattle.talk.specs.Talk.{replies, blank, opening, mostBytes, programWrites}
+
+-- the program's pool is made, and is fresh
+pub opened : opening ≡ left Made (idleState 2 64) (fresh 2 64)
+unfolding largestK largestN poolLength made blank
+opened = refl
+
+-- "Input `b 0 i 12 3`, `b 1 s 12`, `t 1`, `t 0`, `t 1`, `t 1` writes, whole: `Begun`, `Begun`, `Waiting`, `Inserted`,
+-- `Found 3`, `SlotIdle`, one a line, no header."
+pub example : programWrites (bytes "b 0 i 12 3\nb 1 s 12\nt 1\nt 0\nt 1\nt 1\n") ≡ bytes "Begun\nBegun\nWaiting\nInserted\nFound 3\nSlotIdle\n"
+unfolding largestK largestN tallest slotCount searchHolds pathHolds siblingHolds all count member distinct apart allBelow listBelow padded flat encode pairs view place has information risesFrom rises soundByItself put split poolLength start wordsOf pageAt written applied isFree freePages fresh room settled insertion pathOf siblingsOf waitingOrder olderThan noClash noOlder leaving begins goesOn closes orderSound slotSound noClashingHolds sound begun begins-with digits value front stepping searching deleting informing inserting asking beginning meaning digitsWithin decimal atLeaf comesDown granted pagesSound descends sameLevels fitting soundForStep verdict stepped made linesOf replies blank mostBytes programWrites
+example = refl
+
+-- "empty input writes nothing"
+pub nothing : programWrites [] ≡ []
+unfolding mostBytes programWrites linesOf replies
+nothing = refl
+
+-- "an unended last one .. gives BadLine", and is not run
+pub unended : programWrites (bytes "\nt 0") ≡ bytes "BadLine\nBadLine\n"
+unfolding mostBytes programWrites linesOf replies begins-with beginning stepping meaning
+unended = refl

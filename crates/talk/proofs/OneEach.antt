@@ -1,0 +1,98 @@
+-- "Each line is answered by one": what the program writes has as many lines as its input, unless that is too long.
+use Prim.Native.Nat.{ℕ, suc, _≤_}
+use mathlib.Core.Bool.{Bool, true, not}
+use mathlib.Core.List.{List, [], _∷_, _++_, append-assoc}
+use mathlib.Core.Path.{_≡_, refl, ap, _∙_}
+use native.Mathlib.Omega.{arith}
+use borrow.Author.Tests.{ne-eqb, leb-true, le-ltb, not-true}
+use lib.Dec.{leb, eqb}
+use lib.ListN.{length}
+use Rattle.ground.specs.Tests.{all}
+use Rattle.ground.proofs.Bools.{and-first, and-second, and-both}
+use Rattle.slots.specs.declared.State.{State}
+use Rattle.slots.specs.declared.Answer.{Answer}
+use Rattle.slots.specs.declared.Answer.the-variants.{Waiting, Moved, Found, NotFound, Inserted, AlreadyThere, Deleted, NoSuchKey, NoRoom, Begun, Made, Reported, BadState, BadPool, BadSlot, SlotBusy, SlotIdle, Damaged, BadPage}
+use Rattle.slots.specs.Begin.{begun}
+use Rattle.lines.specs.declared.Command.{Command}
+use Rattle.lines.specs.declared.Command.the-variants.{Begin, Step, Bad}
+use Rattle.lines.specs.Text.{bytes}
+use Rattle.lines.specs.Meaning.{isDigit, meaning}
+use Rattle.lines.specs.Decimal.{decimal}
+use Rattle.lines.specs.Names.{written}
+use Rattle.lines.proofs.Decimals.{decimal-digital}
+use Rattle.index.specs.Step.{stepped}
+use Rattle.talk.specs.Split.{Line, ended, unended, longer, linesOf}
+use Rattle.talk.specs.Talk.{commanded, answered, replies, opening, mostBytes, programWrites}
+
+-- no line feed
+abbrev plain : ℕ → Bool
+plain b = not (eqb b 10)
+
+-- a word of plain bytes and a line feed are one line
+line-of : (word rest : List ℕ) → all plain word ≡ true → linesOf (word ++ 10 ∷ rest) ≡ ended word ∷ linesOf rest
+unfolding all linesOf
+line-of [] rest t = refl
+line-of (b ∷ word) rest t =
+    rw (not-true (eqb b 10) (and-first (plain b) (all plain word) t))
+    (ap (longer b) (line-of word rest (and-second (plain b) (all plain word) t)))
+
+one-line : (word rest : List ℕ) → all plain word ≡ true → length (linesOf (word ++ (10 ∷ []) ++ rest)) ≡ suc (length (linesOf rest))
+one-line word rest t =
+    ap (λ (bs : List ℕ). length (linesOf bs)) (append-assoc word (10 ∷ []) rest) ∙ ap length (line-of word rest t)
+
+digits-plain : (ds : List ℕ) → all isDigit ds ≡ true → all plain ds ≡ true
+unfolding all
+digits-plain [] t = refl
+digits-plain (d ∷ ds) t =
+    let digit = and-first (isDigit d) (all isDigit ds) t in
+    and-both (ap not (ne-eqb d 10 (λ e. omega (arith, leb-true 48 d (and-first (leb 48 d) (leb d 57) digit)))))
+    (digits-plain ds (and-second (isDigit d) (all isDigit ds) t))
+
+-- the line of an answer is one line
+answer-one : (a : Answer) (rest : List ℕ) → length (linesOf (written a ++ rest)) ≡ suc (length (linesOf rest))
+unfolding all
+answer-one Waiting rest = one-line (bytes "Waiting") rest refl
+answer-one Moved rest = one-line (bytes "Moved") rest refl
+answer-one (Found v) rest = one-line (bytes "Found " ++ decimal v) rest (digits-plain (decimal v) (decimal-digital v))
+answer-one NotFound rest = one-line (bytes "NotFound") rest refl
+answer-one Inserted rest = one-line (bytes "Inserted") rest refl
+answer-one AlreadyThere rest = one-line (bytes "AlreadyThere") rest refl
+answer-one (Deleted v) rest = one-line (bytes "Deleted " ++ decimal v) rest (digits-plain (decimal v) (decimal-digital v))
+answer-one NoSuchKey rest = one-line (bytes "NoSuchKey") rest refl
+answer-one NoRoom rest = one-line (bytes "NoRoom") rest refl
+answer-one Begun rest = one-line (bytes "Begun") rest refl
+answer-one Made rest = one-line (bytes "Made") rest refl
+answer-one (Reported kind holders lowest) rest = one-line (bytes "Reported") rest refl
+answer-one BadState rest = one-line (bytes "BadState") rest refl
+answer-one BadPool rest = one-line (bytes "BadPool") rest refl
+answer-one BadSlot rest = one-line (bytes "BadSlot") rest refl
+answer-one SlotBusy rest = one-line (bytes "SlotBusy") rest refl
+answer-one SlotIdle rest = one-line (bytes "SlotIdle") rest refl
+answer-one Damaged rest = one-line (bytes "Damaged") rest refl
+answer-one BadPage rest = one-line (bytes "BadPage") rest refl
+
+bad-one : (rest : List ℕ) → length (linesOf (bytes "BadLine\n" ++ rest)) ≡ suc (length (linesOf rest))
+unfolding all
+bad-one rest = one-line (bytes "BadLine") rest refl
+
+module _ (st : State) (ws : List ℕ) where
+  command-one : (c : Command) (rest : List ℕ) → length (linesOf (commanded st ws c .said ++ rest)) ≡ suc (length (linesOf rest))
+  command-one (Begin s op) = answer-one (begun st s op .answer)
+  command-one (Step s) = answer-one (stepped st ws s .answer)
+  command-one Bad = bad-one
+
+  line-one : (line : Line) (rest : List ℕ) → length (linesOf (answered st ws line .said ++ rest)) ≡ suc (length (linesOf rest))
+  line-one (ended line) = command-one (meaning line)
+  line-one (unended line) = bad-one
+
+one-each : (st : State) (ws : List ℕ) (lines : List Line) → length (linesOf (replies st ws lines)) ≡ length lines
+unfolding linesOf replies
+one-each st ws [] = refl
+one-each st ws (line ∷ lines) =
+    let r = answered st ws line in
+    line-one st ws line (replies (r .state) (r .words) lines) ∙ ap suc (one-each (r .state) (r .words) lines)
+
+pub each-line-answered : (input : List ℕ) → length input ≤ mostBytes → length (linesOf (programWrites input)) ≡ length (linesOf input)
+unfolding programWrites
+each-line-answered input h =
+    rw (le-ltb mostBytes (length input) h) (one-each (opening .state) (opening .words) (linesOf input))

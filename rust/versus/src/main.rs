@@ -1,0 +1,156 @@
+//! Starts a program on many inputs and compares what it writes with what the twin says, byte for byte.
+//!
+//! `versus COMMAND..` runs the comparison; `versus fill` writes the input that fills the pool.
+
+use std::collections::BTreeMap;
+use std::env::args;
+use std::io::{stdout, Write};
+use std::process::{Command, ExitCode, Stdio};
+use std::thread;
+
+use draw::Random;
+use lots_twin::{answers, MOST};
+use versus::{fill_and_empty, random_input};
+
+/// How many short inputs, and how many that are as long as may be.
+const SHORT: u64 = 2000;
+const LONG: u64 = 24;
+/// A short input has at most so many bytes.
+const SHORT_BYTES: u64 = 3000;
+
+fn main() -> ExitCode {
+    let words: Vec<String> = args().skip(1).collect();
+    if words == ["fill"] {
+        stdout().write_all(&fill_and_empty()).expect("written");
+        return ExitCode::SUCCESS;
+    }
+    if words.is_empty() {
+        eprintln!("versus COMMAND..: the program to compare with the twin");
+        return ExitCode::FAILURE;
+    }
+    let inputs = inputs();
+    let threads = thread::available_parallelism().map_or(1, |count| count.get());
+    let share = inputs.len().div_ceil(threads);
+    let differ: Vec<&Vec<u8>> = thread::scope(|scope| {
+        let workers: Vec<_> = inputs
+            .chunks(share)
+            .map(|part| {
+                let words = &words;
+                scope.spawn(move || {
+                    let differs = |input: &&Vec<u8>| written(words, input) != answers(input);
+                    part.iter().filter(differs).collect::<Vec<_>>()
+                })
+            })
+            .collect();
+        workers
+            .into_iter()
+            .flat_map(|worker| worker.join().expect("a worker ends"))
+            .collect()
+    });
+    for input in &differ {
+        show(&words, input);
+    }
+    println!("{}", tally(&inputs));
+    println!(
+        "{} inputs, {} written otherwise",
+        inputs.len(),
+        differ.len()
+    );
+    if differ.is_empty() {
+        ExitCode::SUCCESS
+    } else {
+        ExitCode::FAILURE
+    }
+}
+
+/// Inputs at the edges, short ones and long ones.
+fn inputs() -> Vec<Vec<u8>> {
+    let mut inputs = vec![
+        vec![],
+        vec![b'\n'; MOST],
+        vec![b'\n'; MOST + 1],
+        vec![b'x'; MOST],
+        vec![b'x'; MOST + 1],
+        vec![b'\n'; 3 * MOST],
+        zeros(MOST),
+        zeros(MOST + 1),
+        fill_and_empty(),
+    ];
+    for seed in 0..SHORT {
+        let mut random = Random(seed);
+        let most = random.below(SHORT_BYTES) as usize;
+        inputs.push(random_input(&mut random, most));
+    }
+    for seed in SHORT..SHORT + LONG {
+        inputs.push(random_input(&mut Random(seed), MOST));
+    }
+    inputs
+}
+
+/// A step of slot 0 in so many bytes.
+fn zeros(bytes: usize) -> Vec<u8> {
+    format!("t {:0width$}\n", 0, width = bytes - 3).into_bytes()
+}
+
+/// What the program writes for an input.
+fn written(words: &[String], input: &[u8]) -> Vec<u8> {
+    let mut child = Command::new(&words[0])
+        .args(&words[1..])
+        .stdin(Stdio::piped())
+        .stdout(Stdio::piped())
+        .spawn()
+        .expect("the program starts");
+    let mut stdin = child.stdin.take().expect("a pipe");
+    thread::scope(|scope| {
+        // what is too long is not read to its end, and the pipe breaks
+        scope.spawn(move || stdin.write_all(input).ok());
+        let output = child.wait_with_output().expect("the program ends");
+        assert!(
+            output.status.success(),
+            "the program ended with {}",
+            output.status
+        );
+        output.stdout
+    })
+}
+
+/// How often each answer came.
+fn tally(inputs: &[Vec<u8>]) -> String {
+    let mut times = BTreeMap::new();
+    for input in inputs {
+        let text = String::from_utf8(answers(input)).expect("answers are plain text");
+        for line in text.lines() {
+            let name = line.split(' ').next().unwrap_or(line).to_string();
+            *times.entry(name).or_insert(0) += 1;
+        }
+    }
+    let each: Vec<String> = times
+        .iter()
+        .map(|(name, count)| format!("{name} {count}"))
+        .collect();
+    each.join(", ")
+}
+
+/// Where the two differ first.
+fn show(words: &[String], input: &[u8]) {
+    let (ours, twins) = (written(words, input), answers(input));
+    let line = ours
+        .split(|&byte| byte == b'\n')
+        .zip(twins.split(|&byte| byte == b'\n'))
+        .take_while(|(one, other)| one == other)
+        .count();
+    let nth = |bytes: &[u8]| {
+        let part = bytes
+            .split(|&byte| byte == b'\n')
+            .nth(line)
+            .unwrap_or(b"(nothing)");
+        String::from_utf8_lossy(part).into_owned()
+    };
+    println!(
+        "line {}: {:?} is answered {:?}, by the twin {:?}",
+        line + 1,
+        nth(input),
+        nth(&ours),
+        nth(&twins)
+    );
+}
