@@ -48,6 +48,11 @@ shares-right : deletion 1 two 10 1 (0 ∷ []) (2 ∷ []) ≡ write 1 (page 1 0 (
 unfolding two place count without betweenAt fromRight rekeyed shares shrunk deletion
 shares-right = refl
 
+-- 40 put in: leaf 2 splits, its right half goes to page 3, and the new pointer stands just right of the split page's
+splits : insertion 1 two 40 7 (3 ∷ []) 2 (0 ∷ []) ≡ write 3 (page 1 0 (entry 30 7 ∷ entry 40 7 ∷ [])) ∷ write 2 (page 1 0 (entry 20 7 ∷ [])) ∷ write 0 (page 2 1 (entry 20 2 ∷ entry 30 3 ∷ [])) ∷ []
+unfolding two place count put split settled insertion
+splits = refl
+
 -- one entry in each leaf: the two join, and page 0, left with no reference key, takes the words of its one child
 collapsing : ℕ → Page
 collapsing p = getD (page 2 1 (entry 30 2 ∷ []) ∷ page 1 0 (entry 20 7 ∷ []) ∷ page 1 0 (entry 30 7 ∷ []) ∷ []) p freePage

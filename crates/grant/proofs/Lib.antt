@@ -1,5 +1,3 @@
 pub mod SmallRows
-pub mod StandLaws
 pub mod LookLaws
 pub mod KeepLaws
-pub mod JudgeLaws

@@ -1,4 +1,3 @@
 pub mod Granted
 pub mod Fitting
 pub mod Standing
-pub mod Judged

@@ -1,5 +1,3 @@
-// What a granted step comes to: the pages that the operation holds and wants, read again, and what it does with them.
+// The rules of a granted step, and the pages that the operation holds and wants, read again.
 pub mod fitting;
-pub mod judging;
 pub mod looking;
-pub mod standing;

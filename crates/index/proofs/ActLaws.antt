@@ -37,12 +37,12 @@ use Rattle.slots.specs.declared.Outcome.{Outcome}
 use Rattle.slots.specs.Parts.{pathOf, siblingsOf}
 use Rattle.slots.specs.Begin.{outcome}
 use Rattle.slots.specs.Book.{requeued, goesOn, closes}
-use Rattle.grant.specs.declared.judging.Course.{Course}
-use Rattle.grant.specs.declared.judging.Course.the-variants.{Broken, Goes, Ends, Inserts, Deletes}
+use Rattle.course.specs.declared.judging.Course.{Course}
+use Rattle.course.specs.declared.judging.Course.the-variants.{Broken, Goes, Ends, Inserts, Deletes}
 use Rattle.grant.specs.Granted.{Verdict, ends, fromLeaf}
 use Rattle.grant.specs.Standing.{Stands}
-use Rattle.grant.specs.Judged.{courseOf, ready, standsLast}
-use Rattle.grant.proofs.JudgeLaws.{standing-needing, standing-holding, stand-upward}
+use Rattle.course.specs.Judged.{courseOf, ready, standsLast}
+use Rattle.course.proofs.JudgeLaws.{standing-needing, standing-holding, stand-upward}
 use Rattle.index.specs.Step.{acted}
 use Rattle.index.specs.Acting.{Leaves, Acts, wanting, standLeaf, standFathers, lacksRoom, roomAnswer, afterInsertion, afterDeletion}
 

@@ -27,13 +27,13 @@ use Rattle.slots.specs.Parts.{slotAt, isOpen, pathOf, siblingsOf, waitingOrder}
 use Rattle.slots.specs.Sound.{slotSound, sound}
 use Rattle.slots.proofs.Keeping.{path-new, siblings-new}
 use Rattle.slots.proofs.SoundFacts.{SoundState, sound-facts, slot-sound}
-use Rattle.grant.specs.declared.judging.Course.{Course}
+use Rattle.course.specs.declared.judging.Course.{Course}
 use Rattle.grant.specs.Granted.{Verdict, broken, granted}
 use Rattle.grant.specs.Fitting.{pagesSound, fitting, nextIsNew, soundForStep, verdict}
 use Rattle.grant.specs.Standing.{Asks, Stands, fits, standPath, standSiblings, stood}
-use Rattle.grant.specs.Judged.{judged, ifNew, courseOf}
-use Rattle.grant.proofs.JudgeLaws.{granted-judged}
-use Rattle.grant.proofs.StandLaws.{stood-stands}
+use Rattle.course.specs.Judged.{judged, ifNew, courseOf}
+use Rattle.course.proofs.JudgeLaws.{granted-judged}
+use Rattle.course.proofs.StandLaws.{stood-stands}
 use Rattle.index.specs.Step.{Left, left, acted, steppedTask, stepped}
 use Rattle.index.specs.Statements.{StepSays}
 use Rattle.index.specs.Acting.{Leaves, Waits, Acts}

@@ -1,9 +1,9 @@
 // A granted step: the course that is found, and what is done with it.
+use course::judging::Course;
+use course::judging::judge;
+use course::standing::stands;
 use deletion::deleting::delete;
 use grant::fitting::fits;
-use grant::judging::Course;
-use grant::judging::judge;
-use grant::standing::stands;
 use insertion::inserting::insert;
 use insertion::inserting::room;
 use pool::lying::take_pages;
@@ -24,7 +24,7 @@ ghost use Rattle.slots.specs.Book.{requeued};
 ghost use Rattle.slots.specs.Begin.{outcome};
 ghost use Rattle.grant.specs.Fitting.{verdict};
 ghost use Rattle.grant.specs.Standing.{Asks, Stands};
-ghost use Rattle.grant.specs.Judged.{courseOf, ready};
+ghost use Rattle.course.specs.Judged.{courseOf, ready};
 ghost use Rattle.index.specs.Acting.{Waits, Acts, Leaves, wanting, roomAnswer, afterInsertion, afterDeletion};
 ghost use Rattle.index.specs.Step.{acted};
 

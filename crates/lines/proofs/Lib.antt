@@ -6,5 +6,3 @@ pub mod DigitLaws
 pub mod NumberLaws
 pub mod LaidLaws
 pub mod Decimals
-pub mod Spelling
-pub mod Answers

@@ -1,13 +1,9 @@
-// The lines of the little program: what a line means, and how an answer is written.
+// The lines of the little program: what a line means.
 mod reading;
-mod writing;
 
 pub use reading::line_end;
 pub use reading::read_line;
 use slots::Op;
-pub use writing::write_answer;
-pub use writing::write_bad_line;
-pub use writing::write_too_long;
 
 // What a line asks for.
 pub enum Command {

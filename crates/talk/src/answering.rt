@@ -1,14 +1,14 @@
 // Answers, line by line. Each call is given the state and the words that the last one left.
 use crate::Said;
+use answers::write_answer;
+use answers::write_bad_line;
+use answers::write_too_long;
 use index::calls::begin;
 use index::calls::make;
 use index::calls::step;
 use lines::Command;
 use lines::line_end;
 use lines::read_line;
-use lines::write_answer;
-use lines::write_bad_line;
-use lines::write_too_long;
 use slots::State;
 ghost use Prim.Native.Nat.{_+_, _*_, _≤_};
 ghost use lib.ListN.{length};

@@ -5,7 +5,7 @@ use borrow.Author.Needs.{needs}
 use Rattle.ground.specs.Limits.{pathHolds, mostNew}
 use Rattle.slots.specs.Parts.{pathOf}
 use Rattle.change.proofs.HeldLaws.{holding-page}
-use Rattle.grant.proofs.JudgeLaws.{standing-holding}
+use Rattle.course.proofs.JudgeLaws.{standing-holding}
 use Rattle.index.proofs.ActLaws.{taken-inserting, room-lacks, room-enough}
 use Rattle.index.proofs.acting.insert_lot.Statement.{statement}
 use Rattle.index.proofs.acting.insert_lot.Tie as tie

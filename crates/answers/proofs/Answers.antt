@@ -1,0 +1,31 @@
+-- Writing the line of an answer's case writes the line of the answer; and no line of an answer is longer than 32 bytes.
+use Prim.Native.Nat.{ℕ, _+_, _^_, _≤_, _<_}
+use mathlib.Core.List.{List, [], _∷_}
+use mathlib.Core.Path.{_≡_, subst⁻¹}
+use native.Mathlib.Omega.{arith}
+use lib.ListN.{length, length-append}
+use Rattle.slots.specs.declared.Answer.{Answer}
+use Rattle.slots.specs.declared.Answer.the-variants.{Found, Deleted}
+use Rattle.lines.specs.Text.{laid}
+use Rattle.lines.specs.Decimal.{decimal}
+use Rattle.lines.specs.Names.{written}
+use Rattle.lines.proofs.Decimals.{word-short}
+
+pub answered : (x : Answer) {a : Answer} (out : List ℕ) (at : ℕ) {out′ : List ℕ} {r : ℕ} → a ≡ x
+    → (out′ ≡ laid out at (written x)) × (r ≡ at + length (written x))
+    → length (written x) ≤ 32
+    → (out′ ≡ laid out at (written a)) × (r ≡ at + length (written a)) × (length (written a) ≤ 32)
+answered x out at {out′} {r} e w h =
+    subst⁻¹ (λ (y : Answer). (out′ ≡ laid out at (written y)) × (r ≡ at + length (written y)) × (length (written y) ≤ 32)) e
+    (w .0, w .1, h)
+
+-- with information, a 32-bit number
+pub found-short : (v : ℕ) → v < 2 ^ 32 → length (written (Found v)) ≤ 32
+found-short v h = omega (arith, word-short v h, length-append (decimal v) (10 ∷ []))
+
+pub deleted-short : (v : ℕ) → v < 2 ^ 32 → length (written (Deleted v)) ≤ 32
+deleted-short v h = omega (arith, word-short v h, length-append (decimal v) (10 ∷ []))
+
+-- where there is room for 32 bytes, there is room for fewer
+pub room : (at n : ℕ) {long : ℕ} → at + 32 ≤ long → n ≤ 32 → at + n ≤ long
+room at n h k = omega (arith, h, k)

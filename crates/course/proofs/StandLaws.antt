@@ -1,0 +1,469 @@
+-- Where an operation stands once its want is granted: what the test of its pages tells of those that it then holds.
+use Prim.Native.Nat.{ℕ, zero, suc, _+_, _-_, _≤_, _<_, zero-le}
+use mathlib.Core.Bool.{Bool, true, false, cond, not, _&&_, _||_, false≢true}
+use mathlib.Core.List.{List, [], _∷_, _++_, reverse, append-nil, append-assoc}
+use mathlib.Core.Logic.{_⊎_, inl, inr, ⊎-elim, _≢_}
+use mathlib.Core.Path.{_≡_, refl, sym, ap, ap₂, _∙_, subst}
+use native.Mathlib.Nat.{le-of-suc-le-suc, not-suc-le-zero}
+use native.Mathlib.Omega.{arith}
+use borrow.Author.Tests.{eqb-true, ne-eqb, ltb-true}
+use lib.Dec.{eqb, ltb}
+use lib.ListN.{length, getD, take, length-append, length-take, length-reverse}
+use lib.Seq.{take-length}
+use Rattle.ground.specs.Limits.{pathHolds}
+use Rattle.ground.specs.Tests.{all, member, distinct}
+use Rattle.ground.proofs.Bools.{not-both, and-first, and-second, and-both, or-first, or-second, or-cases}
+use Rattle.ground.proofs.Choice.{cond-ind, cond-true, cond-false}
+use Rattle.ground.proofs.Limits.{path-is-way}
+use Rattle.ground.proofs.Tests.{member-append, member-from, distinct-back, distinct-snoc}
+use Rattle.page.specs.Words.{Page, μ, isLeaf}
+use Rattle.page.specs.Place.{place, has}
+use Rattle.page.specs.Short.{hasRight, neighbour}
+use Rattle.page.proofs.SoundPage.{SoundPage, sound-pointer}
+use Rattle.page.proofs.PlaceLaws.{place-most}
+use Rattle.pool.specs.Pool.{pageAt}
+use Rattle.change.specs.Deletion.{Need, satisfied, needs}
+use Rattle.change.specs.Held.{Held, upward}
+use Rattle.change.proofs.HeldLaws.{Known, held-known, held-upper, upward-reverse, upward-father}
+use Rattle.slots.specs.declared.Op.{Op}
+use Rattle.slots.specs.declared.Slot.{Slot}
+use Rattle.slots.specs.Parts.{keyOf, isDelete, isOpen, openSlot, pathOf, siblingsOf, held}
+use Rattle.slots.proofs.SoundFacts.{sound-slot}
+use Rattle.slots.proofs.Keeping.{path-new, siblings-new}
+use Rattle.grant.specs.Granted.{isSafe, kept, atItsLeaf}
+use Rattle.grant.specs.Fitting.{descends, pagesSound, rightlyKept, sameLevels, isSibling, rightlyBeside, isNone, fitting}
+use Rattle.grant.specs.Standing.{Asks, fits, stood, standPath, standSiblings, Standing, Stands}
+use Rattle.grant.proofs.LookLaws.{pagesOf, asks-held}
+use Rattle.grant.proofs.KeepLaws.{descends-levels}
+
+-- ---- a way down
+
+-- each page of a path lies a level above the next one
+abbrev Falls : (ℕ → Page) → List ℕ → Type 0
+Falls memory path = (i : ℕ) → suc i < length path → memory (getD path i 0) .level ≡ memory (getD path (suc i) 0) .level + 1
+
+-- the top page lies a level higher for each step down
+falls-steps : (memory : ℕ → Page) (path : List ℕ) → Falls memory path → (i : ℕ) → i < length path
+    → memory (getD path 0 0) .level ≡ memory (getD path i 0) .level + i
+falls-steps memory path falls zero h = omega arith
+falls-steps memory path falls (suc i) h =
+    let above = falls-steps memory path falls i (omega arith) in
+    let step = falls i h in
+    omega arith
+
+-- ---- pages held
+
+-- some of the pages held
+held-part : {k n : ℕ} {ws pages part : List ℕ} → Held k n ws pages → ((p : ℕ) → member p part ≡ true → member p pages ≡ true)
+    → Held k n ws part
+held-part held inside =
+    record {
+      least = held .least;
+      width = held .width;
+      most = held .most;
+      whole = held .whole;
+      each = λ p m. held .each p (inside p m);
+    }
+
+held-front : {k n : ℕ} {ws : List ℕ} (front back : List ℕ) → Held k n ws (front ++ back) → Held k n ws front
+held-front front back held = held-part held (λ p m. member-append p front back ∙ or-first (member p back) m)
+
+held-back : {k n : ℕ} {ws : List ℕ} (front back : List ℕ) → Held k n ws (front ++ back) → Held k n ws back
+held-back front back held = held-part held (λ p m. member-append p front back ∙ or-second (member p front) m)
+
+held-at : {k n : ℕ} {ws pages : List ℕ} → Held k n ws pages → (i : ℕ) → i < length pages → Known k n ws (getD pages i 0)
+held-at {pages = pages} held i h = held-known held (getD pages i 0) (member-from (getD pages i 0) pages i 0 h refl)
+
+-- "level 1 to 10": a way down has no more pages than that
+way-short : {k n : ℕ} {ws path : List ℕ} → Held k n ws path → Falls (pageAt k ws) path → length path ≤ pathHolds
+way-short {path = []} held falls = zero-le
+way-short {k} {ws = ws} {path = top ∷ below} held falls =
+    let low = held-at held (length below) (omega arith) .facts .lowest in
+    let high = held-at held 0 (omega arith) .facts .highest in
+    let steps = falls-steps (pageAt k ws) (top ∷ below) falls (length below) (omega arith) in
+    omega (arith, path-is-way)
+
+-- ---- the top of a path
+
+-- it is page 0 or safe
+abbrev Topped : Op → ℕ → (ℕ → Page) → List ℕ → Type 0
+Topped op k memory path = (getD path 0 0 ≡ 0) ⊎ (isSafe op k (μ (memory (getD path 0 0))) ≡ true)
+
+kept-top : (op : Op) (k : ℕ) (memory : ℕ → Page) (path : List ℕ) (want : ℕ) → 1 ≤ length path
+    → rightlyKept op k memory path want ≡ true → Topped op k memory path
+kept-top op k memory [] want some t = absurd (not-suc-le-zero some)
+kept-top op k memory (top ∷ below) want some t =
+    let safe = isSafe op k (μ (memory top)) in
+    ⊎-elim (λ e. inl (eqb-true top 0 e)) (λ s. inr s)
+    (or-cases (eqb top 0) safe (and-first (eqb top 0 || safe) (all (λ (p : ℕ). not (isSafe op k (μ (memory p)))) below) t))
+
+-- with the want behind it; nothing is held before page 0 is granted
+longer-top : (op : Op) (k : ℕ) (memory : ℕ → Page) (path : List ℕ) (want : ℕ) → rightlyKept op k memory path want ≡ true
+    → Topped op k memory (path ++ want ∷ [])
+longer-top op k memory [] want t = inl (eqb-true want 0 t)
+longer-top op k memory (top ∷ below) want t = kept-top op k memory (top ∷ below) want (omega arith) t
+
+-- a page that is not in a list, behind it
+distinct-last : (xs : List ℕ) (a : ℕ) → distinct (a ∷ xs) ≡ true → distinct (xs ++ a ∷ []) ≡ true
+unfolding distinct
+distinct-last xs a t =
+    distinct-snoc xs a ∙ and-both (and-second (not (member a xs)) (distinct xs) t) (and-first (not (member a xs)) (distinct xs) t)
+
+-- ---- coming down
+
+-- a path without siblings
+stands-alone : {op : Op} {k n : ℕ} {ws path : List ℕ} → 1 ≤ length path → Held k n ws path → Falls (pageAt k ws) path
+    → distinct path ≡ true → Topped op k (pageAt k ws) path → Standing op k n ws path []
+stands-alone {k = k} {n = n} {ws = ws} {path = path} some held falls different top =
+    record {
+      some = some;
+      deep = way-short held falls;
+      few = zero-le;
+      held = subst (Held k n ws) (sym (append-nil path)) held;
+      descends = falls;
+      different = subst (λ (ps : List ℕ). distinct ps ≡ true) (sym (append-nil path)) different;
+      top = top;
+      levels = λ i j h. absurd (not-suc-le-zero h);
+      others = λ j h. absurd (not-suc-le-zero h);
+    }
+
+-- the want at the end of the path, or alone
+stands-below : {op : Op} {k n : ℕ} {ws : List ℕ} (path : List ℕ) (want : ℕ) → Held k n ws (path ++ want ∷ [])
+    → distinct (want ∷ path) ≡ true → Falls (pageAt k ws) (path ++ want ∷ []) → rightlyKept op k (pageAt k ws) path want ≡ true
+    → Standing op k n ws (kept op k (pageAt k ws) path want) []
+stands-below {op} {k} {n} {ws} path want held different falls right =
+    let last = distinct-last path want different in
+    cond-ind (λ (now : List ℕ). Standing op k n ws now []) (isSafe op k (μ (pageAt k ws want)))
+    (λ safe. stands-alone (omega arith) (held-back path (want ∷ []) held) (λ i h. absurd (not-suc-le-zero (le-of-suc-le-suc h)))
+    (distinct-back path (want ∷ []) last) (inr safe))
+    (λ unsafe. stands-alone (omega (arith, length-append path (want ∷ []))) held falls last (longer-top op k (pageAt k ws) path want right))
+
+-- ---- at its leaf
+
+-- a path upward, by index
+upward-at : (i j m : ℕ) (path : List ℕ) → m + j + 1 ≡ i → getD (upward i path) j 0 ≡ getD path m 0
+unfolding upward
+upward-at zero j m path e = absurd (omega arith)
+upward-at (suc i) zero m path e = let same : i ≡ m = omega arith in ap (λ (l : ℕ). getD path l 0) same
+upward-at (suc i) (suc j) m path e = upward-at i j m path (omega arith)
+
+length-upward : (i : ℕ) (path : List ℕ) → length (upward i path) ≡ i
+unfolding upward
+length-upward zero path = refl
+length-upward (suc i) path = ap suc (length-upward i path)
+
+reverse-upward : (path : List ℕ) → reverse path ≡ upward (length path) path
+reverse-upward path = sym (upward-reverse (length path) path (omega arith) ∙ ap reverse (take-length path))
+
+-- siblings are no more than the pages they stand beside, and each has the level of its page
+levels-few : (memory : ℕ → Page) (up siblings : List ℕ) → sameLevels memory up siblings ≡ true → length siblings ≤ length up
+unfolding sameLevels
+levels-few memory up [] t = zero-le
+levels-few memory [] (s ∷ siblings) t = absurd (false≢true t)
+levels-few memory (p ∷ up) (s ∷ siblings) t =
+    let rest = levels-few memory up siblings (and-second (eqb (memory p .level) (memory s .level)) (sameLevels memory up siblings) t) in
+    omega arith
+
+levels-at : (memory : ℕ → Page) (up siblings : List ℕ) → sameLevels memory up siblings ≡ true → (j : ℕ) → j < length siblings
+    → memory (getD up j 0) .level ≡ memory (getD siblings j 0) .level
+unfolding sameLevels
+levels-at memory up [] t j h = absurd (not-suc-le-zero h)
+levels-at memory [] (s ∷ siblings) t j h = absurd (false≢true t)
+levels-at memory (p ∷ up) (s ∷ siblings) t zero h =
+    eqb-true (memory p .level) (memory s .level) (and-first (eqb (memory p .level) (memory s .level)) (sameLevels memory up siblings) t)
+levels-at memory (p ∷ up) (s ∷ siblings) t (suc j) h =
+    levels-at memory up siblings (and-second (eqb (memory p .level) (memory s .level)) (sameLevels memory up siblings) t) j (le-of-suc-le-suc h)
+
+-- the neighbour that a sound page above the leaves names is not page 0
+neighbour-other : {k n p : ℕ} {P : Page} (x : ℕ) → SoundPage k n p P → isLeaf P ≡ false → 1 ≤ μ P → neighbour x P ≢ 0
+unfolding neighbour
+neighbour-other {P = P} x sound upper keyed =
+    let most = place-most x (P .entries) in
+    cond-ind (λ (q : ℕ). q ≢ 0) (hasRight x P)
+    (λ right. let l = ltb-true (place x (P .entries)) (μ P) right in
+    let one = sound-pointer sound upper (suc (place x (P .entries))) l .0 in λ z. omega arith)
+    (λ none. let one = sound-pointer sound upper (place x (P .entries) - 1) (omega arith) .0 in λ z. omega arith)
+
+-- nothing more is needed, or the pages are astray: no page is wanted
+satisfied-wants : (siblings : List ℕ) (want : ℕ) → isSibling (satisfied siblings) want ≡ false
+satisfied-wants [] want = refl
+satisfied-wants (s ∷ siblings) want = refl
+
+-- none of these is page 0
+abbrev Others : List ℕ → Type 0
+Others pages = (j : ℕ) → j < length pages → getD pages j 0 ≢ 0
+
+others-more : (s : ℕ) (pages : List ℕ) → s ≢ 0 → Others pages → Others (s ∷ pages)
+others-more s pages first rest zero h = first
+others-more s pages first rest (suc j) h = rest j (le-of-suc-le-suc h)
+
+-- the siblings that a deletion holds, and the one it wants, are neighbours that its fathers name
+needed-others : (k : ℕ) (memory : ℕ → Page) (x p : ℕ) (fathers siblings : List ℕ) (want : ℕ)
+    → ((i : ℕ) → i < length fathers → neighbour x (memory (getD fathers i 0)) ≢ 0)
+    → isSibling (needs k memory x p fathers siblings) want ≡ true → Others (siblings ++ want ∷ [])
+unfolding needs
+needed-others k memory x p [] siblings want other t =
+    cond-ind (λ (need : Need). isSibling need want ≡ true → Others (siblings ++ want ∷ [])) (eqb p 0 || ltb k (μ (memory p)))
+    (λ spare. λ e. not-both e (satisfied-wants siblings want))
+    (λ short. λ e. absurd (false≢true e))
+    t
+needed-others k memory x p (father ∷ up) [] want other t =
+    cond-ind (λ (need : Need). isSibling need want ≡ true → Others (want ∷ [])) (eqb p 0 || ltb k (μ (memory p)))
+    (λ spare. λ e. absurd (false≢true e))
+    (λ short. λ e. others-more want [] (subst (λ (q : ℕ). q ≢ 0) (eqb-true (neighbour x (memory father)) want e) (other 0 (omega arith)))
+    (λ j h. absurd (not-suc-le-zero h)))
+    t
+needed-others k memory x p (father ∷ up) (s ∷ siblings) want other t =
+    let beside = neighbour x (memory father) in
+    let Wanted : Need → Type 0 = λ (need : Need). isSibling need want ≡ true → Others (s ∷ (siblings ++ want ∷ [])) in
+    cond-ind Wanted (eqb p 0 || ltb k (μ (memory p)))
+    (λ spare. λ e. absurd (false≢true e))
+    (λ short. cond-ind Wanted (eqb s beside)
+    (λ same. cond-ind Wanted (ltb k (μ (memory s)))
+    (λ shares. λ e. not-both e (satisfied-wants siblings want))
+    (λ joins. λ e. others-more s (siblings ++ want ∷ []) (subst (λ (q : ℕ). q ≢ 0) (sym (eqb-true s beside same)) (other 0 (omega arith)))
+    (needed-others k memory x father up siblings want (λ i h. other (suc i) (omega arith)) e)))
+    (λ strange. λ e. absurd (false≢true e)))
+    t
+
+-- what a deletion at its leaf tells, by the leaf and its fathers
+beside-needs : (op : Op) (k : ℕ) (memory : ℕ → Page) (leaf : ℕ) (fathers siblings : List ℕ) (want : ℕ)
+    → rightlyBeside op k memory (leaf ∷ fathers) siblings want ≡ true
+    → isSibling (needs k memory (keyOf op) leaf fathers siblings) want ≡ true
+beside-needs op k memory leaf fathers siblings want t =
+    let a = isDelete op && has (keyOf op) (memory leaf .entries) in
+    let b = isSibling (needs k memory (keyOf op) leaf fathers siblings) want in
+    and-second a b (and-first (a && b) (sameLevels memory (leaf ∷ fathers) (siblings ++ want ∷ [])) t)
+
+beside-levels : (op : Op) (k : ℕ) (memory : ℕ → Page) (up siblings : List ℕ) (want : ℕ)
+    → rightlyBeside op k memory up siblings want ≡ true → sameLevels memory up (siblings ++ want ∷ []) ≡ true
+beside-levels op k memory [] siblings want t = absurd (false≢true t)
+beside-levels op k memory (leaf ∷ fathers) siblings want t =
+    let a = isDelete op && has (keyOf op) (memory leaf .entries) in
+    let b = isSibling (needs k memory (keyOf op) leaf fathers siblings) want in
+    and-second (a && b) (sameLevels memory (leaf ∷ fathers) (siblings ++ want ∷ [])) t
+
+-- a path whose last page is a leaf has a page
+leaf-some : (memory : ℕ → Page) (path : List ℕ) → atItsLeaf memory (reverse path) ≡ true → 1 ≤ length path
+leaf-some memory [] t = absurd (false≢true t)
+leaf-some memory (p ∷ path) t = omega arith
+
+-- a father's neighbour is not page 0
+father-names : {k n : ℕ} {ws path : List ℕ} (x : ℕ) → Held k n ws path → Falls (pageAt k ws) path
+    → (i : ℕ) → suc i < length path → neighbour x (pageAt k ws (getD path i 0)) ≢ 0
+father-names {k} {ws = ws} {path = path} x held falls i h =
+    let father = held-at held i (omega arith) in
+    let low = held-at held (suc i) h .facts .lowest in
+    let above = falls i h in
+    let upper = ne-eqb (pageAt k ws (getD path i 0) .level) 1 (λ one. omega arith) in
+    neighbour-other x (father .facts) upper (held-upper (held .least) father upper)
+
+module _ (op : Op) {k n : ℕ} {ws : List ℕ} (path siblings : List ℕ) (want : ℕ) (some : 1 ≤ length path)
+    (falls : Falls (pageAt k ws) path) (right : rightlyBeside op k (pageAt k ws) (reverse path) siblings want ≡ true) where
+  -- neither a sibling nor the want is page 0
+  beside-others : Held k n ws path → Others (siblings ++ want ∷ [])
+  beside-others held =
+      let d = length path - 1 in
+      needed-others k (pageAt k ws) (keyOf op) (getD path d 0) (upward d path) siblings want
+      (λ i h. let long = length-upward d path in
+      subst (λ (p : ℕ). neighbour (keyOf op) (pageAt k ws p) ≢ 0) (sym (upward-at d i (d - 1 - i) path (omega arith)))
+      (father-names (keyOf op) held falls (d - 1 - i) (omega arith)))
+      (beside-needs op k (pageAt k ws) (getD path d 0) (upward d path) siblings want
+      (subst (λ (up : List ℕ). rightlyBeside op k (pageAt k ws) up siblings want ≡ true)
+      (reverse-upward path ∙ upward-father (length path) path some) right))
+
+  -- the want behind the siblings
+  stands-beside : Held k n ws (path ++ siblings ++ want ∷ []) → distinct (want ∷ (path ++ siblings)) ≡ true
+      → rightlyKept op k (pageAt k ws) path want ≡ true → Standing op k n ws path (siblings ++ want ∷ [])
+  stands-beside held different above =
+      let beside = siblings ++ want ∷ [] in
+      let together = append-assoc path siblings (want ∷ []) in
+      let pages : Held k n ws (path ++ beside) = subst (Held k n ws) together held in
+      let own = held-front path beside pages in
+      let levels = beside-levels op k (pageAt k ws) (reverse path) siblings want right in
+      record {
+        some = some;
+        deep = way-short own falls;
+        few = omega (arith, levels-few (pageAt k ws) (reverse path) beside levels, length-reverse path);
+        held = pages;
+        descends = falls;
+        different = subst (λ (ps : List ℕ). distinct ps ≡ true) together (distinct-last (path ++ siblings) want different);
+        top = kept-top op k (pageAt k ws) path want some above;
+        levels = λ i j h e.
+            subst (λ (p : ℕ). pageAt k ws p .level ≡ pageAt k ws (getD beside j 0) .level)
+            (ap (λ (up : List ℕ). getD up j 0) (reverse-upward path) ∙ upward-at (length path) j i path e)
+            (levels-at (pageAt k ws) (reverse path) beside levels j h);
+        others = beside-others own;
+      }
+
+-- ---- the slot
+
+-- what holds of both branches of two choices by one test holds of the choices
+cond-both : {A B : Type 0} (P : A → B → Type 0) (b : Bool) {x y : A} {u v : B} → (b ≡ true → P x u) → (b ≡ false → P y v)
+    → P (cond b x y) (cond b u v)
+cond-both P true f g = f refl
+cond-both P false f g = g refl
+
+-- a path without siblings is all that is held
+none-beside : (path siblings : List ℕ) → isNone siblings ≡ true → path ++ siblings ≡ path
+none-beside path [] t = append-nil path
+none-beside path (s ∷ siblings) t = absurd (false≢true t)
+
+-- a slot made of this path and these siblings stands there
+stands-new : (op : Op) {k n : ℕ} {ws : List ℕ} (want : ℕ) (path siblings : List ℕ) → Standing op k n ws path siblings
+    → Stands op k n ws (openSlot op want path siblings)
+stands-new op {k} {n} {ws} want path siblings h =
+    let own = sym (path-new op want path siblings) in
+    let others = sym (siblings-new op want path siblings) in
+    record {
+      exact = ap₂ (λ (ps ss : List ℕ). openSlot op want ps ss) own others;
+      standing = subst (λ (ps : List ℕ). Standing op k n ws ps (siblingsOf (openSlot op want path siblings))) own
+          (subst (λ (ss : List ℕ). Standing op k n ws path ss) others h);
+    }
+
+module _ {op : Op} {k n : ℕ} {ws : List ℕ} {slot : Slot} (asks : Asks k n ws op slot) (fit : fits op k n ws slot ≡ true) where
+  -- the pages that the slot holds and wants
+  fits-held : Held k n ws (pagesOf slot)
+  unfolding fits
+  fits-held =
+      asks-held asks (sym (and-first (pagesSound k n ws (pagesOf slot)) (fitting op k (pageAt k ws) (pathOf slot) (siblingsOf slot) (slot .want)) fit)) refl
+
+  pub path-held : Held k n ws (pathOf slot)
+  path-held = held-front (pathOf slot) (siblingsOf slot) (held-front (held slot) (slot .want ∷ []) fits-held)
+
+  pub want-known : Known k n ws (slot .want)
+  want-known = held-at (held-back (held slot) (slot .want ∷ []) fits-held) 0 (omega arith)
+
+  -- no two of them are the same
+  all-different : distinct (slot .want ∷ held slot) ≡ true
+  all-different = sound-slot n slot (asks .sound) .different (ap isOpen (asks .task))
+
+  -- they are those that the rules would have it hold and want: by the two ways of the rule
+  abbrev atLeafTest : Bool
+  atLeafTest = descends (pageAt k ws) (keyOf op) (pathOf slot)
+      && rightlyBeside op k (pageAt k ws) (reverse (pathOf slot)) (siblingsOf slot) (slot .want)
+
+  abbrev belowTest : Bool
+  belowTest = descends (pageAt k ws) (keyOf op) (pathOf slot ++ slot .want ∷ []) && isNone (siblingsOf slot)
+
+  abbrev keptTest : Bool
+  keptTest = rightlyKept op k (pageAt k ws) (pathOf slot) (slot .want)
+
+  fits-fitting : keptTest && cond (atItsLeaf (pageAt k ws) (reverse (pathOf slot))) atLeafTest belowTest ≡ true
+  unfolding fits fitting
+  fits-fitting =
+      and-second (pagesSound k n ws (pagesOf slot)) (fitting op k (pageAt k ws) (pathOf slot) (siblingsOf slot) (slot .want)) fit
+
+  fits-kept : keptTest ≡ true
+  fits-kept = and-first keptTest (cond (atItsLeaf (pageAt k ws) (reverse (pathOf slot))) atLeafTest belowTest) fits-fitting
+
+  fits-way : cond (atItsLeaf (pageAt k ws) (reverse (pathOf slot))) atLeafTest belowTest ≡ true
+  fits-way = and-second keptTest (cond (atItsLeaf (pageAt k ws) (reverse (pathOf slot))) atLeafTest belowTest) fits-fitting
+
+  module _ (leaf : atItsLeaf (pageAt k ws) (reverse (pathOf slot)) ≡ true) where
+    leaf-told : atLeafTest ≡ true
+    leaf-told = sym (cond-true atLeafTest belowTest leaf) ∙ fits-way
+
+    stood-beside : Standing op k n ws (pathOf slot) (siblingsOf slot ++ slot .want ∷ [])
+    stood-beside =
+        let way = descends (pageAt k ws) (keyOf op) (pathOf slot) in
+        let beside = rightlyBeside op k (pageAt k ws) (reverse (pathOf slot)) (siblingsOf slot) (slot .want) in
+        stands-beside op (pathOf slot) (siblingsOf slot) (slot .want) (leaf-some (pageAt k ws) (pathOf slot) leaf)
+        (descends-levels (pageAt k ws) (keyOf op) (pathOf slot) (and-first way beside leaf-told))
+        (and-second way beside leaf-told)
+        fits-held
+        all-different
+        fits-kept
+
+  module _ (coming : atItsLeaf (pageAt k ws) (reverse (pathOf slot)) ≡ false) where
+    below-told : belowTest ≡ true
+    below-told = sym (cond-false atLeafTest belowTest coming) ∙ fits-way
+
+    no-siblings : pathOf slot ++ siblingsOf slot ≡ pathOf slot
+    no-siblings =
+        none-beside (pathOf slot) (siblingsOf slot)
+        (and-second (descends (pageAt k ws) (keyOf op) (pathOf slot ++ slot .want ∷ [])) (isNone (siblingsOf slot)) below-told)
+
+    longer-held : Held k n ws (pathOf slot ++ slot .want ∷ [])
+    longer-held = subst (λ (pages : List ℕ). Held k n ws (pages ++ slot .want ∷ [])) no-siblings fits-held
+
+    longer-falls : Falls (pageAt k ws) (pathOf slot ++ slot .want ∷ [])
+    longer-falls =
+        descends-levels (pageAt k ws) (keyOf op) (pathOf slot ++ slot .want ∷ [])
+        (and-first (descends (pageAt k ws) (keyOf op) (pathOf slot ++ slot .want ∷ [])) (isNone (siblingsOf slot)) below-told)
+
+    stood-below : Standing op k n ws (kept op k (pageAt k ws) (pathOf slot) (slot .want)) []
+    stood-below =
+        stands-below (pathOf slot) (slot .want) longer-held
+        (subst (λ (pages : List ℕ). distinct (slot .want ∷ pages) ≡ true) no-siblings all-different)
+        longer-falls
+        fits-kept
+
+  -- coming down there is room for one more page on the path; `leaf` is what the test of the last page answered
+  pub deep-enough : {leaf : Bool} → leaf ≡ atItsLeaf (pageAt k ws) (reverse (pathOf slot)) → leaf ≡ false
+      → length (slot .path) ≡ pathHolds → slot .depth < pathHolds
+  unfolding pathOf
+  deep-enough told f cells =
+      let coming = sym told ∙ f in
+      let short = way-short (longer-held coming) (longer-falls coming) in
+      omega (arith, length-append (take (slot .depth) (slot .path)) (slot .want ∷ []), length-take (slot .depth) (slot .path))
+
+-- Once its want is granted, an operation stands where the rules would have it.
+pub stood-stands : (op : Op) (k n : ℕ) (ws : List ℕ) (slot : Slot) → Asks k n ws op slot → fits op k n ws slot ≡ true
+    → Stands op k n ws (stood op k (pageAt k ws) slot)
+unfolding stood
+stood-stands op k n ws slot asks fit =
+    stands-new op (slot .want) (standPath op k (pageAt k ws) (pathOf slot) (slot .want))
+    (standSiblings (pageAt k ws) (pathOf slot) (siblingsOf slot) (slot .want))
+    (cond-both (λ (ps ss : List ℕ). Standing op k n ws ps ss) (atItsLeaf (pageAt k ws) (reverse (pathOf slot)))
+    (stood-beside asks fit)
+    (stood-below asks fit))
+
+-- ---- the slot by the answers of the tests
+
+module _ (op : Op) (k : ℕ) (memory : ℕ → Page) (slot : Slot) {leaf : Bool}
+    (told : leaf ≡ atItsLeaf memory (reverse (pathOf slot))) where
+  -- the last page of the path is a leaf
+  pub stood-at-leaf : {r : Slot} → leaf ≡ true → r ≡ openSlot op (slot .want) (pathOf slot) (siblingsOf slot ++ slot .want ∷ [])
+      → r ≡ stood op k memory slot
+  unfolding stood
+  stood-at-leaf t e =
+      e
+      ∙ sym
+      (ap₂ (λ (ps ss : List ℕ). openSlot op (slot .want) ps ss)
+      (cond-true (pathOf slot) (kept op k memory (pathOf slot) (slot .want)) (sym told ∙ t))
+      (cond-true (siblingsOf slot ++ slot .want ∷ []) [] (sym told ∙ t)))
+
+  -- it is not
+  stood-coming : {r : Slot} → leaf ≡ false → r ≡ openSlot op (slot .want) (kept op k memory (pathOf slot) (slot .want)) []
+      → r ≡ stood op k memory slot
+  unfolding stood
+  stood-coming f e =
+      e
+      ∙ sym
+      (ap₂ (λ (ps ss : List ℕ). openSlot op (slot .want) ps ss)
+      (cond-false (pathOf slot) (kept op k memory (pathOf slot) (slot .want)) (sym told ∙ f))
+      (cond-false (siblingsOf slot ++ slot .want ∷ []) [] (sym told ∙ f)))
+
+  module _ {m : ℕ} {safe : Bool} (counted : m ≡ μ (memory (slot .want))) (found : safe ≡ isSafe op k m) where
+    -- what the wanted page was found to be
+    tested : safe ≡ isSafe op k (μ (memory (slot .want)))
+    tested = found ∙ ap (isSafe op k) counted
+
+    -- coming down to a safe page
+    pub stood-on-safe : {r : Slot} → leaf ≡ false → safe ≡ true → r ≡ openSlot op (slot .want) (slot .want ∷ []) []
+        → r ≡ stood op k memory slot
+    stood-on-safe f t e =
+        stood-coming f
+        (e
+        ∙ ap (λ (ps : List ℕ). openSlot op (slot .want) ps [])
+        (sym (cond-true (slot .want ∷ []) (pathOf slot ++ slot .want ∷ []) (sym tested ∙ t))))
+
+    -- and to another
+    pub stood-on-other : {r : Slot} → leaf ≡ false → safe ≡ false → r ≡ openSlot op (slot .want) (pathOf slot ++ slot .want ∷ []) []
+        → r ≡ stood op k memory slot
+    stood-on-other f u e =
+        stood-coming f
+        (e
+        ∙ ap (λ (ps : List ℕ). openSlot op (slot .want) ps [])
+        (sym (cond-false (slot .want ∷ []) (pathOf slot ++ slot .want ∷ []) (sym tested ∙ u))))

@@ -1,0 +1,78 @@
+-- At its leaf, coming down to a safe page, or to another: each time the slot is the one that the rule names.
+use mathlib.Core.Path.{_≡_}
+use lib.ListN.{length}
+use borrow.Author.Needs.{needs}
+use Rattle.ground.specs.Limits.{pathHolds}
+use Rattle.pool.specs.Pool.{pageAt}
+use Rattle.slots.specs.Parts.{pathOf, siblingsOf}
+use Rattle.grant.proofs.LookLaws.{asks-deep, asks-few}
+use Rattle.course.proofs.StandLaws.{path-held, want-known, deep-enough, stood-at-leaf, stood-on-safe, stood-on-other}
+use Rattle.course.proofs.standing.stands.Statement.{statement}
+use Rattle.course.proofs.standing.stands.Tie as tie
+
+at-leaf-requires : tie.Need-at-leaf-requires
+unfolding pathOf
+at-leaf-requires c κs =
+    let pre = c .before .before .pre in
+    (asks-deep (pre .0), path-held (pre .0) (pre .1))
+
+holding-beside-requires : tie.Need-holding-beside-requires
+holding-beside-requires c κs =
+    let asks = c .before .before .before .before .pre .0 in
+    (asks-deep asks, asks-few asks)
+
+returns : tie.Need-returns
+unfolding pathOf siblingsOf
+returns c =
+    let was = c .before .before .before .before .before .args in
+    stood-at-leaf (was .op) (was .k) (pageAt (was .k) (was .words .now)) (was .slot) (c .before .before .at-leaf .ensures)
+    (c .before .if1 .taken) (c .holding-beside .ensures)
+
+count-of-requires : tie.Need-count-of-requires
+count-of-requires c κs =
+    let pre = c .before .before .before .before .pre in
+    let want = want-known (pre .0) (pre .1) in
+    (want .inPool, want .readable)
+
+is-safe-requires : tie.Need-is-safe-requires
+is-safe-requires c κs = c .before .before .before .before .before .pre .0 .width
+
+holding-one-requires : tie.Need-holding-one-requires
+holding-one-requires c κs = search needs
+
+returns-2 : tie.Need-returns-2
+unfolding pathOf
+returns-2 c =
+    let was = c .before .before .before .before .before .before .before .before .args in
+    stood-on-safe (was .op) (was .k) (pageAt (was .k) (was .words .now)) (was .slot) (c .before .before .before .before .before .at-leaf .ensures)
+    (c .before .before .before .count-of .ensures) (c .before .before .is-safe .ensures)
+    (c .before .before .before .before .if1 .left) (c .before .if2 .taken) (c .holding-one .ensures)
+
+holding-more-requires : tie.Need-holding-more-requires
+unfolding pathHolds pathOf
+holding-more-requires c κs =
+    let start = c .before .before .before .before .before .before .before in
+    let cells : length (start .args .slot .path) ≡ 10 = search needs in
+    deep-enough (start .pre .0) (start .pre .1) (c .before .before .before .before .at-leaf .ensures) (c .before .before .before .if1 .left) cells
+
+returns-3 : tie.Need-returns-3
+unfolding pathOf
+returns-3 c =
+    let was = c .before .before .before .before .before .before .before .before .args in
+    stood-on-other (was .op) (was .k) (pageAt (was .k) (was .words .now)) (was .slot) (c .before .before .before .before .before .at-leaf .ensures)
+    (c .before .before .before .count-of .ensures) (c .before .before .is-safe .ensures)
+    (c .before .before .before .before .if1 .left) (c .before .if2 .left) (c .holding-more .ensures)
+
+pub stands-spec : {M : Type 1} → statement M
+stands-spec =
+    tie.close
+    (tie.spec
+    at-leaf-requires
+    holding-beside-requires
+    returns
+    count-of-requires
+    is-safe-requires
+    holding-one-requires
+    returns-2
+    holding-more-requires
+    returns-3)

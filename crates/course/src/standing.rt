@@ -1,0 +1,30 @@
+// Where an operation stands once its want is granted.
+use grant::looking::at_leaf;
+use grant::looking::is_safe;
+use pool::pages::count_of;
+use slots::Op;
+use slots::Slot;
+use slots::book::holding_beside;
+use slots::book::holding_more;
+use slots::book::holding_one;
+ghost use mathlib.Core.Path.{_≡_};
+ghost use mathlib.Core.Bool.{true};
+ghost use Rattle.pool.specs.Pool.{pageAt};
+ghost use Rattle.grant.specs.Standing.{Asks, fits, stood};
+
+// At its leaf it holds one more sibling. Coming down, it holds the page alone, if that is safe, or one more on its path.
+pub fn stands(words: &[u32], k: usize, n: usize, op: Op, slot: Slot) -> Slot
+    requires { ⌜ Asks k n (now words) op slot ⌝ }
+    requires { ⌜ fits op k n (now words) slot ≡ true ⌝ }
+    ensures { λ r. ⌜ r ≡ stood op k (pageAt k (now (words .entry))) slot ⌝ }
+{
+    let path = slot.path;
+    let want = slot.want;
+    if at_leaf(words, k, n, path, slot.depth) {
+        return holding_beside(op, want, slot, want);
+    }
+    if is_safe(op, k, count_of(words, k, n, want)) {
+        return holding_one(op, want, want);
+    }
+    holding_more(op, want, slot, want)
+}
