@@ -15,7 +15,8 @@ use Rattle.page.specs.Short.{joined}
 use Rattle.page.specs.Exact.{Exact}
 use Rattle.sheet.specs.Sheets.{Holds, front}
 use Rattle.page.proofs.WordLaws.{length-flat, pairs-flat}
-use Rattle.sheet.proofs.WritingLaws.{bounds, view-level}
+use Rattle.page.proofs.ReadingLaws.{view-level}
+use Rattle.sheet.proofs.WritingLaws.{bounds}
 use Rattle.sheet.proofs.FlatLaws.{flat-append, length-front, encode-front}
 
 -- a run of pairs behind those that the buffer holds

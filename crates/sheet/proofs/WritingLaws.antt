@@ -16,6 +16,7 @@ use Rattle.page.specs.Short.{lessKey, rekeyed}
 use Rattle.page.specs.Exact.{Exact}
 use Rattle.sheet.specs.Sheets.{front}
 use Rattle.page.proofs.WordLaws.{length-flat, pairsFrom-most, view-μ}
+use Rattle.page.proofs.ReadingLaws.{view-level}
 use Rattle.sheet.proofs.FlatLaws.{flat-append, length-front, pairsFrom-least, encode-front}
 
 module _ (F : List ℕ) (a : List Entry) where
@@ -151,11 +152,6 @@ bounds {k} {ws} exact =
       low = pairsFrom-least (getD ws 0 0);
       high = pairsFrom-most (getD ws 0 0);
     }
-
--- word 0 is the level
-pub view-level : (ws : List ℕ) → view ws .level ≡ getD ws 0 0
-unfolding view
-view-level ws = refl
 
 -- k is small, so that sums of places fit
 pub small-k : {k : ℕ} → k ≤ largestK → k ≤ 16
