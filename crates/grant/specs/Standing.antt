@@ -34,7 +34,7 @@ fits op k n ws slot =
     pagesSound k n ws (pathOf slot ++ siblingsOf slot ++ slot .want ∷ [])
     && fitting op k (pageAt k ws) (pathOf slot) (siblingsOf slot) (slot .want)
 
--- the last page of a path, given upward, leads to this one; holding none, an operation may want any
+-- the last page of a path, given upward, leads to the wanted one; where none is held none has to (`rightlyKept` asks for page 0)
 abbrev pub lastLeads : (ℕ → Page) → ℕ → List ℕ → ℕ → Bool
 lastLeads memory x [] want = true
 lastLeads memory x (p ∷ up) want = leads memory x p want
