@@ -1,0 +1,4 @@
+pub mod Run
+pub mod Stance
+pub mod Plain
+pub mod Step
