@@ -1,2 +1,4 @@
 pub mod Invariant
 pub mod PlainLaws
+pub mod Paths
+pub mod HeldPath
