@@ -2,3 +2,5 @@ pub mod Invariant
 pub mod PlainLaws
 pub mod Paths
 pub mod HeldPath
+pub mod Verdicts
+pub mod Measure

@@ -3,3 +3,4 @@ pub mod Stance
 pub mod Plain
 pub mod Step
 pub mod PlainFacts
+pub mod Rounds
