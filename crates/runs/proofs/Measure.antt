@@ -101,18 +101,18 @@ module _ (op : Op) (k n : ℕ) (memory : ℕ → Page) (l : ℕ) (t : Tr l) (for
 
 -- ---- the measure of an open slot, by where it stands
 
-left-some : (memory : ℕ → Page) (path siblings : List ℕ) → 1 ≤ length path
+pub left-some : (memory : ℕ → Page) (path siblings : List ℕ) → 1 ≤ length path
     → leftOpen memory path siblings ≡ 2 * memory (lowestOf path) .level + (length path - 1) - 2 - length siblings
 left-some memory [] siblings h = absurd (omega arith)
 left-some memory (p ∷ ps) siblings h = omega arith
 
 module _ (memory : ℕ → Page) (l : ℕ) (t : Tr l) where
   -- holding nothing
-  left-start : (path siblings : List ℕ) → path ≡ [] → leftOpen memory path siblings ≡ slotGrants
+  pub left-start : (path siblings : List ℕ) → path ≡ [] → leftOpen memory path siblings ≡ slotGrants
   left-start path siblings e = ap (λ (p : List ℕ). leftOpen memory p siblings) e
 
   -- coming down
-  left-coming : (path siblings : List ℕ) (low : ℕ) → Low memory l t path (low + 2) → siblings ≡ [] → leftOpen memory path siblings ≡ 2 * low + length path + 1
+  pub left-coming : (path siblings : List ℕ) (low : ℕ) → Low memory l t path (low + 2) → siblings ≡ [] → leftOpen memory path siblings ≡ 2 * low + length path + 1
   left-coming path siblings low w e =
       let some : 1 ≤ length path = w .some in
       let level : memory (lowestOf path) .level ≡ low + 2 = w .level in
@@ -120,7 +120,7 @@ module _ (memory : ℕ → Page) (l : ℕ) (t : Tr l) where
       left-some memory path siblings some ∙ omega arith
 
   -- at the leaf
-  left-leaf : (path siblings : List ℕ) → Low memory l t path 1 → suc (length siblings) < length path
+  pub left-leaf : (path siblings : List ℕ) → Low memory l t path 1 → suc (length siblings) < length path
       → leftOpen memory path siblings ≡ length path - 1 - length siblings
   left-leaf path siblings w h =
       let level : memory (lowestOf path) .level ≡ 1 = w .level in
