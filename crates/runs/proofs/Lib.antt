@@ -6,3 +6,4 @@ pub mod Verdicts
 pub mod Steps
 pub mod Measure
 pub mod MeasureLaws
+pub mod Rounds
