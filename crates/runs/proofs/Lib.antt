@@ -7,3 +7,4 @@ pub mod Steps
 pub mod Measure
 pub mod MeasureLaws
 pub mod Rounds
+pub mod Counts

@@ -88,7 +88,7 @@ module _ (memory : ℕ → Page) (l : ℕ) (t : Tr l) (path : List ℕ) where
   low-at-leaf w = at-its-leaf memory path (w .some) ∙ eq-eqb (memory (lowestOf path) .level) 1 (w .level)
 
 -- the measure of what is held once a page is granted on the way down
-kept-left : (op : Op) (k : ℕ) (memory : ℕ → Page) (path : List ℕ) (want level : ℕ) → memory want .level ≡ level
+pub kept-left : (op : Op) (k : ℕ) (memory : ℕ → Page) (path : List ℕ) (want level : ℕ) → memory want .level ≡ level
     → leftOpen memory (kept op k memory path want) [] ≡ 2 * level + (length (kept op k memory path want) - 1) - 2
 kept-left op k memory path want level e =
     let path′ : List ℕ = kept op k memory path want in
@@ -144,11 +144,11 @@ module _ (st : State) (shaped : Shaped st) (s : ℕ) (b : s < slotCount) where
   unfolding closes
   closes-other u n = slot-other st shaped s b closedSlot (st .order) (st .waiting) u n
 
-goes-on-k : (st : State) (s : ℕ) (op : Op) (want : ℕ) (path siblings : List ℕ) → goesOn st s op want path siblings .k ≡ st .k
+pub goes-on-k : (st : State) (s : ℕ) (op : Op) (want : ℕ) (path siblings : List ℕ) → goesOn st s op want path siblings .k ≡ st .k
 unfolding goesOn
 goes-on-k st s op want path siblings = refl
 
-closes-k : (st : State) (s : ℕ) → closes st s .k ≡ st .k
+pub closes-k : (st : State) (s : ℕ) → closes st s .k ≡ st .k
 unfolding closes
 closes-k st s = refl
 
@@ -239,7 +239,7 @@ module _ (granted-comes : GrantedComes) (st : State) (ws : List ℕ) (inv : Inva
   abbrev op : Op
   op = g .op
 
-  comes : Comes op (st .k) (st .n) ws (inv .height) (inv .tree) (pathOf (slotAt st s)) (siblingsOf (slotAt st s)) (wantAt st s)
+  pub comes : Comes op (st .k) (st .n) ws (inv .height) (inv .tree) (pathOf (slotAt st s)) (siblingsOf (slotAt st s)) (wantAt st s)
   comes = granted-comes op (st .k) (st .n) ws (inv .height) (inv .tree) (pathOf (slotAt st s)) (siblingsOf (slotAt st s)) (wantAt st s)
       (scene st ws inv s op (g .inside) (g .runs))
 
@@ -270,16 +270,16 @@ module _ (granted-comes : GrantedComes) (st : State) (ws : List ℕ) (inv : Inva
       (ended .only q m))
 
   -- the measure once it has moved
-  after-moving : (path′ siblings′ : List ℕ) (want′ : ℕ) → grantsLeft (goesOn st s op want′ path′ siblings′) ws s ≡ leftOpen (pageAt (st .k) ws) path′ siblings′
+  pub after-moving : (path′ siblings′ : List ℕ) (want′ : ℕ) → grantsLeft (goesOn st s op want′ path′ siblings′) ws s ≡ leftOpen (pageAt (st .k) ws) path′ siblings′
   after-moving path′ siblings′ want′ =
       ap₂ (λ (k : ℕ) (slot : Slot). leftSlot (pageAt k ws) slot) (goes-on-k st s op want′ path′ siblings′) (goes-on-here st (inv .shaped) s (g .inside) op want′ path′ siblings′)
       ∙ ap₂ (leftOpen (pageAt (st .k) ws)) (path-new op want′ path′ siblings′) (siblings-new op want′ path′ siblings′)
 
-  moved : (path′ siblings′ : List ℕ) (want′ : ℕ) → verdictOf st ws s op ≡ goes path′ siblings′ want′
+  pub moved : (path′ siblings′ : List ℕ) (want′ : ℕ) → verdictOf st ws s op ≡ goes path′ siblings′ want′
       → stepped st ws s ≡ left Moved (goesOn st s op want′ path′ siblings′) ws
   moved path′ siblings′ want′ e = g .does ∙ ap (acted st ws s op) e
 
-  ended-so : (a : Answer) (writes : List Write) → verdictOf st ws s op ≡ ends a writes
+  pub ended-so : (a : Answer) (writes : List Write) → verdictOf st ws s op ≡ ends a writes
       → stepped st ws s ≡ left a (closes st s) (applied (st .k) writes ws)
   ended-so a writes e = g .does ∙ ap (acted st ws s op) e
 

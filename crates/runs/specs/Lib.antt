@@ -4,3 +4,4 @@ pub mod Plain
 pub mod Step
 pub mod PlainFacts
 pub mod Rounds
+pub mod Counts
