@@ -1,19 +1,19 @@
 -- How many grants an operation takes: its way down takes one a level, and then a deletion one for each sibling.
-use Prim.Native.Nat.{ℕ, suc, _+_, _-_, _*_, _≤_, _<_}
-use mathlib.Core.Bool.{Bool, true, false, not, cond, _&&_, true≢false, false≢true}
-use mathlib.Core.List.{List, [], _∷_, _++_, reverse}
+use Prim.Native.Nat.{ℕ, _+_, _-_, _*_, _≤_, _<_}
+use mathlib.Core.Bool.{true, false, not}
+use mathlib.Core.List.{List, [], _∷_, reverse}
 use mathlib.Core.Logic.{_⊎_, _≢_, inl, inr, ⊎-elim}
 use mathlib.Core.Path.{_≡_, refl, sym, ap, ap₂, _∙_, subst}
 use native.Mathlib.Omega.{arith}
 use borrow.Author.Tests.{eq-eqb, ne-eqb, eqb-true, ltb-true, not-false}
 use lib.Dec.{ltb, eqb}
 use lib.ListN.{length}
-use Rattle.ground.specs.Limits.{slotCount, slotGrants}
-use Rattle.ground.proofs.Bools.{true-or-false, not-both, and-both, and-first-fails, and-second-fails, not-of-true, not-of-false, false-if-not-true}
+use Rattle.ground.specs.Limits.{slotCount}
+use Rattle.ground.proofs.Bools.{true-or-false, not-both, and-both, and-first-fails, and-second-fails, not-of-false, false-if-not-true}
 use Rattle.ground.proofs.Limits.{range-rises}
 use Rattle.ground.proofs.Choice.{cond-ind, cond-true, cond-false}
 use Rattle.page.specs.Words.{Page}
-use Rattle.pool.specs.Pool.{Write, pageAt, applied}
+use Rattle.pool.specs.Pool.{pageAt}
 use Rattle.slots.specs.declared.Op.{Op}
 use Rattle.slots.specs.declared.Op.the-variants.{Search}
 use Rattle.slots.specs.declared.Task.{Task}
@@ -21,25 +21,24 @@ use Rattle.slots.specs.declared.Task.the-variants.{Closed, Open}
 use Rattle.slots.specs.declared.Slot.{Slot}
 use Rattle.slots.specs.declared.State.{State}
 use Rattle.slots.specs.declared.Outcome.{Outcome}
-use Rattle.slots.specs.declared.Answer.{Answer}
 use Rattle.slots.specs.Heard.{changesNothing}
-use Rattle.slots.specs.Parts.{isOpen, isDelete, openSlot, closedSlot, pathOf, siblingsOf, slotAt, openAt, wantAt}
+use Rattle.slots.specs.Parts.{isOpen, isDelete, openSlot, pathOf, siblingsOf, slotAt, openAt, wantAt}
 use Rattle.slots.specs.Sound.{sound}
-use Rattle.slots.specs.Book.{begins, goesOn, closes}
+use Rattle.slots.specs.Book.{begins, goesOn}
 use Rattle.slots.specs.Begin.{begun}
 use Rattle.slots.proofs.Keeping.{Shaped, slot-other, path-new}
 use Rattle.slots.proofs.OrderLaws.{same-or-not}
 use Rattle.grant.specs.Granted.{kept, atItsLeaf}
-use Rattle.index.specs.Step.{Left, left, stepped}
+use Rattle.index.specs.Step.{Left, stepped}
 use Rattle.index.proofs.Refusals.{step-refused}
 use Rattle.tree.proofs.Search.{way-facts}
 use Rattle.runs.specs.Run.{Call, begin, step, report, called, CallInWords, InWords}
 use Rattle.runs.specs.Step.{Comes, moves, stops}
 use Rattle.runs.specs.Counts.{grantedTo, grantsOf, endsWithin, heightGranted, GrantCounts}
 use Rattle.runs.proofs.Invariant.{Runs, Invariant}
-use Rattle.runs.proofs.Measure.{lowestOf, leftOpen, grantsLeft, Low, Where, atStart, onTheWay, atTheLeaf}
-use Rattle.runs.proofs.MeasureLaws.{GrantedComes, Undisturbed, nothing-disturbed, undisturbed-measure, step-undisturbed, measure-falls, measure-bound, KeptPath, kept-path, goes-on-here, goes-on-k, closes-here, comes, moved, ended-so, after-moving, kept-left, where-slot, low-above, start-above}
-use Rattle.runs.proofs.Steps.{Rests, Goes, verdictOf, step-cases}
+use Rattle.runs.proofs.Measure.{lowestOf, leftOpen, grantsLeft, Where, atStart, onTheWay, atTheLeaf}
+use Rattle.runs.proofs.MeasureLaws.{GrantedComes, Undisturbed, nothing-disturbed, undisturbed-measure, step-undisturbed, measure-falls, measure-bound, kept-path, goes-on-here, goes-on-k, closes-here, comes, moved, ended-so, after-moving, kept-left, where-slot, low-above, start-above}
+use Rattle.runs.proofs.Steps.{Goes, step-cases}
 use Rattle.runs.proofs.Verdicts.{coming-goes, coming-ends}
 
 -- ---- the counts, call by call
@@ -191,20 +190,24 @@ module _ (granted-comes : GrantedComes) (st : State) (ws : List ℕ) (inv : Inva
           let left-over : grantsLeft (goesOn st s (g .op) want′ path′ siblings′) ws s ≡ 2 * (m + 1) + (length (kept (g .op) (st .k) memory path (wantAt st s)) - 1) - 2
           = after-moving granted-comes st ws inv s g path′ siblings′ want′ ∙ ap₂ (leftOpen memory) (went .0) (went .1) ∙ kept-left (g .op) (st .k) memory path (wantAt st s) (m + 1) wanted in
           inr (subst (λ (r : Left). Under (r .state) (r .words) s (g .op) (m + 1) × (grantsLeft (r .state) (r .words) s ≤ 2 * m + length path))
-          (sym (moved granted-comes st ws inv s g path′ siblings′ want′ e))
-          (record {
-            runs = ap (λ (slot : Slot). slot .task) here;
-            some = subst (λ (p : List ℕ). 1 ≤ length p) (sym holds) (how .some);
-            lowest =
-                ap (λ (k : ℕ). pageAt k ws (lowestOf (pathOf (slotAt (goesOn st s (g .op) want′ path′ siblings′) s))) .level) (goes-on-k st s (g .op) want′ path′ siblings′)
-                ∙ ap (λ (p : ℕ). memory p .level) (ap lowestOf holds ∙ how .lowest)
-                ∙ wanted;
-          }, omega (arith, left-over, how .most, how .some)))
+          (sym (moved granted-comes st ws inv s g path′ siblings′ want′ e)) (
+            record {
+              runs = ap (λ (slot : Slot). slot .task) here;
+              some = subst (λ (p : List ℕ). 1 ≤ length p) (sym holds) (how .some);
+              lowest =
+                  ap (λ (k : ℕ). pageAt k ws (lowestOf (pathOf (slotAt (goesOn st s (g .op) want′ path′ siblings′) s))) .level) (goes-on-k st s (g .op) want′ path′ siblings′)
+                  ∙ ap (λ (p : ℕ). memory p .level) (ap lowestOf holds ∙ how .lowest)
+                  ∙ wanted;
+            },
+            omega (arith, left-over, how .most, how .some),
+          ))
       by-comes (stops a writes e ended) =
           let leaf = coming-ends (g .op) (st .k) (st .n) ws path (siblingsOf (slotAt st s)) (wantAt st s) above a writes e in
-          inl (subst (λ (r : Left). openAt (r .state) s ≡ false) (sym (ended-so granted-comes st ws inv s g a writes e))
-          (ap (λ (slot : Slot). isOpen (slot .task)) (closes-here st (inv .shaped) s (g .inside))),
-          omega (arith, wanted, eqb-true (pageAt (st .k) ws (wantAt st s) .level) 1 leaf))
+          inl (
+            subst (λ (r : Left). openAt (r .state) s ≡ false) (sym (ended-so granted-comes st ws inv s g a writes e))
+                (ap (λ (slot : Slot). isOpen (slot .task)) (closes-here st (inv .shaped) s (g .inside))),
+            omega (arith, wanted, eqb-true (pageAt (st .k) ws (wantAt st s) .level) 1 leaf),
+          )
 
 -- ---- what other calls leave
 
@@ -338,11 +341,12 @@ module _ (granted-comes : GrantedComes) (call-keeps : CallKeeps) (s : ℕ) (b : 
       let still = undisturbed-open st ws next after s (o .keeps) (ap isOpen runs) in
       let rest = from-start cs (words .1) next after kept-inv op (ap (λ (slot : Slot). slot .task) (o .keeps .slot) ∙ runs) (ap pathOf (o .keeps .slot) ∙ none) in
       let is = grants-other s c cs st ws (o .other) still in
-      let height = height-later s c cs st ws (o .other) in
-      (λ ends-so.
-      subst (λ (h : ℕ). Needs op h (grantsOf s (c ∷ cs) st ws)) (sym height)
-      (subst (Needs op (heightGranted s cs next after)) (sym is) (rest .0 (sym (ends-later s c cs st ws still) ∙ ends-so))),
-      omega (arith, is, height, rest .1)))
+      let height = height-later s c cs st ws (o .other) in (
+        λ ends-so.
+            subst (λ (h : ℕ). Needs op h (grantsOf s (c ∷ cs) st ws)) (sym height)
+            (subst (Needs op (heightGranted s cs next after)) (sym is) (rest .0 (sym (ends-later s c cs st ws still) ∙ ends-so))),
+        omega (arith, is, height, rest .1),
+      ))
       (call-cases granted-comes st ws inv s b (ap isOpen runs) c)
     where
       next : State
@@ -364,16 +368,19 @@ module _ (granted-comes : GrantedComes) (call-keeps : CallKeeps) (s : ℕ) (b : 
           let l : ℕ = inv .height in
           let height : heightGranted s (c ∷ cs) st ws ≡ l + 1 = height-now s c cs st ws (g .granted) ∙ root-level st ws inv in
           ⊎-elim
-          (λ ended. (λ _. subst (λ (m : ℕ). Needs op m (grantsOf s (c ∷ cs) st ws)) (sym height) (last-one c cs st ws op l (g .granted) (ended .0) (ended .1)),
-          omega (arith, height, grants-last s c cs st ws (g .granted) (ended .0))))
+          (λ ended. (
+            λ _. subst (λ (m : ℕ). Needs op m (grantsOf s (c ∷ cs) st ws)) (sym height) (last-one c cs st ws op l (g .granted) (ended .0) (ended .1)),
+            omega (arith, height, grants-last s c cs st ws (g .granted) (ended .0)),
+          ))
           (λ on.
           let still : openAt next s ≡ true = ap isOpen (on .0 .runs) in
-          let less : l + 1 - 1 ≡ l = omega arith in
-          (λ ends-so. subst (λ (m : ℕ). Needs op m (grantsOf s (c ∷ cs) st ws)) (sym height)
-          (one-more c cs st ws op l (g .granted) still
-          (subst (λ (m : ℕ). Needs op m (grantsOf s cs next after)) less
-          (on-the-way cs (words .1) next after kept-inv op (l + 1) (on .0) (sym (ends-later s c cs st ws still) ∙ ends-so)))),
-          omega (arith, height, grants-on s c cs st ws (g .granted) still, at-most cs (words .1) next after kept-inv still, on .1, ap length none)))
+          let less : l + 1 - 1 ≡ l = omega arith in (
+            λ ends-so. subst (λ (m : ℕ). Needs op m (grantsOf s (c ∷ cs) st ws)) (sym height)
+                (one-more c cs st ws op l (g .granted) still
+                (subst (λ (m : ℕ). Needs op m (grantsOf s cs next after)) less
+                (on-the-way cs (words .1) next after kept-inv op (l + 1) (on .0) (sym (ends-later s c cs st ws still) ∙ ends-so)))),
+            omega (arith, height, grants-on s c cs st ws (g .granted) still, at-most cs (words .1) next after kept-inv still, on .1, ap length none),
+          ))
           (called-down c st ws inv op runs g l (start-above (pageAt (st .k) ws) l (inv .tree) (pathOf (slotAt st s)) none) h)
 
   -- The grants of an operation that has just begun in a state of a run.

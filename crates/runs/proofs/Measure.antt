@@ -1,10 +1,10 @@
 -- The measure of a slot: at most so many grants are still to come before its operation ends. It falls at each grant of the slot,
 -- stays at every other call, is at least 1 while the slot is open and at most what document 01 allows a slot.
-use Prim.Native.Nat.{ℕ, zero, suc, _+_, _-_, _*_, _≤_, _<_}
-use mathlib.Core.Bool.{Bool, true, false}
+use Prim.Native.Nat.{ℕ, suc, _+_, _-_, _*_, _≤_, _<_}
+use mathlib.Core.Bool.{true}
 use mathlib.Core.List.{List, [], _∷_, _++_, reverse, append-assoc}
-use mathlib.Core.Logic.{_⊎_, inl, inr}
-use mathlib.Core.Path.{_≡_, refl, sym, ap, _∙_, subst}
+use mathlib.Core.Logic.{inl, inr}
+use mathlib.Core.Path.{_≡_, sym, ap, _∙_, subst}
 use native.Mathlib.Omega.{arith}
 use lib.ListN.{length, getD, length-append, length-reverse, List·getD-append}
 use lib.Seq.{getD-append-seam, getD-append-add}
@@ -21,7 +21,7 @@ use Rattle.slots.specs.Parts.{keyOf, isDelete, pathOf, siblingsOf, slotAt}
 use Rattle.tree.specs.Tree.{Tr, occurs, way, Forms}
 use Rattle.tree.proofs.Search.{way-facts}
 use Rattle.tree.proofs.Ways.{place-facts}
-use Rattle.runs.specs.Stance.{Starting, Coming, Beside, Stance}
+use Rattle.runs.specs.Stance.{Stance}
 
 -- the lowest page of a path
 abbrev pub lowestOf : List ℕ → ℕ
@@ -64,9 +64,10 @@ module _ (op : Op) (k n : ℕ) (memory : ℕ → Page) (l : ℕ) (t : Tr l) (for
   way-page : (i q : ℕ) → i ≤ l → getD (way (keyOf op) l t) i 0 ≡ q → (memory q .level ≡ i + 1) × (1 ≤ occurs q l t)
   way-page i q h e =
       let there = place-facts k n memory l t forms .onWay (keyOf op) i key h in
-      subst (λ (p : ℕ). (memory p .level ≡ i + 1) × (1 ≤ occurs p l t)) e
-      (way-facts k n memory l t forms (keyOf op) key .level i h,
-      place-facts k n memory l t forms .counted (getD (way (keyOf op) l t) i 0) (i + 1) (there .from) (there .to) (there .stands))
+      subst (λ (p : ℕ). (memory p .level ≡ i + 1) × (1 ≤ occurs p l t)) e (
+        way-facts k n memory l t forms (keyOf op) key .level i h,
+        place-facts k n memory l t forms .counted (getD (way (keyOf op) l t) i 0) (i + 1) (there .from) (there .to) (there .stands),
+      )
 
   low-at : (path lower upper : List ℕ) → 1 ≤ length path → way (keyOf op) l t ≡ lower ++ (reverse path ++ upper) → Low memory l t path (length lower + 1)
   low-at path lower upper some e =

@@ -1,7 +1,7 @@
 -- The measure's laws: it falls at a grant of the slot (`measure-falls`), stays at other slots' steps (`measure-stays`), and is
 -- from 1 to `slotGrants` while the slot is open (`measure-bound`).
-use Prim.Native.Nat.{ℕ, zero, suc, _+_, _-_, _*_, _≤_, _<_}
-use mathlib.Core.Bool.{Bool, true, false, cond, _||_}
+use Prim.Native.Nat.{ℕ, _+_, _-_, _*_, _≤_, _<_}
+use mathlib.Core.Bool.{true, false}
 use mathlib.Core.List.{List, [], _∷_, _++_, reverse, reverse-append}
 use mathlib.Core.Logic.{_⊎_, _≢_, inl, inr, ⊎-elim}
 use mathlib.Core.Path.{_≡_, refl, sym, ap, ap₂, _∙_, subst}
@@ -9,8 +9,8 @@ use native.Mathlib.Omega.{arith}
 use borrow.Author.Tests.{eq-eqb, ne-eqb}
 use lib.ListN.{length, getD, length-append, length-reverse}
 use Rattle.ground.specs.Limits.{slotCount, tallest, slotGrants}
-use Rattle.ground.specs.Tests.{member, apart}
-use Rattle.ground.proofs.Bools.{not-both, or-first, or-cases, false-if-not-true}
+use Rattle.ground.specs.Tests.{member}
+use Rattle.ground.proofs.Bools.{not-both, or-first, false-if-not-true}
 use Rattle.ground.proofs.Choice.{cond-ind}
 use Rattle.ground.proofs.Limits.{grants-of-height}
 use Rattle.ground.proofs.Tests.{member-none, member-append, member-from, apart-member}
@@ -26,13 +26,11 @@ use Rattle.slots.specs.declared.Answer.{Answer}
 use Rattle.slots.specs.declared.Answer.the-variants.{Moved}
 use Rattle.slots.specs.Parts.{isOpen, openSlot, closedSlot, pathOf, siblingsOf, held, slotAt, openAt, wantAt, holdsAt}
 use Rattle.slots.specs.Locks.{lockOf, lockAt, isXi}
-use Rattle.slots.specs.Grant.{grants}
 use Rattle.slots.specs.Book.{goesOn, closes}
 use Rattle.slots.proofs.Keeping.{Shaped, slot-here, slot-other, path-new, siblings-new}
 use Rattle.slots.proofs.GrantLaws.{taking-alone}
 use Rattle.slots.proofs.OrderLaws.{member-cases}
 use Rattle.grant.specs.Granted.{goes, ends, isSafe, kept, atItsLeaf}
-use Rattle.grant.specs.Fitting.{verdict}
 use Rattle.index.specs.Step.{Left, left, acted, stepped}
 use Rattle.tree.specs.Tree.{Tr, occurs}
 use Rattle.tree.specs.Change.{writtenPages}
@@ -43,7 +41,7 @@ use Rattle.runs.specs.Step.{Scene, Ended, Comes, moves, stops}
 use Rattle.runs.proofs.Invariant.{Runs, Invariant, scene}
 use Rattle.runs.proofs.Paths.{member-reverse}
 use Rattle.runs.proofs.Measure.{lowestOf, leftOpen, leftTask, leftSlot, grantsLeft, Low, Where, atStart, onTheWay, atTheLeaf, where-it-stands, left-some, left-start, left-coming, left-leaf, left-bounds}
-use Rattle.runs.proofs.Steps.{Rests, Goes, verdictOf, step-cases}
+use Rattle.runs.proofs.Steps.{Goes, verdictOf}
 use Rattle.runs.proofs.Verdicts.{beside-goes, coming-goes, search-writes-nothing}
 
 -- ---- the lowest page
@@ -223,11 +221,11 @@ undisturbed-measure st ws next after u h =
 pub nothing-disturbed : (st : State) (ws : List ℕ) (u : ℕ) → Undisturbed st ws st ws u
 nothing-disturbed st ws u = record { slot = refl; level = λ _ _. refl }
 
--- a granted update, and what it wrote, is no other slot's: a search writes nothing
-lock-free : (op : Op) → (isXi (lockOf (Open op)) ≡ true) ⊎ ((x : ℕ) × (op ≡ Search x))
-lock-free (Search x) = inr (x, refl)
-lock-free (Insert x v) = inl refl
-lock-free (Delete x) = inl refl
+-- an operation locks with ξ, or is a search
+xi-or-search : (op : Op) → (isXi (lockOf (Open op)) ≡ true) ⊎ ((x : ℕ) × (op ≡ Search x))
+xi-or-search (Search x) = inr (x, refl)
+xi-or-search (Insert x v) = inl refl
+xi-or-search (Delete x) = inl refl
 
 -- What a granted step comes to in a pool that is a tree (`Stepping.antt`).
 abbrev pub GrantedComes : Type 0
@@ -265,7 +263,7 @@ module _ (granted-comes : GrantedComes) (st : State) (ws : List ℕ) (inv : Inva
       (search-writes-nothing (search .0) (st .k) (st .n) ws (pathOf (slotAt st s)) (siblingsOf (slotAt st s)) (wantAt st s) a writes
       (ap (verdictOf st ws s) (sym (search .1)) ∙ e))
       ∙ member-none q))
-      (lock-free op))
+      (xi-or-search op))
       (λ none. omega (arith, none, page))
       (ended .only q m))
 

@@ -1,10 +1,10 @@
 -- Rounds: in each round in which a slot is open at its start the sum of the measures falls, so `roundsEnough` rounds close
 -- every slot.
 use Prim.Native.Nat.{ℕ, zero, suc, _+_, _-_, _*_, _≤_, _<_}
-use mathlib.Core.Bool.{Bool, true, false, _||_, true≢false}
+use mathlib.Core.Bool.{true, false, true≢false}
 use mathlib.Core.List.{List, [], _∷_, _++_}
 use mathlib.Core.Logic.{_⊎_, ⊎-elim}
-use mathlib.Core.Path.{_≡_, refl, sym, ap, _∙_, subst}
+use mathlib.Core.Path.{_≡_, refl, sym, subst}
 use native.Mathlib.Omega.{arith}
 use native.Mathlib.Nat.{suc-mul, not-suc-le-zero, le-of-suc-le-suc, eq-or-lt-of-le}
 use borrow.Author.Tests.{eqb-true}
@@ -12,7 +12,7 @@ use lib.Dec.{eqb}
 use lib.ListN.{length}
 use Rattle.ground.specs.Limits.{slotCount, slotGrants, roundsEnough}
 use Rattle.ground.specs.Tests.{anyBelow}
-use Rattle.ground.proofs.Bools.{true-or-false, not-both, or-cases, or-first-fails, or-second-fails, false-if-not-true}
+use Rattle.ground.proofs.Bools.{true-or-false, not-both, or-cases, false-if-not-true}
 use Rattle.ground.proofs.Limits.{rounds-of-slots}
 use Rattle.ground.proofs.Tests.{anyBelow-at, anyBelow-false-at}
 use Rattle.slots.specs.declared.State.{State}
@@ -183,16 +183,17 @@ module _ (granted-comes : GrantedComes) (step-keeps : StepKeeps) (some-can-go : 
   round-falls : (cs : List Call) (st : State) (ws : List ℕ) → Invariant st ws → Round st cs
       → Fallen (allLeft st ws - 1) (run cs st ws .state) (run cs st ws .words)
   round-falls cs st ws inv round =
-      let quiet = quiet-calls cs (round .noBegin) st ws inv in
-      (quiet .0,
-      ⊎-elim
-      (λ some.
-      let found = anyBelow-at (openAt st) slotCount some in
-      let can = some-can-go st ws inv (found .0) (found .1) (found .2) in
-      let falls = falls-by cs (round .noBegin) (can .0) (can .1) (round .everyOpen (can .0) (can .1) (can .2)) st ws inv (can .2) (can .3) in
-      omega (arith, falls))
-      (λ none. let empty : allLeft st ws ≡ 0 = nothing-left st ws (anyBelow-false-at (openAt st) slotCount none) in omega (arith, empty, quiet .1))
-      (true-or-false (anyBelow slotCount (openAt st))))
+      let quiet = quiet-calls cs (round .noBegin) st ws inv in (
+        quiet .0,
+        ⊎-elim
+            (λ some.
+            let found = anyBelow-at (openAt st) slotCount some in
+            let can = some-can-go st ws inv (found .0) (found .1) (found .2) in
+            let falls = falls-by cs (round .noBegin) (can .0) (can .1) (round .everyOpen (can .0) (can .1) (can .2)) st ws inv (can .2) (can .3) in
+            omega (arith, falls))
+            (λ none. let empty : allLeft st ws ≡ 0 = nothing-left st ws (anyBelow-false-at (openAt st) slotCount none) in omega (arith, empty, quiet .1))
+            (true-or-false (anyBelow slotCount (openAt st))),
+      )
 
   -- m rounds lower it by m, as far as there is something left
   rounds-fall : (rounds : List (List Call)) (st : State) (ws : List ℕ) → Invariant st ws → Rounds st ws rounds
