@@ -1,4 +1,3 @@
-pub mod Run
 pub mod Bench
 pub mod MoreRows
 pub mod LongRun
