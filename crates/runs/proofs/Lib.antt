@@ -1,1 +1,2 @@
+pub mod Granting
 pub mod Invariant
