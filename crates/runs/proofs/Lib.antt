@@ -1,3 +1,4 @@
 pub mod Invariant
 pub mod Paths
 pub mod HeldPath
+pub mod Needing
