@@ -2,3 +2,4 @@ pub mod Invariant
 pub mod Paths
 pub mod HeldPath
 pub mod Needing
+pub mod Placing
