@@ -1,2 +1,6 @@
 pub mod Granting
 pub mod Invariant
+pub mod Paths
+pub mod HeldPath
+pub mod Needing
+pub mod Placing
