@@ -4,3 +4,5 @@ pub mod Paths
 pub mod HeldPath
 pub mod Needing
 pub mod Placing
+pub mod Landing
+pub mod Stepping
