@@ -1,8 +1,8 @@
 -- A slot that comes down its key's way: the step's tests of its pages hold, and once its want is granted it holds a stretch
 -- of the way again, with the granted page as its lowest.
-use Prim.Native.Nat.{ℕ, zero, suc, _+_, _≤_, _<_}
-use mathlib.Core.Bool.{Bool, true, false, cond, not, _&&_, _||_}
-use mathlib.Core.List.{List, [], _∷_, _++_, reverse, reverse-append, reverse-cons, append-assoc, append-nil}
+use Prim.Native.Nat.{ℕ, suc, _+_, _≤_, _<_}
+use mathlib.Core.Bool.{true, false, not, _&&_}
+use mathlib.Core.List.{List, [], _∷_, _++_, reverse, reverse-append, reverse-cons, append-assoc}
 use mathlib.Core.Logic.{_⊎_, inl, inr, ⊎-elim}
 use mathlib.Core.Path.{_≡_, refl, sym, ap, ap₂, _∙_, subst}
 use native.Mathlib.Omega.{arith}
@@ -10,7 +10,6 @@ use borrow.Author.Tests.{ltb-true, ltb-false, eqb-true, eqb-false, eq-eqb, ne-eq
 use lib.Dec.{ltb, eqb}
 use lib.ListN.{length, getD, length-append, List·getD-append}
 use lib.Seq.{append-snoc, getD-at, getD-append-seam}
-use Rattle.ground.specs.Tests.{all}
 use Rattle.ground.proofs.Tests.{all-from}
 use Rattle.ground.proofs.Bools.{and-both, or-first, or-second, not-of-false}
 use Rattle.ground.proofs.Choice.{cond-ind, cond-false}
@@ -19,12 +18,13 @@ use Rattle.page.specs.Place.{route}
 use Rattle.slots.specs.declared.Op.{Op}
 use Rattle.slots.specs.Parts.{keyOf}
 use Rattle.grant.specs.Granted.{isSafe, kept, atItsLeaf}
-use Rattle.grant.specs.Fitting.{leads, descends, rightlyKept, rightlyBeside, isNone, fitting}
+use Rattle.grant.specs.Fitting.{descends, rightlyKept, rightlyBeside, isNone, fitting}
 use Rattle.tree.specs.Tree.{Tr, way}
 use Rattle.tree.specs.Facts.{WayFacts}
 use Rattle.tree.proofs.Rows.{by-test}
 use Rattle.tree.proofs.DeletionStep.{one-last}
 use Rattle.runs.specs.Stance.{Rightly, Starting, Coming}
+use Rattle.runs.proofs.Paths.{no-length}
 
 -- The pages that a slot holds while it comes down are those that it should, or none yet, where it wants page 0.
 abbrev pub HeldRightly : Op → ℕ → (ℕ → Page) → List ℕ → ℕ → Type 0
@@ -50,7 +50,7 @@ pub record Reached (op : Op) (k : ℕ) (memory : ℕ → Page) (l : ℕ) (t : Tr
 
 module _ (memory : ℕ → Page) (x l : ℕ) (t : Tr l) (facts : WayFacts memory x l t) where
   -- the level of a page of the way, by the pages below it
-  pub level-on-way : (lower : List ℕ) (q : ℕ) (upper : List ℕ) → way x l t ≡ lower ++ q ∷ upper → memory q .level ≡ length lower + 1
+  level-on-way : (lower : List ℕ) (q : ℕ) (upper : List ℕ) → way x l t ≡ lower ++ q ∷ upper → memory q .level ≡ length lower + 1
   level-on-way lower q upper e =
       let inside : length lower ≤ l = omega (arith, ap length e, length-append lower (q ∷ upper), facts .pages) in
       subst (λ (p : ℕ). memory p .level ≡ length lower + 1)
@@ -229,8 +229,4 @@ module _ (op : Op) (k : ℕ) (memory : ℕ → Page) where
       pub reached-leaf : isLeaf (memory p) ≡ true → way x l t ≡ p ∷ (r .fathers ++ r .upper)
       reached-leaf leafPage =
           let level = eqb-true (memory p .level) 1 leafPage in
-          r .whole ∙ ap (λ (ps : List ℕ). ps ++ p ∷ (r .fathers ++ r .upper)) (no-more (r .lower) (omega (arith, reached-level)))
-        where
-          no-more : (ps : List ℕ) → length ps ≡ 0 → ps ≡ []
-          no-more [] e = refl
-          no-more (q ∷ ps) e = absurd (omega arith)
+          r .whole ∙ ap (λ (ps : List ℕ). ps ++ p ∷ (r .fathers ++ r .upper)) (no-length (r .lower) (omega (arith, reached-level)))

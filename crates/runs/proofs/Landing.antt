@@ -24,11 +24,10 @@ use Rattle.slots.specs.declared.Answer.{Answer}
 use Rattle.slots.specs.declared.Answer.the-variants.{Found, NotFound, Inserted, AlreadyThere, Deleted, NoSuchKey, NoRoom}
 use Rattle.slots.specs.Parts.{keyOf, isSearch, isDelete}
 use Rattle.grant.specs.Granted.{Verdict, goes, ends, byNeed, deletes, atLeaf}
-use Rattle.tree.specs.Tree.{Tr, entriesOf, occurs, way, leafOn, Forms, PoolForms}
+use Rattle.tree.specs.Tree.{Tr, entriesOf, way, leafOn, Forms, PoolForms}
 use Rattle.tree.specs.Sorted.{inserted}
-use Rattle.tree.specs.Change.{writtenPages, Leads}
+use Rattle.tree.specs.Change.{Leads}
 use Rattle.tree.specs.Insertion.{treeRoom, Inserts}
-use Rattle.tree.specs.Deletion.{Deletes}
 use Rattle.tree.specs.Facts.{WayFacts}
 use Rattle.tree.proofs.Insertion.{insertionLeads, roomOfTree}
 use Rattle.tree.proofs.Words.{free-facts}
@@ -89,6 +88,21 @@ member-take : (q i : ℕ) (xs : List ℕ) → member q (take i xs) ≡ true → 
 member-take q i xs m =
     sym (ap (member q) (take-append-drop i xs)) ∙ member-append q (take i xs) (drop i xs) ∙ or-first (member q (drop i xs)) m
 
+-- ---- what the leaf tells
+
+module _ (memory : ℕ → Page) (x l : ℕ) (t : Tr l) (facts : WayFacts memory x l t) (leaf : ℕ) (rest : List ℕ) (whole : way x l t ≡ leaf ∷ rest) where
+  leaf-page : memory leaf ≡ page 1 0 (leafOn x l t)
+  leaf-page = ap memory (sym (ap (λ (w : List ℕ). getD w 0 0) whole)) ∙ facts .leaf
+
+  pub leaf-is : isLeaf (memory leaf) ≡ true
+  leaf-is = ap isLeaf leaf-page
+
+  pub leaf-has : has x (memory leaf .entries) ≡ has x (entriesOf l t)
+  leaf-has = ap (λ (P : Page). has x (P .entries)) leaf-page ∙ facts .decides
+
+  leaf-tells : information x (memory leaf .entries) ≡ information x (entriesOf l t)
+  leaf-tells = ap (λ (P : Page). information x (P .entries)) leaf-page ∙ facts .tells
+
 module _ (k n : ℕ) (ws : List ℕ) (l : ℕ) (t : Tr l) (pool : PoolForms k n ws l t) (path₀ siblings₀ : List ℕ) (want : ℕ) where
   abbrev memory : ℕ → Page
   memory = pageAt k ws
@@ -110,20 +124,12 @@ module _ (k n : ℕ) (ws : List ℕ) (l : ℕ) (t : Tr l) (pool : PoolForms k n 
     reads = λ y. refl;
   }
 
-  -- ---- what the leaf tells
-
   module _ (x : ℕ) (facts : WayFacts memory x l t) (leaf : ℕ) (rest : List ℕ) (whole : way x l t ≡ leaf ∷ rest) where
-    leaf-page : memory leaf ≡ page 1 0 (leafOn x l t)
-    leaf-page = ap memory (sym (ap (λ (w : List ℕ). getD w 0 0) whole)) ∙ facts .leaf
+    there-is : has x (memory leaf .entries) ≡ has x es
+    there-is = leaf-has memory x l t facts leaf rest whole
 
-    pub leaf-is : isLeaf (memory leaf) ≡ true
-    leaf-is = ap isLeaf leaf-page
-
-    pub leaf-has : has x (memory leaf .entries) ≡ has x es
-    leaf-has = ap (λ (P : Page). has x (P .entries)) leaf-page ∙ facts .decides
-
-    leaf-tells : information x (memory leaf .entries) ≡ information x es
-    leaf-tells = ap (λ (P : Page). information x (P .entries)) leaf-page ∙ facts .tells
+    told-is : information x (memory leaf .entries) ≡ information x es
+    told-is = leaf-tells memory x l t facts leaf rest whole
 
     -- ---- a search
 
@@ -131,7 +137,7 @@ module _ (k n : ℕ) (ws : List ℕ) (l : ℕ) (t : Tr l) (pool : PoolForms k n 
     unfolding atLeaf plain
     search-does path fathers =
         done (cond (has x es) (Found (information x es)) NotFound) []
-        (ap₂ (λ (b : Bool) (v : ℕ). ends (cond b (Found v) NotFound) []) leaf-has leaf-tells)
+        (ap₂ (λ (b : Bool) (v : ℕ). ends (cond b (Found v) NotFound) []) there-is told-is)
         (nothing-ends (Search x) (cond (has x es) (Found (information x es)) NotFound)
         (inl (record { answer = refl; entries = refl; room = λ y v e m. absurd (true≢false (ap isSearch e)) })))
 
@@ -200,15 +206,15 @@ module _ (k n : ℕ) (ws : List ℕ) (l : ℕ) (t : Tr l) (pool : PoolForms k n 
       unfolding atLeaf
       insert-does =
           cond-ind (Does (Insert x v) k n ws l t path₀ siblings₀ want) (has x (memory leaf .entries))
-          (λ y. done AlreadyThere [] refl (already (sym leaf-has ∙ y)))
+          (λ y. done AlreadyThere [] refl (already (sym there-is ∙ y)))
           (λ z.
           cond-ind (Does (Insert x v) k n ws l t path₀ siblings₀ want) (ltb (length free) (room k memory leaf path))
           (λ y.
           let lacks = ltb-true (length free) (room k memory leaf path) y in
-          done NoRoom [] refl (no-room (sym leaf-has ∙ z) (omega (arith, room-is))))
+          done NoRoom [] refl (no-room (sym there-is ∙ z) (omega (arith, room-is))))
           (λ f.
           let enough = ltb-false (length free) (room k memory leaf path) f in
-          done Inserted (insertion k memory x v free leaf fathers) refl (insertion-ends (sym leaf-has ∙ z) (omega (arith, room-is)))))
+          done Inserted (insertion k memory x v free leaf fathers) refl (insertion-ends (sym there-is ∙ z) (omega (arith, room-is)))))
 
     -- ---- a deletion
 
@@ -243,7 +249,7 @@ module _ (k n : ℕ) (ws : List ℕ) (l : ℕ) (t : Tr l) (pool : PoolForms k n 
             entries = without x es;
             leads = made .leads;
             how = inl (record {
-              answer = ap Deleted leaf-tells ∙ ap (λ (r : Reply). r .answer) (sym same);
+              answer = ap Deleted told-is ∙ ap (λ (r : Reply). r .answer) (sym same);
               entries = ap (λ (r : Reply). r .entries) (sym same);
               room = λ y u e m. absurd (true≢false (ap isDelete e));
             });

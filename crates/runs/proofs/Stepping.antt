@@ -1,7 +1,7 @@
 -- A granted step of a slot that stands as it should: its pages are sound for the step, and it goes on and stands as it should
 -- again, or its operation ends. It is never broken.
-use Prim.Native.Nat.{ℕ, zero, suc, _+_, _≤_, _<_}
-use mathlib.Core.Bool.{Bool, true, false, not, _&&_, _||_, or-false, false≢true}
+use Prim.Native.Nat.{ℕ, suc, _+_, _≤_, _<_}
+use mathlib.Core.Bool.{true, false, not, _&&_, _||_, or-false, false≢true}
 use mathlib.Core.List.{List, [], _∷_, _++_, reverse, append-nil}
 use mathlib.Core.Logic.{inl, inr, ⊎-elim}
 use mathlib.Core.Path.{_≡_, refl, sym, ap, _∙_, subst}
@@ -25,11 +25,11 @@ use Rattle.change.specs.Deletion.{Need, sibling, needs}
 use Rattle.slots.specs.declared.Op.{Op}
 use Rattle.slots.specs.declared.Op.the-variants.{Search, Insert, Delete}
 use Rattle.slots.specs.declared.Answer.the-variants.{NoSuchKey}
-use Rattle.slots.specs.Parts.{keyOf, isDelete}
+use Rattle.slots.specs.Parts.{keyOf}
 use Rattle.grant.specs.Granted.{Verdict, broken, goes, ends, isSafe, kept, deletes, atLeaf, fromLeaf, comesDown, besides, atItsLeaf, granted}
 use Rattle.grant.specs.Fitting.{pagesSound, descends, rightlyBeside, sameLevels, isSibling, isNone, fitting, nextIsNew, soundForStep, verdict}
-use Rattle.tree.specs.Tree.{Tr, entriesOf, Stands, way, Forms, PoolForms}
-use Rattle.tree.specs.Facts.{WayFacts, PlaceFacts}
+use Rattle.tree.specs.Tree.{Tr, Stands, way, Forms, PoolForms}
+use Rattle.tree.specs.Facts.{WayFacts}
 use Rattle.tree.proofs.Rows.{by-test}
 use Rattle.tree.proofs.Search.{way-facts}
 use Rattle.tree.proofs.Ways.{place-facts}
@@ -37,7 +37,7 @@ use Rattle.tree.proofs.SoundPages.{pool-sound}
 use Rattle.runs.specs.Stance.{Rightly, Beside, Stance}
 use Rattle.runs.specs.Step.{Scene, Takes, Comes, moves, stops}
 use Rattle.runs.proofs.Paths.{member-reverse}
-use Rattle.runs.proofs.Placing.{WellHeld, well-held}
+use Rattle.runs.proofs.Placing.{well-held}
 use Rattle.runs.proofs.Needing.{AtLeaf, beside-leaf, beside-asked}
 use Rattle.runs.proofs.Granting.{Down, Reached, descends-way, rightly-test, starting-down, coming-down, down-above, down-fitting, down-reached, reached-next, reached-leaf}
 use Rattle.runs.proofs.Landing.{Does, on, done, leaf-is, leaf-has, search-does, insert-does, missing-ends, delete-does}
@@ -168,7 +168,7 @@ module _ (k n : ℕ) (ws : List ℕ) (l : ℕ) (t : Tr l) (pool : PoolForms k n 
         forms = pool .forms;
         kLeast = one;
         key = key;
-        there = sym (leaf-has k n ws l t pool path₀ siblings₀ want y facts leaf (fathers ++ upper) whole) ∙ h;
+        there = sym (leaf-has (pageAt k ws) y l t facts leaf (fathers ++ upper) whole) ∙ h;
         upward = upward;
         upper = upper;
         whole = whole ∙ ap (λ (ps : List ℕ). ps ++ upper) (sym upward);
@@ -180,7 +180,7 @@ module _ (k n : ℕ) (ws : List ℕ) (l : ℕ) (t : Tr l) (pool : PoolForms k n 
       (λ f.
       done NoSuchKey [] refl
       (missing-ends k n ws l t pool path₀ siblings₀ want y facts leaf (fathers ++ upper) whole
-      (sym (leaf-has k n ws l t pool path₀ siblings₀ want y facts leaf (fathers ++ upper) whole) ∙ f)))
+      (sym (leaf-has (pageAt k ws) y l t facts leaf (fathers ++ upper) whole) ∙ f)))
 
 module _ (op : Op) (k n : ℕ) (ws : List ℕ) (l : ℕ) (t : Tr l) (path siblings : List ℕ) (want : ℕ)
     (scene : Scene op k n ws l t path siblings want) (none : siblings ≡ []) (down : Down op k (pageAt k ws) l t path want) where
@@ -294,7 +294,7 @@ module _ (y k n : ℕ) (ws : List ℕ) (l : ℕ) (t : Tr l) (path siblings : Lis
     at-leaf : atItsLeaf (pageAt k ws) (reverse path) ≡ true
     at-leaf =
         ap (atItsLeaf (pageAt k ws)) (at .upward)
-        ∙ leaf-is k n ws l t (scene .forms) path siblings want y beside-facts leaf (fathers ++ at .upper) from-leaf
+        ∙ leaf-is (pageAt k ws) y l t beside-facts leaf (fathers ++ at .upper) from-leaf
 
     beside-test : rightlyBeside (Delete y) k (pageAt k ws) (reverse path) siblings want ≡ true
     beside-test =
@@ -302,7 +302,7 @@ module _ (y k n : ℕ) (ws : List ℕ) (l : ℕ) (t : Tr l) (path siblings : Lis
         ∙ and-both
         (and-both
         (and-both {a = true} refl
-        (leaf-has k n ws l t (scene .forms) path siblings want y beside-facts leaf (fathers ++ at .upper) from-leaf ∙ at .there))
+        (leaf-has (pageAt k ws) y l t beside-facts leaf (fathers ++ at .upper) from-leaf ∙ at .there))
         (ap (λ (d : Need). isSibling d want) asks ∙ eq-eqb want want refl))
         (subst (λ (up : List ℕ). sameLevels (pageAt k ws) up (siblings ++ want ∷ []) ≡ true) (at .upward) levels-test)
 
