@@ -1,5 +1,5 @@
 -- Fathers of the pages that a slot holds and wants: it holds the father of each of them, but for the top page of its path and
--- for page 0, and what it wants lies inside the top page's range and lower. So nobody who is barred is barred from below.
+-- for page 0, and what it wants lies inside the range of the top page, on a lower level.
 use Prim.Native.Nat.{ℕ, zero, suc, _+_, _≤_, _<_}
 use mathlib.Core.Bool.{Bool, true, _||_, or-false, or-comm}
 use mathlib.Core.List.{List, [], _∷_, _++_, reverse, reverse-cons, append-assoc}
@@ -12,8 +12,7 @@ use lib.ListN.{length, getD, length-append, length-reverse, List·getD-append}
 use lib.Seq.{getD-append-seam, getD-append-add}
 use Rattle.ground.specs.Limits.{wordRange}
 use Rattle.ground.specs.Tests.{member}
-use Rattle.ground.proofs.Bools.{not-both, or-cases, or-first, or-second}
-use Rattle.ground.proofs.Limits.{range-rises}
+use Rattle.ground.proofs.Bools.{not-both, or-cases, or-first}
 use Rattle.ground.proofs.Tests.{member-none, member-append, member-from, member-at}
 use Rattle.page.specs.Words.{Page, μ}
 use Rattle.page.specs.Place.{place, pointer}
@@ -25,7 +24,7 @@ use Rattle.tree.specs.Tree.{Tr, Stands, way, Forms}
 use Rattle.tree.specs.Facts.{Placed, WayFacts, PlaceFacts}
 use Rattle.tree.proofs.Search.{way-facts}
 use Rattle.tree.proofs.Ways.{stands-root, neighbour-pointer, place-facts}
-use Rattle.runs.specs.Stance.{Stance, Starting, Coming, Beside}
+use Rattle.runs.specs.Stance.{Stance, Coming, Beside}
 
 -- ---- a path read upward
 
@@ -40,7 +39,7 @@ member-reverse x (y ∷ ys) =
     ∙ or-comm (member x ys) (eqb x y)
 
 -- what stands in a path read upward is held
-upward-held : (path siblings : List ℕ) (j : ℕ) → j < length path → member (getD (reverse path) j 0) (path ++ siblings) ≡ true
+pub upward-held : (path siblings : List ℕ) (j : ℕ) → j < length path → member (getD (reverse path) j 0) (path ++ siblings) ≡ true
 upward-held path siblings j h =
     let q : ℕ = getD (reverse path) j 0 in
     member-append q path siblings

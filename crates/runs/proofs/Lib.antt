@@ -1,2 +1,3 @@
 pub mod Invariant
 pub mod Fathers
+pub mod Progress
