@@ -1,13 +1,12 @@
 -- Fathers of the pages that a slot holds and wants: it holds the father of each of them, but for the top page of its path and
 -- for page 0, and what it wants lies inside the range of the top page, on a lower level.
 use Prim.Native.Nat.{ℕ, zero, suc, _+_, _≤_, _<_}
-use mathlib.Core.Bool.{Bool, true, _||_, or-false, or-comm}
-use mathlib.Core.List.{List, [], _∷_, _++_, reverse, reverse-cons, append-assoc}
+use mathlib.Core.Bool.{true}
+use mathlib.Core.List.{List, [], _∷_, _++_, reverse, append-assoc}
 use mathlib.Core.Logic.{_⊎_, inl, inr, ⊎-elim}
 use mathlib.Core.Path.{_≡_, refl, sym, ap, _∙_, subst}
 use native.Mathlib.Nat.{eq-or-lt-of-le}
 use native.Mathlib.Omega.{arith}
-use lib.Dec.{eqb}
 use lib.ListN.{length, getD, length-append, length-reverse, List·getD-append}
 use lib.Seq.{getD-append-seam, getD-append-add}
 use Rattle.ground.specs.Limits.{wordRange}
@@ -25,18 +24,9 @@ use Rattle.tree.specs.Facts.{Placed, WayFacts, PlaceFacts}
 use Rattle.tree.proofs.Search.{way-facts}
 use Rattle.tree.proofs.Ways.{stands-root, neighbour-pointer, place-facts}
 use Rattle.runs.specs.Stance.{Stance, Coming, Beside}
+use Rattle.runs.proofs.Paths.{member-reverse}
 
 -- ---- a path read upward
-
-member-reverse : (x : ℕ) (xs : List ℕ) → member x (reverse xs) ≡ member x xs
-unfolding member
-member-reverse x [] = refl
-member-reverse x (y ∷ ys) =
-    ap (member x) (reverse-cons y ys)
-    ∙ member-append x (reverse ys) (y ∷ [])
-    ∙ ap (λ (b : Bool). b || (eqb x y || member x [])) (member-reverse x ys)
-    ∙ ap (λ (b : Bool). member x ys || b) (or-false (eqb x y))
-    ∙ or-comm (member x ys) (eqb x y)
 
 -- what stands in a path read upward is held
 pub upward-held : (path siblings : List ℕ) (j : ℕ) → j < length path → member (getD (reverse path) j 0) (path ++ siblings) ≡ true

@@ -1,3 +1,6 @@
 pub mod Invariant
+pub mod Paths
+pub mod HeldPath
+pub mod Needing
 pub mod Fathers
 pub mod Progress
