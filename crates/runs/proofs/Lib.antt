@@ -1,8 +1,10 @@
-pub mod Granting
 pub mod Invariant
 pub mod Paths
 pub mod HeldPath
 pub mod Needing
 pub mod Placing
+pub mod Granting
 pub mod Landing
 pub mod Stepping
+pub mod Fathers
+pub mod Progress
