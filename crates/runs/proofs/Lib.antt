@@ -3,3 +3,4 @@ pub mod Paths
 pub mod HeldPath
 pub mod Needing
 pub mod Placing
+pub mod Others
