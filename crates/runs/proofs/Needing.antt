@@ -202,7 +202,7 @@ module _ {k n : ℕ} {memory : ℕ → Page} {l : ℕ} {t : Tr l} {x : ℕ} {pat
   }
 
 -- a path that is not empty, upward: its leaf and the fathers
-pub leaf-first : (up : List ℕ) → 1 ≤ length up → (leaf : ℕ) × (fathers : List ℕ) × (up ≡ leaf ∷ fathers)
+leaf-first : (up : List ℕ) → 1 ≤ length up → (leaf : ℕ) × (fathers : List ℕ) × (up ≡ leaf ∷ fathers)
 leaf-first [] h = absurd (omega arith)
 leaf-first (p ∷ up) h = (p, up, refl)
 
