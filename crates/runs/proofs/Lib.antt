@@ -3,6 +3,7 @@ pub mod Paths
 pub mod HeldPath
 pub mod Needing
 pub mod Placing
+pub mod Others
 pub mod Granting
 pub mod Landing
 pub mod Stepping

@@ -1,6 +1,6 @@
 -- A deletion that stands at its leaf: which sibling it needs next, against where the slot stands. It goes on to the next
 -- sibling, or the change is made; it never goes astray.
-use Prim.Native.Nat.{ℕ, zero, suc, _≤_, _<_}
+use Prim.Native.Nat.{ℕ, suc, _≤_, _<_}
 use native.Mathlib.Omega.{arith}
 use mathlib.Core.Bool.{Bool, true, false, cond, _||_}
 use mathlib.Core.List.{List, [], _∷_, _++_, reverse}
@@ -27,22 +27,10 @@ use Rattle.tree.proofs.DeletionRule.{sibling≢nothing, astray≢sibling, sibli
 use Rattle.tree.proofs.Deletion.{deletionLeads}
 use Rattle.tree.proofs.DeletionNeeds.{siblingsThere}
 use Rattle.runs.specs.Stance.{Rightly, Beside}
+use Rattle.runs.proofs.Paths.{first-alone, first-up-to, first-below}
 use Rattle.runs.proofs.HeldPath.{page-least, held-way, way-pages}
 
 -- ---- what is needed, sibling by sibling
-
--- what holds at the first index and at those behind it holds at each
-at-first : (Q : ℕ → Type 0) → Q 0 → (j : ℕ) → j ≤ 0 → Q j
-at-first Q first zero h = first
-at-first Q first (suc j) h = absurd (omega arith)
-
-up-to : (n : ℕ) (Q : ℕ → Type 0) → Q 0 → ((j : ℕ) → j ≤ n → Q (suc j)) → (j : ℕ) → j ≤ suc n → Q j
-up-to n Q first rest zero h = first
-up-to n Q first rest (suc j) h = rest j (omega arith)
-
-below : (n : ℕ) (Q : ℕ → Type 0) → Q 0 → ((j : ℕ) → j < n → Q (suc j)) → (j : ℕ) → j < suc n → Q j
-below n Q first rest zero h = first
-below n Q first rest (suc j) h = rest j (omega arith)
 
 -- The page p, with its fathers upward, has these siblings, and needs one more: each page that a sibling was taken for is short
 -- and not page 0, each sibling is its page's neighbour and joins with it, and the next page wants its neighbour.
@@ -101,9 +89,9 @@ module _ (k : ℕ) (memory : ℕ → Page) (x : ℕ) where
   needs-course p (f ∷ up) [] want e =
       let a = asks-here (eqb p 0 || ltb k (μ (memory p))) (neighbour x (memory f)) e in
       record {
-        short = at-first (λ (j : ℕ). μ (memory (getD (p ∷ f ∷ up) j 0)) ≤ k)
+        short = first-alone (λ (j : ℕ). μ (memory (getD (p ∷ f ∷ up) j 0)) ≤ k)
             (ltb-false k (μ (memory p)) (or-second-fails (eqb p 0) (ltb k (μ (memory p))) (a .0)));
-        notRoot = at-first (λ (j : ℕ). getD (p ∷ f ∷ up) j 0 ≢ 0)
+        notRoot = first-alone (λ (j : ℕ). getD (p ∷ f ∷ up) j 0 ≢ 0)
             (eqb-false p 0 (or-first-fails (eqb p 0) (ltb k (μ (memory p))) (a .0)));
         neighbours = λ j b. absurd (omega arith);
         joining = λ j b. absurd (omega arith);
@@ -117,13 +105,13 @@ module _ (k : ℕ) (memory : ℕ → Page) (x : ℕ) where
       let c = asks-further (ltb k (μ (memory s))) ss further (b .1) in
       let rest = needs-course f up ss want (c .1) in
       record {
-        short = up-to (length ss) (λ (j : ℕ). μ (memory (getD (p ∷ f ∷ up) j 0)) ≤ k)
+        short = first-up-to (length ss) (λ (j : ℕ). μ (memory (getD (p ∷ f ∷ up) j 0)) ≤ k)
             (ltb-false k (μ (memory p)) (or-second-fails (eqb p 0) (ltb k (μ (memory p))) (a .0))) (rest .short);
-        notRoot = up-to (length ss) (λ (j : ℕ). getD (p ∷ f ∷ up) j 0 ≢ 0)
+        notRoot = first-up-to (length ss) (λ (j : ℕ). getD (p ∷ f ∷ up) j 0 ≢ 0)
             (eqb-false p 0 (or-first-fails (eqb p 0) (ltb k (μ (memory p))) (a .0))) (rest .notRoot);
-        neighbours = below (length ss) (λ (j : ℕ). getD (s ∷ ss) j 0 ≡ neighbour x (memory (getD (f ∷ up) j 0)))
+        neighbours = first-below (length ss) (λ (j : ℕ). getD (s ∷ ss) j 0 ≡ neighbour x (memory (getD (f ∷ up) j 0)))
             (eqb-true s (neighbour x (memory f)) (b .0)) (rest .neighbours);
-        joining = below (length ss) (λ (j : ℕ). μ (memory (getD (s ∷ ss) j 0)) ≤ k)
+        joining = first-below (length ss) (λ (j : ℕ). μ (memory (getD (s ∷ ss) j 0)) ≤ k)
             (ltb-false k (μ (memory s)) (c .0)) (rest .joining);
         wantsNext = rest .wantsNext;
       }
@@ -214,7 +202,7 @@ module _ {k n : ℕ} {memory : ℕ → Page} {l : ℕ} {t : Tr l} {x : ℕ} {pat
   }
 
 -- a path that is not empty, upward: its leaf and the fathers
-pub leaf-first : (up : List ℕ) → 1 ≤ length up → (leaf : ℕ) × (fathers : List ℕ) × (up ≡ leaf ∷ fathers)
+leaf-first : (up : List ℕ) → 1 ≤ length up → (leaf : ℕ) × (fathers : List ℕ) × (up ≡ leaf ∷ fathers)
 leaf-first [] h = absurd (omega arith)
 leaf-first (p ∷ up) h = (p, up, refl)
 

@@ -41,19 +41,20 @@ pub record WellHeld (op : Op) (n l : ℕ) (t : Tr l) (path siblings : List ℕ) 
 -- ---- as many as the rules allow
 
 -- "a search holds at most 1 page, an insertion at most 10, a deletion at most 10 on its path": with no siblings
-limits-alone : (op : Op) (depth : ℕ) → (isSearch op ≡ true → depth ≤ 1) → depth ≤ pathHolds → withinLimits (Open op) depth 0 ≡ true
-unfolding searchHolds
-limits-alone (Search x) depth one deep = and-both (le-leb depth 1 (one refl)) (eq-eqb 0 0 refl)
-limits-alone (Insert x v) depth one deep = and-both (le-leb depth pathHolds deep) (eq-eqb 0 0 refl)
-limits-alone (Delete x) depth one deep =
+limits-alone : (op : Op) (depth : ℕ) → (isSearch op ≡ true → depth ≤ searchHolds) → depth ≤ pathHolds → withinLimits (Open op) depth 0 ≡ true
+limits-alone (Search x) depth few deep = and-both (le-leb depth searchHolds (few refl)) (eq-eqb 0 0 refl)
+limits-alone (Insert x v) depth few deep = and-both (le-leb depth pathHolds deep) (eq-eqb 0 0 refl)
+limits-alone (Delete x) depth few deep =
     and-both (and-both (le-leb depth pathHolds deep) (le-leb 0 siblingHolds (omega arith))) (or-first (ltb 0 depth) (eq-eqb 0 0 refl))
 
 -- for a search every page is safe, so it holds one
-search-holds : (op : Op) (k : ℕ) (memory : ℕ → Page) (path : List ℕ) → Rightly op k memory path → isSearch op ≡ true → length path ≤ 1
+search-holds : (op : Op) (k : ℕ) (memory : ℕ → Page) (path : List ℕ) → Rightly op k memory path → isSearch op ≡ true
+    → length path ≤ searchHolds
+unfolding searchHolds
 search-holds (Search x) k memory path rightly e =
-    by-test (leb (length path) 1)
-    (λ t. leb-true (length path) 1 t)
-    (λ f. absurd (true≢false (rightly .unsafe 0 (leb-false (length path) 1 f))))
+    by-test (leb (length path) searchHolds)
+    (λ t. leb-true (length path) searchHolds t)
+    (λ f. absurd (true≢false (rightly .unsafe 0 (leb-false (length path) searchHolds f))))
 search-holds (Insert x v) k memory path rightly e = absurd (false≢true e)
 search-holds (Delete x) k memory path rightly e = absurd (false≢true e)
 
