@@ -9,3 +9,6 @@ pub mod Landing
 pub mod Stepping
 pub mod Fathers
 pub mod Progress
+pub mod Calls
+pub mod Runs
+pub mod Agreement
