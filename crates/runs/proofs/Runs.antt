@@ -172,3 +172,10 @@ holds-after k n ws cs r =
     run-keeps cs (made k n ws .state) (made k n ws .words)
     (subst (λ (m : Left). Invariant (m .state) (m .words)) (sym (made-told k n ws (r .numbers) (r .whole))) (fresh-keeps k n (r .numbers)))
     (r .inWords)
+
+-- k and N are those of the making.
+pub numbers-after : (k n : ℕ) (ws : List ℕ) (cs : List Call) → Run k n ws cs → (runFrom k n ws cs .state .k ≡ k) × (runFrom k n ws cs .state .n ≡ n)
+unfolding runFrom
+numbers-after k n ws cs r =
+    subst (λ (m : Left). (run cs (m .state) (m .words) .state .k ≡ k) × (run cs (m .state) (m .words) .state .n ≡ n)) (sym (made-told k n ws (r .numbers) (r .whole)))
+    (run-numbers cs (idleState k n) (fresh k n) (fresh-keeps k n (r .numbers)) (r .inWords))
