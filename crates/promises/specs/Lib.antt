@@ -1,4 +1,4 @@
-pub mod Run
 pub mod Bench
+pub mod Demand2
 pub mod MoreRows
 pub mod LongRun

@@ -11,7 +11,7 @@ use lib.Dec.{leb}
 use lib.ListN.{length, getD, length-append}
 use lib.Seq.{append-snoc, getD-append-seam}
 use Rattle.ground.specs.Limits.{wordRange}
-use Rattle.ground.specs.Tests.{all}
+use Rattle.ground.specs.Tests.{all, member}
 use Rattle.ground.proofs.Bools.{not-of-false}
 use Rattle.ground.proofs.Tests.{member-at, all-from-members}
 use Rattle.page.specs.Words.{Keyed, Page, μ}
@@ -22,7 +22,7 @@ use Rattle.tree.specs.Rows.{headKey, Span}
 use Rattle.tree.specs.Tree.{Tr, pageNumber, pageOf, once, occurs, rootLeast, InRange, Holds, way, Forms}
 use Rattle.tree.specs.Change.{HeldWay}
 use Rattle.tree.proofs.Rows.{by-test, middle-has}
-use Rattle.tree.proofs.Memory.{once-is}
+use Rattle.tree.proofs.Memory.{once-is, times, times-append, member-times, way-occurs}
 use Rattle.tree.proofs.Search.{each-here, way-facts}
 use Rattle.tree.proofs.Ways.{total-found, row-μ}
 use Rattle.runs.specs.Stance.{Rightly}
@@ -73,6 +73,12 @@ module _ (k n : ℕ) (memory : ℕ → Page) (l : ℕ) (t : Tr l) (forms : Forms
       let level : memory 0 .level ≡ i + 1 = sym (ap (λ (p : ℕ). memory p .level) here) ∙ facts .level i (omega arith) in
       let top : memory 0 .level ≡ l + 1 = sym (ap (λ (p : ℕ). memory p .level) (facts .root)) ∙ facts .level l (omega arith) in
       no-length upper (omega arith)
+
+  -- the pages of a part of the way are pages of the tree
+  pub way-pages : (part upper : List ℕ) → way x l t ≡ part ++ upper → (q : ℕ) → member q part ≡ true → 1 ≤ occurs q l t
+  way-pages part upper e q m =
+      let here = member-times q part m in
+      omega (arith, ap (times q) e, times-append q part upper, way-occurs q x l t)
 
 -- The pages of a path that reaches the leaf, upward: the top one is safe or page 0, and none below it is safe.
 pub held-way : (op : Op) (k n : ℕ) (memory : ℕ → Page) (l : ℕ) (t : Tr l) (path : List ℕ) (leaf : ℕ) (fathers upper : List ℕ)

@@ -2,6 +2,17 @@ pub mod Invariant
 pub mod PlainLaws
 pub mod Paths
 pub mod HeldPath
+pub mod Needing
+pub mod Placing
+pub mod Others
+pub mod Granting
+pub mod Landing
+pub mod Stepping
+pub mod Fathers
+pub mod Progress
+pub mod Calls
+pub mod Runs
+pub mod Agreement
 pub mod Verdicts
 pub mod Steps
 pub mod Measure

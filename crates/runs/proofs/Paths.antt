@@ -16,6 +16,20 @@ pub no-length : {A : Type 0} (xs : List A) → length xs ≡ 0 → xs ≡ []
 no-length [] e = refl
 no-length (x ∷ xs) e = absurd (omega arith)
 
+-- ---- what holds at the first index and at those behind it holds at each
+
+pub first-alone : (Q : ℕ → Type 0) → Q 0 → (j : ℕ) → j ≤ 0 → Q j
+first-alone Q first zero h = first
+first-alone Q first (suc j) h = absurd (omega arith)
+
+pub first-up-to : (n : ℕ) (Q : ℕ → Type 0) → Q 0 → ((j : ℕ) → j ≤ n → Q (suc j)) → (j : ℕ) → j ≤ suc n → Q j
+first-up-to n Q first rest zero h = first
+first-up-to n Q first rest (suc j) h = rest j (omega arith)
+
+pub first-below : (n : ℕ) (Q : ℕ → Type 0) → Q 0 → ((j : ℕ) → j < n → Q (suc j)) → (j : ℕ) → j < suc n → Q j
+first-below n Q first rest zero h = first
+first-below n Q first rest (suc j) h = rest j (omega arith)
+
 -- ---- a list turned round
 
 -- has each number as often

@@ -14,7 +14,7 @@ use Rattle.slots.specs.declared.Op.{Op}
 use Rattle.slots.specs.declared.Op.the-variants.{Insert}
 use Rattle.slots.specs.declared.Answer.{Answer}
 use Rattle.slots.specs.declared.Answer.the-variants.{NoRoom}
-use Rattle.slots.specs.Parts.{keyOf}
+use Rattle.slots.specs.Parts.{keyOf, isSearch}
 use Rattle.grant.specs.Granted.{Verdict, goes, ends, isSafe}
 use Rattle.grant.specs.Fitting.{verdict}
 use Rattle.tree.specs.Tree.{Tr, entriesOf, occurs, PoolForms}
@@ -65,6 +65,8 @@ pub record Ended (op : Op) (k n : ℕ) (ws : List ℕ) (l : ℕ) (t : Tr l) (pat
   pub how : AsPlain op k n ws l t a entries ⊎ (NoRoomLeft op k n ws l t a writes × (entries ≡ entriesOf l t))
   -- it writes no page but those that it held, the one that it wanted, and free ones
   pub only : (q : ℕ) → member q (writtenPages writes) ≡ true → (member q (want ∷ (path ++ siblings)) ≡ true) ⊎ (occurs q l t ≡ 0)
+  -- a search writes nothing
+  pub reads : isSearch op ≡ true → writes ≡ []
 
 -- A granted step: the slot goes on and stands as it should, or its operation ends. It is never broken.
 pub data Comes (op : Op) (k n : ℕ) (ws : List ℕ) (l : ℕ) (t : Tr l) (path siblings : List ℕ) (want : ℕ) : Type 0 where
