@@ -5,25 +5,21 @@ use mathlib.Core.List.{List, [], _∷_, reverse}
 use mathlib.Core.Logic.{_⊎_, _≢_, inl, inr, ⊎-elim}
 use mathlib.Core.Path.{_≡_, refl, sym, ap, ap₂, _∙_, subst}
 use native.Mathlib.Omega.{arith}
-use borrow.Author.Tests.{eq-eqb, ne-eqb, eqb-true, ltb-true, not-false}
-use lib.Dec.{ltb, eqb}
+use borrow.Author.Tests.{eq-eqb, ne-eqb, eqb-true}
+use lib.Dec.{eqb}
 use lib.ListN.{length}
 use Rattle.ground.specs.Limits.{slotCount}
 use Rattle.ground.proofs.Bools.{true-or-false, not-both, and-both, and-first-fails, and-second-fails, not-of-false, false-if-not-true}
 use Rattle.ground.proofs.Limits.{range-rises}
-use Rattle.ground.proofs.Choice.{cond-ind, cond-true, cond-false}
+use Rattle.ground.proofs.Choice.{cond-true, cond-false}
 use Rattle.page.specs.Words.{Page}
 use Rattle.pool.specs.Pool.{pageAt}
 use Rattle.slots.specs.declared.Op.{Op}
-use Rattle.slots.specs.declared.Op.the-variants.{Search}
-use Rattle.slots.specs.declared.Task.{Task}
-use Rattle.slots.specs.declared.Task.the-variants.{Closed, Open}
 use Rattle.slots.specs.declared.Slot.{Slot}
 use Rattle.slots.specs.declared.State.{State}
 use Rattle.slots.specs.declared.Outcome.{Outcome}
 use Rattle.slots.specs.Heard.{changesNothing}
 use Rattle.slots.specs.Parts.{isOpen, isDelete, openSlot, pathOf, siblingsOf, slotAt, openAt, wantAt}
-use Rattle.slots.specs.Sound.{sound}
 use Rattle.slots.specs.Book.{begins, goesOn}
 use Rattle.slots.specs.Begin.{begun}
 use Rattle.slots.proofs.Keeping.{Shaped, slot-other, path-new}
@@ -32,12 +28,14 @@ use Rattle.grant.specs.Granted.{kept, atItsLeaf}
 use Rattle.index.specs.Step.{Left, stepped}
 use Rattle.index.proofs.Refusals.{step-refused}
 use Rattle.tree.proofs.Search.{way-facts}
-use Rattle.runs.specs.Run.{Call, begin, step, report, called, CallInWords, InWords}
+use Rattle.runs.specs.Run.{Call, begin, step, report, called, InWords}
 use Rattle.runs.specs.Step.{Comes, moves, stops}
 use Rattle.runs.specs.Counts.{grantedTo, grantsOf, endsWithin, heightGranted, GrantCounts}
 use Rattle.runs.proofs.Invariant.{Runs, Invariant}
+use Rattle.runs.proofs.Calls.{same-op}
+use Rattle.runs.proofs.Runs.{BeginOf, noSuch, busy, begins-so, begin-of, call-keeps}
 use Rattle.runs.proofs.Measure.{lowestOf, leftOpen, grantsLeft, Where, atStart, onTheWay, atTheLeaf}
-use Rattle.runs.proofs.MeasureLaws.{GrantedComes, Undisturbed, nothing-disturbed, undisturbed-measure, step-undisturbed, measure-falls, measure-bound, kept-path, goes-on-here, goes-on-k, closes-here, comes, moved, ended-so, after-moving, kept-left, where-slot, low-above, start-above}
+use Rattle.runs.proofs.MeasureLaws.{Undisturbed, nothing-disturbed, undisturbed-measure, step-undisturbed, measure-falls, measure-bound, kept-path, goes-on-here, goes-on-k, closes-here, comes, moved, ended-so, after-moving, kept-left, where-slot, low-above, start-above}
 use Rattle.runs.proofs.Steps.{Goes, step-cases}
 use Rattle.runs.proofs.Verdicts.{coming-goes, coming-ends}
 
@@ -93,26 +91,21 @@ begins-k : (st : State) (u : ℕ) (op : Op) → begins st u op .k ≡ st .k
 unfolding begins
 begins-k st u op = refl
 
-begin-undisturbed : (st : State) (ws : List ℕ) → Invariant st ws → (u : ℕ) (op : Op) (s : ℕ) → openAt st s ≡ true → Undisturbed st ws (begun st u op .state) ws s
-unfolding begun
-begin-undisturbed st ws inv u op s opened =
-    let P : Outcome → Type 0 = λ (o : Outcome). Undisturbed st ws (o .state) ws s in
-    cond-ind P (not (sound st)) (λ _. nothing-disturbed st ws s)
-    (λ _. cond-ind P (not (ltb u slotCount)) (λ _. nothing-disturbed st ws s)
-    (λ inside. cond-ind P (openAt st u) (λ _. nothing-disturbed st ws s)
-    (λ closed. record {
-      slot = begins-other st (inv .shaped) u (ltb-true u slotCount (not-false (ltb u slotCount) inside)) op s (λ e. not-both opened (ap (openAt st) e ∙ closed));
+begin-undisturbed : (st : State) (ws : List ℕ) → Invariant st ws → (u : ℕ) (op : Op) (s : ℕ) → openAt st s ≡ true → BeginOf st u op
+    → Undisturbed st ws (begun st u op .state) ws s
+begin-undisturbed st ws inv u op s opened (noSuch b e) = subst (λ (o : Outcome). Undisturbed st ws (o .state) ws s) (sym e) (nothing-disturbed st ws s)
+begin-undisturbed st ws inv u op s opened (busy b o e) = subst (λ (o : Outcome). Undisturbed st ws (o .state) ws s) (sym e) (nothing-disturbed st ws s)
+begin-undisturbed st ws inv u op s opened (begins-so b closed e) =
+    subst (λ (o : Outcome). Undisturbed st ws (o .state) ws s) (sym e)
+    (record {
+      slot = begins-other st (inv .shaped) u b op s (λ same. not-both opened (ap (openAt st) same ∙ closed));
       level = λ _ _. ap (λ (k : ℕ). pageAt k ws (lowestOf (pathOf (slotAt st s))) .level) (begins-k st u op);
-    })))
-
--- one call keeps the invariant
-abbrev pub CallKeeps : Type 0
-CallKeeps = (st : State) (ws : List ℕ) (c : Call) → CallInWords c → Invariant st ws → Invariant (called st ws c .state) (called st ws c .words)
+    })
 
 -- The call is a granted step of slot s.
 pub record GrantCall (st : State) (ws : List ℕ) (s : ℕ) (c : Call) : Type 0 where
   pub does : called st ws c ≡ stepped st ws s
-  pub goes : Goes st ws s
+  pub goes : Goes st s
   pub granted : grantedTo s st ws c ≡ true
 
 -- Another call: slot s is undisturbed.
@@ -120,19 +113,20 @@ pub record OtherCall (st : State) (ws : List ℕ) (s : ℕ) (c : Call) : Type 0 
   pub other : grantedTo s st ws c ≡ false
   pub keeps : Undisturbed st ws (called st ws c .state) (called st ws c .words) s
 
-module _ (granted-comes : GrantedComes) (st : State) (ws : List ℕ) (inv : Invariant st ws) (s : ℕ) (b : s < slotCount) (opened : openAt st s ≡ true) where
-  -- a granted step is heard as one
-  granted-heard : Goes st ws s → changesNothing (stepped st ws s .answer) ≡ false
-  granted-heard g =
-      false-if-not-true (changesNothing (stepped st ws s .answer)) (λ h.
-      let same = step-refused st ws s h in
-      let falls = measure-falls granted-comes st ws inv s g in
-      let stays : grantsLeft (stepped st ws s .state) (stepped st ws s .words) s ≡ grantsLeft st ws s = ap₂ (λ (x : State) (y : List ℕ). grantsLeft x y s) (same .state) (same .words) in
-      omega (arith, falls, stays))
+-- a granted step is heard as one: it is neither refused nor answered Waiting
+pub granted-heard : (st : State) (ws : List ℕ) → Invariant st ws → (s : ℕ) → Goes st s → changesNothing (stepped st ws s .answer) ≡ false
+granted-heard st ws inv s g =
+    false-if-not-true (changesNothing (stepped st ws s .answer)) (λ h.
+    let same = step-refused st ws s h in
+    let falls = measure-falls st ws inv s g in
+    let stays : grantsLeft (stepped st ws s .state) (stepped st ws s .words) s ≡ grantsLeft st ws s
+    = ap₂ (λ (x : State) (y : List ℕ). grantsLeft x y s) (same .state) (same .words) in
+    omega (arith, falls, stays))
 
+module _ (st : State) (ws : List ℕ) (inv : Invariant st ws) (s : ℕ) (b : s < slotCount) (opened : openAt st s ≡ true) where
   pub call-cases : (c : Call) → GrantCall st ws s c ⊎ OtherCall st ws s c
   unfolding called
-  call-cases (begin u op) = inr (record { other = refl; keeps = begin-undisturbed st ws inv u op s opened })
+  call-cases (begin u op) = inr (record { other = refl; keeps = begin-undisturbed st ws inv u op s opened (begin-of st ws inv u op) })
   call-cases (report p) = inr (record { other = refl; keeps = nothing-disturbed st ws s })
   call-cases (step u) =
       ⊎-elim
@@ -143,12 +137,12 @@ module _ (granted-comes : GrantedComes) (st : State) (ws : List ℕ) (inv : Inva
       (λ g. ⊎-elim
       (λ e. inl (record {
         does = ap (stepped st ws) e;
-        goes = subst (Goes st ws) e g;
-        granted = and-both (eq-eqb u s e) (subst (λ (i : ℕ). not (changesNothing (stepped st ws i .answer)) ≡ true) (sym e) (not-of-false (granted-heard (subst (Goes st ws) e g))));
+        goes = subst (Goes st) e g;
+        granted = and-both (eq-eqb u s e) (subst (λ (i : ℕ). not (changesNothing (stepped st ws i .answer)) ≡ true) (sym e) (not-of-false (granted-heard st ws inv s (subst (Goes st) e g))));
       }))
       (λ n. inr (record {
         other = and-first-fails (not (changesNothing (stepped st ws u .answer))) (ne-eqb u s n);
-        keeps = step-undisturbed granted-comes st ws inv u g s b (λ e. n (sym e));
+        keeps = step-undisturbed st ws inv u g s b (λ e. n (sym e));
       }))
       (same-or-not u s))
       (step-cases st ws inv u)
@@ -169,14 +163,14 @@ pub record Under (st : State) (ws : List ℕ) (s : ℕ) (op : Op) (level : ℕ) 
 abbrev WentDown : State → List ℕ → ℕ → Op → ℕ → ℕ → Type 0
 WentDown st ws s op m depth = ((openAt st s ≡ false) × (m ≡ 0)) ⊎ (Under st ws s op (m + 1) × (grantsLeft st ws s ≤ 2 * m + depth))
 
-module _ (granted-comes : GrantedComes) (st : State) (ws : List ℕ) (inv : Invariant st ws) (s : ℕ) (g : Goes st ws s) where
+module _ (st : State) (ws : List ℕ) (inv : Invariant st ws) (s : ℕ) (g : Goes st s) where
   abbrev path : List ℕ
   path = pathOf (slotAt st s)
 
   -- The want of a slot that is not at its leaf is on level m + 1, and is granted.
   grant-down : (m : ℕ) → atItsLeaf (pageAt (st .k) ws) (reverse path) ≡ false → pageAt (st .k) ws (wantAt st s) .level ≡ m + 1
       → WentDown (stepped st ws s .state) (stepped st ws s .words) s (g .op) m (length path)
-  grant-down m above wanted = by-comes (comes granted-comes st ws inv s g)
+  grant-down m above wanted = by-comes (comes st ws inv s g)
     where
       by-comes : Comes (g .op) (st .k) (st .n) ws (inv .height) (inv .tree) path (siblingsOf (slotAt st s)) (wantAt st s)
           → WentDown (stepped st ws s .state) (stepped st ws s .words) s (g .op) m (length path)
@@ -188,9 +182,9 @@ module _ (granted-comes : GrantedComes) (st : State) (ws : List ℕ) (inv : Inva
           let holds : pathOf (slotAt (goesOn st s (g .op) want′ path′ siblings′) s) ≡ kept (g .op) (st .k) memory path (wantAt st s)
           = ap pathOf here ∙ path-new (g .op) want′ path′ siblings′ ∙ went .0 in
           let left-over : grantsLeft (goesOn st s (g .op) want′ path′ siblings′) ws s ≡ 2 * (m + 1) + (length (kept (g .op) (st .k) memory path (wantAt st s)) - 1) - 2
-          = after-moving granted-comes st ws inv s g path′ siblings′ want′ ∙ ap₂ (leftOpen memory) (went .0) (went .1) ∙ kept-left (g .op) (st .k) memory path (wantAt st s) (m + 1) wanted in
+          = after-moving st ws inv s g path′ siblings′ want′ ∙ ap₂ (leftOpen memory) (went .0) (went .1) ∙ kept-left (g .op) (st .k) memory path (wantAt st s) (m + 1) wanted in
           inr (subst (λ (r : Left). Under (r .state) (r .words) s (g .op) (m + 1) × (grantsLeft (r .state) (r .words) s ≤ 2 * m + length path))
-          (sym (moved granted-comes st ws inv s g path′ siblings′ want′ e)) (
+          (sym (moved st ws inv s g path′ siblings′ want′ e)) (
             record {
               runs = ap (λ (slot : Slot). slot .task) here;
               some = subst (λ (p : List ℕ). 1 ≤ length p) (sym holds) (how .some);
@@ -204,7 +198,7 @@ module _ (granted-comes : GrantedComes) (st : State) (ws : List ℕ) (inv : Inva
       by-comes (stops a writes e ended) =
           let leaf = coming-ends (g .op) (st .k) (st .n) ws path (siblingsOf (slotAt st s)) (wantAt st s) above a writes e in
           inl (
-            subst (λ (r : Left). openAt (r .state) s ≡ false) (sym (ended-so granted-comes st ws inv s g a writes e))
+            subst (λ (r : Left). openAt (r .state) s ≡ false) (sym (ended-so st ws inv s g a writes e))
                 (ap (λ (slot : Slot). isOpen (slot .task)) (closes-here st (inv .shaped) s (g .inside))),
             omega (arith, wanted, eqb-true (pageAt (st .k) ws (wantAt st s) .level) 1 leaf),
           )
@@ -225,14 +219,6 @@ undisturbed-under st ws next after s op level h u = record {
       ∙ u .lowest;
 }
 
--- a slot has one operation
-abbrev opOf : Task → Op
-opOf Closed = Search 0
-opOf (Open op) = op
-
-one-operation : (st : State) (s : ℕ) (op op′ : Op) → Runs st s op → Runs st s op′ → op ≡ op′
-one-operation st s op op′ r r′ = ap opOf (sym r ∙ r′)
-
 -- "with h the level of page 0"
 root-level : (st : State) (ws : List ℕ) (inv : Invariant st ws) → pageAt (st .k) ws 0 .level ≡ inv .height + 1
 root-level st ws inv =
@@ -243,18 +229,18 @@ root-level st ws inv =
 abbrev Needs : Op → ℕ → ℕ → Type 0
 Needs op m grants = (m ≤ grants) × (isDelete op ≡ false → grants ≡ m)
 
-module _ (granted-comes : GrantedComes) (call-keeps : CallKeeps) (s : ℕ) (b : s < slotCount) where
+module _ (s : ℕ) (b : s < slotCount) where
   -- an open slot is granted at most what its measure says
   at-most : (cs : List Call) → InWords cs → (st : State) (ws : List ℕ) → Invariant st ws → openAt st s ≡ true → grantsOf s cs st ws ≤ grantsLeft st ws s
   at-most [] words st ws inv opened = omega (arith, none-granted s st ws)
   at-most (c ∷ cs) words st ws inv opened =
       let next : State = called st ws c .state in
       let after : List ℕ = called st ws c .words in
-      let kept-inv : Invariant next after = call-keeps st ws c (words .0) inv in
+      let kept-inv : Invariant next after = call-keeps st ws inv c (words .0) in
       ⊎-elim
       (λ g.
       let falls : grantsLeft next after s < grantsLeft st ws s
-      = subst (λ (l : Left). grantsLeft (l .state) (l .words) s < grantsLeft st ws s) (sym (g .does)) (measure-falls granted-comes st ws inv s (g .goes)) in
+      = subst (λ (l : Left). grantsLeft (l .state) (l .words) s < grantsLeft st ws s) (sym (g .does)) (measure-falls st ws inv s (g .goes)) in
       ⊎-elim
       (λ o. let rest = at-most cs (words .1) next after kept-inv o in omega (arith, grants-on s c cs st ws (g .granted) o, rest, falls))
       (λ o. omega (arith, grants-last s c cs st ws (g .granted) o, measure-bound st ws inv s b opened .0))
@@ -263,7 +249,7 @@ module _ (granted-comes : GrantedComes) (call-keeps : CallKeeps) (s : ℕ) (b : 
       let still = undisturbed-open st ws next after s (o .keeps) opened in
       let rest = at-most cs (words .1) next after kept-inv still in
       omega (arith, grants-other s c cs st ws (o .other) still, rest, undisturbed-measure st ws next after s (o .keeps)))
-      (call-cases granted-comes st ws inv s b opened c)
+      (call-cases st ws inv s b opened c)
 
   -- the same of a call that is granted
   called-down : (c : Call) (st : State) (ws : List ℕ) → Invariant st ws → (op : Op) → Runs st s op → GrantCall st ws s c → (m : ℕ)
@@ -272,8 +258,8 @@ module _ (granted-comes : GrantedComes) (call-keeps : CallKeeps) (s : ℕ) (b : 
   called-down c st ws inv op runs g m above wanted =
       subst (λ (l : Left). WentDown (l .state) (l .words) s op m (length (pathOf (slotAt st s)))) (sym (g .does))
       (subst (λ (o : Op). WentDown (stepped st ws s .state) (stepped st ws s .words) s o m (length (pathOf (slotAt st s))))
-      (one-operation st s (g .goes .op) op (g .goes .runs) runs)
-      (grant-down granted-comes st ws inv s (g .goes) m above wanted))
+      (same-op (sym (g .goes .runs) ∙ runs))
+      (grant-down st ws inv s (g .goes) m above wanted))
 
   -- one grant more, where the rest needs m
   one-more : (c : Call) (cs : List Call) (st : State) (ws : List ℕ) (op : Op) (m : ℕ) → grantedTo s st ws c ≡ true → openAt (called st ws c .state) s ≡ true
@@ -301,7 +287,7 @@ module _ (granted-comes : GrantedComes) (call-keeps : CallKeeps) (s : ℕ) (b : 
       let rest = on-the-way cs (words .1) next after kept-inv op level (undisturbed-under st ws next after s op level (o .keeps) u)
       (sym (ends-later s c cs st ws still) ∙ ends-so) in
       subst (Needs op (level - 1)) (sym (grants-other s c cs st ws (o .other) still)) rest)
-      (call-cases granted-comes st ws inv s b (ap isOpen (u .runs)) c)
+      (call-cases st ws inv s b (ap isOpen (u .runs)) c)
     where
       next : State
       next = called st ws c .state
@@ -310,7 +296,7 @@ module _ (granted-comes : GrantedComes) (call-keeps : CallKeeps) (s : ℕ) (b : 
       after = called st ws c .words
 
       kept-inv : Invariant next after
-      kept-inv = call-keeps st ws c (words .0) inv
+      kept-inv = call-keeps st ws inv c (words .0)
 
       granted-now : ((lower : ℕ) → Under next after s op lower → endsWithin s cs next after ≡ true → Needs op (lower - 1) (grantsOf s cs next after))
           → GrantCall st ws s c
@@ -347,7 +333,7 @@ module _ (granted-comes : GrantedComes) (call-keeps : CallKeeps) (s : ℕ) (b : 
             (subst (Needs op (heightGranted s cs next after)) (sym is) (rest .0 (sym (ends-later s c cs st ws still) ∙ ends-so))),
         omega (arith, is, height, rest .1),
       ))
-      (call-cases granted-comes st ws inv s b (ap isOpen runs) c)
+      (call-cases st ws inv s b (ap isOpen runs) c)
     where
       next : State
       next = called st ws c .state
@@ -356,7 +342,7 @@ module _ (granted-comes : GrantedComes) (call-keeps : CallKeeps) (s : ℕ) (b : 
       after = called st ws c .words
 
       kept-inv : Invariant next after
-      kept-inv = call-keeps st ws c (words .0) inv
+      kept-inv = call-keeps st ws inv c (words .0)
 
       granted-now : GrantCall st ws s c
           → Where op (pageAt (st .k) ws) (inv .height) (inv .tree) (pathOf (slotAt st s)) (siblingsOf (slotAt st s)) (wantAt st s)

@@ -18,9 +18,8 @@ use Rattle.slots.specs.declared.Task.the-variants.{Closed, Open}
 use Rattle.slots.specs.declared.Slot.{Slot}
 use Rattle.slots.specs.declared.State.{State}
 use Rattle.slots.specs.Parts.{keyOf, isDelete, pathOf, siblingsOf, slotAt}
-use Rattle.tree.specs.Tree.{Tr, occurs, way, Forms}
+use Rattle.tree.specs.Tree.{Tr, way, Forms}
 use Rattle.tree.proofs.Search.{way-facts}
-use Rattle.tree.proofs.Ways.{place-facts}
 use Rattle.runs.specs.Stance.{Stance}
 
 -- the lowest page of a path
@@ -46,11 +45,10 @@ grantsLeft st ws s = leftSlot (pageAt (st .k) ws) (slotAt st s)
 
 -- ---- where the lowest page stands
 
--- The lowest page of the path is a page of the tree, on this level; the path goes up from it inside the tree.
+-- The lowest page of the path is on this level, and the path goes up from it inside the tree.
 pub record Low (memory : ℕ → Page) (l : ℕ) (t : Tr l) (path : List ℕ) (height : ℕ) : Type 0 where
   pub some : 1 ≤ length path
   pub level : memory (lowestOf path) .level ≡ height
-  pub page : 1 ≤ occurs (lowestOf path) l t
   pub inside : height + length path ≤ l + 2
 
 -- Where an open slot stands, in levels.
@@ -60,14 +58,9 @@ pub data Where (op : Op) (memory : ℕ → Page) (l : ℕ) (t : Tr l) (path sibl
   atTheLeaf : Low memory l t path 1 → suc (length siblings) < length path → isDelete op ≡ true → Where op memory l t path siblings want
 
 module _ (op : Op) (k n : ℕ) (memory : ℕ → Page) (l : ℕ) (t : Tr l) (forms : Forms k n memory l t) (key : keyOf op < wordRange) where
-  -- a page of the way is a page of the tree, on the level of its index
-  way-page : (i q : ℕ) → i ≤ l → getD (way (keyOf op) l t) i 0 ≡ q → (memory q .level ≡ i + 1) × (1 ≤ occurs q l t)
-  way-page i q h e =
-      let there = place-facts k n memory l t forms .onWay (keyOf op) i key h in
-      subst (λ (p : ℕ). (memory p .level ≡ i + 1) × (1 ≤ occurs p l t)) e (
-        way-facts k n memory l t forms (keyOf op) key .level i h,
-        place-facts k n memory l t forms .counted (getD (way (keyOf op) l t) i 0) (i + 1) (there .from) (there .to) (there .stands),
-      )
+  -- a page of the way is on the level of its index
+  way-level : (i q : ℕ) → i ≤ l → getD (way (keyOf op) l t) i 0 ≡ q → memory q .level ≡ i + 1
+  way-level i q h e = ap (λ (p : ℕ). memory p .level) (sym e) ∙ way-facts k n memory l t forms (keyOf op) key .level i h
 
   low-at : (path lower upper : List ℕ) → 1 ≤ length path → way (keyOf op) l t ≡ lower ++ (reverse path ++ upper) → Low memory l t path (length lower + 1)
   low-at path lower upper some e =
@@ -80,8 +73,7 @@ module _ (op : Op) (k n : ℕ) (memory : ℕ → Page) (l : ℕ) (t : Tr l) (for
       ∙ ap (λ (i : ℕ). getD (lower ++ (reverse path ++ upper)) i 0) (omega arith)
       ∙ getD-append-add lower (reverse path ++ upper) 0 0
       ∙ List·getD-append (reverse path) upper 0 0 (omega arith) in
-      let there = way-page (length lower) (lowestOf path) (omega arith) spot in
-      record { some = some; level = there .0; page = there .1; inside = omega arith }
+      record { some = some; level = way-level (length lower) (lowestOf path) (omega arith) spot; inside = omega arith }
 
   pub where-it-stands : (path siblings : List ℕ) (want : ℕ) → Stance op k memory l t path siblings want → Where op memory l t path siblings want
   where-it-stands path siblings want (inl s) =
@@ -94,9 +86,9 @@ module _ (op : Op) (k n : ℕ) (memory : ℕ → Page) (l : ℕ) (t : Tr l) (for
       let low : Low memory l t path (length (lower ++ want ∷ []) + 1)
       = low-at path (lower ++ want ∷ []) (c .upper) (c .rightly .some) (c .whole ∙ sym (append-assoc lower (want ∷ []) rest)) in
       let len : length (way (keyOf op) l t) ≡ l + 1 = way-facts k n memory l t forms (keyOf op) key .pages in
-      let wanted = way-page (length lower) want (omega (arith, len, ap length (c .whole), length-append lower (want ∷ rest)))
+      let wanted = way-level (length lower) want (omega (arith, len, ap length (c .whole), length-append lower (want ∷ rest)))
       (ap (λ (w : List ℕ). getD w (length lower) 0) (c .whole) ∙ getD-append-seam lower want rest 0) in
-      onTheWay (length lower) (subst (Low memory l t path) longer low) (c .noSiblings) (wanted .0)
+      onTheWay (length lower) (subst (Low memory l t path) longer low) (c .noSiblings) wanted
   where-it-stands path siblings want (inr (inr b)) =
       atTheLeaf (subst (Low memory l t path) (omega arith) (low-at path [] (b .upper) (b .rightly .some) (b .whole))) (b .fewer) (b .deletes)
 

@@ -3,55 +3,49 @@
 use Prim.Native.Nat.{ℕ, _+_, _-_, _*_, _≤_, _<_}
 use mathlib.Core.Bool.{true, false}
 use mathlib.Core.List.{List, [], _∷_, _++_, reverse, reverse-append}
-use mathlib.Core.Logic.{_⊎_, _≢_, inl, inr, ⊎-elim}
+use mathlib.Core.Logic.{_≢_}
 use mathlib.Core.Path.{_≡_, refl, sym, ap, ap₂, _∙_, subst}
 use native.Mathlib.Omega.{arith}
 use borrow.Author.Tests.{eq-eqb, ne-eqb}
 use lib.ListN.{length, getD, length-append, length-reverse}
 use Rattle.ground.specs.Limits.{slotCount, tallest, slotGrants}
 use Rattle.ground.specs.Tests.{member}
-use Rattle.ground.proofs.Bools.{not-both, or-first, false-if-not-true}
+use Rattle.ground.proofs.Bools.{not-both}
 use Rattle.ground.proofs.Choice.{cond-ind}
 use Rattle.ground.proofs.Limits.{grants-of-height}
-use Rattle.ground.proofs.Tests.{member-none, member-append, member-from, apart-member}
 use Rattle.page.specs.Words.{Page, μ, isLeaf}
 use Rattle.pool.specs.Pool.{Write, pageAt, applied}
 use Rattle.slots.specs.declared.Op.{Op}
-use Rattle.slots.specs.declared.Op.the-variants.{Search, Insert, Delete}
 use Rattle.slots.specs.declared.Task.{Task}
 use Rattle.slots.specs.declared.Task.the-variants.{Closed, Open}
 use Rattle.slots.specs.declared.Slot.{Slot}
 use Rattle.slots.specs.declared.State.{State}
 use Rattle.slots.specs.declared.Answer.{Answer}
 use Rattle.slots.specs.declared.Answer.the-variants.{Moved}
-use Rattle.slots.specs.Parts.{isOpen, openSlot, closedSlot, pathOf, siblingsOf, held, slotAt, openAt, wantAt, holdsAt}
-use Rattle.slots.specs.Locks.{lockOf, lockAt, isXi}
+use Rattle.slots.specs.Parts.{isOpen, openSlot, closedSlot, pathOf, siblingsOf, slotAt, openAt, wantAt, holdsAt}
 use Rattle.slots.specs.Book.{goesOn, closes}
 use Rattle.slots.proofs.Keeping.{Shaped, slot-here, slot-other, path-new, siblings-new}
-use Rattle.slots.proofs.GrantLaws.{taking-alone}
-use Rattle.slots.proofs.OrderLaws.{member-cases}
-use Rattle.grant.specs.Granted.{goes, ends, isSafe, kept, atItsLeaf}
+use Rattle.grant.specs.Granted.{Verdict, goes, ends, isSafe, kept, atItsLeaf}
+use Rattle.grant.specs.Fitting.{verdict}
 use Rattle.index.specs.Step.{Left, left, acted, stepped}
-use Rattle.tree.specs.Tree.{Tr, occurs}
+use Rattle.tree.specs.Tree.{Tr}
 use Rattle.tree.specs.Change.{writtenPages}
 use Rattle.tree.proofs.Height.{height-facts}
 use Rattle.tree.proofs.Memory.{absent-times, unwritten}
 use Rattle.tree.proofs.Words.{fit-writes, applied-memory}
-use Rattle.runs.specs.Step.{Scene, Ended, Comes, moves, stops}
+use Rattle.runs.specs.Step.{Comes, moves, stops}
 use Rattle.runs.proofs.Invariant.{Runs, Invariant, scene}
-use Rattle.runs.proofs.Paths.{member-reverse}
+use Rattle.runs.proofs.Stepping.{granted-comes}
+use Rattle.runs.proofs.Fathers.{upward-held}
+use Rattle.runs.proofs.Progress.{opened as open-task}
+use Rattle.runs.proofs.Calls.{granted-does, others-unwritten}
 use Rattle.runs.proofs.Measure.{lowestOf, leftOpen, leftTask, leftSlot, grantsLeft, Low, Where, atStart, onTheWay, atTheLeaf, where-it-stands, left-some, left-start, left-coming, left-leaf, left-bounds}
-use Rattle.runs.proofs.Steps.{Goes, verdictOf}
-use Rattle.runs.proofs.Verdicts.{beside-goes, coming-goes, search-writes-nothing}
+use Rattle.runs.proofs.Steps.{Goes}
+use Rattle.runs.proofs.Verdicts.{beside-goes, coming-goes}
 
 -- ---- the lowest page
 
--- a path with something in it has its lowest page
-low-member : (path : List ℕ) → 1 ≤ length path → member (lowestOf path) path ≡ true
-low-member path h =
-    sym (member-reverse (lowestOf path) path) ∙ member-from (lowestOf path) (reverse path) 0 0 (omega (arith, length-reverse path)) refl
-
--- it tells whether the slot stands at its leaf
+-- the lowest page tells whether the slot stands at its leaf
 leaf-by-low : (memory : ℕ → Page) (up : List ℕ) → 1 ≤ length up → atItsLeaf memory up ≡ isLeaf (memory (getD up 0 0))
 leaf-by-low memory [] h = absurd (omega arith)
 leaf-by-low memory (p ∷ up) h = refl
@@ -152,18 +146,7 @@ closes-k st s = refl
 
 -- the operation of an open slot
 pub open-runs : (st : State) (s : ℕ) → openAt st s ≡ true → (op : Op) × Runs st s op
-open-runs st s = by-task (slotAt st s .task)
-  where
-    by-task : (task : Task) → isOpen task ≡ true → (op : Op) × (task ≡ Open op)
-    by-task Closed h = not-both h refl
-    by-task (Open op) h = (op, refl)
-
--- the lowest page of a path is a page of the tree
-where-page : (memory : ℕ → Page) (l : ℕ) (t : Tr l) (op : Op) (path siblings : List ℕ) (want : ℕ) → Where op memory l t path siblings want
-    → 1 ≤ length path → 1 ≤ occurs (lowestOf path) l t
-where-page memory l t op path siblings want (atStart e f g) some = absurd (omega (arith, some, ap length e))
-where-page memory l t op path siblings want (onTheWay low w e g) some = w .page
-where-page memory l t op path siblings want (atTheLeaf w f d) some = w .page
+open-runs st s o = open-task (slotAt st s .task) o
 
 -- ---- where a slot of a run stands, and its measure's bounds
 
@@ -221,51 +204,19 @@ undisturbed-measure st ws next after u h =
 pub nothing-disturbed : (st : State) (ws : List ℕ) (u : ℕ) → Undisturbed st ws st ws u
 nothing-disturbed st ws u = record { slot = refl; level = λ _ _. refl }
 
--- an operation locks with ξ, or is a search
-xi-or-search : (op : Op) → (isXi (lockOf (Open op)) ≡ true) ⊎ ((x : ℕ) × (op ≡ Search x))
-xi-or-search (Search x) = inr (x, refl)
-xi-or-search (Insert x v) = inl refl
-xi-or-search (Delete x) = inl refl
+-- ---- a granted step
 
--- What a granted step comes to in a pool that is a tree (`Stepping.antt`).
-abbrev pub GrantedComes : Type 0
-GrantedComes =
-    (op : Op) (k n : ℕ) (ws : List ℕ) (l : ℕ) (t : Tr l) (path siblings : List ℕ) (want : ℕ)
-    → Scene op k n ws l t path siblings want → Comes op k n ws l t path siblings want
+-- what it comes to
+abbrev verdictOf : State → List ℕ → ℕ → Op → Verdict
+verdictOf st ws s op = verdict op (st .k) (st .n) ws (pathOf (slotAt st s)) (siblingsOf (slotAt st s)) (wantAt st s)
 
-module _ (granted-comes : GrantedComes) (st : State) (ws : List ℕ) (inv : Invariant st ws) (s : ℕ) (g : Goes st ws s) where
+module _ (st : State) (ws : List ℕ) (inv : Invariant st ws) (s : ℕ) (g : Goes st s) where
   abbrev op : Op
   op = g .op
 
   pub comes : Comes op (st .k) (st .n) ws (inv .height) (inv .tree) (pathOf (slotAt st s)) (siblingsOf (slotAt st s)) (wantAt st s)
   comes = granted-comes op (st .k) (st .n) ws (inv .height) (inv .tree) (pathOf (slotAt st s)) (siblingsOf (slotAt st s)) (wantAt st s)
       (scene st ws inv s op (g .inside) (g .runs))
-
-  is-open : openAt st s ≡ true
-  is-open = ap isOpen (g .runs)
-
-  -- a page of the tree that another slot holds is not written
-  pub not-written : (a : Answer) (writes : List Write) → verdictOf st ws s op ≡ ends a writes
-      → Ended op (st .k) (st .n) ws (inv .height) (inv .tree) (pathOf (slotAt st s)) (siblingsOf (slotAt st s)) (wantAt st s) a writes
-      → (u q : ℕ) → u < slotCount → u ≢ s → holdsAt st u q ≡ true → 1 ≤ occurs q (inv .height) (inv .tree) → member q (writtenPages writes) ≡ false
-  not-written a writes e ended u q c n holds page =
-      false-if-not-true (member q (writtenPages writes)) (λ m.
-      ⊎-elim
-      (λ named. ⊎-elim
-      (λ xi. not-both holds
-      (apart-member (wantAt st s ∷ held (slotAt st s)) (held (slotAt st u))
-      (taking-alone st (inv .sound) s (g .inside) is-open (g .granted) (wantAt st s ∷ held (slotAt st s))
-      (λ p h. ⊎-elim (λ w. inr w) (λ w. inl w) (member-cases p (wantAt st s) (held (slotAt st s)) h))
-      u c n (or-first (isXi (lockAt st u)) (ap (λ (task : Task). isXi (lockOf task)) (g .runs) ∙ xi)))
-      q named))
-      (λ search. not-both m
-      (ap (λ (w : List Write). member q (writtenPages w))
-      (search-writes-nothing (search .0) (st .k) (st .n) ws (pathOf (slotAt st s)) (siblingsOf (slotAt st s)) (wantAt st s) a writes
-      (ap (verdictOf st ws s) (sym (search .1)) ∙ e))
-      ∙ member-none q))
-      (xi-or-search op))
-      (λ none. omega (arith, none, page))
-      (ended .only q m))
 
   -- the measure once it has moved
   pub after-moving : (path′ siblings′ : List ℕ) (want′ : ℕ) → grantsLeft (goesOn st s op want′ path′ siblings′) ws s ≡ leftOpen (pageAt (st .k) ws) path′ siblings′
@@ -275,11 +226,11 @@ module _ (granted-comes : GrantedComes) (st : State) (ws : List ℕ) (inv : Inva
 
   pub moved : (path′ siblings′ : List ℕ) (want′ : ℕ) → verdictOf st ws s op ≡ goes path′ siblings′ want′
       → stepped st ws s ≡ left Moved (goesOn st s op want′ path′ siblings′) ws
-  moved path′ siblings′ want′ e = g .does ∙ ap (acted st ws s op) e
+  moved path′ siblings′ want′ e = granted-does st ws inv s op (g .inside) (g .runs) (g .granted) ∙ ap (acted st ws s op) e
 
   pub ended-so : (a : Answer) (writes : List Write) → verdictOf st ws s op ≡ ends a writes
       → stepped st ws s ≡ left a (closes st s) (applied (st .k) writes ws)
-  ended-so a writes e = g .does ∙ ap (acted st ws s op) e
+  ended-so a writes e = granted-does st ws inv s op (g .inside) (g .runs) (g .granted) ∙ ap (acted st ws s op) e
 
   -- Another slot is undisturbed by the step.
   pub step-undisturbed : (u : ℕ) → u < slotCount → u ≢ s → Undisturbed st ws (stepped st ws s .state) (stepped st ws s .words) u
@@ -300,15 +251,14 @@ module _ (granted-comes : GrantedComes) (st : State) (ws : List ℕ) (inv : Inva
             slot = closes-other st (inv .shaped) s (g .inside) u n;
             level = λ opened some.
                 let found = open-runs st u opened in
-                let page = where-page (pageAt (st .k) ws) (inv .height) (inv .tree) (found .0) (pathOf (slotAt st u)) (siblingsOf (slotAt st u)) (wantAt st u)
-                (where-slot st ws inv u (found .0) c (found .1)) some in
-                let holds : holdsAt st u low ≡ true = member-append low (pathOf (slotAt st u)) (siblingsOf (slotAt st u))
-                ∙ or-first (member low (siblingsOf (slotAt st u))) (low-member (pathOf (slotAt st u)) some) in
+                let holds : holdsAt st u low ≡ true = upward-held (pathOf (slotAt st u)) (siblingsOf (slotAt st u)) 0 some in
+                let none : member low (writtenPages writes) ≡ false
+                = others-unwritten st ws inv s (g .inside) op a writes (g .runs) (g .granted) ended u (found .0) c n (found .1) low holds in
                 let fit = fit-writes (st .k) (st .n) writes (ended .leads .fitting) (ended .leads .inside) in
                 ap (λ (k : ℕ). pageAt k (applied (st .k) writes ws) low .level) (closes-k st s)
                 ∙ ap (λ (P : Page). P .level)
                 (applied-memory (st .k) (st .n) writes ws fit (inv .forms .whole) low
-                ∙ unwritten (pageAt (st .k) ws) writes low (absent-times low (writtenPages writes) (not-written a writes e ended u low c n holds page)));
+                ∙ unwritten (pageAt (st .k) ws) writes low (absent-times low (writtenPages writes) none));
           })
 
   -- The measure stays at another slot's step.
@@ -333,6 +283,6 @@ module _ (granted-comes : GrantedComes) (st : State) (ws : List ℕ) (inv : Inva
           let is = after-moving path′ siblings′ want′ in
           subst (λ (r : Left). grantsLeft (r .state) (r .words) s < grantsLeft st ws s) (sym (moved path′ siblings′ want′ e)) (omega (arith, was, falls, is))
       by-comes (stops a writes e ended) =
-          let some = measure-bound st ws inv s (g .inside) is-open .0 in
+          let some = measure-bound st ws inv s (g .inside) (ap isOpen (g .runs)) .0 in
           let is : grantsLeft (closes st s) (applied (st .k) writes ws) s ≡ 0 = ap (leftSlot (pageAt (closes st s .k) (applied (st .k) writes ws))) (closes-here st (inv .shaped) s (g .inside)) in
           subst (λ (r : Left). grantsLeft (r .state) (r .words) s < grantsLeft st ws s) (sym (ended-so a writes e)) (omega (arith, some, is))

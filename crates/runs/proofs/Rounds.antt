@@ -24,8 +24,10 @@ use Rattle.tree.proofs.Height.{sumBelow}
 use Rattle.runs.specs.Run.{Call, begin, step, report, called, run}
 use Rattle.runs.specs.Rounds.{anyBegin, anyStepOf, Round, joined, Rounds, RoundsClose}
 use Rattle.runs.proofs.Invariant.{Invariant}
+use Rattle.runs.proofs.Progress.{some-can-go}
+use Rattle.runs.proofs.Calls.{step-of, step-keeps}
 use Rattle.runs.proofs.Measure.{grantsLeft}
-use Rattle.runs.proofs.MeasureLaws.{GrantedComes, measure-bound, measure-closed, measure-stays, measure-falls}
+use Rattle.runs.proofs.MeasureLaws.{measure-bound, measure-closed, measure-stays, measure-falls}
 use Rattle.runs.proofs.Steps.{Rests, Goes, step-cases}
 
 -- ---- sums
@@ -108,114 +110,108 @@ run-append (c ∷ cs) ds st ws = run-append cs ds (called st ws c .state) (calle
 abbrev pub Fallen : ℕ → State → List ℕ → Type 0
 Fallen m st ws = Invariant st ws × (allLeft st ws ≤ m)
 
--- one call keeps the invariant
-abbrev pub StepKeeps : Type 0
-StepKeeps = (st : State) (ws : List ℕ) (s : ℕ) → Invariant st ws → Invariant (stepped st ws s .state) (stepped st ws s .words)
+-- a step keeps the invariant
+step-on : (st : State) (ws : List ℕ) → Invariant st ws → (s : ℕ) → Invariant (stepped st ws s .state) (stepped st ws s .words)
+step-on st ws inv s = step-keeps st ws inv s (step-of st ws inv s)
 
--- some open slot can go
-abbrev pub SomeCanGo : Type 0
-SomeCanGo = (st : State) (ws : List ℕ) → Invariant st ws → (s : ℕ) → s < slotCount → openAt st s ≡ true
-    → (u : ℕ) × (u < slotCount) × (openAt st u ≡ true) × (grants st u ≡ true)
+-- no step raises a measure
+never-up : (st : State) (ws : List ℕ) → Invariant st ws → (s u : ℕ) → u < slotCount → grantsLeft (stepped st ws s .state) (stepped st ws s .words) u ≤ grantsLeft st ws u
+never-up st ws inv s u c =
+    ⊎-elim
+    (λ r. subst (λ (l : Left). grantsLeft (l .state) (l .words) u ≤ grantsLeft st ws u) (sym (r .does)) (omega arith))
+    (λ g. ⊎-elim
+    (λ e. subst (λ (i : ℕ). grantsLeft (stepped st ws s .state) (stepped st ws s .words) i ≤ grantsLeft st ws i) (sym e) (let falls = measure-falls st ws inv s g in omega (arith, falls)))
+    (λ n. let stays = measure-stays st ws inv s g u c n in omega (arith, stays))
+    (same-or-not u s))
+    (step-cases st ws inv s)
 
-module _ (granted-comes : GrantedComes) (step-keeps : StepKeeps) (some-can-go : SomeCanGo) where
-  -- no step raises a measure
-  never-up : (st : State) (ws : List ℕ) → Invariant st ws → (s u : ℕ) → u < slotCount → grantsLeft (stepped st ws s .state) (stepped st ws s .words) u ≤ grantsLeft st ws u
-  never-up st ws inv s u c =
-      ⊎-elim
-      (λ r. subst (λ (l : Left). grantsLeft (l .state) (l .words) u ≤ grantsLeft st ws u) (sym (r .does)) (omega arith))
-      (λ g. ⊎-elim
-      (λ e. subst (λ (i : ℕ). grantsLeft (stepped st ws s .state) (stepped st ws s .words) i ≤ grantsLeft st ws i) (sym e) (let falls = measure-falls granted-comes st ws inv s g in omega (arith, falls)))
-      (λ n. let stays = measure-stays granted-comes st ws inv s g u c n in omega (arith, stays))
-      (same-or-not u s))
-      (step-cases st ws inv s)
+-- a granted step lowers the sum
+granted-lowers : (st : State) (ws : List ℕ) → (inv : Invariant st ws) → (s : ℕ) → Goes st s → allLeft (stepped st ws s .state) (stepped st ws s .words) < allLeft st ws
+unfolding allLeft
+granted-lowers st ws inv s g =
+    sum-less slotCount (grantsLeft (stepped st ws s .state) (stepped st ws s .words)) (grantsLeft st ws) (never-up st ws inv s) s (g .inside)
+    (measure-falls st ws inv s g)
 
-  -- a granted step lowers the sum
-  granted-lowers : (st : State) (ws : List ℕ) → (inv : Invariant st ws) → (s : ℕ) → Goes st ws s → allLeft (stepped st ws s .state) (stepped st ws s .words) < allLeft st ws
-  unfolding allLeft
-  granted-lowers st ws inv s g =
-      sum-less slotCount (grantsLeft (stepped st ws s .state) (stepped st ws s .words)) (grantsLeft st ws) (never-up st ws inv s) s (g .inside)
-      (measure-falls granted-comes st ws inv s g)
+-- no step raises it
+step-no-higher : (st : State) (ws : List ℕ) → (inv : Invariant st ws) → (s : ℕ) → allLeft (stepped st ws s .state) (stepped st ws s .words) ≤ allLeft st ws
+unfolding allLeft
+step-no-higher st ws inv s = sum-most slotCount (grantsLeft (stepped st ws s .state) (stepped st ws s .words)) (grantsLeft st ws) (never-up st ws inv s)
 
-  -- no step raises it
-  step-no-higher : (st : State) (ws : List ℕ) → (inv : Invariant st ws) → (s : ℕ) → allLeft (stepped st ws s .state) (stepped st ws s .words) ≤ allLeft st ws
-  unfolding allLeft
-  step-no-higher st ws inv s = sum-most slotCount (grantsLeft (stepped st ws s .state) (stepped st ws s .words)) (grantsLeft st ws) (never-up st ws inv s)
+-- Steps and reports keep the invariant and raise no sum.
+pub quiet-calls : (cs : List Call) → anyBegin cs ≡ false → (st : State) (ws : List ℕ) → Invariant st ws
+    → Fallen (allLeft st ws) (run cs st ws .state) (run cs st ws .words)
+unfolding run called
+quiet-calls [] quiet st ws inv = (inv, omega arith)
+quiet-calls (begin s op ∷ cs) quiet st ws inv = absurd (true≢false quiet)
+quiet-calls (report p ∷ cs) quiet st ws inv = quiet-calls cs quiet st ws inv
+quiet-calls (step s ∷ cs) quiet st ws inv =
+    let rest = quiet-calls cs quiet (stepped st ws s .state) (stepped st ws s .words) (step-on st ws inv s) in
+    let first = step-no-higher st ws inv s in
+    (rest .0, omega (arith, rest .1, first))
 
-  -- Steps and reports keep the invariant and raise no sum.
-  pub quiet-calls : (cs : List Call) → anyBegin cs ≡ false → (st : State) (ws : List ℕ) → Invariant st ws
-      → Fallen (allLeft st ws) (run cs st ws .state) (run cs st ws .words)
-  unfolding run called
-  quiet-calls [] quiet st ws inv = (inv, omega arith)
-  quiet-calls (begin s op ∷ cs) quiet st ws inv = absurd (true≢false quiet)
-  quiet-calls (report p ∷ cs) quiet st ws inv = quiet-calls cs quiet st ws inv
-  quiet-calls (step s ∷ cs) quiet st ws inv =
-      let rest = quiet-calls cs quiet (stepped st ws s .state) (stepped st ws s .words) (step-keeps st ws s inv) in
-      let first = step-no-higher st ws inv s in
-      (rest .0, omega (arith, rest .1, first))
-
-  -- If a slot that can go is stepped among them the sum falls: either another was granted before its step, or nothing changed until
-  -- then and its own step is granted.
-  falls-by : (cs : List Call) → anyBegin cs ≡ false → (u : ℕ) → u < slotCount → anyStepOf u cs ≡ true
-      → (st : State) (ws : List ℕ) → Invariant st ws → openAt st u ≡ true → grants st u ≡ true
-      → allLeft (run cs st ws .state) (run cs st ws .words) < allLeft st ws
-  unfolding run called
-  falls-by [] quiet u b stepped-u st ws inv opened goes = absurd (true≢false (sym stepped-u))
-  falls-by (begin s op ∷ cs) quiet u b stepped-u st ws inv opened goes = absurd (true≢false quiet)
-  falls-by (report p ∷ cs) quiet u b stepped-u st ws inv opened goes = falls-by cs quiet u b stepped-u st ws inv opened goes
-  falls-by (step s ∷ cs) quiet u b stepped-u st ws inv opened goes =
-      ⊎-elim
-      (λ r. subst (λ (l : Left). allLeft (run cs (l .state) (l .words) .state) (run cs (l .state) (l .words) .words) < allLeft st ws) (sym (r .does))
-      (falls-by cs quiet u b (later r) st ws inv opened goes))
-      (λ g. let rest = quiet-calls cs quiet (stepped st ws s .state) (stepped st ws s .words) (step-keeps st ws s inv) in
-      let first = granted-lowers st ws inv s g in
-      omega (arith, rest .1, first))
-      (step-cases st ws inv s)
-    where
-      later : Rests st ws s → anyStepOf u cs ≡ true
-      later r =
-          ⊎-elim
-          (λ same. let e : s ≡ u = eqb-true s u same in
-          not-both goes (subst (λ (i : ℕ). grants st i ≡ false) e (r .barred (subst (λ (i : ℕ). i < slotCount) (sym e) b) (subst (λ (i : ℕ). openAt st i ≡ true) (sym e) opened))))
-          (λ h. h)
-          (or-cases (eqb s u) (anyStepOf u cs) stepped-u)
-
-  -- A round keeps the invariant, and lowers the sum by one at least where there is something left.
-  round-falls : (cs : List Call) (st : State) (ws : List ℕ) → Invariant st ws → Round st cs
-      → Fallen (allLeft st ws - 1) (run cs st ws .state) (run cs st ws .words)
-  round-falls cs st ws inv round =
-      let quiet = quiet-calls cs (round .noBegin) st ws inv in (
-        quiet .0,
+-- If a slot that can go is stepped among them the sum falls: either another was granted before its step, or nothing changed until
+-- then and its own step is granted.
+falls-by : (cs : List Call) → anyBegin cs ≡ false → (u : ℕ) → u < slotCount → anyStepOf u cs ≡ true
+    → (st : State) (ws : List ℕ) → Invariant st ws → openAt st u ≡ true → grants st u ≡ true
+    → allLeft (run cs st ws .state) (run cs st ws .words) < allLeft st ws
+unfolding run called
+falls-by [] quiet u b stepped-u st ws inv opened goes = absurd (true≢false (sym stepped-u))
+falls-by (begin s op ∷ cs) quiet u b stepped-u st ws inv opened goes = absurd (true≢false quiet)
+falls-by (report p ∷ cs) quiet u b stepped-u st ws inv opened goes = falls-by cs quiet u b stepped-u st ws inv opened goes
+falls-by (step s ∷ cs) quiet u b stepped-u st ws inv opened goes =
+    ⊎-elim
+    (λ r. subst (λ (l : Left). allLeft (run cs (l .state) (l .words) .state) (run cs (l .state) (l .words) .words) < allLeft st ws) (sym (r .does))
+    (falls-by cs quiet u b (later r) st ws inv opened goes))
+    (λ g. let rest = quiet-calls cs quiet (stepped st ws s .state) (stepped st ws s .words) (step-on st ws inv s) in
+    let first = granted-lowers st ws inv s g in
+    omega (arith, rest .1, first))
+    (step-cases st ws inv s)
+  where
+    later : Rests st ws s → anyStepOf u cs ≡ true
+    later r =
         ⊎-elim
-            (λ some.
-            let found = anyBelow-at (openAt st) slotCount some in
-            let can = some-can-go st ws inv (found .0) (found .1) (found .2) in
-            let falls = falls-by cs (round .noBegin) (can .0) (can .1) (round .everyOpen (can .0) (can .1) (can .2)) st ws inv (can .2) (can .3) in
-            omega (arith, falls))
-            (λ none. let empty : allLeft st ws ≡ 0 = nothing-left st ws (anyBelow-false-at (openAt st) slotCount none) in omega (arith, empty, quiet .1))
-            (true-or-false (anyBelow slotCount (openAt st))),
-      )
+        (λ same. let e : s ≡ u = eqb-true s u same in
+        not-both goes (subst (λ (i : ℕ). grants st i ≡ false) e (r .barred (subst (λ (i : ℕ). i < slotCount) (sym e) b) (subst (λ (i : ℕ). openAt st i ≡ true) (sym e) opened))))
+        (λ h. h)
+        (or-cases (eqb s u) (anyStepOf u cs) stepped-u)
 
-  -- m rounds lower it by m, as far as there is something left
-  rounds-fall : (rounds : List (List Call)) (st : State) (ws : List ℕ) → Invariant st ws → Rounds st ws rounds
-      → Fallen (allLeft st ws - length rounds) (run (joined rounds) st ws .state) (run (joined rounds) st ws .words)
-  unfolding run
-  rounds-fall [] st ws inv rounds = (inv, omega arith)
-  rounds-fall (cs ∷ rest) st ws inv rounds =
-      let first = round-falls cs st ws inv (rounds .0) in
-      let next : State = run cs st ws .state in
-      let after : List ℕ = run cs st ws .words in
-      let more = rounds-fall rest next after (first .0) (rounds .1) in
-      let whole = run-append cs (joined rest) st ws in
-      subst (λ (final : State). Fallen (allLeft st ws - suc (length rest)) final (run (cs ++ joined rest) st ws .words)) (sym (whole .0))
-      (subst (λ (left : List ℕ). Fallen (allLeft st ws - suc (length rest)) (run (joined rest) next after .state) left) (sym (whole .1))
-      (more .0, omega (arith, first .1, more .1)))
+-- A round keeps the invariant, and lowers the sum by one at least where there is something left.
+round-falls : (cs : List Call) (st : State) (ws : List ℕ) → Invariant st ws → Round st cs
+    → Fallen (allLeft st ws - 1) (run cs st ws .state) (run cs st ws .words)
+round-falls cs st ws inv round =
+    let quiet = quiet-calls cs (round .noBegin) st ws inv in (
+      quiet .0,
+      ⊎-elim
+          (λ some.
+          let found = anyBelow-at (openAt st) slotCount some in
+          let can = some-can-go st ws inv (found .0) (found .1) (found .2) in
+          let falls = falls-by cs (round .noBegin) (can .0) (can .1) (round .everyOpen (can .0) (can .1) (can .2)) st ws inv (can .2) (can .3) in
+          omega (arith, falls))
+          (λ none. let empty : allLeft st ws ≡ 0 = nothing-left st ws (anyBelow-false-at (openAt st) slotCount none) in omega (arith, empty, quiet .1))
+          (true-or-false (anyBelow slotCount (openAt st))),
+    )
 
-  -- From any state of a run `roundsEnough` rounds close every slot.
-  pub rounds-close : (st : State) (ws : List ℕ) → Invariant st ws → RoundsClose st ws
-  rounds-close st ws inv rounds each enough s b =
-      let after = rounds-fall rounds st ws inv each in
-      let before = all-left-bound st ws inv in
-      false-if-not-true (openAt (run (joined rounds) st ws .state) s) (λ opened.
-      let some = measure-bound (run (joined rounds) st ws .state) (run (joined rounds) st ws .words) (after .0) s b opened .0 in
-      let has = left-has (run (joined rounds) st ws .state) (run (joined rounds) st ws .words) s b in
-      omega (arith, some, has, after .1, before, enough))
+-- m rounds lower it by m, as far as there is something left
+rounds-fall : (rounds : List (List Call)) (st : State) (ws : List ℕ) → Invariant st ws → Rounds st ws rounds
+    → Fallen (allLeft st ws - length rounds) (run (joined rounds) st ws .state) (run (joined rounds) st ws .words)
+unfolding run
+rounds-fall [] st ws inv rounds = (inv, omega arith)
+rounds-fall (cs ∷ rest) st ws inv rounds =
+    let first = round-falls cs st ws inv (rounds .0) in
+    let next : State = run cs st ws .state in
+    let after : List ℕ = run cs st ws .words in
+    let more = rounds-fall rest next after (first .0) (rounds .1) in
+    let whole = run-append cs (joined rest) st ws in
+    subst (λ (final : State). Fallen (allLeft st ws - suc (length rest)) final (run (cs ++ joined rest) st ws .words)) (sym (whole .0))
+    (subst (λ (left : List ℕ). Fallen (allLeft st ws - suc (length rest)) (run (joined rest) next after .state) left) (sym (whole .1))
+    (more .0, omega (arith, first .1, more .1)))
+
+-- From any state of a run `roundsEnough` rounds close every slot.
+pub rounds-close : (st : State) (ws : List ℕ) → Invariant st ws → RoundsClose st ws
+rounds-close st ws inv rounds each enough s b =
+    let after = rounds-fall rounds st ws inv each in
+    let before = all-left-bound st ws inv in
+    false-if-not-true (openAt (run (joined rounds) st ws .state) s) (λ opened.
+    let some = measure-bound (run (joined rounds) st ws .state) (run (joined rounds) st ws .words) (after .0) s b opened .0 in
+    let has = left-has (run (joined rounds) st ws .state) (run (joined rounds) st ws .words) s b in
+    omega (arith, some, has, after .1, before, enough))

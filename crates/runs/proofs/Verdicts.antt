@@ -1,12 +1,10 @@
--- What a granted step comes to, read off the rule: what the slot holds if it goes on, where it can end, and that a search writes
--- nothing.
+-- What a granted step comes to, read off the rule: what the slot holds if it goes on, and where it can end.
 use Prim.Native.Nat.{ℕ}
-use mathlib.Core.Bool.{Bool, true, false, cond, _&&_}
+use mathlib.Core.Bool.{Bool, true, false}
 use mathlib.Core.List.{List, [], _∷_, _++_, reverse}
-use mathlib.Core.Path.{_≡_, refl, sym, _∙_, subst}
+use mathlib.Core.Path.{_≡_, refl, sym, subst}
 use lib.Dec.{ltb}
 use lib.ListN.{length}
-use Rattle.ground.proofs.Bools.{and-first, and-second, not-both, false-if-not-true}
 use Rattle.ground.proofs.Choice.{cond-ind, cond-true, cond-false}
 use Rattle.page.specs.Words.{Page, isLeaf}
 use Rattle.page.specs.Place.{has}
@@ -18,7 +16,7 @@ use Rattle.slots.specs.declared.Op.the-variants.{Search, Insert, Delete}
 use Rattle.slots.specs.declared.Answer.{Answer}
 use Rattle.slots.specs.Parts.{keyOf}
 use Rattle.grant.specs.Granted.{Verdict, broken, goes, ends, kept, byNeed, deletes, atLeaf, fromLeaf, comesDown, besides, atItsLeaf, granted}
-use Rattle.grant.specs.Fitting.{rightlyKept, descends, rightlyBeside, isNone, pagesSound, fitting, nextIsNew, soundForStep, verdict}
+use Rattle.grant.specs.Fitting.{soundForStep, verdict}
 
 -- a slot that goes on holds this path and these siblings
 abbrev GoesTo : List ℕ → List ℕ → Verdict → Type 0
@@ -31,12 +29,6 @@ abbrev EndsIf : Bool → Verdict → Type 0
 EndsIf test broken = Unit {0}
 EndsIf test (goes path siblings want) = Unit {0}
 EndsIf test (ends answer writes) = test ≡ true
-
--- an operation ends without a write
-abbrev WritesNothing : Verdict → Type 0
-WritesNothing broken = Unit {0}
-WritesNothing (goes path siblings want) = Unit {0}
-WritesNothing (ends answer writes) = writes ≡ []
 
 by-need-goes : (path siblings : List ℕ) (whole : Verdict) (n : Need) → GoesTo path siblings whole → GoesTo path siblings (byNeed path siblings whole n)
 by-need-goes path siblings whole nothing h = h
@@ -129,48 +121,3 @@ module _ (op : Op) (k n : ℕ) (ws path siblings : List ℕ) (want : ℕ) where
   coming-ends at a writes e =
       let P : Verdict → Type 0 = EndsIf (isLeaf (pageAt k ws want)) in
       subst P e (by-verdict P tt (λ _. subst P (sym (above-rule at)) (comes-down-ends op k (pageAt k ws) (freePages k n ws) path siblings want)))
-
--- ---- a search writes nothing
-
--- no search stands at its leaf
-search-not-beside : (x k : ℕ) (memory : ℕ → Page) (up siblings : List ℕ) (want : ℕ) → rightlyBeside (Search x) k memory up siblings want ≡ false
-search-not-beside x k memory [] siblings want = refl
-search-not-beside x k memory (leaf ∷ fathers) siblings want = refl
-
-search-above : (x k n : ℕ) (ws path siblings : List ℕ) (want : ℕ) → soundForStep (Search x) k n ws path siblings want ≡ true
-    → atItsLeaf (pageAt k ws) (reverse path) ≡ false
-unfolding soundForStep fitting
-search-above x k n ws path siblings want sound =
-    let memory : ℕ → Page = pageAt k ws in
-    let pages : Bool = pagesSound k n ws (path ++ siblings ++ want ∷ []) in
-    let next : Bool = nextIsNew (granted (Search x) k memory (freePages k n ws) path siblings want) in
-    let leaf : Bool = descends memory x path && rightlyBeside (Search x) k memory (reverse path) siblings want in
-    let way : Bool = descends memory x (path ++ want ∷ []) && isNone siblings in
-    let keeps : Bool = rightlyKept (Search x) k memory path want in
-    let at : Bool = atItsLeaf memory (reverse path) in
-    let fit : keeps && cond at leaf way ≡ true = and-second pages (keeps && cond at leaf way) (and-first (pages && (keeps && cond at leaf way)) next sound) in
-    false-if-not-true at (λ h.
-    not-both
-    (and-second (descends memory x path) (rightlyBeside (Search x) k memory (reverse path) siblings want)
-    (sym (cond-true leaf way h) ∙ and-second keeps (cond at leaf way) fit))
-    (search-not-beside x k memory (reverse path) siblings want))
-
-search-leaf-writes : (x k : ℕ) (memory : ℕ → Page) (free path up : List ℕ)
-    → WritesNothing (fromLeaf (λ (leaf : ℕ) (fathers : List ℕ). atLeaf (Search x) k memory free path leaf fathers) up)
-unfolding atLeaf
-search-leaf-writes x k memory free path [] = tt
-search-leaf-writes x k memory free path (leaf ∷ fathers) = refl
-
-search-down-writes : (x k : ℕ) (memory : ℕ → Page) (free path : List ℕ) (want : ℕ) → WritesNothing (comesDown (Search x) k memory free path want)
-unfolding comesDown
-search-down-writes x k memory free path want =
-    let path′ : List ℕ = kept (Search x) k memory path want in
-    cond-ind WritesNothing (isLeaf (memory want)) (λ _. search-leaf-writes x k memory free path′ (reverse path′)) (λ _. tt)
-
-pub search-writes-nothing : (x k n : ℕ) (ws path siblings : List ℕ) (want : ℕ) (a : Answer) (writes : List Write)
-    → verdict (Search x) k n ws path siblings want ≡ ends a writes → writes ≡ []
-search-writes-nothing x k n ws path siblings want a writes e =
-    subst WritesNothing e
-    (by-verdict (Search x) k n ws path siblings want WritesNothing tt
-    (λ sound. subst WritesNothing (sym (above-rule (Search x) k n ws path siblings want (search-above x k n ws path siblings want sound)))
-    (search-down-writes x k (pageAt k ws) (freePages k n ws) path want)))
