@@ -1,2 +1,4 @@
 pub mod Computed
 pub mod Demand2
+pub mod Room
+pub mod Demand3
