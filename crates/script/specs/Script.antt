@@ -1,19 +1,14 @@
 -- The little program's input as the calls of a run, and its output as their answers. "The little program" of document 01.
-use Prim.Native.Nat.{ℕ, _≤_}
-use mathlib.Core.Bool.{Bool, true, not, _||_}
-use mathlib.Core.List.{List, [], _∷_, map, flatten}
-use mathlib.Core.Path.{_≡_}
-use lib.ListN.{length}
-use Rattle.ground.specs.Tests.{all}
+use Prim.Native.Nat.{ℕ}
+use mathlib.Core.List.{List, [], _∷_, map}
 use Rattle.slots.specs.declared.Answer.{Answer}
 use Rattle.lines.specs.declared.Command.{Command}
 use Rattle.lines.specs.declared.Command.the-variants.{Begin, Step, Bad}
-use Rattle.lines.specs.Text.{bytes, begins}
 use Rattle.lines.specs.Meaning.{meaning}
 use Rattle.lines.specs.Names.{written, badLine}
 use Rattle.talk.specs.Split.{Line, ended, unended, linesOf}
-use Rattle.talk.specs.Talk.{programK, programPages, blank, mostBytes, programWrites}
-use Rattle.runs.specs.Run.{Call, begin, step, Told, runFrom, Run}
+use Rattle.talk.specs.Talk.{programK, programPages, blank}
+use Rattle.runs.specs.Run.{Call, begin, step, Told, runFrom}
 
 -- ---- the script
 
