@@ -19,8 +19,8 @@ use Rattle.lines.proofs.Grammar.{means-good}
 use Rattle.index.specs.Step.{stepped}
 use Rattle.talk.specs.Split.{Line, ended, unended, linesOf}
 use Rattle.talk.specs.Talk.{commanded, replies, programK, programPages, blank, opening, mostBytes, programWrites}
-use Rattle.runs.specs.Run.{called, run, runFrom, InWords, Run}
-use Rattle.script.specs.Script.{commandsIn, callsBy, callsOf, saidTo, saidBy, scriptCalls, scriptRun}
+use Rattle.runs.specs.Run.{called, run, runFrom, InWords}
+use Rattle.script.specs.Script.{commandsIn, callsBy, callsOf, saidTo, saidBy, ScriptRuns, ProgramIsRun}
 
 -- ---- what is written
 
@@ -42,7 +42,7 @@ replies-run (ended line ∷ lines) st ws = command-run (meaning line) st ws line
 replies-run (unended line ∷ lines) st ws = command-run Bad st ws lines (replies-run lines)
 
 -- an input that is not too long is answered line by line
-pub program-is-run : (input : List ℕ) → length input ≤ mostBytes → programWrites input ≡ flatten (saidBy (linesOf input) (scriptRun input .answers))
+pub program-is-run : ProgramIsRun
 unfolding programWrites runFrom
 program-is-run input h = rw (le-ltb mostBytes (length input) h) (replies-run (linesOf input) (opening .state) (opening .words))
 
@@ -72,7 +72,7 @@ script-in-words (ended line ∷ lines) =
     (means-good line)
 script-in-words (unended line ∷ lines) = script-in-words lines
 
-pub script-runs : (input : List ℕ) → Run programK programPages blank (scriptCalls input)
+pub script-runs : ScriptRuns
 unfolding largestK largestN blank
 script-runs input =
     record {

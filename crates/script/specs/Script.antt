@@ -1,14 +1,16 @@
 -- The little program's input as the calls of a run, and its output as their answers. "The little program" of document 01.
-use Prim.Native.Nat.{ℕ}
-use mathlib.Core.List.{List, [], _∷_, map}
+use Prim.Native.Nat.{ℕ, _≤_}
+use mathlib.Core.List.{List, [], _∷_, map, flatten}
+use mathlib.Core.Path.{_≡_}
+use lib.ListN.{length}
 use Rattle.slots.specs.declared.Answer.{Answer}
 use Rattle.lines.specs.declared.Command.{Command}
 use Rattle.lines.specs.declared.Command.the-variants.{Begin, Step, Bad}
 use Rattle.lines.specs.Meaning.{meaning}
 use Rattle.lines.specs.Names.{written, badLine}
 use Rattle.talk.specs.Split.{Line, ended, unended, linesOf}
-use Rattle.talk.specs.Talk.{programK, programPages, blank}
-use Rattle.runs.specs.Run.{Call, begin, step, Told, runFrom}
+use Rattle.talk.specs.Talk.{programK, programPages, blank, mostBytes, programWrites}
+use Rattle.runs.specs.Run.{Call, begin, step, Told, runFrom, Run}
 
 -- ---- the script
 
@@ -51,3 +53,11 @@ scriptCalls input = callsOf (linesOf input)
 
 abbrev pub scriptRun : List ℕ → Told
 scriptRun input = runFrom programK programPages blank (scriptCalls input)
+
+-- it is a run, as the demands speak of runs
+abbrev pub ScriptRuns : Type 0
+ScriptRuns = (input : List ℕ) → Run programK programPages blank (scriptCalls input)
+
+-- and what the program writes are its answers, line by line, unless the input is too long
+abbrev pub ProgramIsRun : Type 0
+ProgramIsRun = (input : List ℕ) → length input ≤ mostBytes → programWrites input ≡ flatten (saidBy (linesOf input) (scriptRun input .answers))
