@@ -220,7 +220,7 @@ module _ (st : State) (ws : List ℕ) (inv : Invariant st ws) where
   report-heard p (noPage b e) = ap (λ (a : Answer). isOneOf a (answersOf (report p))) e
   report-heard p (tells b e) = ap (λ (a : Answer). isOneOf a (answersOf (report p))) e
 
-  call-heard : (c : Call) → isOneOf (called st ws c .answer) (answersOf c) ≡ true
+  pub call-heard : (c : Call) → isOneOf (called st ws c .answer) (answersOf c) ≡ true
   unfolding called
   call-heard (begin s op) = begin-heard s op (begin-of st ws inv s op)
   call-heard (step s) = step-heard s (step-of st ws inv s)
