@@ -1,6 +1,6 @@
 -- Demand 3 holds: agreement, room, no standstill, rounds and counts, read off what holds of every state of a run.
 use Prim.Native.Nat.{ℕ, _<_}
-use mathlib.Core.Bool.{true, false}
+use mathlib.Core.Bool.{true}
 use mathlib.Core.List.{List, [], _∷_, _++_}
 use mathlib.Core.Path.{_≡_, refl, subst}
 use Rattle.ground.specs.Limits.{slotCount}
@@ -21,7 +21,7 @@ use Rattle.runs.proofs.Agreement.{same-entries, agreement}
 use Rattle.runs.proofs.PlainLaws.{plain-facts}
 use Rattle.runs.proofs.Rounds.{rounds-close}
 use Rattle.runs.proofs.Counts.{granted-heard, counts-from}
-use Rattle.promises.specs.Demand3.{Agreement, Room, SomeGoes, Demand3, Demand3Holds}
+use Rattle.promises.specs.Demand3.{Agreement, Room, SomeGoes, Demand3Holds}
 use Rattle.promises.proofs.Room.{room}
 
 -- ---- the same answers
