@@ -1,3 +1,4 @@
 pub mod Bench
+pub mod Demand1
 pub mod MoreRows
 pub mod LongRun
