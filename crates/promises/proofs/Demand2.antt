@@ -1,7 +1,7 @@
 -- Demand 2 holds: it is read off what holds after every call of a run.
 use Prim.Native.Nat.{ℕ, _≤_, _<_}
-use mathlib.Core.Bool.{true, false, _&&_}
-use mathlib.Core.Logic.{inl, inr, ⊎-elim, _≢_}
+use mathlib.Core.Bool.{true, false}
+use mathlib.Core.Logic.{inl, inr, ⊎-elim}
 use mathlib.Core.List.{List, [], _∷_, _++_}
 use mathlib.Core.Path.{_≡_, refl, sym, ap, ap₂, subst, _∙_}
 use lib.Dec.{eqb}
@@ -23,7 +23,7 @@ use Rattle.slots.specs.declared.State.{State}
 use Rattle.slots.specs.declared.Outcome.{Outcome}
 use Rattle.slots.specs.declared.Answer.{Answer}
 use Rattle.slots.specs.declared.Answer.the-variants.{Waiting, Moved, NoRoom, BadSlot, SlotIdle}
-use Rattle.slots.specs.Parts.{isOpen, held, pathOf, siblingsOf, slotAt, openAt, wantAt, holdsAt, openSlot, closedSlot}
+use Rattle.slots.specs.Parts.{isOpen, held, pathOf, siblingsOf, slotAt, wantAt, openSlot, closedSlot}
 use Rattle.slots.specs.Locks.{lockOf, clash}
 use Rattle.slots.specs.Sound.{withinLimits}
 use Rattle.slots.specs.Heard.{numberOf, changesNothing}
@@ -37,14 +37,15 @@ use Rattle.slots.proofs.OrderLaws.{member-here, order-has-room, waiting-begins,
 use Rattle.slots.proofs.Keeping.{slot-here, slot-other, path-new, siblings-new, held-new}
 use Rattle.index.specs.Step.{Left, left, stepped}
 use Rattle.tree.specs.Tree.{entriesOf}
-use Rattle.runs.specs.Run.{Call, begin, step, report, called, runFrom, Run}
-use Rattle.runs.specs.Step.{Takes, Ended}
+use Rattle.runs.specs.Run.{Call, begin, step, report, called, runFrom}
+use Rattle.runs.specs.Stance.{Takes}
+use Rattle.runs.specs.Step.{Ended}
 use Rattle.runs.specs.Done.{counted, isOneOf}
 use Rattle.runs.proofs.Invariant.{Invariant}
 use Rattle.runs.proofs.Calls.{StepOf, noSlot, idle, waits, onward, over, step-of}
 use Rattle.runs.proofs.Runs.{BeginOf, noSuch, busy, begins-so, begin-of, ReportOf, noPage, tells, report-of, holds-after, numbers-after}
 use Rattle.runs.proofs.Agreement.{plain-counted}
-use Rattle.promises.specs.Demand2.{Opened, Searches, AfterEveryCall, Unchanged, MovesOn, ending, Ends, StepLocks, Begins, CallLocks, answersOf, Demand2, Demand2Holds}
+use Rattle.promises.specs.Demand2.{Opened, AfterEveryCall, ending, StepLocks, CallLocks, answersOf, Demand2Holds}
 
 -- ---- after every call
 
@@ -220,7 +221,7 @@ module _ (st : State) (ws : List ℕ) (inv : Invariant st ws) where
   report-heard p (noPage b e) = ap (λ (a : Answer). isOneOf a (answersOf (report p))) e
   report-heard p (tells b e) = ap (λ (a : Answer). isOneOf a (answersOf (report p))) e
 
-  call-heard : (c : Call) → isOneOf (called st ws c .answer) (answersOf c) ≡ true
+  pub call-heard : (c : Call) → isOneOf (called st ws c .answer) (answersOf c) ≡ true
   unfolding called
   call-heard (begin s op) = begin-heard s op (begin-of st ws inv s op)
   call-heard (step s) = step-heard s (step-of st ws inv s)

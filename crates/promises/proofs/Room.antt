@@ -2,7 +2,7 @@
 use Prim.Native.Nat.{ℕ, _≤_, _<_}
 use mathlib.Core.Bool.{true, false, false≢true}
 use mathlib.Core.Logic.{inl, inr, ⊎-elim}
-use mathlib.Core.List.{List, [], _∷_, _++_, reverse, reverse-append}
+use mathlib.Core.List.{List, [], _∷_, reverse-append}
 use mathlib.Core.Path.{_≡_, refl, sym, ap, subst, _∙_}
 use native.Mathlib.Omega.{arith}
 use lib.ListN.{length, getD, length-append}
@@ -15,7 +15,7 @@ use Rattle.page.specs.Words.{Page, Entry, isLeaf}
 use Rattle.page.specs.Place.{has}
 use Rattle.pool.specs.Pool.{Write, pageAt, freePages, applied}
 use Rattle.slots.specs.declared.Op.{Op}
-use Rattle.slots.specs.declared.Op.the-variants.{Search, Insert, Delete}
+use Rattle.slots.specs.declared.Op.the-variants.{Insert}
 use Rattle.slots.specs.declared.Task.the-variants.{Open}
 use Rattle.slots.specs.declared.State.{State}
 use Rattle.slots.specs.declared.Answer.{Answer}
@@ -24,14 +24,14 @@ use Rattle.slots.specs.Parts.{isOpen, keyOf, slotAt, wantAt, pathOf, siblingsOf
 use Rattle.slots.specs.Grant.{grants}
 use Rattle.slots.specs.Book.{closes}
 use Rattle.index.specs.Step.{Left, left, stepped}
-use Rattle.tree.specs.Tree.{Tr, entriesOf, PoolForms}
+use Rattle.tree.specs.Tree.{entriesOf}
 use Rattle.tree.specs.Facts.{AnyTree}
 use Rattle.tree.specs.Insertion.{treeRoom}
 use Rattle.tree.specs.Sorted.{inserted}
 use Rattle.tree.proofs.Determined.{pool-determined}
 use Rattle.runs.specs.Plain.{Reply, reply, plain}
-use Rattle.runs.specs.Stance.{Stance}
-use Rattle.runs.specs.Step.{Takes, Ended, AsPlain, NoRoomLeft}
+use Rattle.runs.specs.Stance.{Stance, Takes}
+use Rattle.runs.specs.Step.{Ended, NoRoomLeft}
 use Rattle.runs.specs.Done.{counted, isOneOf}
 use Rattle.runs.proofs.Invariant.{Invariant}
 use Rattle.runs.proofs.Calls.{StepOf, noSlot, idle, waits, onward, over, step-of, same-op}

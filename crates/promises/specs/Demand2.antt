@@ -24,8 +24,7 @@ use Rattle.slots.specs.Book.{leaving}
 use Rattle.index.specs.Step.{Left}
 use Rattle.tree.specs.Tree.{Tr, occurs, PoolForms}
 use Rattle.runs.specs.Run.{Call, begin, step, report, called, runFrom, Run}
-use Rattle.runs.specs.Stance.{Stance}
-use Rattle.runs.specs.Step.{Takes}
+use Rattle.runs.specs.Stance.{Stance, Takes}
 use Rattle.runs.specs.Done.{counted, isOneOf}
 
 -- ---- after every call

@@ -15,18 +15,18 @@ use Rattle.pool.specs.Pool.{pageAt, freePages}
 use Rattle.slots.specs.declared.Op.{Op}
 use Rattle.slots.specs.declared.Op.the-variants.{Insert}
 use Rattle.slots.specs.declared.State.{State}
-use Rattle.slots.specs.declared.Answer.the-variants.{Inserted, AlreadyThere, NoRoom, Begun}
+use Rattle.slots.specs.declared.Answer.the-variants.{Inserted, AlreadyThere, NoRoom}
 use Rattle.slots.specs.Parts.{openAt, wantAt}
 use Rattle.slots.specs.Grant.{grants}
 use Rattle.slots.specs.Heard.{changesNothing}
 use Rattle.index.specs.Step.{Left, stepped}
 use Rattle.tree.specs.Tree.{Tr, entriesOf, PoolForms}
 use Rattle.tree.specs.Insertion.{treeRoom}
-use Rattle.runs.specs.Run.{Call, begin, called, Told, runFrom, OpInWords, InWords, Run}
+use Rattle.runs.specs.Run.{Call, Told, runFrom, Run}
 use Rattle.runs.specs.Done.{Done, nobody, done, plainAnswers, plainEntries, opsOf, answersIn}
 use Rattle.runs.specs.PlainFacts.{PlainFacts}
 use Rattle.runs.specs.Rounds.{RoundsClose}
-use Rattle.runs.specs.Counts.{GrantCounts}
+use Rattle.runs.specs.Counts.{CountsFrom}
 use Rattle.promises.specs.Demand2.{Opened}
 
 -- ---- the same answers
@@ -96,10 +96,8 @@ pub record Demand3 (k n : ℕ) (ws : List ℕ) (cs : List Call) : Type 0 where
   -- "and if none is begun, 304 rounds that each step every open slot end them all"
   pub rounds : RoundsClose (runFrom k n ws cs .state) (runFrom k n ws cs .words)
   -- 01: "Granted steps, with h the level of page 0 when it is granted: search and insertion take h, deletion h to 2h-1. So at
-  -- most 19 a slot, and 16 × 19 = 304.", of an operation that begins here, in whatever calls follow
-  pub grantCounts : (s : ℕ) (op : Op) (more : List Call) → OpInWords op → InWords more
-      → called (runFrom k n ws cs .state) (runFrom k n ws cs .words) (begin s op) .answer ≡ Begun
-      → GrantCounts s op more (called (runFrom k n ws cs .state) (runFrom k n ws cs .words) (begin s op) .state) (runFrom k n ws cs .words)
+  -- most 19 a slot, and 16 × 19 = 304.", of whatever operation begins here, in whatever calls follow
+  pub grantCounts : CountsFrom (runFrom k n ws cs .state) (runFrom k n ws cs .words)
   pub roundsOfSlots : roundsEnough ≡ slotCount * slotGrants
 
 abbrev pub Demand3Holds : Type 0

@@ -1,30 +1,26 @@
 -- The ended operations of a run are answered as the plain sorted list answers them, and its entries are the tree's.
 use Prim.Native.Nat.{ℕ, _<_}
-use mathlib.Core.Bool.{Bool, true, false, cond}
-use mathlib.Core.Logic.{inl, inr, ⊎-elim, _≢_}
+use mathlib.Core.Bool.{true, false}
+use mathlib.Core.Logic.{⊎-elim, _≢_}
 use mathlib.Core.List.{List, [], _∷_, _++_}
 use mathlib.Core.Path.{_≡_, refl, sym, ap, ap₂, subst, _∙_}
-use lib.Dec.{eqb}
 use borrow.Author.Tests.{eq-eqb, ne-eqb}
 use Rattle.ground.specs.Limits.{slotCount}
 use Rattle.ground.specs.Tests.{member}
-use Rattle.ground.proofs.Bools.{not-both}
 use Rattle.ground.proofs.Choice.{cond-ind, cond-true, cond-false}
 use Rattle.page.specs.Words.{Entry}
 use Rattle.page.specs.Place.{has}
 use Rattle.pool.specs.Pool.{Write, applied, fresh}
 use Rattle.slots.specs.declared.Op.{Op}
 use Rattle.slots.specs.declared.Op.the-variants.{Search, Insert, Delete}
-use Rattle.slots.specs.declared.Task.{Task}
-use Rattle.slots.specs.declared.Task.the-variants.{Closed, Open}
+use Rattle.slots.specs.declared.Task.the-variants.{Open}
 use Rattle.slots.specs.declared.Slot.{Slot}
 use Rattle.slots.specs.declared.State.{State}
 use Rattle.slots.specs.declared.Outcome.{Outcome}
 use Rattle.slots.specs.declared.Answer.{Answer}
-use Rattle.slots.specs.declared.Answer.the-variants.{Waiting, Moved, NoRoom, Begun, BadSlot, SlotBusy, SlotIdle}
+use Rattle.slots.specs.declared.Answer.the-variants.{Waiting, Moved, Begun, BadSlot, SlotBusy, SlotIdle}
 use Rattle.slots.specs.Parts.{slotAt, pathOf, siblingsOf, wantAt, openSlot, closedSlot, idleState}
 use Rattle.slots.specs.Book.{rewritten, begins, goesOn, closes}
-use Rattle.slots.specs.Begin.{begun}
 use Rattle.slots.proofs.OrderLaws.{same-or-not}
 use Rattle.slots.proofs.Keeping.{slot-here, slot-other}
 use Rattle.index.specs.Step.{Left, left, stepped}

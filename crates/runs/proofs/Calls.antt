@@ -36,8 +36,8 @@ use Rattle.index.specs.Step.{Left, left, acted, steppedTask, stepped}
 use Rattle.tree.specs.Tree.{Tr, PoolForms}
 use Rattle.tree.specs.Change.{memoryAfter, writtenPages}
 use Rattle.tree.proofs.Words.{fit-writes, applied-memory, pool-leads}
-use Rattle.runs.specs.Stance.{Starting, Stance}
-use Rattle.runs.specs.Step.{Ended, Takes, Comes, moves, stops}
+use Rattle.runs.specs.Stance.{Starting, Stance, Takes}
+use Rattle.runs.specs.Step.{Ended, Comes, moves, stops}
 use Rattle.runs.proofs.Invariant.{Runs, Invariant, scene}
 use Rattle.runs.proofs.Placing.{WellHeld, well-held}
 use Rattle.runs.proofs.Others.{others-keep}

@@ -18,11 +18,11 @@ use Rattle.slots.specs.declared.Op.{Op}
 use Rattle.slots.specs.declared.Slot.{Slot}
 use Rattle.slots.specs.declared.State.{State}
 use Rattle.slots.specs.declared.Outcome.{Outcome}
-use Rattle.slots.specs.Heard.{changesNothing}
+use Rattle.slots.specs.Heard.{numberOf, changesNothing}
 use Rattle.slots.specs.Parts.{isOpen, isDelete, openSlot, pathOf, siblingsOf, slotAt, openAt, wantAt}
 use Rattle.slots.specs.Book.{begins, goesOn}
 use Rattle.slots.specs.Begin.{begun}
-use Rattle.slots.proofs.Keeping.{Shaped, slot-other, path-new}
+use Rattle.slots.proofs.Keeping.{Shaped, slot-here, slot-other, path-new}
 use Rattle.slots.proofs.OrderLaws.{same-or-not}
 use Rattle.grant.specs.Granted.{kept, atItsLeaf}
 use Rattle.index.specs.Step.{Left, stepped}
@@ -30,7 +30,7 @@ use Rattle.index.proofs.Refusals.{step-refused}
 use Rattle.tree.proofs.Search.{way-facts}
 use Rattle.runs.specs.Run.{Call, begin, step, report, called, InWords}
 use Rattle.runs.specs.Step.{Comes, moves, stops}
-use Rattle.runs.specs.Counts.{grantedTo, grantsOf, endsWithin, heightGranted, GrantCounts}
+use Rattle.runs.specs.Counts.{grantedTo, grantsOf, endsWithin, heightGranted, GrantCounts, CountsFrom}
 use Rattle.runs.proofs.Invariant.{Runs, Invariant}
 use Rattle.runs.proofs.Calls.{same-op}
 use Rattle.runs.proofs.Runs.{BeginOf, noSuch, busy, begins-so, begin-of, call-keeps}
@@ -86,6 +86,10 @@ none-granted s st ws = refl
 begins-other : (st : State) → Shaped st → (u : ℕ) → u < slotCount → (op : Op) (s : ℕ) → s ≢ u → slotAt (begins st u op) s ≡ slotAt st s
 unfolding begins
 begins-other st shaped u b op s n = slot-other st shaped u b (openSlot op 0 [] []) (st .order) (st .waiting) s n
+
+begins-here : (st : State) → Shaped st → (s : ℕ) → s < slotCount → (op : Op) → slotAt (begins st s op) s ≡ openSlot op 0 [] []
+unfolding begins
+begins-here st shaped s b op = slot-here st shaped s b (openSlot op 0 [] []) (st .order) (st .waiting)
 
 begins-k : (st : State) (u : ℕ) (op : Op) → begins st u op .k ≡ st .k
 unfolding begins
@@ -381,3 +385,17 @@ module _ (s : ℕ) (b : s < slotCount) where
         most = counted .1;
         inAll = omega (arith, at-most cs words st ws inv opened, measure-bound st ws inv s b opened .1);
       }
+
+-- In a state of a run: whatever operation is begun, and whatever is called then.
+pub counts-from : (st : State) (ws : List ℕ) → Invariant st ws → CountsFrom st ws
+unfolding called
+counts-from st ws inv s op cs words heard-begun = by-begin (begin-of st ws inv s op)
+  where
+    by-begin : BeginOf st s op → GrantCounts s op cs (begun st s op .state) ws
+    by-begin (noSuch b e) = absurd (omega (arith, ap numberOf (sym (ap (λ (o : Outcome). o .answer) e) ∙ heard-begun)))
+    by-begin (busy b o e) = absurd (omega (arith, ap numberOf (sym (ap (λ (o : Outcome). o .answer) e) ∙ heard-begun)))
+    by-begin (begins-so b c e) =
+        let here : slotAt (begun st s op .state) s ≡ openSlot op 0 [] [] = ap (λ (o : Outcome). slotAt (o .state) s) e ∙ begins-here st (inv .shaped) s b op in
+        grant-counts s b op cs (begun st s op .state) ws (call-keeps st ws inv (begin s op) (words .0)) (words .1)
+        (ap (λ (slot : Slot). slot .task) here)
+        (ap pathOf here ∙ path-new op 0 [] [])

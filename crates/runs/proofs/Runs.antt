@@ -4,21 +4,20 @@ use mathlib.Core.Bool.{true, false, cond, not, _&&_, false≢true}
 use mathlib.Core.Logic.{⊎-elim}
 use mathlib.Core.List.{List, [], _∷_}
 use mathlib.Core.Path.{_≡_, refl, sym, ap, subst, _∙_}
-use lib.Dec.{ltb, leb, eqb}
+use lib.Dec.{ltb, leb}
 use lib.ListN.{length}
-use borrow.Author.Tests.{leb-true, ltb-true, ltb-false, lt-ltb, eq-eqb}
+use borrow.Author.Tests.{leb-true, ltb-true, ltb-false, eq-eqb}
 use Rattle.ground.specs.Limits.{largestK, largestN, slotCount, wordRange}
-use Rattle.ground.proofs.Bools.{true-or-false, not-both, and-first, and-second, and-both, not-of-true, not-of-false}
+use Rattle.ground.proofs.Bools.{true-or-false, and-first, and-second, and-both, not-of-true, not-of-false}
 use Rattle.ground.proofs.Choice.{cond-true, cond-false}
 use Rattle.pool.specs.Pool.{kInRange, nInRange, poolLength, fresh}
 use Rattle.slots.specs.declared.Op.{Op}
 use Rattle.slots.specs.declared.Op.the-variants.{Search, Insert, Delete}
-use Rattle.slots.specs.declared.Task.the-variants.{Closed, Open}
 use Rattle.slots.specs.declared.Slot.{Slot}
 use Rattle.slots.specs.declared.State.{State}
 use Rattle.slots.specs.declared.Outcome.{Outcome}
 use Rattle.slots.specs.declared.Answer.the-variants.{Begun, Made, Reported, BadState, BadPool, BadSlot, SlotBusy, BadPage}
-use Rattle.slots.specs.Parts.{keyOf, isOpen, slotAt, openAt, closedSlot, idleState}
+use Rattle.slots.specs.Parts.{keyOf, isOpen, openAt, closedSlot, idleState}
 use Rattle.slots.specs.Sound.{sound}
 use Rattle.slots.specs.Book.{begins, goesOn, closes}
 use Rattle.slots.specs.Begin.{outcome, begun}

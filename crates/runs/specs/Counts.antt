@@ -9,9 +9,10 @@ use Rattle.ground.specs.Limits.{slotGrants}
 use Rattle.pool.specs.Pool.{pageAt}
 use Rattle.slots.specs.declared.Op.{Op}
 use Rattle.slots.specs.declared.State.{State}
+use Rattle.slots.specs.declared.Answer.the-variants.{Begun}
 use Rattle.slots.specs.Heard.{changesNothing}
 use Rattle.slots.specs.Parts.{isDelete, openAt}
-use Rattle.runs.specs.Run.{Call, begin, step, report, called}
+use Rattle.runs.specs.Run.{Call, begin, step, report, called, InWords}
 
 -- the call is a granted step of slot s: it is neither refused nor answered Waiting
 abbrev pub grantedTo : ℕ → State → List ℕ → Call → Bool
@@ -49,3 +50,9 @@ pub record GrantCounts (s : ℕ) (op : Op) (cs : List Call) (st : State) (ws : L
   pub most : grantsOf s cs st ws ≤ 2 * heightGranted s cs st ws - 1
   -- "So at most 19 a slot"
   pub inAll : grantsOf s cs st ws ≤ slotGrants
+
+-- Whatever operation is begun in this state, and whatever is called then.
+abbrev pub CountsFrom : State → List ℕ → Type 0
+CountsFrom st ws =
+    (s : ℕ) (op : Op) (cs : List Call) → InWords (begin s op ∷ cs) → called st ws (begin s op) .answer ≡ Begun
+    → GrantCounts s op cs (called st ws (begin s op) .state) (called st ws (begin s op) .words)
