@@ -1,6 +1,6 @@
 -- Every call keeps what holds of a run: begin, step and report, one after the other.
 use Prim.Native.Nat.{ℕ, _≤_, _<_}
-use mathlib.Core.Bool.{Bool, true, false, cond, not, _&&_, _||_, false≢true}
+use mathlib.Core.Bool.{true, false, cond, not, _||_, false≢true}
 use mathlib.Core.Logic.{_⊎_, inl, inr, ⊎-elim, _≢_}
 use mathlib.Core.List.{List, [], _∷_, _++_, append-nil}
 use mathlib.Core.Path.{_≡_, refl, sym, ap, ap₂, subst, _∙_}
@@ -10,11 +10,11 @@ use lib.ListN.{length}
 use borrow.Author.Tests.{ltb-true, ltb-false, lt-ltb, eq-eqb}
 use Rattle.ground.specs.Limits.{slotCount, wordRange}
 use Rattle.ground.specs.Tests.{member, apart}
-use Rattle.ground.proofs.Bools.{true-or-false, not-both, false-if-not-true, and-first, and-second, or-cases, or-first, or-first-fails, or-second, not-of-true, not-of-false}
+use Rattle.ground.proofs.Bools.{true-or-false, not-both, false-if-not-true, or-cases, or-first, or-first-fails, or-second, not-of-true, not-of-false}
 use Rattle.ground.proofs.Choice.{cond-true, cond-false}
 use Rattle.ground.proofs.Tests.{member-none, member-append, apart-member}
-use Rattle.page.specs.Words.{Page, Entry}
-use Rattle.pool.specs.Pool.{Write, poolLength, pageAt, applied, fresh, kInRange, nInRange}
+use Rattle.page.specs.Words.{Page}
+use Rattle.pool.specs.Pool.{Write, poolLength, pageAt, applied}
 use Rattle.slots.specs.declared.Op.{Op}
 use Rattle.slots.specs.declared.Op.the-variants.{Search, Insert, Delete}
 use Rattle.slots.specs.declared.Task.{Task}
@@ -31,14 +31,13 @@ use Rattle.slots.proofs.SoundFacts.{SoundState, facts-sound}
 use Rattle.slots.proofs.OrderLaws.{same-or-not, member-cases}
 use Rattle.slots.proofs.GrantLaws.{taking-alone}
 use Rattle.slots.proofs.Keeping.{Shaped, slot-here, slot-other, path-new, siblings-new, begins-sound, begins-shaped, closes-sound, closes-shaped, goes-on-sound, goes-on-shaped}
-use Rattle.grant.specs.Granted.{Verdict}
 use Rattle.grant.specs.Fitting.{verdict}
 use Rattle.index.specs.Step.{Left, left, acted, steppedTask, stepped}
-use Rattle.tree.specs.Tree.{Tr, occurs, PoolForms}
-use Rattle.tree.specs.Change.{memoryAfter, writtenPages, Leads}
+use Rattle.tree.specs.Tree.{Tr, PoolForms}
+use Rattle.tree.specs.Change.{memoryAfter, writtenPages}
 use Rattle.tree.proofs.Words.{fit-writes, applied-memory, pool-leads}
-use Rattle.runs.specs.Stance.{Starting, Stance}
-use Rattle.runs.specs.Step.{Ended, Takes, Comes, moves, stops}
+use Rattle.runs.specs.Stance.{Starting, Stance, Takes}
+use Rattle.runs.specs.Step.{Ended, Comes, moves, stops}
 use Rattle.runs.proofs.Invariant.{Runs, Invariant, scene}
 use Rattle.runs.proofs.Placing.{WellHeld, well-held}
 use Rattle.runs.proofs.Others.{others-keep}
@@ -152,6 +151,30 @@ module _ (st : State) (ws : List ℕ) (inv : Invariant st ws) (s : ℕ) (b : s <
       here = subst (λ (ss : List ℕ). Stance op (st .k) (pageAt (st .k) ws) (inv .height) (inv .tree) (pathOf slot) ss want) (sym (siblings-new op want path siblings))
           (subst (λ (ps : List ℕ). Stance op (st .k) (pageAt (st .k) ws) (inv .height) (inv .tree) ps siblings want) (sym (path-new op want path siblings)) stance)
 
+  -- What an operation writes as it ends no other slot holds: where one of the two updates, they hold apart; where both search,
+  -- nothing is written.
+  pub others-unwritten : (op : Op) (a : Answer) (writes : List Write) → Runs st s op → grants st s ≡ true
+      → Ended op (st .k) (st .n) ws (inv .height) (inv .tree) (pathOf (slotAt st s)) (siblingsOf (slotAt st s)) (wantAt st s) a writes
+      → (u : ℕ) (op′ : Op) → u < slotCount → u ≢ s → Runs st u op′ → (q : ℕ) → holdsAt st u q ≡ true → member q (writtenPages writes) ≡ false
+  others-unwritten op a writes runs granted e u op′ c n rs q m =
+      false-if-not-true (member q (writtenPages writes)) (λ w. ⊎-elim
+      (λ x. ⊎-elim
+      (λ h. not-both m (apart-member (wantAt st s ∷ held (slotAt st s)) (held (slotAt st u)) (alone x) q h))
+      (λ o. let some = well .pages q (member-later q (wantAt st u) (held (slotAt st u)) m) in absurd (omega arith))
+      (e .only q w))
+      (λ x. not-both w (nothing-written (or-first-fails (isXi (lockAt st s)) (isXi (lockAt st u)) x)))
+      (true-or-false (isXi (lockAt st s) || isXi (lockAt st u))))
+    where
+      well : WellHeld op′ (st .n) (inv .height) (inv .tree) (pathOf (slotAt st u)) (siblingsOf (slotAt st u)) (wantAt st u)
+      well = well-held op′ (st .k) (st .n) ws (inv .height) (inv .tree) (pathOf (slotAt st u)) (siblingsOf (slotAt st u)) (wantAt st u) (scene st ws inv u op′ c rs)
+
+      alone : isXi (lockAt st s) || isXi (lockAt st u) ≡ true → apart (wantAt st s ∷ held (slotAt st s)) (held (slotAt st u)) ≡ true
+      alone x = taking-alone st (inv .sound) s b (ap isOpen runs) granted (wantAt st s ∷ held (slotAt st s))
+          (λ p h. ⊎-elim inr inl (member-cases p (wantAt st s) (held (slotAt st s)) h)) u c n x
+
+      nothing-written : isXi (lockAt st s) ≡ false → member q (writtenPages writes) ≡ false
+      nothing-written x = ap (λ (W : List Write). member q (writtenPages W)) (e .reads (reader-task op (sym (ap (λ (task : Task). isXi (lockOf task)) runs) ∙ x))) ∙ member-none q
+
   -- Ending: the slot closes, and what it wrote no other slot holds.
   pub end-keeps : (op : Op) (a : Answer) (writes : List Write) → Runs st s op → grants st s ≡ true
       → Ended op (st .k) (st .n) ws (inv .height) (inv .tree) (pathOf (slotAt st s)) (siblingsOf (slotAt st s)) (wantAt st s) a writes
@@ -167,34 +190,13 @@ module _ (st : State) (ws : List ℕ) (inv : Invariant st ws) (s : ℕ) (b : s <
       (λ (m : ℕ → Page). Stance op′ (st .k) m (e .leads .height) (e .leads .tree) (pathOf (slotAt st u)) (siblingsOf (slotAt st u)) (wantAt st u))
       (sym memory-after)
       (others-keep op′ (st .k) (st .n) (pageAt (st .k) ws) (inv .height) (inv .tree) writes (e .entries) (pathOf (slotAt st u)) (siblingsOf (slotAt st u)) (wantAt st u)
-      (inv .sound .kLeast) (inv .keys u op′ c rs) (inv .forms .forms) (e .leads) (λ q m. unwritten u op′ c n rs q m) (inv .stands u op′ c rs)))
+      (inv .sound .kLeast) (inv .keys u op′ c rs) (inv .forms .forms) (e .leads) (others-unwritten op a writes runs granted e u op′ c n rs) (inv .stands u op′ c rs)))
     where
       opened : openAt st s ≡ true
       opened = ap isOpen runs
 
       memory-after : pageAt (st .k) (applied (st .k) writes ws) ≡ memoryAfter (pageAt (st .k) ws) writes
       memory-after = λ i q. applied-memory (st .k) (st .n) writes ws (fit-writes (st .k) (st .n) writes (e .leads .fitting) (e .leads .inside)) (inv .forms .whole) q i
-
-      -- where one of the two updates, they hold apart; where both search, nothing is written
-      unwritten : (u : ℕ) (op′ : Op) → u < slotCount → u ≢ s → Runs st u op′ → (q : ℕ) → member q (held (slotAt st u)) ≡ true → member q (writtenPages writes) ≡ false
-      unwritten u op′ c n rs q m =
-          false-if-not-true (member q (writtenPages writes)) (λ w. ⊎-elim
-          (λ x. ⊎-elim
-          (λ h. not-both m (apart-member (wantAt st s ∷ held (slotAt st s)) (held (slotAt st u)) (alone x) q h))
-          (λ o. let some = well .pages q (member-later q (wantAt st u) (held (slotAt st u)) m) in absurd (omega arith))
-          (e .only q w))
-          (λ x. not-both w (nothing-written (or-first-fails (isXi (lockAt st s)) (isXi (lockAt st u)) x)))
-          (true-or-false (isXi (lockAt st s) || isXi (lockAt st u))))
-        where
-          well : WellHeld op′ (st .n) (inv .height) (inv .tree) (pathOf (slotAt st u)) (siblingsOf (slotAt st u)) (wantAt st u)
-          well = well-held op′ (st .k) (st .n) ws (inv .height) (inv .tree) (pathOf (slotAt st u)) (siblingsOf (slotAt st u)) (wantAt st u) (scene st ws inv u op′ c rs)
-
-          alone : isXi (lockAt st s) || isXi (lockAt st u) ≡ true → apart (wantAt st s ∷ held (slotAt st s)) (held (slotAt st u)) ≡ true
-          alone x = taking-alone st (inv .sound) s b opened granted (wantAt st s ∷ held (slotAt st s))
-              (λ p h. ⊎-elim inr inl (member-cases p (wantAt st s) (held (slotAt st s)) h)) u c n x
-
-          nothing-written : isXi (lockAt st s) ≡ false → member q (writtenPages writes) ≡ false
-          nothing-written x = ap (λ (W : List Write). member q (writtenPages W)) (e .reads (reader-task op (sym (ap (λ (task : Task). isXi (lockOf task)) runs) ∙ x))) ∙ member-none q
 
 -- ---- a step
 
@@ -233,12 +235,17 @@ module _ (st : State) (ws : List ℕ) (inv : Invariant st ws) (s : ℕ) where
   comes-to op b runs g e (moves path siblings want v stance takes) = onward op path siblings want b runs g (e ∙ ap (acted st ws s op) v) stance takes
   comes-to op b runs g e (stops a writes v ended) = over op a writes b runs g (e ∙ ap (acted st ws s op) v) ended
 
+  -- a granted step does what it comes to by the rule
+  pub granted-does : (op : Op) → s < slotCount → Runs st s op → grants st s ≡ true
+      → stepped st ws s ≡ acted st ws s op (verdict op (st .k) (st .n) ws (pathOf (slotAt st s)) (siblingsOf (slotAt st s)) (wantAt st s))
+  granted-does op b runs g = within b ∙ ap (steppedTask st ws s (slotAt st s)) runs ∙ cond-true _ (left Waiting st ws) g
+
   by-task : (b : s < slotCount) (task : Task) → slotAt st s .task ≡ task → StepOf st ws inv s
   by-task b Closed e = idle b (ap isOpen e) (within b ∙ ap (steppedTask st ws s (slotAt st s)) e)
   by-task b (Open op) e =
       let told : stepped st ws s ≡ steppedTask st ws s (slotAt st s) (Open op) = within b ∙ ap (steppedTask st ws s (slotAt st s)) e in
       ⊎-elim
-      (λ g. comes-to op b e g (told ∙ cond-true _ (left Waiting st ws) g)
+      (λ g. comes-to op b e g (granted-does op b e g)
       (granted-comes op (st .k) (st .n) ws (inv .height) (inv .tree) (pathOf (slotAt st s)) (siblingsOf (slotAt st s)) (wantAt st s) (scene st ws inv s op b e)))
       (λ g. waits op b e g (told ∙ cond-false (acted st ws s op (verdict op (st .k) (st .n) ws (pathOf (slotAt st s)) (siblingsOf (slotAt st s)) (wantAt st s))) (left Waiting st ws) g))
       (true-or-false (grants st s))

@@ -31,9 +31,9 @@ use Rattle.tree.specs.Insertion.{treeRoom, Inserts}
 use Rattle.tree.specs.Facts.{WayFacts}
 use Rattle.tree.proofs.Insertion.{insertionLeads, roomOfTree}
 use Rattle.tree.proofs.Words.{free-facts}
-use Rattle.runs.specs.Stance.{Rightly, Stance}
+use Rattle.runs.specs.Stance.{Rightly, Stance, Takes}
 use Rattle.runs.specs.Plain.{Reply, reply, plain}
-use Rattle.runs.specs.Step.{Takes, NoRoomLeft, AsPlain, Ended}
+use Rattle.runs.specs.Step.{NoRoomLeft, AsPlain, Ended}
 use Rattle.runs.proofs.Paths.{member-reverse}
 use Rattle.runs.proofs.HeldPath.{held-way}
 use Rattle.runs.proofs.Needing.{AtLeaf, leaf-goes, leaf-ends, leaf-on-course}

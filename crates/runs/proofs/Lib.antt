@@ -1,4 +1,5 @@
 pub mod Invariant
+pub mod PlainLaws
 pub mod Paths
 pub mod HeldPath
 pub mod Needing
@@ -12,3 +13,9 @@ pub mod Progress
 pub mod Calls
 pub mod Runs
 pub mod Agreement
+pub mod Verdicts
+pub mod Steps
+pub mod Measure
+pub mod MeasureLaws
+pub mod Rounds
+pub mod Counts

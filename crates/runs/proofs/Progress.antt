@@ -165,7 +165,7 @@ older-first st l s s′ level low m = omega (arith, older-fewer s s′ (waitingO
 
 -- ---- some want is granted
 
-opened : (task : Task) → isOpen task ≡ true → (op : Op) × (task ≡ Open op)
+pub opened : (task : Task) → isOpen task ≡ true → (op : Op) × (task ≡ Open op)
 opened Closed e = not-both e refl
 opened (Open op) e = (op, refl)
 

@@ -34,8 +34,8 @@ use Rattle.tree.proofs.Rows.{by-test}
 use Rattle.tree.proofs.Search.{way-facts}
 use Rattle.tree.proofs.Ways.{place-facts}
 use Rattle.tree.proofs.SoundPages.{pool-sound}
-use Rattle.runs.specs.Stance.{Rightly, Beside, Stance}
-use Rattle.runs.specs.Step.{Scene, Takes, Comes, moves, stops}
+use Rattle.runs.specs.Stance.{Rightly, Beside, Stance, Takes}
+use Rattle.runs.specs.Step.{Scene, Comes, moves, stops}
 use Rattle.runs.proofs.Paths.{member-reverse}
 use Rattle.runs.proofs.Placing.{well-held}
 use Rattle.runs.proofs.Needing.{AtLeaf, beside-leaf, beside-asked}

@@ -59,3 +59,12 @@ pub record Beside (op : Op) (k : ℕ) (memory : ℕ → Page) (l : ℕ) (t : Tr 
 abbrev pub Stance : Op → ℕ → (ℕ → Page) → (l : ℕ) → Tr l → List ℕ → List ℕ → ℕ → Type 0
 Stance op k memory l t path siblings want =
     Starting path siblings want ⊎ (Coming op k memory l t path siblings want ⊎ Beside op k memory l t path siblings want)
+
+-- What a slot that goes on holds afterwards: the page that it wanted, and of what it held all, or nothing.
+-- "Search gives up the father." "Insertion: if the page has μ < 2k, all its ancestors are given up." "Deletion: the same
+-- with μ > k". A sibling is taken beside all that is held.
+abbrev pub Takes : Op → ℕ → (ℕ → Page) → List ℕ → List ℕ → ℕ → List ℕ → List ℕ → Type 0
+Takes op k memory path siblings want path′ siblings′ =
+    ((siblings ≡ []) × (siblings′ ≡ []) × (isSafe op k (μ (memory want)) ≡ true) × (path′ ≡ want ∷ []))
+    ⊎ (((siblings ≡ []) × (siblings′ ≡ []) × (isSafe op k (μ (memory want)) ≡ false) × (path′ ≡ path ++ want ∷ []))
+    ⊎ ((path′ ≡ path) × (siblings′ ≡ siblings ++ want ∷ [])))

@@ -1,13 +1,14 @@
--- What a granted step of a slot comes to in a pool that is a tree, said without the functions that the rule of a step is made of.
+-- What the verdict on a granted step comes to in a pool that is a tree: the slot stands again, or its operation ends as the plain
+-- sorted list has it. The theorems over runs rest on it; the demands do not speak of verdicts.
 use Prim.Native.Nat.{ℕ, _≤_, _<_}
 use mathlib.Core.Bool.{true, false}
 use mathlib.Core.List.{List, [], _∷_, _++_}
-use mathlib.Core.Logic.{_⊎_, _≢_}
+use mathlib.Core.Logic.{_⊎_}
 use mathlib.Core.Path.{_≡_}
 use lib.ListN.{length}
 use Rattle.ground.specs.Limits.{largestK, largestN, wordRange}
 use Rattle.ground.specs.Tests.{member}
-use Rattle.page.specs.Words.{Page, Entry, μ}
+use Rattle.page.specs.Words.{Entry}
 use Rattle.page.specs.Place.{has}
 use Rattle.pool.specs.Pool.{Write, pageAt, freePages}
 use Rattle.slots.specs.declared.Op.{Op}
@@ -15,12 +16,12 @@ use Rattle.slots.specs.declared.Op.the-variants.{Insert}
 use Rattle.slots.specs.declared.Answer.{Answer}
 use Rattle.slots.specs.declared.Answer.the-variants.{NoRoom}
 use Rattle.slots.specs.Parts.{keyOf, isSearch}
-use Rattle.grant.specs.Granted.{Verdict, goes, ends, isSafe}
+use Rattle.grant.specs.Granted.{goes, ends}
 use Rattle.grant.specs.Fitting.{verdict}
 use Rattle.tree.specs.Tree.{Tr, entriesOf, occurs, PoolForms}
 use Rattle.tree.specs.Change.{writtenPages, Leads}
 use Rattle.tree.specs.Insertion.{treeRoom}
-use Rattle.runs.specs.Stance.{Stance}
+use Rattle.runs.specs.Stance.{Stance, Takes}
 use Rattle.runs.specs.Plain.{plain}
 
 -- What is known of an open slot of a run.
@@ -31,15 +32,6 @@ pub record Scene (op : Op) (k n : ℕ) (ws : List ℕ) (l : ℕ) (t : Tr l) (pat
   pub key : keyOf op < wordRange
   pub forms : PoolForms k n ws l t
   pub stance : Stance op k (pageAt k ws) l t path siblings want
-
--- What a slot that goes on holds afterwards: the page that it wanted, and of what it held all, or nothing.
--- "Search gives up the father." "Insertion: if the page has μ < 2k, all its ancestors are given up." "Deletion: the same
--- with μ > k". A sibling is taken beside all that is held.
-abbrev pub Takes : Op → ℕ → (ℕ → Page) → List ℕ → List ℕ → ℕ → List ℕ → List ℕ → Type 0
-Takes op k memory path siblings want path′ siblings′ =
-    ((siblings ≡ []) × (siblings′ ≡ []) × (isSafe op k (μ (memory want)) ≡ true) × (path′ ≡ want ∷ []))
-    ⊎ (((siblings ≡ []) × (siblings′ ≡ []) × (isSafe op k (μ (memory want)) ≡ false) × (path′ ≡ path ++ want ∷ []))
-    ⊎ ((path′ ≡ path) × (siblings′ ≡ siblings ++ want ∷ [])))
 
 -- How an operation ends: as the plain list has it; or NoRoom, "exactly when a new key needs more pages than are free", and
 -- nothing is written.
