@@ -12,11 +12,10 @@ use lib.Seq.{length-take-le, take-suc-set, take-at, append-snoc}
 use borrow.Author.Tests.{eq-eqb, ne-eqb, eqb-true, not-true}
 use Rattle.ground.specs.Limits.{slotCount}
 use Rattle.ground.specs.Tests.{member, distinct, countBelow}
-use Rattle.ground.proofs.Bools.{not-both, or-cases, and-first, and-second, and-both, false-if-not-true}
+use Rattle.ground.proofs.Bools.{not-both, or-cases, and-first, and-second, and-both, or-first, or-second, false-if-not-true}
 use Rattle.ground.proofs.Choice.{cond-true, cond-false}
 pub use Rattle.ground.proofs.Choice.{same-or-not}
-pub use Rattle.ground.proofs.Tests.{member-here}
-use Rattle.ground.proofs.Tests.{member-none, member-there, countBelow-less, countBelow-fails, countBelow-most}
+use Rattle.ground.proofs.Tests.{member-none, countBelow-less, countBelow-fails, countBelow-most}
 use Rattle.slots.specs.declared.Op.{Op}
 use Rattle.slots.specs.declared.Slot.{Slot}
 use Rattle.slots.specs.declared.State.{State}
@@ -28,6 +27,14 @@ use Rattle.slots.proofs.SoundFacts.{SoundState}
 member-other : (x i : ℕ) (xs : List ℕ) → i ≢ x → member i xs ≡ member i (x ∷ xs)
 unfolding member
 member-other x i xs n = sym (ap (λ (t : Bool). t || member i xs) (ne-eqb i x n))
+
+pub member-here : (x : ℕ) (xs : List ℕ) → member x (x ∷ xs) ≡ true
+unfolding member
+member-here x xs = or-first (member x xs) (eq-eqb x x refl)
+
+member-there : (x i : ℕ) (xs : List ℕ) → member i xs ≡ true → member i (x ∷ xs) ≡ true
+unfolding member
+member-there x i xs m = or-second (eqb i x) m
 
 -- a list of different numbers below n is as long as there are numbers below n in it
 length-counted : (n : ℕ) (xs : List ℕ) → distinct xs ≡ true → ((x : ℕ) → member x xs ≡ true → x < n) → length xs ≡ countBelow n (λ (i : ℕ). member i xs)
