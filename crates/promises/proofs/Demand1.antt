@@ -32,7 +32,7 @@ use Rattle.tree.proofs.Rows.{by-test}
 use Rattle.index.specs.Step.{ofGranted, acted, steppedTask, stepped}
 use Rattle.index.specs.Make.{made}
 use Rattle.index.proofs.Refusals.{Answers, granted-answers, step-refused, make-refused, empty-unsound, step-length, make-length}
-use Rattle.promises.specs.Demand1.{BeginDemand, WordsFit, soundForTask, StepDemand, ReportDemand, InRange, MakeDemand}
+use Rattle.promises.specs.Demand1.{BeginDemand, WordsFit, soundForTask, StepDemand, ReportDemand, MakingInRange, MakeDemand, Demand1}
 
 -- A row of a table: an answer, and what it tells. By its number an answer tells what stands beside it; one with no row tells `other`.
 record Row : Type 1 where
@@ -251,7 +251,7 @@ report-demand st p = record {
     told e = subst (ReportTells st p) e (report-tells st p)
 
 -- the tests of making, put together and taken apart
-in-range : (k n : ℕ) (ws : List ℕ) → kInRange k && nInRange n && eqb (length ws) (poolLength k n) ≡ true → InRange k n ws
+in-range : (k n : ℕ) (ws : List ℕ) → kInRange k && nInRange n && eqb (length ws) (poolLength k n) ≡ true → MakingInRange k n ws
 in-range k n ws h = record {
   kLeast = leb-true 1 k (and-first (leb 1 k) (leb k largestK) ks);
   kMost = leb-true k largestK (and-second (leb 1 k) (leb k largestK) ks);
@@ -269,14 +269,14 @@ in-range k n ws h = record {
     ns : nInRange n ≡ true
     ns = and-second (kInRange k) (nInRange n) both
 
-range-tested : (k n : ℕ) (ws : List ℕ) → InRange k n ws → kInRange k && nInRange n && eqb (length ws) (poolLength k n) ≡ true
+range-tested : (k n : ℕ) (ws : List ℕ) → MakingInRange k n ws → kInRange k && nInRange n && eqb (length ws) (poolLength k n) ≡ true
 range-tested k n ws h =
     and-both
     (and-both (and-both (le-leb 1 k (h .kLeast)) (le-leb k largestK (h .kMost))) (and-both (le-leb 1 n (h .nLeast)) (le-leb n largestN (h .nMost))))
     (eq-eqb (length ws) (poolLength k n) (h .words))
 
 abbrev MakeTells : ℕ → ℕ → List ℕ → Answer → Type 0
-MakeTells k n ws = Tells (row BadPool (InRange k n ws → ⊥) ∷ row Made (InRange k n ws) ∷ []) ⊥
+MakeTells k n ws = Tells (row BadPool (MakingInRange k n ws → ⊥) ∷ row Made (MakingInRange k n ws) ∷ []) ⊥
 
 make-tells : (k n : ℕ) (ws : List ℕ) → MakeTells k n ws (made k n ws .answer)
 unfolding made
@@ -299,3 +299,6 @@ make-demand k n ws = record {
   where
     told : {a : Answer} → made k n ws .answer ≡ a → MakeTells k n ws a
     told e = subst (MakeTells k n ws) e (make-tells k n ws)
+
+pub demand1 : Demand1
+demand1 = record { begin = begin-demand; step = step-demand; report = report-demand; make = make-demand }

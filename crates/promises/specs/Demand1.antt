@@ -92,7 +92,7 @@ pub record ReportDemand (st : State) (p : ℕ) : Type 0 where
   pub noOther : (reported st p ≡ BadState) ⊎ (reported st p ≡ BadPage) ⊎ (reported st p ≡ Reported (lockKind st p) (holders st p) (lowestHolder st p))
 
 -- "k is 1 to 16. .. The pool has N pages, 1 to 1,024, .. and exactly N(4k+3) words."
-pub record InRange (k n : ℕ) (ws : List ℕ) : Type 0 where
+pub record MakingInRange (k n : ℕ) (ws : List ℕ) : Type 0 where
   pub kLeast : 1 ≤ k
   pub kMost : k ≤ largestK
   pub nLeast : 1 ≤ n
@@ -102,8 +102,8 @@ pub record InRange (k n : ℕ) (ws : List ℕ) : Type 0 where
 -- Making a pool.
 pub record MakeDemand (k n : ℕ) (ws : List ℕ) : Type 0 where
   -- 2, "when making a pool: k, N or length out of range"
-  pub badPool : Exactly (made k n ws .answer ≡ BadPool) (InRange k n ws → ⊥)
-  pub makes : Exactly (made k n ws .answer ≡ Made) (InRange k n ws)
+  pub badPool : Exactly (made k n ws .answer ≡ BadPool) (MakingInRange k n ws → ⊥)
+  pub makes : Exactly (made k n ws .answer ≡ Made) (MakingInRange k n ws)
   pub noOther : (made k n ws .answer ≡ BadPool) ⊎ (made k n ws .answer ≡ Made)
   -- "as given; making returns an empty state, k and N 0, which is itself BadState"
   pub refused : made k n ws .answer ≡ BadPool → (made k n ws .words ≡ ws) × (made k n ws .state ≡ idleState 0 0)
@@ -111,3 +111,11 @@ pub record MakeDemand (k n : ℕ) (ws : List ℕ) : Type 0 where
   -- "Making a fresh pool writes every word"; every slot is closed
   pub freshPool : made k n ws .answer ≡ Made → (made k n ws .words ≡ fresh k n) × (made k n ws .state ≡ idleState k n)
   pub sameLength : length (made k n ws .words) ≡ length ws
+
+-- ---- the demand
+
+pub record Demand1 : Type 0 where
+  pub begin : (st : State) (s : ℕ) (op : Op) → BeginDemand st s op
+  pub step : (st : State) (ws : List ℕ) (s : ℕ) → StepDemand st ws s
+  pub report : (st : State) (p : ℕ) → ReportDemand st p
+  pub make : (k n : ℕ) (ws : List ℕ) → MakeDemand k n ws

@@ -3,7 +3,7 @@
 -- operation after another, gives the same answers, and the tree holds its entries at every moment. "No room" changes nothing
 -- and comes exactly when a new key needs more pages than are free. While any operation is open, some open one can be granted
 -- its step, and if none is begun, 304 rounds that each step every open slot end them all."
-use Prim.Native.Nat.{ℕ, _*_, _≤_, _<_}
+use Prim.Native.Nat.{ℕ, _+_, _*_, _≤_, _<_}
 use mathlib.Core.Bool.{true, false}
 use mathlib.Core.List.{List, [], _++_}
 use mathlib.Core.Path.{_≡_}
@@ -21,6 +21,7 @@ use Rattle.slots.specs.Grant.{grants}
 use Rattle.slots.specs.Heard.{changesNothing}
 use Rattle.index.specs.Step.{Left, stepped}
 use Rattle.tree.specs.Tree.{Tr, entriesOf, PoolForms}
+use Rattle.tree.specs.Facts.{pageCount}
 use Rattle.tree.specs.Insertion.{treeRoom}
 use Rattle.runs.specs.Run.{Call, Told, runFrom, Run}
 use Rattle.runs.specs.Done.{Done, nobody, done, plainAnswers, plainEntries, opsOf, answersIn}
@@ -61,11 +62,15 @@ pub record NoRoomSays (k n : ℕ) (st : State) (ws : List ℕ) (l : ℕ) (t : Tr
   pub key : ℕ
   pub lot : ℕ
   pub inserts : Opened st s (Insert key lot)
+  pub granted : grants st s ≡ true
+  pub atLeaf : isLeaf (pageAt k ws (wantAt st s)) ≡ true
   pub new : has key (entriesOf l t) ≡ false
   pub needsMore : length (freePages k n ws) < treeRoom k key l t
   pub words : after .words ≡ ws
 
 pub record Room (k n : ℕ) (st : State) (ws : List ℕ) : Type 0 where
+  -- the free pages that are counted are all that are not the tree's
+  pub free : (l : ℕ) (t : Tr l) → PoolForms k n ws l t → length (freePages k n ws) + pageCount l t ≡ n
   pub exact : (l : ℕ) (t : Tr l) (s x v : ℕ) → PoolForms k n ws l t → s < slotCount → Opened st s (Insert x v) → grants st s ≡ true
       → isLeaf (pageAt k ws (wantAt st s)) ≡ true → RoomExact k n ws l t x (stepped st ws s)
   pub says : (l : ℕ) (t : Tr l) (s : ℕ) → PoolForms k n ws l t → stepped st ws s .answer ≡ NoRoom → NoRoomSays k n st ws l t s (stepped st ws s)

@@ -265,17 +265,17 @@ member-last p xs w m =
 -- what a slot that goes on holds, it held or wanted
 takes-from : (op : Op) (k : ℕ) (memory : ℕ → Page) (path siblings : List ℕ) (want : ℕ) (path′ siblings′ : List ℕ) → Takes op k memory path siblings want path′ siblings′
     → (p : ℕ) → member p (path′ ++ siblings′) ≡ true → (member p (path ++ siblings) ≡ true) ⊎ (p ≡ want)
-takes-from op k memory path siblings want path′ siblings′ (inl (_, none, _, alone)) p m =
+takes-from op k memory path siblings want path′ siblings′ (inl g) p m =
     ⊎-elim (λ h. not-both h (member-none p)) inr
-    (member-last p [] want (subst (λ (ps : List ℕ). member p ps ≡ true) (ap₂ _++_ alone none) m))
-takes-from op k memory path siblings want path′ siblings′ (inr (inl (_, none, _, longer))) p m =
+    (member-last p [] want (subst (λ (ps : List ℕ). member p ps ≡ true) (ap₂ _++_ (g .holds) (g .still)) m))
+takes-from op k memory path siblings want path′ siblings′ (inr (inl g)) p m =
     ⊎-elim (λ h. inl (member-append p path siblings ∙ or-first (member p siblings) h)) inr
-    (member-last p path want (subst (λ (ps : List ℕ). member p ps ≡ true) (ap₂ _++_ longer none ∙ append-nil (path ++ want ∷ [])) m))
-takes-from op k memory path siblings want path′ siblings′ (inr (inr (same, wider))) p m =
+    (member-last p path want (subst (λ (ps : List ℕ). member p ps ≡ true) (ap₂ _++_ (g .holds) (g .still) ∙ append-nil (path ++ want ∷ [])) m))
+takes-from op k memory path siblings want path′ siblings′ (inr (inr g)) p m =
     ⊎-elim (λ h. inl (member-append p path siblings ∙ or-first (member p siblings) h))
     (λ h. ⊎-elim (λ g. inl (member-append p path siblings ∙ or-second (member p path) g)) inr (member-last p siblings want h))
     (or-cases (member p path) (member p (siblings ++ want ∷ []))
-    (sym (member-append p path (siblings ++ want ∷ [])) ∙ subst (λ (ps : List ℕ). member p ps ≡ true) (ap₂ _++_ same wider) m))
+    (sym (member-append p path (siblings ++ want ∷ [])) ∙ subst (λ (ps : List ℕ). member p ps ≡ true) (ap₂ _++_ (g .still) (g .holds)) m))
 
 -- A step keeps what holds of a run.
 pub step-keeps : (st : State) (ws : List ℕ) (inv : Invariant st ws) (s : ℕ) → StepOf st ws inv s → Invariant (stepped st ws s .state) (stepped st ws s .words)

@@ -23,7 +23,7 @@ use Rattle.tree.specs.Tree.{Tr, Stands, way, Forms}
 use Rattle.tree.specs.Facts.{Placed, WayFacts, PlaceFacts}
 use Rattle.tree.proofs.Search.{way-facts}
 use Rattle.tree.proofs.Ways.{stands-root, neighbour-pointer, place-facts}
-use Rattle.runs.specs.Stance.{Stance, Coming, Beside}
+use Rattle.runs.specs.Stance.{Stance, Coming, WantsSibling}
 use Rattle.runs.proofs.Paths.{member-reverse}
 
 -- ---- a path read upward
@@ -262,7 +262,7 @@ module _ (k n : ℕ) (memory : ℕ → Page) (l : ℕ) (t : Tr l) (forms : Forms
           }
 
     -- at its leaf, it wants a neighbour
-    module _ (b : Beside op k memory l t path siblings want) where
+    module _ (b : WantsSibling op k memory l t path siblings want) where
       beside-climbs : Climbs (keyOf op) path 0
       beside-climbs = climbs (keyOf op) [] path (b .upper) key (b .whole)
 

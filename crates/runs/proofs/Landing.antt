@@ -122,6 +122,7 @@ module _ (k n : ℕ) (ws : List ℕ) (l : ℕ) (t : Tr l) (pool : PoolForms k n 
     how = how;
     only = λ q m. not-both m (member-none q);
     reads = λ y. refl;
+    writers = λ y. refl;
   }
 
   module _ (x : ℕ) (facts : WayFacts memory x l t) (leaf : ℕ) (rest : List ℕ) (whole : way x l t ≡ leaf ∷ rest) where
@@ -182,7 +183,7 @@ module _ (k n : ℕ) (ws : List ℕ) (l : ℕ) (t : Tr l) (pool : PoolForms k n 
       -- a new key with room
       insertion-ends : has x es ≡ false → treeRoom k x l t ≤ length free
           → Ended (Insert x v) k n ws l t path₀ siblings₀ want Inserted (insertion k memory x v free leaf fathers)
-      unfolding plain
+      unfolding plain member
       insertion-ends new enough =
           let same : plain (Insert x v) es ≡ reply Inserted (inserted x v es) = cond-false (reply AlreadyThere es) (reply Inserted (inserted x v es)) new in
           let change = changes new enough in
@@ -200,6 +201,7 @@ module _ (k n : ℕ) (ws : List ℕ) (l : ℕ) (t : Tr l) (pool : PoolForms k n 
                 (λ f. inr (free-facts k n ws l t pool .free .outside q (member-take q (room k memory leaf (leaf ∷ fathers)) free f)))
                 (change .writes q m);
             reads = λ y. absurd (false≢true y);
+            writers = λ y. absurd (true≢false y);
           }
 
       pub insert-does : Does (Insert x v) k n ws l t path₀ siblings₀ want (atLeaf (Insert x v) k memory free path leaf fathers)
@@ -240,7 +242,7 @@ module _ (k n : ℕ) (ws : List ℕ) (l : ℕ) (t : Tr l) (pool : PoolForms k n 
 
       deletion-ends : needs k memory x leaf fathers siblings ≡ nothing
           → Ended (Delete x) k n ws l t path₀ siblings₀ want (Deleted (information x (memory leaf .entries))) (deletion k memory x leaf fathers siblings)
-      unfolding plain
+      unfolding plain member
       deletion-ends enough =
           let same : plain (Delete x) es ≡ reply (Deleted (information x es)) (without x es)
           = cond-true (reply (Deleted (information x es)) (without x es)) (reply NoSuchKey es) (at .there) in
@@ -255,6 +257,7 @@ module _ (k n : ℕ) (ws : List ℕ) (l : ℕ) (t : Tr l) (pool : PoolForms k n 
             });
             only = λ q m. inl (inside q (made .writes q m));
             reads = λ y. absurd (false≢true y);
+            writers = λ y. absurd (true≢false y);
           }
 
       by-need : (d : Need) → needs k memory x leaf fathers siblings ≡ d

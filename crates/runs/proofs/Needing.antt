@@ -26,7 +26,7 @@ use Rattle.tree.proofs.Search.{way-facts}
 use Rattle.tree.proofs.DeletionRule.{sibling≢nothing, astray≢sibling, sibling-same, needs-ask, needs-next, needs-length, asked-more, course-asked}
 use Rattle.tree.proofs.Deletion.{deletionLeads}
 use Rattle.tree.proofs.DeletionNeeds.{siblingsThere}
-use Rattle.runs.specs.Stance.{Rightly, Beside}
+use Rattle.runs.specs.Stance.{Rightly, WantsSibling}
 use Rattle.runs.proofs.Paths.{first-alone, first-up-to, first-below}
 use Rattle.runs.proofs.HeldPath.{page-least, held-way, way-pages}
 
@@ -156,7 +156,7 @@ module _ {k n : ℕ} {memory : ℕ → Page} {l : ℕ} {t : Tr l} {x : ℕ} {pat
       omega (arith, times-append 0 (way x l t) siblings, distinct-times (way x l t ++ siblings) (leaf-needed .different) 0)
 
   -- it needs a sibling: it stands as a slot that wants it
-  pub leaf-goes : (s : ℕ) → needs k memory x leaf fathers siblings ≡ sibling s → Beside (Delete x) k memory l t path siblings s
+  pub leaf-goes : (s : ℕ) → needs k memory x leaf fathers siblings ≡ sibling s → WantsSibling (Delete x) k memory l t path siblings s
   leaf-goes s e =
       let course = needs-course k memory x leaf fathers siblings s e in
       let fewer = needs-length k memory x leaf fathers siblings s e in
@@ -208,7 +208,7 @@ leaf-first (p ∷ up) h = (p, up, refl)
 
 -- a slot that wants a sibling stands at its leaf, and that sibling is the one it needs
 pub beside-leaf : {k n : ℕ} {memory : ℕ → Page} {l : ℕ} {t : Tr l} {x : ℕ} {path siblings : List ℕ} {want : ℕ}
-    → Forms k n memory l t → 1 ≤ k → x < wordRange → Beside (Delete x) k memory l t path siblings want
+    → Forms k n memory l t → 1 ≤ k → x < wordRange → WantsSibling (Delete x) k memory l t path siblings want
     → (leaf : ℕ) × (fathers : List ℕ) × AtLeaf k n memory l t x path leaf fathers siblings
     × (needs k memory x leaf fathers siblings ≡ sibling want)
 beside-leaf {k} {n} {memory} {l} {t} {x} {path} {siblings} {want} forms one key b =

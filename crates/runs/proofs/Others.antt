@@ -26,7 +26,7 @@ use Rattle.tree.specs.Change.{memoryAfter, writtenPages, Leads}
 use Rattle.tree.proofs.Memory.{absent-times, unwritten}
 use Rattle.tree.proofs.Search.{way-facts}
 use Rattle.tree.proofs.Ways.{place-facts}
-use Rattle.runs.specs.Stance.{Rightly, Coming, Beside, Stance}
+use Rattle.runs.specs.Stance.{Rightly, Coming, WantsSibling, Stance}
 use Rattle.runs.proofs.Paths.{first-below, member-reverse, stretch}
 
 -- ---- the way of a key, before and after
@@ -177,8 +177,8 @@ module _ (op : Op) (k n : ℕ) (memory : ℕ → Page) (l : ℕ) (t : Tr l) (wri
       }
 
   -- it still stands at its leaf, which decides that the key is there
-  beside-keeps : (want : ℕ) → Beside op k memory l t path siblings want
-      → Beside op k (memoryAfter memory writes) (leads .height) (leads .tree) path siblings want
+  beside-keeps : (want : ℕ) → WantsSibling op k memory l t path siblings want
+      → WantsSibling op k (memoryAfter memory writes) (leads .height) (leads .tree) path siblings want
   beside-keeps want b =
       let some = b .rightly .some in
       let first = path-stays [] (b .upper) (b .whole) 0 0 (omega arith) some in

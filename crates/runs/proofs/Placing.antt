@@ -25,7 +25,7 @@ use Rattle.tree.proofs.Rows.{by-test}
 use Rattle.tree.proofs.Memory.{once-same, times, times-append, member-times, absent-times, distinct-times, times-distinct, root-occurs, way-occurs, stands-occurs}
 use Rattle.tree.proofs.Search.{way-facts}
 use Rattle.tree.proofs.Height.{height-facts}
-use Rattle.runs.specs.Stance.{Rightly, Starting, Coming, Beside}
+use Rattle.runs.specs.Stance.{Rightly, Starting, Coming, WantsSibling}
 use Rattle.runs.specs.Step.{Scene}
 use Rattle.runs.proofs.Paths.{times-reverse}
 use Rattle.runs.proofs.Needing.{leaf-needed, beside-leaf}
@@ -112,7 +112,7 @@ module _ (op : Op) (k n : ℕ) (memory : ℕ → Page) (l : ℕ) (t : Tr l) (pat
 -- a deletion at its leaf holds the lower part of its way, and siblings beside it
 module _ (x k n : ℕ) (memory : ℕ → Page) (l : ℕ) (t : Tr l) (path siblings : List ℕ) (want : ℕ)
     (one : 1 ≤ k) (most : n ≤ largestN) (key : x < wordRange) (forms : Forms k n memory l t) where
-  well-beside : Beside (Delete x) k memory l t path siblings want → WellHeld (Delete x) n l t path siblings want
+  well-beside : WantsSibling (Delete x) k memory l t path siblings want → WellHeld (Delete x) n l t path siblings want
   well-beside b =
       let (leaf, fathers, a, need) = beside-leaf forms one key b in
       let needed = leaf-needed a in
@@ -152,7 +152,7 @@ module _ (x k n : ℕ) (memory : ℕ → Page) (l : ℕ) (t : Tr l) (path siblin
 
 -- only a deletion stands beside its leaf
 well-beside-any : (op : Op) (k n : ℕ) (memory : ℕ → Page) (l : ℕ) (t : Tr l) (path siblings : List ℕ) (want : ℕ) → 1 ≤ k → n ≤ largestN
-    → keyOf op < wordRange → Forms k n memory l t → Beside op k memory l t path siblings want → WellHeld op n l t path siblings want
+    → keyOf op < wordRange → Forms k n memory l t → WantsSibling op k memory l t path siblings want → WellHeld op n l t path siblings want
 well-beside-any (Search x) k n memory l t path siblings want one most key forms b = absurd (false≢true (b .deletes))
 well-beside-any (Insert x v) k n memory l t path siblings want one most key forms b = absurd (false≢true (b .deletes))
 well-beside-any (Delete x) k n memory l t path siblings want one most key forms b =

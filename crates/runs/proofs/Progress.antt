@@ -8,14 +8,14 @@ use mathlib.Core.Logic.{_⊎_, inl, inr, ⊎-elim, _≢_}
 use mathlib.Core.Path.{_≡_, refl, sym, ap, _∙_, subst}
 use native.Mathlib.Nat.{mul-le-mul-right, suc-mul}
 use native.Mathlib.Omega.{arith}
-use borrow.Author.Tests.{eqb-true, eqb-false, eq-eqb, ne-eqb, not-false}
+use borrow.Author.Tests.{eqb-true, eqb-false, eq-eqb, ne-eqb, not-true, not-false}
 use lib.Dec.{eqb}
 use lib.ListN.{length, getD}
 use Rattle.ground.specs.Limits.{slotCount, wordRange}
 use Rattle.ground.specs.Tests.{all, member}
-use Rattle.ground.proofs.Bools.{true-or-false, not-both, and-first, and-second, and-fails, or-first-fails, or-second-fails, or-second}
+use Rattle.ground.proofs.Bools.{true-or-false, not-both, false-if-not-true, and-first, and-second, and-fails, or-first-fails, or-second-fails, or-second}
 use Rattle.ground.proofs.Choice.{cond-true, cond-false}
-use Rattle.ground.proofs.Tests.{member-none, allBelow-false-at}
+use Rattle.ground.proofs.Tests.{member-none, all-member, allBelow-false-at}
 use Rattle.page.specs.Words.{Page}
 use Rattle.pool.specs.Pool.{pageAt}
 use Rattle.slots.specs.declared.Op.{Op}
@@ -26,29 +26,16 @@ use Rattle.slots.specs.Parts.{keyOf, isOpen, pathOf, siblingsOf, slotAt, openAt
 use Rattle.slots.specs.Locks.{lockAt, clash}
 use Rattle.slots.specs.Grant.{olderThan, noClash, noOlder, grants}
 use Rattle.slots.proofs.Clashes.{no-two-locks-clash}
-use Rattle.slots.proofs.GrantLaws.{holder-open}
+use Rattle.slots.proofs.GrantLaws.{granted-no-clash, holder-open}
 use Rattle.slots.proofs.OrderLaws.{same-or-not, member-here, member-cases}
 use Rattle.tree.specs.Tree.{Tr, Stands, Forms}
 use Rattle.tree.specs.Facts.{Placed}
 use Rattle.runs.specs.Stance.{Stance}
+use Rattle.runs.specs.Waits.{Holder, Older, Barred}
 use Rattle.runs.proofs.Invariant.{Invariant}
 use Rattle.runs.proofs.Fathers.{Father, Top, upward-held, one-father, root-fatherless, wants-under, held-under, wants-inside, wants-placed}
 
 -- ---- what bars a want
-
--- "no other slot holds a clashing lock on that page": one does
-pub record Holder (st : State) (s : ℕ) : Type 0 where
-  pub slot : ℕ
-  pub below : slot < slotCount
-  pub other : slot ≢ s
-  pub holds : holdsAt st slot (wantAt st s) ≡ true
-  pub clashes : clash (lockAt st slot) (lockAt st s) ≡ true
-
--- "no older want is for the same page": one is
-pub record Older (st : State) (s : ℕ) : Type 0 where
-  pub slot : ℕ
-  pub older : member slot (olderThan s (waitingOrder st)) ≡ true
-  pub same : wantAt st slot ≡ wantAt st s
 
 clash-found : (st : State) (s : ℕ) → noClash st s ≡ false → Holder st s
 unfolding noClash
@@ -82,8 +69,18 @@ older-found st s f =
     record { slot = t; older = m; same = eqb-true (wantAt st t) (wantAt st s) (not-false (eqb (wantAt st t) (wantAt st s)) fails) }
 
 -- A want that is not granted is barred by a held clash or by an older want for the same page.
-pub barred : (st : State) (s : ℕ) → grants st s ≡ false → Holder st s ⊎ Older st s
+pub barred : (st : State) (s : ℕ) → grants st s ≡ false → Barred st s
 barred st s f = ⊎-elim (λ e. inl (clash-found st s e)) (λ e. inr (older-found st s e)) (and-fails (noClash st s) (noOlder st s) f)
+
+-- And what is so barred is not granted.
+pub barred-waits : (st : State) (s : ℕ) → Barred st s → grants st s ≡ false
+unfolding noOlder
+barred-waits st s (inl h) =
+    false-if-not-true (grants st s) (λ g. not-both (h .clashes) (granted-no-clash st s g (h .slot) (h .below) (h .other) (h .holds)))
+barred-waits st s (inr o) =
+    false-if-not-true (grants st s) (λ g. not-both (eq-eqb (wantAt st (o .slot)) (wantAt st s) (o .same))
+    (not-true (eqb (wantAt st (o .slot)) (wantAt st s))
+    (all-member (λ (u : ℕ). not (eqb (wantAt st u) (wantAt st s))) (olderThan s (waitingOrder st)) (and-second (noClash st s) (noOlder st s) g) (o .slot) (o .older))))
 
 -- ---- older wants
 

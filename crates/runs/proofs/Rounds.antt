@@ -22,7 +22,7 @@ use Rattle.slots.proofs.OrderLaws.{same-or-not}
 use Rattle.index.specs.Step.{Left, stepped}
 use Rattle.tree.proofs.Height.{sumBelow}
 use Rattle.runs.specs.Run.{Call, begin, step, report, called, run}
-use Rattle.runs.specs.Rounds.{anyBegin, anyStepOf, Round, joined, Rounds, RoundsClose}
+use Rattle.runs.specs.Rounds.{anyBegin, anyStepOf, Round, allCalls, Rounds, RoundsClose}
 use Rattle.runs.proofs.Invariant.{Invariant}
 use Rattle.runs.proofs.Progress.{some-can-go}
 use Rattle.runs.proofs.Calls.{step-of, step-keeps}
@@ -193,7 +193,7 @@ round-falls cs st ws inv round =
 
 -- m rounds lower it by m, as far as there is something left
 rounds-fall : (rounds : List (List Call)) (st : State) (ws : List ℕ) → Invariant st ws → Rounds st ws rounds
-    → Fallen (allLeft st ws - length rounds) (run (joined rounds) st ws .state) (run (joined rounds) st ws .words)
+    → Fallen (allLeft st ws - length rounds) (run (allCalls rounds) st ws .state) (run (allCalls rounds) st ws .words)
 unfolding run
 rounds-fall [] st ws inv rounds = (inv, omega arith)
 rounds-fall (cs ∷ rest) st ws inv rounds =
@@ -201,9 +201,9 @@ rounds-fall (cs ∷ rest) st ws inv rounds =
     let next : State = run cs st ws .state in
     let after : List ℕ = run cs st ws .words in
     let more = rounds-fall rest next after (first .0) (rounds .1) in
-    let whole = run-append cs (joined rest) st ws in
-    subst (λ (final : State). Fallen (allLeft st ws - suc (length rest)) final (run (cs ++ joined rest) st ws .words)) (sym (whole .0))
-    (subst (λ (left : List ℕ). Fallen (allLeft st ws - suc (length rest)) (run (joined rest) next after .state) left) (sym (whole .1))
+    let whole = run-append cs (allCalls rest) st ws in
+    subst (λ (final : State). Fallen (allLeft st ws - suc (length rest)) final (run (cs ++ allCalls rest) st ws .words)) (sym (whole .0))
+    (subst (λ (left : List ℕ). Fallen (allLeft st ws - suc (length rest)) (run (allCalls rest) next after .state) left) (sym (whole .1))
     (more .0, omega (arith, first .1, more .1)))
 
 -- From any state of a run `roundsEnough` rounds close every slot.
@@ -211,7 +211,7 @@ pub rounds-close : (st : State) (ws : List ℕ) → Invariant st ws → RoundsCl
 rounds-close st ws inv rounds each enough s b =
     let after = rounds-fall rounds st ws inv each in
     let before = all-left-bound st ws inv in
-    false-if-not-true (openAt (run (joined rounds) st ws .state) s) (λ opened.
-    let some = measure-bound (run (joined rounds) st ws .state) (run (joined rounds) st ws .words) (after .0) s b opened .0 in
-    let has = left-has (run (joined rounds) st ws .state) (run (joined rounds) st ws .words) s b in
+    false-if-not-true (openAt (run (allCalls rounds) st ws .state) s) (λ opened.
+    let some = measure-bound (run (allCalls rounds) st ws .state) (run (allCalls rounds) st ws .words) (after .0) s b opened .0 in
+    let has = left-has (run (allCalls rounds) st ws .state) (run (allCalls rounds) st ws .words) s b in
     omega (arith, some, has, after .1, before, enough))

@@ -1,13 +1,13 @@
 -- A granted step of a slot that stands as it should: its pages are sound for the step, and it goes on and stands as it should
 -- again, or its operation ends. It is never broken.
 use Prim.Native.Nat.{ℕ, suc, _+_, _≤_, _<_}
-use mathlib.Core.Bool.{true, false, not, _&&_, _||_, or-false, false≢true}
+use mathlib.Core.Bool.{true, false, not, _&&_, _||_, or-false, true≢false, false≢true}
 use mathlib.Core.List.{List, [], _∷_, _++_, reverse, append-nil}
 use mathlib.Core.Logic.{inl, inr, ⊎-elim}
 use mathlib.Core.Path.{_≡_, refl, sym, ap, _∙_, subst}
 use native.Mathlib.Nat.{le-of-suc-le-suc}
 use native.Mathlib.Omega.{arith}
-use borrow.Author.Tests.{ltb-true, ltb-false, eq-eqb}
+use borrow.Author.Tests.{ltb-true, ltb-false, eq-eqb, eqb-true}
 use lib.Dec.{ltb, eqb}
 use lib.ListN.{length, getD, length-append, length-reverse, List·getD-append}
 use lib.Seq.{getD-at}
@@ -34,7 +34,7 @@ use Rattle.tree.proofs.Rows.{by-test}
 use Rattle.tree.proofs.Search.{way-facts}
 use Rattle.tree.proofs.Ways.{place-facts}
 use Rattle.tree.proofs.SoundPages.{pool-sound}
-use Rattle.runs.specs.Stance.{Rightly, Beside, Stance, Takes}
+use Rattle.runs.specs.Stance.{Rightly, WantsSibling, Stance, StandsAtLeaf, Takes}
 use Rattle.runs.specs.Step.{Scene, Comes, moves, stops}
 use Rattle.runs.proofs.Paths.{member-reverse}
 use Rattle.runs.proofs.Placing.{well-held}
@@ -144,6 +144,24 @@ module _ (op : Op) (k n : ℕ) (ws : List ℕ) (l : ℕ) (t : Tr l) (path siblin
       stance takes
   does-comes fits (done a writes is ended) = stops a writes (verdict-is (ends a writes) fits is refl) ended
 
+-- ---- at its leaf or not
+
+first-leaf : (memory : ℕ → Page) (up : List ℕ) → 1 ≤ length up → memory (getD up 0 0) .level ≡ 1 → atItsLeaf memory up ≡ true
+first-leaf memory [] some level = absurd (omega arith)
+first-leaf memory (p ∷ up) some level = eq-eqb (memory p .level) 1 level
+
+leaf-first : (memory : ℕ → Page) (up : List ℕ) → atItsLeaf memory up ≡ true → (1 ≤ length up) × (memory (getD up 0 0) .level ≡ 1)
+leaf-first memory [] test = absurd (false≢true test)
+leaf-first memory (p ∷ up) test = (omega arith, eqb-true (memory p .level) 1 test)
+
+at-leaf-test : (memory : ℕ → Page) (path : List ℕ) → StandsAtLeaf memory path → atItsLeaf memory (reverse path) ≡ true
+at-leaf-test memory path at = first-leaf memory (reverse path) (omega (arith, at .0, length-reverse path)) (at .1)
+
+test-at-leaf : (memory : ℕ → Page) (path : List ℕ) → atItsLeaf memory (reverse path) ≡ true → StandsAtLeaf memory path
+test-at-leaf memory path test =
+    let (some, level) = leaf-first memory (reverse path) test in
+    (omega (arith, some, length-reverse path), level)
+
 -- ---- coming down
 
 -- at its leaf, by the operation
@@ -187,12 +205,17 @@ module _ (op : Op) (k n : ℕ) (ws : List ℕ) (l : ℕ) (t : Tr l) (path siblin
   abbrev path′ : List ℕ
   path′ = kept op k (pageAt k ws) path want
 
+  -- it does not stand at its leaf
+  above : StandsAtLeaf (pageAt k ws) path → ⊥
+  above at =
+      true≢false (sym (at-leaf-test (pageAt k ws) path at) ∙ down-above op k (pageAt k ws) l t (facts op k n ws l t path siblings want scene) path want down)
+
   -- "if the page has μ < 2k, all its ancestors are given up", or nothing is
   down-takes : Takes op k (pageAt k ws) path siblings want path′ []
   down-takes =
       ⊎-elim
-      (λ safe. inl (none, refl, safe, cond-true (want ∷ []) (path ++ want ∷ []) safe))
-      (λ f. inr (inl (none, refl, f, cond-false (want ∷ []) (path ++ want ∷ []) f)))
+      (λ y. inl (record { comesDown = above; safe = y; noSiblings = none; holds = cond-true (want ∷ []) (path ++ want ∷ []) y; still = refl }))
+      (λ f. inr (inl (record { comesDown = above; unsafe = f; noSiblings = none; holds = cond-false (want ∷ []) (path ++ want ∷ []) f; still = refl })))
       (true-or-false (isSafe op k (μ (pageAt k ws want))))
 
   reached : Reached op k (pageAt k ws) l t path′ want
@@ -234,7 +257,7 @@ module _ (op : Op) (k n : ℕ) (ws : List ℕ) (l : ℕ) (t : Tr l) (path siblin
 -- ---- at its leaf
 
 module _ (y k n : ℕ) (ws : List ℕ) (l : ℕ) (t : Tr l) (path siblings : List ℕ) (want : ℕ)
-    (scene : Scene (Delete y) k n ws l t path siblings want) (b : Beside (Delete y) k (pageAt k ws) l t path siblings want) where
+    (scene : Scene (Delete y) k n ws l t path siblings want) (b : WantsSibling (Delete y) k (pageAt k ws) l t path siblings want) where
   beside-facts : WayFacts (pageAt k ws) y l t
   beside-facts = facts (Delete y) k n ws l t path siblings want scene
 
@@ -339,7 +362,7 @@ module _ (y k n : ℕ) (ws : List ℕ) (l : ℕ) (t : Tr l) (path siblings : Lis
         (fromLeaf (λ (p : ℕ) (ps : List ℕ). deletes k (pageAt k ws) y path p ps (siblings ++ want ∷ [])) up))
         (sym (at .upward))
         (delete-does k n ws l t (scene .forms) path siblings want y beside-facts leaf (fathers ++ at .upper) from-leaf
-        path fathers (siblings ++ want ∷ []) (beside-asked at asks) (inr (inr (refl, refl))) beside-inside)
+        path fathers (siblings ++ want ∷ []) (beside-asked at asks) (inr (inr (record { deletes = refl; atLeaf = test-at-leaf (pageAt k ws) path at-leaf; still = refl; holds = refl }))) beside-inside)
 
     beside-comes : Comes (Delete y) k n ws l t path siblings want
     unfolding granted
@@ -360,7 +383,7 @@ module _ (y k n : ℕ) (ws : List ℕ) (l : ℕ) (t : Tr l) (path siblings : Lis
 
 -- only a deletion goes on from its leaf
 stays : (op : Op) (k n : ℕ) (ws : List ℕ) (l : ℕ) (t : Tr l) (path siblings : List ℕ) (want : ℕ) → Scene op k n ws l t path siblings want
-    → Beside op k (pageAt k ws) l t path siblings want → Comes op k n ws l t path siblings want
+    → WantsSibling op k (pageAt k ws) l t path siblings want → Comes op k n ws l t path siblings want
 stays (Search y) k n ws l t path siblings want scene b = absurd (false≢true (b .deletes))
 stays (Insert y v) k n ws l t path siblings want scene b = absurd (false≢true (b .deletes))
 stays (Delete y) k n ws l t path siblings want scene b = deletion-comes y k n ws l t path siblings want scene b

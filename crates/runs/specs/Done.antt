@@ -27,6 +27,10 @@ ended s op a = record { slot = s; op = op; answer = a }
 abbrev pub counted : List Answer
 counted = Found 0 ∷ NotFound ∷ Inserted ∷ AlreadyThere ∷ Deleted 0 ∷ NoSuchKey ∷ []
 
+-- the answers of which pages are written
+abbrev pub writing : List Answer
+writing = Inserted ∷ Deleted 0 ∷ []
+
 abbrev pub isOneOf : Answer → List Answer → Bool
 isOneOf a list = member (numberOf a) (map numberOf list)
 

@@ -19,7 +19,7 @@ pub record Among (x v : ℕ) (es : List Entry) : Type 0 where
   pub after : List Entry
   pub whole : es ≡ before ++ entry x v ∷ after
 
--- the key stands in the list with no information
+-- no entry of the key stands in the list
 abbrev pub Missing : ℕ → List Entry → Type 0
 Missing x es = (v : ℕ) → Among x v es → ⊥
 

@@ -1,4 +1,4 @@
--- "304 rounds of steps close every slot": what a round is, and what many rounds are.
+-- "if none is begun, 304 rounds that each step every open slot end them all": what a round is, and what many rounds are.
 use Prim.Native.Nat.{ℕ, _≤_, _<_}
 use mathlib.Core.Bool.{Bool, true, false, _||_}
 use mathlib.Core.List.{List, [], _∷_, _++_}
@@ -37,9 +37,9 @@ pub record Round (st : State) (cs : List Call) : Type 0 where
   pub everyOpen : (s : ℕ) → s < slotCount → openAt st s ≡ true → anyStepOf s cs ≡ true
 
 -- the calls of many rounds
-abbrev pub joined : List (List Call) → List Call
-joined [] = []
-joined (cs ∷ rest) = cs ++ joined rest
+abbrev pub allCalls : List (List Call) → List Call
+allCalls [] = []
+allCalls (cs ∷ rest) = cs ++ allCalls rest
 
 -- Rounds one after the other, each judged at the state where it starts.
 abbrev pub Rounds : State → List ℕ → List (List Call) → Type 0
@@ -50,4 +50,4 @@ Rounds st ws (cs ∷ rest) = Round st cs × Rounds (run cs st ws .state) (run cs
 abbrev pub RoundsClose : State → List ℕ → Type 0
 RoundsClose st ws =
     (rounds : List (List Call)) → Rounds st ws rounds → roundsEnough ≤ length rounds
-    → (s : ℕ) → s < slotCount → openAt (run (joined rounds) st ws .state) s ≡ false
+    → (s : ℕ) → s < slotCount → openAt (run (allCalls rounds) st ws .state) s ≡ false

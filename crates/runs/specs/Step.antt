@@ -23,6 +23,7 @@ use Rattle.tree.specs.Change.{writtenPages, Leads}
 use Rattle.tree.specs.Insertion.{treeRoom}
 use Rattle.runs.specs.Stance.{Stance, Takes}
 use Rattle.runs.specs.Plain.{plain}
+use Rattle.runs.specs.Done.{isOneOf, writing}
 
 -- What is known of an open slot of a run.
 pub record Scene (op : Op) (k n : ℕ) (ws : List ℕ) (l : ℕ) (t : Tr l) (path siblings : List ℕ) (want : ℕ) : Type 0 where
@@ -57,8 +58,9 @@ pub record Ended (op : Op) (k n : ℕ) (ws : List ℕ) (l : ℕ) (t : Tr l) (pat
   pub how : AsPlain op k n ws l t a entries ⊎ (NoRoomLeft op k n ws l t a writes × (entries ≡ entriesOf l t))
   -- it writes no page but those that it held, the one that it wanted, and free ones
   pub only : (q : ℕ) → member q (writtenPages writes) ≡ true → (member q (want ∷ (path ++ siblings)) ≡ true) ⊎ (occurs q l t ≡ 0)
-  -- a search writes nothing
+  -- a search writes nothing, and of the answers only Inserted and Deleted write
   pub reads : isSearch op ≡ true → writes ≡ []
+  pub writers : isOneOf a writing ≡ false → writes ≡ []
 
 -- A granted step: the slot goes on and stands as it should, or its operation ends. It is never broken.
 pub data Comes (op : Op) (k n : ℕ) (ws : List ℕ) (l : ℕ) (t : Tr l) (path siblings : List ℕ) (want : ℕ) : Type 0 where

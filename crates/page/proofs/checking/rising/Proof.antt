@@ -14,8 +14,11 @@ Inv-loop w from m i₀ i = (i ≤ m) × ((j : ℕ) → j < i → keyAt j (view w
 abbrev μ-loop : tie.MeasureT-loop
 μ-loop w from m i₀ i = m - i
 
+shared-slice-read-pairs-from : tie.Need-shared-slice-read-pairs-from Inv-loop μ-loop
+shared-slice-read-pairs-from c = omega arith
+
 pairs-from-requires : tie.Need-pairs-from-requires Inv-loop μ-loop
-pairs-from-requires c κs = omega arith
+pairs-from-requires c κs = tt
 
 count-requires : tie.Need-count-requires Inv-loop μ-loop
 count-requires c κs = omega arith
@@ -55,7 +58,7 @@ shared-slice-read-if1-2 c = omega arith
 
 returns : tie.Need-returns Inv-loop μ-loop
 returns c =
-    let start = c .before .before .before .before .before .before .before .before in
+    let start = c .before .before .before .before .before .before .before .before .before in
     let from = c .before .before .before .before .before .before .pairs-from in
     keys-stop (start .args .w .now) (start .pre) (from .result) (from .ensures) (c .before .before .before .before .loop .i) (omega arith) (c .if1 .taken)
 
@@ -67,7 +70,7 @@ loop-less c = omega arith
 
 loop-again : tie.Need-loop-again Inv-loop μ-loop
 loop-again c =
-    let start = c .before .before .before .before .before .before .before .before in
+    let start = c .before .before .before .before .before .before .before .before .before in
     let from = c .before .before .before .before .before .before .pairs-from in (
       omega arith,
       below-more _ _ (c .before .before .before .before .loop .inv .1)
@@ -76,7 +79,7 @@ loop-again c =
 
 returns-2 : tie.Need-returns-2 Inv-loop μ-loop
 returns-2 c =
-    let start = c .before .before .before .before .before in
+    let start = c .before .before .before .before .before .before in
     let from = c .before .before .before .pairs-from in
     keys-done (start .args .w .now) (start .pre) (from .result) (from .ensures) (c .before .loop .i) (omega arith) (c .before .loop .inv .1)
 
@@ -86,6 +89,7 @@ rising-spec =
     (tie.spec
     Inv-loop
     μ-loop
+    shared-slice-read-pairs-from
     pairs-from-requires
     count-requires
     loop-holds
