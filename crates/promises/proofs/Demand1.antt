@@ -28,7 +28,7 @@ use Rattle.slots.specs.Report.{reported}
 use Rattle.slots.proofs.Refusals.{begin-refused}
 use Rattle.grant.specs.Granted.{Verdict, broken, goes, ends, granted}
 use Rattle.grant.specs.Fitting.{pagesSound, fitting, nextIsNew, soundForStep, verdict}
-use Rattle.tree.proofs.Rows.{by-test}
+use Rattle.ground.proofs.Choice.{by-test}
 use Rattle.index.specs.Step.{ofGranted, acted, steppedTask, stepped}
 use Rattle.index.specs.Make.{made}
 use Rattle.index.proofs.Refusals.{Answers, granted-answers, step-refused, make-refused, empty-unsound, step-length, make-length}

@@ -21,7 +21,7 @@ use Rattle.grant.specs.Granted.{isSafe, kept, atItsLeaf}
 use Rattle.grant.specs.Fitting.{descends, rightlyKept, rightlyBeside, isNone, fitting}
 use Rattle.tree.specs.Tree.{Tr, way}
 use Rattle.tree.specs.Facts.{WayFacts}
-use Rattle.tree.proofs.Rows.{by-test}
+use Rattle.ground.proofs.Choice.{by-test}
 use Rattle.tree.proofs.DeletionStep.{one-last}
 use Rattle.runs.specs.Stance.{Rightly, Starting, Coming}
 use Rattle.runs.proofs.Paths.{no-length}

@@ -21,7 +21,8 @@ use Rattle.grant.specs.Granted.{isSafe}
 use Rattle.tree.specs.Rows.{headKey, Span}
 use Rattle.tree.specs.Tree.{Tr, pageNumber, pageOf, once, occurs, rootLeast, InRange, Holds, way, Forms}
 use Rattle.tree.specs.Change.{HeldWay}
-use Rattle.tree.proofs.Rows.{by-test, middle-has}
+use Rattle.ground.proofs.Choice.{by-test}
+use Rattle.tree.proofs.Rows.{middle-has}
 use Rattle.tree.proofs.Memory.{once-is, times, times-append, member-times, way-occurs}
 use Rattle.tree.proofs.Search.{each-here, way-facts}
 use Rattle.tree.proofs.Ways.{total-found, row-μ}

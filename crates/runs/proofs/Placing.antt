@@ -21,7 +21,7 @@ use Rattle.slots.specs.declared.Task.the-variants.{Open}
 use Rattle.slots.specs.Parts.{keyOf, isSearch}
 use Rattle.slots.specs.Sound.{withinLimits}
 use Rattle.tree.specs.Tree.{Tr, pageNumber, once, occurs, way, Forms}
-use Rattle.tree.proofs.Rows.{by-test}
+use Rattle.ground.proofs.Choice.{by-test}
 use Rattle.tree.proofs.Memory.{once-same, times, times-append, member-times, absent-times, distinct-times, times-distinct, root-occurs, way-occurs, stands-occurs}
 use Rattle.tree.proofs.Search.{way-facts}
 use Rattle.tree.proofs.Height.{height-facts}

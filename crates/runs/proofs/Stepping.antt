@@ -30,7 +30,7 @@ use Rattle.grant.specs.Granted.{Verdict, broken, goes, ends, isSafe, kept, dele
 use Rattle.grant.specs.Fitting.{pagesSound, descends, rightlyBeside, sameLevels, isSibling, isNone, fitting, nextIsNew, soundForStep, verdict}
 use Rattle.tree.specs.Tree.{Tr, Stands, way, Forms, PoolForms}
 use Rattle.tree.specs.Facts.{WayFacts}
-use Rattle.tree.proofs.Rows.{by-test}
+use Rattle.ground.proofs.Choice.{by-test}
 use Rattle.tree.proofs.Search.{way-facts}
 use Rattle.tree.proofs.Ways.{place-facts}
 use Rattle.tree.proofs.SoundPages.{pool-sound}
