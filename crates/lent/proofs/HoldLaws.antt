@@ -45,6 +45,17 @@ unfolding anyBelow
 any-or f g zero = refl
 any-or f g (suc n) = mixed (anyBelow n f) (anyBelow n g) (f n) (g n) ∙ ap (λ (b : Bool). b || (f n || g n)) (any-or f g n)
 
+mixed-all : (a b c d : Bool) → (a && c) && (b && d) ≡ (a && b) && (c && d)
+mixed-all false b c d = refl
+mixed-all true true c d = refl
+mixed-all true false true d = refl
+mixed-all true false false d = refl
+
+pub all-both : (f g : ℕ → Bool) (n : ℕ) → allBelow n f && allBelow n g ≡ allBelow n (λ (t : ℕ). f t && g t)
+unfolding allBelow
+all-both f g zero = refl
+all-both f g (suc n) = mixed-all (allBelow n f) (allBelow n g) (f n) (g n) ∙ ap (λ (b : Bool). b && (f n && g n)) (all-both f g n)
+
 turned : (a b : Bool) → not a && not b ≡ not (a || b)
 turned true b = refl
 turned false b = refl
@@ -139,7 +150,7 @@ module _ (ws : List ℕ) (s least p : ℕ) where
 
 -- ---- locks by kind
 
-by-kind : (P : ℕ → Type 0) → P 0 → P 1 → P 2 → P 3 → (a : ℕ) → a < 4 → P a
+pub by-kind : (P : ℕ → Type 0) → P 0 → P 1 → P 2 → P 3 → (a : ℕ) → a < 4 → P a
 by-kind P a b c d zero h = a
 by-kind P a b c d (suc zero) h = b
 by-kind P a b c d (suc (suc zero)) h = c
