@@ -16,16 +16,24 @@ use Rattle.slots.specs.declared.Slot.{Slot}
 use Rattle.slots.specs.declared.State.{State}
 use Rattle.slots.specs.declared.Answer.{Answer}
 use Rattle.slots.specs.declared.Answer.the-variants.{Inserted, NoRoom}
-use Rattle.slots.specs.declared.Outcome.{Outcome}
 use Rattle.slots.specs.Parts.{pathOf, siblingsOf, waitingOrder}
+use Rattle.lent.specs.Words.{asRead, stateOf, written}
+use Rattle.grant.specs.Granted.{Verdict, broken, goes, ends}
 use Rattle.grant.specs.Standing.{Stands}
-use Rattle.index.specs.Step.{Left}
+use Rattle.index.specs.Step.{acted}
 
--- A call gives back and leaves just this.
-pub record Leaves (l : Left) (r : Outcome) (after : List ℕ) : Type 0 where
-  pub answer : r .answer ≡ l .answer
-  pub state : r .state ≡ l .state
-  pub words : after ≡ l .words
+-- the words of the state after a verdict: as given, or with the slot and the order as the next state has them
+abbrev pub actedCells : List ℕ → ℕ → Verdict → State → List ℕ
+actedCells cells s broken st = cells
+actedCells cells s (goes path siblings want) st = written cells s st
+actedCells cells s (ends answer writes) st = written cells s st
+
+-- What a granted step gives back and leaves, by its verdict.
+pub record Leaves (cells ws : List ℕ) (s : ℕ) (op : Op) (v : Verdict) (r : Answer) (cells′ after : List ℕ) : Type 0 where
+  pub answer : r ≡ acted (asRead cells) ws s op v .answer
+  pub state : stateOf cells′ ≡ acted (asRead cells) ws s op v .state
+  pub all : cells′ ≡ actedCells cells s v (acted (asRead cells) ws s op v .state)
+  pub words : after ≡ acted (asRead cells) ws s op v .words
 
 -- Slot s of the state waits for its want.
 pub record Waits (st : State) (s : ℕ) : Type 0 where

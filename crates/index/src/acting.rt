@@ -6,27 +6,29 @@ use deletion::deleting::delete;
 use grant::fitting::fits;
 use insertion::inserting::insert;
 use insertion::inserting::room;
+use lent::PAGES;
+use lent::STATE;
+use lent::WIDTH;
+use lent::book::closes;
+use lent::book::requeues;
+use lent::cells::sized;
 use pool::lying::take_pages;
 use slots::Answer;
 use slots::Op;
-use slots::Outcome;
 use slots::Slot;
-use slots::State;
-use slots::book::closes;
-use slots::book::requeues;
 ghost use mathlib.Core.Path.{_≡_};
+ghost use mathlib.Core.Bool.{true};
+ghost use Prim.Native.Nat.{_≤_};
 ghost use Rattle.pool.specs.Pool.{pageAt, freePages};
 ghost use Rattle.deletion.specs.Deleting.{Deleting};
 ghost use Rattle.slots.specs.declared.Op.the-variants.{Insert};
-ghost use Rattle.slots.specs.declared.Answer.the-variants.{Moved};
 ghost use Rattle.slots.specs.Parts.{pathOf, siblingsOf};
 ghost use Rattle.slots.specs.Book.{requeued};
-ghost use Rattle.slots.specs.Begin.{outcome};
+ghost use Rattle.lent.specs.Words.{asRead, known, written};
 ghost use Rattle.grant.specs.Fitting.{verdict};
 ghost use Rattle.grant.specs.Standing.{Asks, Stands};
 ghost use Rattle.course.specs.Judged.{courseOf, ready};
 ghost use Rattle.index.specs.Acting.{Waits, Acts, Leaves, wanting, roomAnswer, afterInsertion, afterDeletion};
-ghost use Rattle.index.specs.Step.{acted};
 
 // The whole change of an insertion, if there is room. Room is counted before anything is written.
 pub fn insert_lot(words: &mut [u32], k: usize, n: usize, x: u32, v: u32, stand: Slot) -> Answer
@@ -57,65 +59,72 @@ pub fn delete_lot(words: &mut [u32], k: usize, n: usize, x: u32, stand: Slot)
 }
 
 // The slot goes on from where it stands and wants this page.
-pub fn go_on(st: State, s: usize, stand: Slot, next: u32) -> Outcome
-    requires { ⌜ Waits st s ⌝ }
-    ensures { λ r. ⌜ r ≡ outcome Moved (requeued st s (wanting next stand)) ⌝ }
+pub fn go_on(state: &mut [u32; STATE], s: usize, stand: Slot, next: u32)
+    requires { ⌜ (Waits (asRead (now state)) s) × (stand .depth ≤ 10) × (stand .beside ≤ 10) ⌝ }
+    ensures { λ _. ⌜ now (state .exit) ≡ written (now (state .entry)) s (requeued (asRead (now (state .entry))) s (wanting next stand)) ⌝ }
 {
     let mut slot = stand;
     slot.want = next;
-    Outcome {
-        answer: Answer::Moved,
-        state: requeues(st, s, slot),
-    }
+    requeues(state, s, slot);
 }
 
 // Each course.
-pub fn act(st: State, words: &mut [u32], s: usize, op: Op, stand: Slot, course: Course) -> Outcome
-    requires { ⌜ Acts st (now words) s op stand ⌝ }
-    requires { ⌜ ready op (pageAt (st .k) (now words)) (pathOf stand) course ⌝ }
-    ensures { λ r. ⌜ Leaves (acted st (now (words .entry)) s op (courseOf (st .k) (pageAt (st .k) (now (words .entry))) (freePages (st .k) (st .n) (now (words .entry))) (pathOf stand) (siblingsOf stand) course)) r (now (words .exit)) ⌝ }
+pub fn act(
+    state: &mut [u32; STATE],
+    words: &mut [u32],
+    s: usize,
+    op: Op,
+    stand: Slot,
+    course: Course,
+) -> Answer
+    requires { ⌜ (known (now state) ≡ true) × (Acts (asRead (now state)) (now words) s op stand) ⌝ }
+    requires { ⌜ ready op (pageAt (asRead (now state) .k) (now words)) (pathOf stand) course ⌝ }
+    ensures { λ r. ⌜ Leaves (now (state .entry)) (now (words .entry)) s op (courseOf (asRead (now (state .entry)) .k) (pageAt (asRead (now (state .entry)) .k) (now (words .entry))) (freePages (asRead (now (state .entry)) .k) (asRead (now (state .entry)) .n) (now (words .entry))) (pathOf stand) (siblingsOf stand) course) r (now (state .exit)) (now (words .exit)) ⌝ }
 {
-    let k = st.k;
-    let n = st.n;
+    sized(state);
+    let k = state[WIDTH] as usize;
+    let n = state[PAGES] as usize;
     match course {
-        Course::Broken => Outcome {
-            answer: Answer::Damaged,
-            state: st,
-        },
-        Course::Goes(next) => go_on(st, s, stand, next),
-        Course::Ends(answer) => Outcome {
-            answer,
-            state: closes(st, s),
-        },
-        Course::Inserts(x, v) => Outcome {
-            answer: insert_lot(words, k, n, x, v, stand),
-            state: closes(st, s),
-        },
+        Course::Broken => Answer::Damaged,
+        Course::Goes(next) => {
+            go_on(state, s, stand, next);
+            Answer::Moved
+        }
+        Course::Ends(answer) => {
+            closes(state, s);
+            answer
+        }
+        Course::Inserts(x, v) => {
+            let answer = insert_lot(words, k, n, x, v, stand);
+            closes(state, s);
+            answer
+        }
         Course::Deletes(x, v) => {
             delete_lot(words, k, n, x, stand);
-            Outcome {
-                answer: Answer::Deleted(v),
-                state: closes(st, s),
-            }
+            closes(state, s);
+            Answer::Deleted(v)
         }
     }
 }
 
 // Slot s is granted its want. The pages are read again; if they are sound for the step, the operation does what it does from there.
-pub fn granted_step(st: State, words: &mut [u32], s: usize, op: Op, slot: Slot) -> Outcome
-    requires { ⌜ Waits st s ⌝ }
-    requires { ⌜ Asks (st .k) (st .n) (now words) op slot ⌝ }
-    ensures { λ r. ⌜ Leaves (acted st (now (words .entry)) s op (verdict op (st .k) (st .n) (now (words .entry)) (pathOf slot) (siblingsOf slot) (slot .want))) r (now (words .exit)) ⌝ }
+pub fn granted_step(
+    state: &mut [u32; STATE],
+    words: &mut [u32],
+    s: usize,
+    op: Op,
+    slot: Slot,
+) -> Answer
+    requires { ⌜ (known (now state) ≡ true) × (Waits (asRead (now state)) s) ⌝ }
+    requires { ⌜ Asks (asRead (now state) .k) (asRead (now state) .n) (now words) op slot ⌝ }
+    ensures { λ r. ⌜ Leaves (now (state .entry)) (now (words .entry)) s op (verdict op (asRead (now (state .entry)) .k) (asRead (now (state .entry)) .n) (now (words .entry)) (pathOf slot) (siblingsOf slot) (slot .want)) r (now (state .exit)) (now (words .exit)) ⌝ }
 {
-    let k = st.k;
-    let n = st.n;
+    let k = state[WIDTH] as usize;
+    let n = state[PAGES] as usize;
     if !fits(words, k, n, op, slot) {
-        return Outcome {
-            answer: Answer::Damaged,
-            state: st,
-        };
+        return Answer::Damaged;
     }
     let stand = stands(words, k, n, op, slot);
     let course = judge(words, k, n, op, stand);
-    act(st, words, s, op, stand, course)
+    act(state, words, s, op, stand, course)
 }

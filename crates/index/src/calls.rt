@@ -1,14 +1,17 @@
 // The public calls. No call asks anything of its arguments; an unsound one is answered by a refusal.
 use crate::acting::granted_step;
 use ground::SLOTS;
+use lent::PAGES;
+use lent::STATE;
+use lent::WIDTH;
+use lent::book::clear;
+use lent::cells::sized;
+use lent::granting::grants;
+use lent::lifting::slot_at;
 use pool::lying::make_fresh;
 use pool::lying::start_of;
 use slots::Answer;
-use slots::Outcome;
-use slots::State;
 use slots::Task;
-use slots::book::idle;
-use slots::granting::grants;
 pub use state::calls::begin;
 use state::checking::is_sound;
 use state::checking::numbers_in_range;
@@ -18,7 +21,6 @@ ghost use mathlib.Core.Bool.{_&&_};
 ghost use lib.Dec.{eqb};
 ghost use lib.ListN.{length};
 ghost use Rattle.pool.specs.Pool.{kInRange, nInRange, poolLength};
-ghost use Rattle.slots.specs.Begin.{outcome};
 ghost use Rattle.index.specs.Statements.{MakeSays, StepSays};
 
 // k and n are in range, and the words are as many as n pages of width k have.
@@ -31,44 +33,44 @@ fn is_pool(words: &[u32], k: usize, n: usize) -> bool
     words.len() == start_of(k, n)
 }
 
-// This answer, with this state.
-fn answered(answer: Answer, st: State) -> Outcome
-    ensures { λ r. ⌜ r ≡ outcome answer st ⌝ }
+// Makes a fresh pool of n pages of width k in the lent words, and an idle state beside it.
+pub fn make(k: usize, n: usize, state: &mut [u32; STATE], words: &mut [u32]) -> Answer
+    ensures { λ r. ⌜ MakeSays k n (now (words .entry)) r (now (state .exit)) (now (words .exit)) ⌝ }
 {
-    Outcome { answer, state: st }
-}
-
-// Makes a fresh pool of n pages of width k in the lent words.
-pub fn make(k: usize, n: usize, words: &mut [u32]) -> Outcome
-    ensures { λ r. ⌜ MakeSays k n (now (words .entry)) r (now (words .exit)) ⌝ }
-{
+    sized(state);
+    clear(state);
     if !is_pool(words, k, n) {
-        return answered(Answer::BadPool, idle(0, 0));
+        return Answer::BadPool;
     }
+    state[WIDTH] = k as u32;
+    state[PAGES] = n as u32;
     make_fresh(words);
-    answered(Answer::Made, idle(k, n))
+    Answer::Made
 }
 
 // Steps slot s.
-pub fn step(st: State, words: &mut [u32], s: usize) -> Outcome
-    ensures { λ r. ⌜ StepSays st (now (words .entry)) s r (now (words .exit)) ⌝ }
+pub fn step(state: &mut [u32; STATE], words: &mut [u32], s: usize) -> Answer
+    ensures { λ r. ⌜ StepSays (now (state .entry)) (now (words .entry)) s r (now (state .exit)) (now (words .exit)) ⌝ }
 {
-    if !is_sound(st) {
-        return answered(Answer::BadState, st);
+    if !is_sound(state) {
+        return Answer::BadState;
     }
-    if !is_pool(words, st.k, st.n) {
-        return answered(Answer::BadPool, st);
+    let k = state[WIDTH] as usize;
+    let n = state[PAGES] as usize;
+    let whole = is_pool(words, k, n);
+    if !whole {
+        return Answer::BadPool;
     }
     if SLOTS <= s {
-        return answered(Answer::BadSlot, st);
+        return Answer::BadSlot;
     }
-    let slot = st.slots[s];
+    let slot = slot_at(state, s);
     let task = slot.task;
     let Task::Open(op) = task else {
-        return answered(Answer::SlotIdle, st);
+        return Answer::SlotIdle;
     };
-    if !grants(st, s) {
-        return answered(Answer::Waiting, st);
+    if !grants(state, s) {
+        return Answer::Waiting;
     }
-    granted_step(st, words, s, op, slot)
+    granted_step(state, words, s, op, slot)
 }

@@ -6,6 +6,10 @@ use lib.Dec.{leb, ltb, eqb}
 use lib.ListN.{take}
 use Rattle.ground.specs.Limits.{slotCount}
 use Rattle.ground.specs.Tests.{all, allBelow, member, distinct}
+use Rattle.slots.specs.Parts.{held}
+use Rattle.slots.specs.Sound.{pagesSound}
+use Rattle.lent.specs.Words.{cell, slotIn}
+use Rattle.lent.specs.Holds.{isDeep, othersHold}
 
 -- a page below n, neither the wanted one nor one of the slot's own so far
 abbrev pub enters : ℕ → ℕ → List ℕ → ℕ → Bool
@@ -22,3 +26,36 @@ namesEach opened waiting order =
     && all (λ (s : ℕ). ltb s slotCount && opened s) (take waiting order)
     && distinct (take waiting order)
     && allBelow slotCount (λ (s : ℕ). not (opened s) || member s (take waiting order))
+
+-- ---- the same of a state in words
+
+-- the wanted page and the top of the path, if there is one, are below n and not the same
+abbrev pub named : ℕ → ℕ → ℕ → ℕ → Bool
+named depth n want top = ltb want n && (eqb depth 0 || (ltb top n && not (eqb want top)))
+
+-- what a slot of a kind may hold, and what its rows tell of its pages
+abbrev pub fineRow : ℕ → ℕ → ℕ → ℕ → ℕ → ℕ → Bool
+fineRow kind depth beside n want top =
+    (eqb kind 0 && eqb depth 0 && eqb beside 0)
+    || (eqb kind 1 && leb depth 1 && eqb beside 0 && named depth n want top)
+    || (eqb kind 2 && leb depth 10 && eqb beside 0 && named depth n want top)
+    || (eqb kind 3 && leb depth 10 && leb beside 9 && (eqb beside 0 || ltb beside depth) && named depth n want top)
+
+abbrev pub rowFine : List ℕ → ℕ → ℕ → Bool
+rowFine ws n s = fineRow (cell ws 0 s) (cell ws 4 s) (cell ws 5 s) n (cell ws 3 s) (cell ws 6 s)
+
+-- the pages of a slot that holds more than one
+abbrev pub deepFine : List ℕ → ℕ → ℕ → Bool
+deepFine ws n s = not (isDeep ws s) || pagesSound n (slotIn ws s)
+
+-- the kinds of open slots
+abbrev pub openKind : ℕ → Bool
+openKind kind = not (eqb kind 0) && leb kind 3
+
+-- no other slot holds a page that slot s holds
+unfoldable pub aloneIn : List ℕ → ℕ → Bool
+aloneIn ws s = all (λ (p : ℕ). not (othersHold ws s 0 p)) (held (slotIn ws s))
+
+-- that is so if slot s holds its pages under ξ
+abbrev pub xiAlone : List ℕ → ℕ → Bool
+xiAlone ws s = not (ltb 1 (cell ws 0 s)) || aloneIn ws s

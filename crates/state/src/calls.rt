@@ -1,40 +1,28 @@
 // Beginning an operation in a slot.
 use crate::checking::is_sound;
 use ground::SLOTS;
+use lent::STATE;
+use lent::book::begins;
+use lent::cells::kind_at;
+use lent::cells::sized;
 use slots::Answer;
 use slots::Op;
-use slots::Outcome;
-use slots::State;
-use slots::Task;
-use slots::book::begins;
-ghost use Rattle.slots.specs.Statements.{BeginSays};
+ghost use Rattle.lent.specs.Statements.{BeginSays};
 
-// Begins an operation in slot s.
-pub fn begin(st: State, s: usize, op: Op) -> Outcome
-    ensures { λ r. ⌜ BeginSays st s op r ⌝ }
+// Begins an operation in slot s of the state in these words.
+pub fn begin(state: &mut [u32; STATE], s: usize, op: Op) -> Answer
+    ensures { λ r. ⌜ BeginSays (now (state .entry)) s op r (now (state .exit)) ⌝ }
 {
-    if !is_sound(st) {
-        return Outcome {
-            answer: Answer::BadState,
-            state: st,
-        };
+    sized(state);
+    if !is_sound(state) {
+        return Answer::BadState;
     }
     if SLOTS <= s {
-        return Outcome {
-            answer: Answer::BadSlot,
-            state: st,
-        };
+        return Answer::BadSlot;
     }
-    let slot = st.slots[s];
-    let task = slot.task;
-    match task {
-        Task::Open(_) => Outcome {
-            answer: Answer::SlotBusy,
-            state: st,
-        },
-        Task::Closed => Outcome {
-            answer: Answer::Begun,
-            state: begins(st, s, op),
-        },
+    if kind_at(state, s) != 0 {
+        return Answer::SlotBusy;
     }
+    begins(state, s, op);
+    Answer::Begun
 }

@@ -1,33 +1,49 @@
-// Whether a state is sound. One pass over the slots tests each by itself and lists the pages held under ξ and those held
-// under ρ. Then the waiting order is held against the open slots, and the ξ-held pages against each other and the rest.
-use ground::HELD;
+// Whether a state is sound. The slots are tested row by row: kinds, numbers of pages held, wants and the tops of paths, with
+// no way out in between. Then the waiting order is held against the open slots; then the slots that hold more than one page
+// are looked at; then each page held under ξ is looked for in the other slots.
 use ground::LARGEST_K;
 use ground::LARGEST_N;
-use ground::SEARCH_HOLDS;
-use ground::SIBLING_HOLDS;
 use ground::SLOTS;
-use slots::Op;
-use slots::Slot;
-use slots::State;
-use slots::Task;
-ghost use Prim.Native.Nat.{ℕ, _+_, _≤_};
+use lent::DELETES;
+use lent::INSERTS;
+use lent::PATH;
+use lent::SEARCHES;
+use lent::SIBLINGS;
+use lent::STATE;
+use lent::cells::beside_at;
+use lent::cells::depth_at;
+use lent::cells::k_of;
+use lent::cells::kind_at;
+use lent::cells::n_of;
+use lent::cells::order_at;
+use lent::cells::sized;
+use lent::cells::top_at;
+use lent::cells::waiting_of;
+use lent::cells::want_at;
+use lent::cells::wide;
+use lent::cells::word_at;
+use lent::granting::column_has;
+use lent::granting::is_deep;
+use lent::granting::others_hold;
+ghost use Prim.Native.Nat.{ℕ, _≤_, _<_};
 ghost use mathlib.Core.Bool.{true, false, not, _&&_};
-ghost use mathlib.Core.List.{_++_};
 ghost use mathlib.Core.Path.{_≡_};
 ghost use lib.Dec.{leb};
 ghost use lib.ListN.{length, getD, take};
-ghost use lib.Seq.{paste, slice};
-ghost use Rattle.ground.specs.Limits.{largestK, largestN, slotCount, pathHolds};
-ghost use Rattle.ground.specs.Tests.{allBelow, member, distinct, apart};
-ghost use Rattle.slots.specs.Parts.{isOpen, held};
-ghost use Rattle.slots.specs.Locks.{lockOf, isXi};
-ghost use Rattle.slots.specs.Sound.{withinLimits, pagesSound, sound};
-ghost use Rattle.state.specs.Checking.{mayEnter, namesEach};
+ghost use Rattle.ground.specs.Limits.{largestK, largestN, slotCount};
+ghost use Rattle.ground.specs.Tests.{all, allBelow};
+ghost use Rattle.slots.specs.Parts.{held};
+ghost use Rattle.slots.specs.Sound.{pagesSound, sound};
+ghost use Rattle.lent.specs.Words.{cell, column, slotIn, orderIn, stateOf};
+ghost use Rattle.lent.specs.Holds.{Short, othersHold};
+ghost use Rattle.state.specs.Checking.{mayEnter, namesEach, named, fineRow, rowFine, deepFine, openKind, aloneIn, xiAlone};
 
-// Cells for all pages that the slots may hold under ξ, and under ρ.
-const XI_CELLS: usize = SLOTS * (HELD + SIBLING_HOLDS);
+// The limits of what a slot holds, as the words have them.
+const SEARCH_DEPTH: u32 = 1;
 
-const RHO_CELLS: usize = SLOTS * SEARCH_HOLDS;
+const DEPTH_LIMIT: u32 = 10;
+
+const BESIDE_LIMIT: u32 = 9;
 
 // k and N are in range.
 pub fn numbers_in_range(k: usize, n: usize) -> bool
@@ -45,158 +61,121 @@ pub fn numbers_in_range(k: usize, n: usize) -> bool
     n <= LARGEST_N
 }
 
-// A slot with this task is open.
-fn is_open(task: Task) -> bool
-    ensures { λ r. ⌜ r ≡ isOpen task ⌝ }
+// The wanted page and the top of the path, if there is one, are pages of the pool, and not the same.
+fn is_named(depth: u32, n: u32, want: u32, top: u32) -> bool
+    ensures { λ r. ⌜ r ≡ named depth n want top ⌝ }
 {
-    match task {
-        Task::Closed => false,
-        Task::Open(_) => true,
-    }
+    (want < n) & ((depth == 0) | ((top < n) & (want != top)))
 }
 
-// A slot with this task holds its pages under ξ.
-fn is_xi(task: Task) -> bool
-    ensures { λ r. ⌜ r ≡ isXi (lockOf task) ⌝ }
+// A slot with these numbers holds what its kind may hold, as far as the rows tell.
+fn is_fine(kind: u32, depth: u32, beside: u32, n: u32, want: u32, top: u32) -> bool
+    ensures { λ r. ⌜ r ≡ fineRow kind depth beside n want top ⌝ }
 {
-    match task {
-        Task::Closed => false,
-        Task::Open(op) => match op {
-            Op::Search(_) => false,
-            Op::Insert(_, _) => true,
-            Op::Delete(_) => true,
-        },
-    }
+    let named = is_named(depth, n, want, top);
+    ((kind == 0) & (depth == 0) & (beside == 0))
+        | ((kind == SEARCHES) & (depth <= SEARCH_DEPTH) & (beside == 0) & named)
+        | ((kind == INSERTS) & (depth <= DEPTH_LIMIT) & (beside == 0) & named)
+        | ((kind == DELETES)
+            & (depth <= DEPTH_LIMIT)
+            & (beside <= BESIDE_LIMIT)
+            & ((beside == 0) | (beside < depth))
+            & named)
 }
 
-// A slot with this task may hold so many pages on its path, and so many siblings.
-fn within_limits(task: Task, depth: usize, beside: usize) -> bool
-    ensures { λ r. ⌜ r ≡ withinLimits task depth beside ⌝ }
+// Every slot does.
+fn rows_fine(cells: &[u32; STATE], n: u32) -> bool
+    ensures { λ r. ⌜ r ≡ allBelow 16 (rowFine (now (cells .entry)) n) ⌝ }
 {
-    match task {
-        Task::Closed => depth == 0 && beside == 0,
-        Task::Open(op) => match op {
-            Op::Search(_) => depth <= SEARCH_HOLDS && beside == 0,
-            Op::Insert(_, _) => depth <= HELD && beside == 0,
-            Op::Delete(_) => {
-                if HELD < depth {
-                    return false;
-                }
-                if SIBLING_HOLDS < beside {
-                    return false;
-                }
-                beside == 0 || beside < depth
-            }
-        },
+    let mut good = true;
+    let mut s = 0;
+    while s < SLOTS {
+        good = good
+            & is_fine(
+                kind_at(cells, s),
+                depth_at(cells, s),
+                beside_at(cells, s),
+                n,
+                want_at(cells, s),
+                top_at(cells, s),
+            );
+        s += 1;
     }
+    good
 }
 
-// Page x stands in the list from index `from` up to `to`. In a sound state no scan finds anything, so none is cut short.
-fn stands_between(x: u32, list: &[u32], from: usize, to: usize) -> bool
-    requires { ⌜ (from ≤ to) × (to ≤ length (now list)) ⌝ }
-    ensures { λ r. ⌜ r ≡ member x (slice from to (now (list .entry))) ⌝ }
+// The first `count` rows from `row` on name pages below n, none of them the wanted one, none among the first `own` of the
+// path, and none twice.
+fn may_enter(cells: &[u32; STATE], s: usize, n: u32, row: usize, count: usize, own: usize) -> bool
+    requires { ⌜ (s < 16) × (row ≤ 16) × (count ≤ 10) × (own ≤ 10) ⌝ }
+    ensures { λ r. ⌜ r ≡ mayEnter n (cell (now (cells .entry)) 3 s) (take own (column (now (cells .entry)) 6 s)) (take count (column (now (cells .entry)) row s)) ⌝ }
 {
-    let mut found = false;
-    let mut i = from;
-    while i < to {
-        if x == list[i] {
-            found = true;
-        }
-        i += 1;
-    }
-    found
-}
-
-// No page stands twice among the first `count`.
-fn all_differ(pages: &[u32], count: usize) -> bool
-    requires { ⌜ count ≤ length (now pages) ⌝ }
-    ensures { λ r. ⌜ r ≡ distinct (take count (now (pages .entry))) ⌝ }
-{
+    let want = want_at(cells, s);
     let mut i = 0;
     while i < count {
-        if stands_between(pages[i], pages, 0, i) {
-            return false;
-        }
-        i += 1;
-    }
-    true
-}
-
-// None of the first `n` pages stands among the first `m` others.
-fn are_apart<'a>(pages: &'a [u32], n: usize, others: &'a [u32], m: usize) -> bool
-    requires { ⌜ (n ≤ length (now pages)) × (m ≤ length (now others)) ⌝ }
-    ensures { λ r. ⌜ r ≡ apart (take n (now (pages .entry))) (take m (now (others .entry))) ⌝ }
-{
-    let mut i = 0;
-    while i < n {
-        if stands_between(pages[i], others, 0, m) {
-            return false;
-        }
-        i += 1;
-    }
-    true
-}
-
-// The first `xis` pages, held under ξ, differ from each other and from the first `rhos`, held under ρ.
-fn no_clash<'a>(xi: &'a [u32], xis: usize, rho: &'a [u32], rhos: usize) -> bool
-    requires { ⌜ (xis ≤ length (now xi)) × (rhos ≤ length (now rho)) ⌝ }
-    ensures { λ r. ⌜ r ≡ (distinct (take xis (now (xi .entry))) && apart (take xis (now (xi .entry))) (take rhos (now (rho .entry)))) ⌝ }
-{
-    all_differ(xi, xis) && are_apart(xi, xis, rho, rhos)
-}
-
-// Puts the first `count` pages into the list, from index `at` on. Stops at one that is not below n, is the wanted one, or
-// stands in the list already, from index `from` on.
-fn enter(
-    list: &mut [u32],
-    from: usize,
-    at: usize,
-    n: u32,
-    want: u32,
-    pages: &[u32],
-    count: usize,
-) -> bool
-    requires { ⌜ (from ≤ at) × (at + count ≤ length (now list)) × (count ≤ length (now pages)) ⌝ }
-    ensures { λ r. ⌜ r ≡ mayEnter n want (slice from at (now (list .entry))) (take count (now (pages .entry))) ⌝ }
-    ensures { λ r. ⌜ (r ≡ true → now (list .exit) ≡ paste (now (list .entry)) at (now (pages .entry)) count) ⌝ }
-{
-    let mut i = 0;
-    while i < count {
-        let p = pages[i];
-        let to = at + i;
+        let p = word_at(cells, row + i, s);
         if n <= p {
             return false;
         }
         if p == want {
             return false;
         }
-        if stands_between(p, list, from, to) {
+        if column_has(cells, PATH, own, s, p) {
             return false;
         }
-        list[to] = p;
+        if column_has(cells, row, i, s, p) {
+            return false;
+        }
         i += 1;
     }
     true
 }
 
-// Puts the pages that a slot holds into the list, from index `at` on, if they and the wanted one are sound.
-fn enter_slot(list: &mut [u32], at: usize, n: u32, s: Slot) -> bool
-    requires { ⌜ (s .depth ≤ pathHolds) × (s .beside ≤ pathHolds) × (at + (s .depth + s .beside) ≤ length (now list)) ⌝ }
-    ensures { λ r. ⌜ r ≡ pagesSound n s ⌝ }
-    ensures { λ r. ⌜ (r ≡ true → take (at + (s .depth + s .beside)) (now (list .exit)) ≡ take at (now (list .entry)) ++ held s) ⌝ }
+// All pages that slot s names are below n, it holds none twice, and wants none that it holds.
+fn pages_fine(cells: &[u32; STATE], s: usize, n: u32) -> bool
+    requires { ⌜ (s < 16) × Short (now cells) ⌝ }
+    ensures { λ r. ⌜ r ≡ pagesSound n (slotIn (now (cells .entry)) s) ⌝ }
 {
-    let want = s.want;
-    if n <= want {
+    if n <= want_at(cells, s) {
         return false;
     }
-    let path = s.path;
-    let depth = s.depth;
-    if !enter(list, at, at, n, want, &path, depth) {
+    let depth = wide(depth_at(cells, s));
+    if !may_enter(cells, s, n, PATH, depth, 0) {
         return false;
     }
-    let siblings = s.siblings;
-    let beside = s.beside;
-    enter(list, at, at + depth, n, want, &siblings, beside)
+    let beside = wide(beside_at(cells, s));
+    may_enter(cells, s, n, SIBLINGS, beside, depth)
+}
+
+// So do all slots that hold more than one page.
+fn deep_fine(cells: &[u32; STATE], n: u32) -> bool
+    requires { ⌜ Short (now cells) ⌝ }
+    ensures { λ r. ⌜ r ≡ allBelow 16 (deepFine (now (cells .entry)) n) ⌝ }
+{
+    let mut s = 0;
+    while s < SLOTS {
+        if is_deep(cells, s) {
+            if !pages_fine(cells, s, n) {
+                return false;
+            }
+        }
+        s += 1;
+    }
+    true
+}
+
+// Which slots are open.
+fn busy_of(cells: &[u32; STATE]) -> [bool; SLOTS]
+    ensures { λ r. ⌜ (length r ≡ 16) × ((s : ℕ) → s < 16 → getD r s false ≡ openKind (cell (now (cells .entry)) 0 s)) ⌝ }
+{
+    let mut busy = [false; SLOTS];
+    let mut s = 0;
+    while s < SLOTS {
+        let kind = kind_at(cells, s);
+        busy[s] = (kind != 0) & (kind <= DELETES);
+        s += 1;
+    }
+    busy
 }
 
 // No slot is marked.
@@ -212,16 +191,17 @@ fn none_of(marks: [bool; SLOTS]) -> bool
 }
 
 // The waiting order names each open slot once and no other.
-fn order_sound(order: [usize; SLOTS], waiting: usize, busy: [bool; SLOTS]) -> bool
-    ensures { λ r. ⌜ r ≡ namesEach (λ (s : ℕ). getD busy s false) waiting order ⌝ }
+fn order_sound(cells: &[u32; STATE], waiting: usize, busy: [bool; SLOTS]) -> bool
+    ensures { λ r. ⌜ r ≡ namesEach (λ (s : ℕ). getD busy s false) waiting (orderIn (now (cells .entry))) ⌝ }
 {
+    sized(cells);
     if SLOTS < waiting {
         return false;
     }
     let mut unnamed = busy;
     let mut i = 0;
     while i < waiting {
-        let s = order[i];
+        let s = order_at(cells, i);
         if SLOTS <= s {
             return false;
         }
@@ -234,45 +214,75 @@ fn order_sound(order: [usize; SLOTS], waiting: usize, busy: [bool; SLOTS]) -> bo
     none_of(unnamed)
 }
 
-// The state is sound. This runs at every call, so the state is never handed on, and one slot at a time is.
-pub fn is_sound(st: State) -> bool
-    ensures { λ r. ⌜ r ≡ sound st ⌝ }
+// No other slot holds one of the first `count` pages from `row` on, of slot s.
+fn column_alone(cells: &[u32; STATE], s: usize, row: usize, count: usize) -> bool
+    requires { ⌜ (s < 16) × (row ≤ 16) × (count ≤ 10) × Short (now cells) ⌝ }
+    ensures { λ r. ⌜ r ≡ all (λ (p : ℕ). not (othersHold (now (cells .entry)) s 0 p)) (take count (column (now (cells .entry)) row s)) ⌝ }
 {
-    let k = st.k;
-    let n = st.n;
-    if !numbers_in_range(k, n) {
-        return false;
-    }
-    let bound = n as u32;
-    let mut busy = [false; SLOTS];
-    let mut xi = [0u32; XI_CELLS];
-    let mut xis = 0;
-    let mut rho = [0u32; RHO_CELLS];
-    let mut rhos = 0;
     let mut i = 0;
-    while i < SLOTS {
-        let s = st.slots[i];
-        let task = s.task;
-        let depth = s.depth;
-        let beside = s.beside;
-        if !within_limits(task, depth, beside) {
+    while i < count {
+        if others_hold(cells, s, 0, word_at(cells, row + i, s)) {
             return false;
-        }
-        busy[i] = is_open(task);
-        if is_xi(task) {
-            if !enter_slot(&mut xi, xis, bound, s) {
-                return false;
-            }
-            xis = xis + depth + beside;
-        } else if is_open(task) {
-            if !enter_slot(&mut rho, rhos, bound, s) {
-                return false;
-            }
-            rhos = rhos + depth + beside;
         }
         i += 1;
     }
-    let order = st.order;
-    let waiting = st.waiting;
-    order_sound(order, waiting, busy) && no_clash(&xi, xis, &rho, rhos)
+    true
+}
+
+// No other slot holds a page that slot s holds.
+fn is_alone(cells: &[u32; STATE], s: usize) -> bool
+    requires { ⌜ (s < 16) × Short (now cells) ⌝ }
+    ensures { λ r. ⌜ r ≡ aloneIn (now (cells .entry)) s ⌝ }
+{
+    if !column_alone(cells, s, PATH, wide(depth_at(cells, s))) {
+        return false;
+    }
+    column_alone(cells, s, SIBLINGS, wide(beside_at(cells, s)))
+}
+
+// No page held under ξ is held by another slot.
+fn no_clashes(cells: &[u32; STATE]) -> bool
+    requires { ⌜ Short (now cells) ⌝ }
+    ensures { λ r. ⌜ r ≡ allBelow 16 (xiAlone (now (cells .entry))) ⌝ }
+{
+    let mut s = 0;
+    while s < SLOTS {
+        if SEARCHES < kind_at(cells, s) {
+            if !is_alone(cells, s) {
+                return false;
+            }
+        }
+        s += 1;
+    }
+    true
+}
+
+// The waiting order is sound.
+fn waits_sound(cells: &[u32; STATE]) -> bool
+    ensures { λ r. ⌜ r ≡ namesEach (λ (s : ℕ). openKind (cell (now (cells .entry)) 0 s)) (getD (now (cells .entry)) 2 0) (orderIn (now (cells .entry))) ⌝ }
+{
+    let waiting = waiting_of(cells);
+    let busy = busy_of(cells);
+    order_sound(cells, waiting, busy)
+}
+
+// The state is sound.
+pub fn is_sound(cells: &[u32; STATE]) -> bool
+    ensures { λ r. ⌜ r ≡ sound (stateOf (now (cells .entry))) ⌝ }
+{
+    let n = n_of(cells);
+    if !numbers_in_range(k_of(cells), n) {
+        return false;
+    }
+    let bound = n as u32;
+    if !rows_fine(cells, bound) {
+        return false;
+    }
+    if !waits_sound(cells) {
+        return false;
+    }
+    if !deep_fine(cells, bound) {
+        return false;
+    }
+    no_clashes(cells)
 }

@@ -1,10 +1,12 @@
 // The lock report for a page: which kind of lock, how many slots hold it, and the lowest-numbered of them.
 use crate::checking::is_sound;
 use ground::SLOTS;
+use lent::STATE;
+use lent::cells::n_of;
+use lent::granting::holds_at;
+use lent::lifting::task_at;
 use slots::Answer;
 use slots::Lock;
-use slots::State;
-use slots::granting::holds;
 use slots::granting::lock_of;
 ghost use mathlib.Core.Path.{_≡_};
 ghost use mathlib.Core.Bool.{cond};
@@ -13,17 +15,19 @@ ghost use Rattle.ground.specs.Limits.{slotCount};
 ghost use Rattle.slots.specs.declared.Lock;
 ghost use Rattle.slots.specs.Locks.{lockAt};
 ghost use Rattle.slots.specs.Report.{holdersMask};
-ghost use Rattle.slots.specs.Statements.{ReportSays};
+ghost use Rattle.lent.specs.Words.{asRead};
+ghost use Rattle.lent.specs.Holds.{Short};
+ghost use Rattle.lent.specs.Statements.{ReportSays};
 
 // The slots that hold page p, one bit for each.
-pub fn holders(st: State, p: u32) -> u16
-    ensures { λ r. ⌜ r ≡ holdersMask st p ⌝ }
+pub fn holders(cells: &[u32; STATE], p: u32) -> u16
+    requires { ⌜ Short (now cells) ⌝ }
+    ensures { λ r. ⌜ r ≡ holdersMask (asRead (now (cells .entry))) p ⌝ }
 {
     let mut mask = 0u16;
     let mut s = 0;
     while s < SLOTS {
-        let slot = st.slots[s];
-        if holds(slot, p) {
+        if holds_at(cells, s, p) {
             mask = mask | (1u16 << s);
         }
         s += 1;
@@ -32,31 +36,28 @@ pub fn holders(st: State, p: u32) -> u16
 }
 
 // The kind of lock that slot s uses, none behind the last slot.
-pub fn kind_at(st: State, s: u32) -> Lock
-    ensures { λ r. ⌜ r ≡ cond (ltb s slotCount) (lockAt st s) Lock.None ⌝ }
+pub fn lock_at(cells: &[u32; STATE], s: u32) -> Lock
+    ensures { λ r. ⌜ r ≡ cond (ltb s slotCount) (lockAt (asRead (now (cells .entry))) s) Lock.None ⌝ }
 {
     let at = s as usize;
     if SLOTS <= at {
         return Lock::None;
     }
-    let slot = st.slots[at];
-    let task = slot.task;
-    lock_of(task)
+    lock_of(task_at(cells, at))
 }
 
 // What page p is held by.
-pub fn report(st: State, p: u32) -> Answer
-    ensures { λ r. ⌜ ReportSays st p r ⌝ }
+pub fn report(state: &[u32; STATE], p: u32) -> Answer
+    ensures { λ r. ⌜ ReportSays (now (state .entry)) p r ⌝ }
 {
-    if !is_sound(st) {
+    if !is_sound(state) {
         return Answer::BadState;
     }
-    let n = st.n;
-    if n <= p as usize {
+    if n_of(state) <= p as usize {
         return Answer::BadPage;
     }
-    let mask = holders(st, p);
+    let mask = holders(state, p);
     let count = u16::count_ones(mask);
     let lowest = u16::trailing_zeros(mask);
-    Answer::Reported(kind_at(st, lowest), count, lowest)
+    Answer::Reported(lock_at(state, lowest), count, lowest)
 }

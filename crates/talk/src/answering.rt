@@ -1,17 +1,17 @@
 // Answers, line by line. Each call is given the state and the words that the last one left.
-use crate::Said;
 use answers::write_answer;
 use answers::write_bad_line;
 use answers::write_too_long;
 use index::calls::begin;
 use index::calls::make;
 use index::calls::step;
+use lent::STATE;
 use lines::Command;
 use lines::line_end;
 use lines::read_line;
-use slots::State;
 ghost use Prim.Native.Nat.{_+_, _*_, _≤_};
 ghost use lib.ListN.{length};
+ghost use Rattle.lent.specs.Words.{stateOf};
 ghost use Rattle.talk.specs.Split.{linesOf};
 ghost use Rattle.talk.specs.Talk.{commanded, replies, programWrites};
 ghost use Rattle.talk.specs.Leaves.{Leaves, Writes};
@@ -31,38 +31,34 @@ pub const MOST: usize = 65536;
 pub const ROOM: usize = 8 * MOST + 32;
 
 // Makes the call that a command names, and writes its answer.
-fn obey(st: State, words: &mut [u32], command: Command, out: &mut [u8], at: usize) -> Said
+fn obey(
+    state: &mut [u32; STATE],
+    words: &mut [u32],
+    command: Command,
+    out: &mut [u8],
+    at: usize,
+) -> usize
     requires { ⌜ at + 32 ≤ length (now out) ⌝ }
-    ensures { λ r. ⌜ Leaves (commanded st (now (words .entry)) command) (now (out .entry)) at r (now (words .exit)) (now (out .exit)) ⌝ }
+    ensures { λ r. ⌜ Leaves (commanded (stateOf (now (state .entry))) (now (words .entry)) command) (now (out .entry)) at (stateOf (now (state .exit))) r (now (words .exit)) (now (out .exit)) ⌝ }
 {
     match command {
         Command::Begin(slot, op) => {
-            let outcome = begin(st, slot as usize, op);
-            let answer = outcome.answer;
-            let state = outcome.state;
-            let end = write_answer(out, at, answer);
-            Said { state, end }
+            let answer = begin(state, slot as usize, op);
+            write_answer(out, at, answer)
         }
         Command::Step(slot) => {
-            let outcome = step(st, words, slot as usize);
-            let answer = outcome.answer;
-            let state = outcome.state;
-            let end = write_answer(out, at, answer);
-            Said { state, end }
+            let answer = step(state, words, slot as usize);
+            write_answer(out, at, answer)
         }
-        Command::Bad => {
-            let end = write_bad_line(out, at);
-            Said { state: st, end }
-        }
+        Command::Bad => write_bad_line(out, at),
     }
 }
 
 // Answers every line of an input.
-fn answer_lines(st: State, words: &mut [u32], input: &[u8], out: &mut [u8]) -> usize
+fn answer_lines(state: &mut [u32; STATE], words: &mut [u32], input: &[u8], out: &mut [u8]) -> usize
     requires { ⌜ 8 * length (now input) + 32 ≤ length (now out) ⌝ }
-    ensures { λ r. ⌜ Writes (replies st (now (words .entry)) (linesOf (now (input .entry)))) (now (out .entry)) r (now (out .exit)) ⌝ }
+    ensures { λ r. ⌜ Writes (replies (stateOf (now (state .entry))) (now (words .entry)) (linesOf (now (input .entry)))) (now (out .entry)) r (now (out .exit)) ⌝ }
 {
-    let mut state = st;
     let mut at = 0;
     let mut end = 0;
     while at < input.len() {
@@ -71,9 +67,7 @@ fn answer_lines(st: State, words: &mut [u32], input: &[u8], out: &mut [u8]) -> u
             return write_bad_line(out, end);
         }
         let command = read_line(&input[at..stop]);
-        let said = obey(state, words, command, out, end);
-        state = said.state;
-        end = said.end;
+        end = obey(state, words, command, out, end);
         at = stop + 1;
     }
     end
@@ -86,8 +80,8 @@ pub fn answer(input: &[u8], out: &mut [u8; ROOM]) -> usize
     if MOST < input.len() {
         return write_too_long(out, 0);
     }
+    let mut state = [0u32; STATE];
     let mut words = [0u32; WORDS];
-    let opened = make(K, N, &mut words);
-    let state = opened.state;
-    answer_lines(state, &mut words, input, out)
+    make(K, N, &mut state, &mut words);
+    answer_lines(&mut state, &mut words, input, out)
 }

@@ -4,10 +4,3 @@ mod serving;
 
 pub use answering::answer;
 pub use serving::serve;
-use slots::State;
-
-// What an answered line leaves: the state, and the position behind what was written.
-pub struct Said {
-    pub state: State,
-    pub end: usize,
-}

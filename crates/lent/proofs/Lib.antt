@@ -1,0 +1,7 @@
+pub mod ListLaws
+pub mod SpreadLaws
+pub mod StateLaws
+pub mod WritingLaws
+pub mod HoldLaws
+pub mod Inverse
+pub mod Unique

@@ -1,0 +1,114 @@
+// The words of a state, one by one. Where a row lies is said here and nowhere else.
+use crate::BESIDE;
+use crate::DEPTH;
+use crate::KIND;
+use crate::ORDER;
+use crate::PAGES;
+use crate::PATH;
+use crate::ROWS_FROM;
+use crate::STATE;
+use crate::WAITING;
+use crate::WANT;
+use crate::WIDTH;
+use ground::SLOTS;
+ghost use mathlib.Core.Path.{_≡_};
+ghost use Prim.Native.Nat.{_+_, _<_};
+ghost use lib.ListN.{length, getD, set};
+ghost use Rattle.lent.specs.Words.{address, cell};
+
+pub fn wide(x: u32) -> usize
+    ensures { λ r. ⌜ r ≡ x ⌝ }
+{
+    x as usize
+}
+
+// The words are as many as a state has.
+pub fn sized(cells: &[u32])
+    requires { ⌜ length (now cells) ≡ 435 ⌝ }
+    ensures { λ _. ⌜ length (now (cells .entry)) ≡ 435 ⌝ }
+{}
+
+// The word in a row of slot s.
+pub fn word_at(cells: &[u32; STATE], row: usize, s: usize) -> u32
+    requires { ⌜ (row < 26) × (s < 16) ⌝ }
+    ensures { λ r. ⌜ r ≡ cell (now (cells .entry)) row s ⌝ }
+{
+    cells[ROWS_FROM + SLOTS * row + s]
+}
+
+// The same, written.
+pub fn put(cells: &mut [u32; STATE], row: usize, s: usize, x: u32)
+    requires { ⌜ (row < 26) × (s < 16) ⌝ }
+    ensures { λ _. ⌜ now (cells .exit) ≡ set (now (cells .entry)) (address row s) x ⌝ }
+{
+    cells[ROWS_FROM + SLOTS * row + s] = x;
+}
+
+// k.
+pub fn k_of(cells: &[u32; STATE]) -> usize
+    ensures { λ r. ⌜ r ≡ getD (now (cells .entry)) 0 0 ⌝ }
+{
+    wide(cells[WIDTH])
+}
+
+// N.
+pub fn n_of(cells: &[u32; STATE]) -> usize
+    ensures { λ r. ⌜ r ≡ getD (now (cells .entry)) 1 0 ⌝ }
+{
+    wide(cells[PAGES])
+}
+
+// How many wait.
+pub fn waiting_of(cells: &[u32; STATE]) -> usize
+    ensures { λ r. ⌜ r ≡ getD (now (cells .entry)) 2 0 ⌝ }
+{
+    wide(cells[WAITING])
+}
+
+// The slot at place i of the waiting order.
+pub fn order_at(cells: &[u32; STATE], i: usize) -> usize
+    requires { ⌜ i < 16 ⌝ }
+    ensures { λ r. ⌜ r ≡ getD (now (cells .entry)) (i + 3) 0 ⌝ }
+{
+    wide(cells[i + ORDER])
+}
+
+// The kind of task of slot s.
+pub fn kind_at(cells: &[u32; STATE], s: usize) -> u32
+    requires { ⌜ s < 16 ⌝ }
+    ensures { λ r. ⌜ r ≡ cell (now (cells .entry)) 0 s ⌝ }
+{
+    word_at(cells, KIND, s)
+}
+
+// The page that it wants.
+pub fn want_at(cells: &[u32; STATE], s: usize) -> u32
+    requires { ⌜ s < 16 ⌝ }
+    ensures { λ r. ⌜ r ≡ cell (now (cells .entry)) 3 s ⌝ }
+{
+    word_at(cells, WANT, s)
+}
+
+// How many pages are on its path.
+pub fn depth_at(cells: &[u32; STATE], s: usize) -> u32
+    requires { ⌜ s < 16 ⌝ }
+    ensures { λ r. ⌜ r ≡ cell (now (cells .entry)) 4 s ⌝ }
+{
+    word_at(cells, DEPTH, s)
+}
+
+// How many siblings it holds.
+pub fn beside_at(cells: &[u32; STATE], s: usize) -> u32
+    requires { ⌜ s < 16 ⌝ }
+    ensures { λ r. ⌜ r ≡ cell (now (cells .entry)) 5 s ⌝ }
+{
+    word_at(cells, BESIDE, s)
+}
+
+// The top page of its path.
+pub fn top_at(cells: &[u32; STATE], s: usize) -> u32
+    requires { ⌜ s < 16 ⌝ }
+    ensures { λ r. ⌜ r ≡ cell (now (cells .entry)) 6 s ⌝ }
+{
+    word_at(cells, PATH, s)
+}

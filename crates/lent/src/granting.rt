@@ -1,0 +1,194 @@
+// Who holds a page, and when a step grants a want. Most slots hold one page: the tops are looked at first, in one row, and
+// below them only the slots that hold more.
+use crate::DELETES;
+use crate::INSERTS;
+use crate::PATH;
+use crate::SEARCHES;
+use crate::SIBLINGS;
+use crate::STATE;
+use crate::cells::beside_at;
+use crate::cells::depth_at;
+use crate::cells::kind_at;
+use crate::cells::order_at;
+use crate::cells::sized;
+use crate::cells::top_at;
+use crate::cells::waiting_of;
+use crate::cells::want_at;
+use crate::cells::wide;
+use crate::cells::word_at;
+use ground::SLOTS;
+ghost use mathlib.Core.Path.{_≡_};
+ghost use mathlib.Core.Bool.{true, not, _&&_};
+ghost use Prim.Native.Nat.{ℕ, _≤_, _<_};
+ghost use lib.Dec.{leb, ltb, eqb};
+ghost use lib.ListN.{getD, take};
+ghost use Rattle.ground.specs.Limits.{slotCount};
+ghost use Rattle.ground.specs.Tests.{anyBelow, member};
+ghost use Rattle.slots.specs.Parts.{held, waitingOrder};
+ghost use Rattle.slots.specs.Grant as rule;
+ghost use Rattle.lent.specs.Words.{column, slotIn, asRead, known};
+ghost use Rattle.lent.specs.Holds.{Short, topHolds, deepHolds, isDeep, othersHold, leastClash};
+
+// Page p stands in one of the first `count` rows from `row` on, of slot s.
+pub fn column_has(cells: &[u32; STATE], row: usize, count: usize, s: usize, p: u32) -> bool
+    requires { ⌜ (row ≤ 16) × (count ≤ 10) × (s < 16) ⌝ }
+    ensures { λ r. ⌜ r ≡ member p (take count (column (now (cells .entry)) row s)) ⌝ }
+{
+    let mut j = 0;
+    while j < count {
+        if word_at(cells, row + j, s) == p {
+            return true;
+        }
+        j += 1;
+    }
+    false
+}
+
+// Slot s holds page p, on its path or as a sibling.
+pub fn holds_at(cells: &[u32; STATE], s: usize, p: u32) -> bool
+    requires { ⌜ (s < 16) × Short (now cells) ⌝ }
+    ensures { λ r. ⌜ r ≡ member p (held (slotIn (now (cells .entry)) s)) ⌝ }
+{
+    if column_has(cells, PATH, wide(depth_at(cells, s)), s, p) {
+        return true;
+    }
+    column_has(cells, SIBLINGS, wide(beside_at(cells, s)), s, p)
+}
+
+// Slot t is another one than s, its kind is not below `least`, and page p is the top of its path.
+pub fn is_top(t: usize, s: usize, least: u32, kind: u32, depth: u32, top: u32, p: u32) -> bool
+    ensures { λ r. ⌜ r ≡ (not (eqb t s) && leb least kind) && (ltb 0 depth && eqb p top) ⌝ }
+{
+    (t != s) & (least <= kind) & ((0 < depth) & (p == top))
+}
+
+// Page p is on top of another slot's path.
+pub fn tops_hold(cells: &[u32; STATE], s: usize, least: u32, p: u32) -> bool
+    ensures { λ r. ⌜ r ≡ anyBelow 16 (topHolds (now (cells .entry)) s least p) ⌝ }
+{
+    let mut found = false;
+    let mut t = 0;
+    while t < SLOTS {
+        found = found
+            | is_top(
+                t,
+                s,
+                least,
+                kind_at(cells, t),
+                depth_at(cells, t),
+                top_at(cells, t),
+                p,
+            );
+        t += 1;
+    }
+    found
+}
+
+// Slot t holds more than one page.
+pub fn is_deep(cells: &[u32; STATE], t: usize) -> bool
+    requires { ⌜ t < 16 ⌝ }
+    ensures { λ r. ⌜ r ≡ isDeep (now (cells .entry)) t ⌝ }
+{
+    (1 < depth_at(cells, t)) | (0 < beside_at(cells, t))
+}
+
+// Slot t is another one than s, holds more than one page, and page p is among them.
+pub fn deep_holds(cells: &[u32; STATE], s: usize, least: u32, p: u32, t: usize) -> bool
+    requires { ⌜ (t < 16) × Short (now cells) ⌝ }
+    ensures { λ r. ⌜ r ≡ deepHolds (now (cells .entry)) s least p t ⌝ }
+{
+    if !is_deep(cells, t) {
+        return false;
+    }
+    if t == s {
+        return false;
+    }
+    if kind_at(cells, t) < least {
+        return false;
+    }
+    holds_at(cells, t, p)
+}
+
+// Such a slot is there.
+pub fn some_deep_holds(cells: &[u32; STATE], s: usize, least: u32, p: u32) -> bool
+    requires { ⌜ Short (now cells) ⌝ }
+    ensures { λ r. ⌜ r ≡ anyBelow 16 (deepHolds (now (cells .entry)) s least p) ⌝ }
+{
+    let mut t = 0;
+    while t < SLOTS {
+        if deep_holds(cells, s, least, p, t) {
+            return true;
+        }
+        t += 1;
+    }
+    false
+}
+
+// Another slot than s, whose kind is not below `least`, holds page p.
+pub fn others_hold(cells: &[u32; STATE], s: usize, least: u32, p: u32) -> bool
+    requires { ⌜ Short (now cells) ⌝ }
+    ensures { λ r. ⌜ r ≡ othersHold (now (cells .entry)) s least p ⌝ }
+{
+    if tops_hold(cells, s, least, p) {
+        return true;
+    }
+    some_deep_holds(cells, s, least, p)
+}
+
+// The lowest kind whose lock clashes with that of this kind: two ρ on a page go together, ξ goes with nothing.
+pub fn least_clash(kind: u32) -> u32
+    ensures { λ r. ⌜ r ≡ leastClash kind ⌝ }
+{
+    if kind == SEARCHES {
+        return INSERTS;
+    }
+    if kind == 0 {
+        return DELETES + 1;
+    }
+    SEARCHES
+}
+
+// No other slot holds a clashing lock on the page that slot s wants.
+pub fn no_clash(cells: &[u32; STATE], s: usize) -> bool
+    requires { ⌜ (s < 16) × (known (now cells) ≡ true) × Short (now cells) ⌝ }
+    ensures { λ r. ⌜ r ≡ rule.noClash (asRead (now (cells .entry))) s ⌝ }
+{
+    let least = least_clash(kind_at(cells, s));
+    !others_hold(cells, s, least, want_at(cells, s))
+}
+
+// No older want is for the same page.
+pub fn no_older(cells: &[u32; STATE], s: usize) -> bool
+    requires { ⌜ (s < 16) × (getD (now cells) 2 0 ≤ 16) × ((t : ℕ) → member t (waitingOrder (asRead (now cells))) ≡ true → t < slotCount) ⌝ }
+    ensures { λ r. ⌜ r ≡ rule.noOlder (asRead (now (cells .entry))) s ⌝ }
+{
+    sized(cells);
+    let want = want_at(cells, s);
+    let waiting = waiting_of(cells);
+    let mut i = 0;
+    loop {
+        if waiting <= i {
+            break true;
+        }
+        let t = order_at(cells, i);
+        if t == s {
+            break true;
+        }
+        if want_at(cells, t) == want {
+            break false;
+        }
+        i += 1;
+    }
+}
+
+// A step grants the want of slot s.
+pub fn grants(cells: &[u32; STATE], s: usize) -> bool
+    requires { ⌜ (s < 16) × (known (now cells) ≡ true) × Short (now cells) ⌝ }
+    requires { ⌜ (getD (now cells) 2 0 ≤ 16) × ((t : ℕ) → member t (waitingOrder (asRead (now cells))) ≡ true → t < slotCount) ⌝ }
+    ensures { λ r. ⌜ r ≡ rule.grants (asRead (now (cells .entry))) s ⌝ }
+{
+    if !no_clash(cells, s) {
+        return false;
+    }
+    no_older(cells, s)
+}

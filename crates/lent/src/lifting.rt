@@ -1,0 +1,169 @@
+// One slot lifted out of its column, and laid back.
+use crate::BESIDE;
+use crate::DELETES;
+use crate::DEPTH;
+use crate::INFORMATION;
+use crate::INSERTS;
+use crate::KEY;
+use crate::PATH;
+use crate::ROWS_FROM;
+use crate::SEARCHES;
+use crate::SIBLINGS;
+use crate::STATE;
+use crate::WANT;
+use crate::cells::beside_at;
+use crate::cells::depth_at;
+use crate::cells::kind_at;
+use crate::cells::put;
+use crate::cells::want_at;
+use crate::cells::wide;
+use crate::cells::word_at;
+use ground::HELD;
+use ground::SLOTS;
+use slots::Op;
+use slots::Slot;
+use slots::Task;
+ghost use mathlib.Core.Path.{_≡_};
+ghost use mathlib.Core.List.{[], _∷_};
+ghost use Prim.Native.Nat.{_≤_, _<_};
+ghost use Rattle.lent.specs.Words.{column, taskFrom, slotIn, kindOf, keyIn, informationIn, spread, slotLaid};
+
+// The task of this kind.
+pub fn task_of(kind: u32, key: u32, information: u32) -> Task
+    ensures { λ r. ⌜ r ≡ taskFrom kind key information ⌝ }
+{
+    if kind == SEARCHES {
+        return Task::Open(Op::Search(key));
+    }
+    if kind == INSERTS {
+        return Task::Open(Op::Insert(key, information));
+    }
+    if kind == DELETES {
+        return Task::Open(Op::Delete(key));
+    }
+    Task::Closed
+}
+
+// Ten rows of slot s.
+pub fn column_of(cells: &[u32; STATE], row: usize, s: usize) -> [u32; HELD]
+    requires { ⌜ (row ≤ 16) × (s < 16) ⌝ }
+    ensures { λ r. ⌜ r ≡ column (now (cells .entry)) row s ⌝ }
+{
+    let mut pages = [0u32; HELD];
+    let mut j = 0;
+    while j < HELD {
+        pages[j] = word_at(cells, row + j, s);
+        j += 1;
+    }
+    pages
+}
+
+// The task of slot s.
+pub fn task_at(cells: &[u32; STATE], s: usize) -> Task
+    requires { ⌜ s < 16 ⌝ }
+    ensures { λ r. ⌜ r ≡ slotIn (now (cells .entry)) s .task ⌝ }
+{
+    let kind = kind_at(cells, s);
+    let key = word_at(cells, KEY, s);
+    let information = word_at(cells, INFORMATION, s);
+    task_of(kind, key, information)
+}
+
+// Slot s.
+pub fn slot_at(cells: &[u32; STATE], s: usize) -> Slot
+    requires { ⌜ s < 16 ⌝ }
+    ensures { λ r. ⌜ r ≡ slotIn (now (cells .entry)) s ⌝ }
+{
+    let task = task_at(cells, s);
+    let path = column_of(cells, PATH, s);
+    let siblings = column_of(cells, SIBLINGS, s);
+    Slot {
+        task,
+        want: want_at(cells, s),
+        path,
+        depth: wide(depth_at(cells, s)),
+        siblings,
+        beside: wide(beside_at(cells, s)),
+    }
+}
+
+// The numbers of a task.
+pub fn kind_of(task: Task) -> u32
+    ensures { λ r. ⌜ r ≡ kindOf task ⌝ }
+{
+    match task {
+        Task::Closed => 0,
+        Task::Open(op) => match op {
+            Op::Search(_) => SEARCHES,
+            Op::Insert(_, _) => INSERTS,
+            Op::Delete(_) => DELETES,
+        },
+    }
+}
+
+pub fn key_of(task: Task) -> u32
+    ensures { λ r. ⌜ r ≡ keyIn task ⌝ }
+{
+    match task {
+        Task::Closed => 0,
+        Task::Open(op) => match op {
+            Op::Search(x) => x,
+            Op::Insert(x, _) => x,
+            Op::Delete(x) => x,
+        },
+    }
+}
+
+pub fn information_of(task: Task) -> u32
+    ensures { λ r. ⌜ r ≡ informationIn task ⌝ }
+{
+    match task {
+        Task::Closed => 0,
+        Task::Open(op) => match op {
+            Op::Search(_) => 0,
+            Op::Insert(_, v) => v,
+            Op::Delete(_) => 0,
+        },
+    }
+}
+
+// The three numbers of a task, down the column of slot s.
+pub fn lay_task(cells: &mut [u32; STATE], s: usize, task: Task)
+    requires { ⌜ s < 16 ⌝ }
+    ensures { λ _. ⌜ now (cells .exit) ≡ spread (now (cells .entry)) 0 s (kindOf task ∷ keyIn task ∷ informationIn task ∷ []) ⌝ }
+{
+    let kind = kind_of(task);
+    let key = key_of(task);
+    let information = information_of(task);
+    cells[ROWS_FROM + s] = kind;
+    cells[ROWS_FROM + SLOTS * KEY + s] = key;
+    cells[ROWS_FROM + SLOTS * INFORMATION + s] = information;
+}
+
+// Ten pages, down the column of slot s.
+pub fn lay_column(cells: &mut [u32; STATE], row: usize, s: usize, pages: [u32; HELD])
+    requires { ⌜ (row ≤ 16) × (s < 16) ⌝ }
+    ensures { λ _. ⌜ now (cells .exit) ≡ spread (now (cells .entry)) row s pages ⌝ }
+{
+    let mut j = 0;
+    while j < HELD {
+        put(cells, row + j, s, pages[j]);
+        j += 1;
+    }
+}
+
+// A slot, laid back.
+pub fn lay(cells: &mut [u32; STATE], s: usize, slot: Slot)
+    requires { ⌜ (s < 16) × (slot .depth ≤ 10) × (slot .beside ≤ 10) ⌝ }
+    ensures { λ _. ⌜ now (cells .exit) ≡ slotLaid (now (cells .entry)) s slot ⌝ }
+{
+    let task = slot.task;
+    lay_task(cells, s, task);
+    put(cells, WANT, s, slot.want);
+    put(cells, DEPTH, s, slot.depth as u32);
+    put(cells, BESIDE, s, slot.beside as u32);
+    let path = slot.path;
+    lay_column(cells, PATH, s, path);
+    let siblings = slot.siblings;
+    lay_column(cells, SIBLINGS, s, siblings);
+}
