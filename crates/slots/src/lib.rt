@@ -30,7 +30,7 @@ pub struct Slot {
     pub beside: usize,
 }
 
-// k, the number of pages, the slots, and the waiting order, oldest first.
+// The state that the rules speak of: k, the number of pages, the slots, and the waiting order, oldest first.
 pub struct State {
     pub k: usize,
     pub n: usize,
@@ -72,7 +72,7 @@ pub enum Answer {
     BadPage,
 }
 
-// What a call that may change the state gives back.
+// What beginning an operation gives, as the rules have it. In the code a state lies in lent words (crate lent).
 pub struct Outcome {
     pub answer: Answer,
     pub state: State,
