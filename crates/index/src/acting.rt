@@ -68,7 +68,14 @@ pub fn go_on(state: &mut [u32; STATE], s: usize, stand: Slot, next: u32)
 }
 
 // Each course.
-pub fn act(state: &mut [u32; STATE], words: &mut [u32], s: usize, op: Op, stand: Slot, course: Course) -> Answer
+pub fn act(
+    state: &mut [u32; STATE],
+    words: &mut [u32],
+    s: usize,
+    op: Op,
+    stand: Slot,
+    course: Course,
+) -> Answer
     requires { ⌜ (known (now state) ≡ true) × (Acts (asRead (now state)) (now words) s op stand) ⌝ }
     requires { ⌜ ready op (pageAt (asRead (now state) .k) (now words)) (pathOf stand) course ⌝ }
     ensures { λ r. ⌜ Leaves (now (state .entry)) (now (words .entry)) s op (courseOf (asRead (now (state .entry)) .k) (pageAt (asRead (now (state .entry)) .k) (now (words .entry))) (freePages (asRead (now (state .entry)) .k) (asRead (now (state .entry)) .n) (now (words .entry))) (pathOf stand) (siblingsOf stand) course) r (now (state .exit)) (now (words .exit)) ⌝ }
@@ -99,7 +106,13 @@ pub fn act(state: &mut [u32; STATE], words: &mut [u32], s: usize, op: Op, stand:
 }
 
 // Slot s is granted its want. The pages are read again; if they are sound for the step, the operation does what it does from there.
-pub fn granted_step(state: &mut [u32; STATE], words: &mut [u32], s: usize, op: Op, slot: Slot) -> Answer
+pub fn granted_step(
+    state: &mut [u32; STATE],
+    words: &mut [u32],
+    s: usize,
+    op: Op,
+    slot: Slot,
+) -> Answer
     requires { ⌜ (known (now state) ≡ true) × (Waits (asRead (now state)) s) ⌝ }
     requires { ⌜ Asks (asRead (now state) .k) (asRead (now state) .n) (now words) op slot ⌝ }
     ensures { λ r. ⌜ Leaves (now (state .entry)) (now (words .entry)) s op (verdict op (asRead (now (state .entry)) .k) (asRead (now (state .entry)) .n) (now (words .entry)) (pathOf slot) (siblingsOf slot) (slot .want)) r (now (state .exit)) (now (words .exit)) ⌝ }

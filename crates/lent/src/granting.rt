@@ -67,7 +67,16 @@ pub fn tops_hold(cells: &[u32; STATE], s: usize, least: u32, p: u32) -> bool
     let mut found = false;
     let mut t = 0;
     while t < SLOTS {
-        found = found | is_top(t, s, least, kind_at(cells, t), depth_at(cells, t), top_at(cells, t), p);
+        found = found
+            | is_top(
+                t,
+                s,
+                least,
+                kind_at(cells, t),
+                depth_at(cells, t),
+                top_at(cells, t),
+                p,
+            );
         t += 1;
     }
     found

@@ -76,7 +76,11 @@ fn is_fine(kind: u32, depth: u32, beside: u32, n: u32, want: u32, top: u32) -> b
     ((kind == 0) & (depth == 0) & (beside == 0))
         | ((kind == SEARCHES) & (depth <= SEARCH_DEPTH) & (beside == 0) & named)
         | ((kind == INSERTS) & (depth <= DEPTH_LIMIT) & (beside == 0) & named)
-        | ((kind == DELETES) & (depth <= DEPTH_LIMIT) & (beside <= BESIDE_LIMIT) & ((beside == 0) | (beside < depth)) & named)
+        | ((kind == DELETES)
+            & (depth <= DEPTH_LIMIT)
+            & (beside <= BESIDE_LIMIT)
+            & ((beside == 0) | (beside < depth))
+            & named)
 }
 
 // Every slot does.

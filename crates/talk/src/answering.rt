@@ -31,7 +31,13 @@ pub const MOST: usize = 65536;
 pub const ROOM: usize = 8 * MOST + 32;
 
 // Makes the call that a command names, and writes its answer.
-fn obey(state: &mut [u32; STATE], words: &mut [u32], command: Command, out: &mut [u8], at: usize) -> usize
+fn obey(
+    state: &mut [u32; STATE],
+    words: &mut [u32],
+    command: Command,
+    out: &mut [u8],
+    at: usize,
+) -> usize
     requires { ⌜ at + 32 ≤ length (now out) ⌝ }
     ensures { λ r. ⌜ Leaves (commanded (stateOf (now (state .entry))) (now (words .entry)) command) (now (out .entry)) at (stateOf (now (state .exit))) r (now (words .exit)) (now (out .exit)) ⌝ }
 {
