@@ -11,7 +11,7 @@ use tape::writing::put_number;
 use tape::writing::put_numbers;
 use tape::writing::put_word;
 use tape::writing::sum;
-ghost use Prim.Native.Nat.{_≤_};
+ghost use Prim.Native.Nat.{_<_, _^_};
 ghost use Rattle.io.specs.Counts.{Counts};
 
 // Room for a pool's words: the largest pool has 1,024 pages of 67 words, and a pool may be given some more.
@@ -22,6 +22,13 @@ pub struct Setting {
     pub length: usize,
     pub how: u32,
     pub end: usize,
+}
+
+// A word as a number of words, or as a place among them.
+fn wide(word: u32) -> usize
+    ensures { λ r. ⌜ r < 2 ^ 32 ⌝ }
+{
+    word as usize
 }
 
 // As many of the words as there are, at most so many.
@@ -51,13 +58,14 @@ fn lay(words: &mut [u32], numbers: &[u32; MOST], count: usize) -> bool {
     if MOST < count {
         return false;
     }
-    let at = numbers[0] as usize;
-    if words.len() < at + count - 1 {
+    let at = wide(numbers[0]);
+    let last = count - 1;
+    if words.len() < at + last {
         return false;
     }
-    let mut i = 1;
-    while i < count {
-        words[at + i - 1] = numbers[i];
+    let mut i = 0;
+    while i < last {
+        words[at + i] = numbers[i + 1];
         i += 1;
     }
     true
@@ -129,6 +137,7 @@ fn make(
         &mut words[..length],
         &mut answer,
     );
+    let length = within(given.length, words);
     outcome(given, answer, state, &words[..length], out)
 }
 
@@ -164,6 +173,7 @@ fn step(
     let length = within(given.length, words);
     let mut answer = [0u32; 4];
     ghazfulit_step(state, &mut words[..length], numbers[0], &mut answer);
+    let length = within(given.length, words);
     outcome(given, answer, state, &words[..length], out)
 }
 
@@ -190,21 +200,41 @@ fn lay_words(given: Setting, numbers: &[u32; MOST], count: usize, words: &mut [u
 // `p LENGTH WORD`
 fn resize(
     given: Setting,
-    length: usize,
+    asked: u32,
     word: u32,
     words: &mut [u32],
     out: &mut [u8; OUT],
 ) -> Setting {
-    if words.len() < length {
+    if words.len() < wide(asked) {
         return bad_line(given, out);
     }
-    let length = within(length, words);
+    let length = within(wide(asked), words);
     fill(&mut words[..length], word);
     Setting {
         length,
         how: given.how,
         end: given.end,
     }
+}
+
+// `q HOW`
+fn choose(given: Setting, how: u32, out: &mut [u8; OUT]) -> Setting {
+    if 2 < how {
+        return bad_line(given, out);
+    }
+    Setting {
+        length: given.length,
+        how,
+        end: given.end,
+    }
+}
+
+// What was asked is done, or was no line.
+fn done(given: Setting, is_done: bool, out: &mut [u8; OUT]) -> Setting {
+    if is_done {
+        return given;
+    }
+    bad_line(given, out)
 }
 
 // A line that is no call: it changes what the next call is given, or is no line at all.
@@ -217,21 +247,19 @@ fn change(
     words: &mut [u32],
     out: &mut [u8; OUT],
 ) -> Setting {
-    if letter == b's' && lay(state, numbers, count) {
-        return given;
+    if letter == b's' {
+        let is_done = lay(state, numbers, count);
+        return done(given, is_done, out);
     }
-    if letter == b'w' && lay_words(given, numbers, count, words) {
-        return given;
+    if letter == b'w' {
+        let is_done = lay_words(given, numbers, count, words);
+        return done(given, is_done, out);
     }
     if letter == b'p' && count == 2 {
-        return resize(given, numbers[0] as usize, numbers[1], words, out);
+        return resize(given, numbers[0], numbers[1], words, out);
     }
-    if letter == b'q' && count == 1 && numbers[0] < 3 {
-        return Setting {
-            length: given.length,
-            how: numbers[0],
-            end: given.end,
-        };
+    if letter == b'q' && count == 1 {
+        return choose(given, numbers[0], out);
     }
     bad_line(given, out)
 }

@@ -64,8 +64,8 @@ fn feed(
     moment
 }
 
-// One piece more, if there is one.
-pub struct Turn {
+// What one piece more leaves, and whether there was one.
+pub struct Came {
     pub moment: Moment,
     pub more: bool,
 }
@@ -89,18 +89,18 @@ fn turn(
     state: &mut [u32; STATE],
     words: &mut [u32],
     out: &mut [u8; OUT],
-) -> Turn {
+) -> Came {
     let mut piece = io::large_buffer();
     let got = libc::read(STDIN_FILENO, &mut piece);
     if got <= 0 {
-        return Turn {
+        return Came {
             moment: given,
             more: false,
         };
     }
     let count = io::count(got, &piece);
     let moment = feed(given, &piece[..count], numbers, state, words, out);
-    Turn {
+    Came {
         moment: emptied(moment, out),
         more: true,
     }
@@ -118,9 +118,9 @@ fn turns(
     let mut moment = given;
     let mut left = u64::MAX;
     while 0 < left {
-        let turn = turn(moment, numbers, state, words, out);
-        moment = turn.moment;
-        if !turn.more {
+        let came = turn(moment, numbers, state, words, out);
+        moment = came.moment;
+        if !came.more {
             return moment;
         }
         left -= 1;
@@ -128,7 +128,16 @@ fn turns(
     moment
 }
 
-// Reads to the end of the input; a last line that is not ended is no line.
+// The input has ended: a last line that is not ended is no line.
+fn finish(moment: Moment, out: &mut [u8; OUT]) {
+    let line = moment.line;
+    if !is_start(line) {
+        let setting = bad_line(moment.setting, out);
+        flush(out, setting.end);
+    }
+}
+
+// Reads to the end of the input.
 pub fn serve() {
     let mut numbers = [0u32; MOST];
     let mut state = [0u32; STATE];
@@ -140,17 +149,7 @@ pub fn serve() {
         end: 0,
     };
     let line = start();
-    let moment = turns(
-        Moment { line, setting },
-        &mut numbers,
-        &mut state,
-        &mut words,
-        &mut out,
-    );
-    let line = moment.line;
-    let setting = moment.setting;
-    if !is_start(line) {
-        let setting = bad_line(setting, &mut out);
-        flush(&out, setting.end);
-    }
+    let moment = Moment { line, setting };
+    let last = turns(moment, &mut numbers, &mut state, &mut words, &mut out);
+    finish(last, &mut out);
 }
