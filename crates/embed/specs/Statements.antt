@@ -15,7 +15,7 @@ use Rattle.embed.specs.Told.{told, badKind}
 
 pub record MakeTells (k n : ℕ) (ws cells′ after heard′ : List ℕ) : Type 0 where
   pub answer : heard′ ≡ told (made k n ws .answer)
-  pub cells : cells′ ≡ wordsOf (made k n ws .state)
+  pub all : cells′ ≡ wordsOf (made k n ws .state)
   pub words : after ≡ made k n ws .words
 
 -- A kind that does not exist is refused before the state is looked at, and leaves all as given.
@@ -29,11 +29,11 @@ beginLeaves cells s Unknown = cells
 
 pub record BeginTells (cells : List ℕ) (s kind key information : ℕ) (cells′ heard′ : List ℕ) : Type 0 where
   pub answer : heard′ ≡ beginTold cells s (askedBy kind key information)
-  pub cells : cells′ ≡ beginLeaves cells s (askedBy kind key information)
+  pub all : cells′ ≡ beginLeaves cells s (askedBy kind key information)
 
 pub record StepTells (cells ws : List ℕ) (s : ℕ) (cells′ after heard′ : List ℕ) : Type 0 where
   pub answer : heard′ ≡ told (stepped (stateOf cells) ws s .answer)
-  pub cells : cells′ ≡ lentAfter cells s (stepped (stateOf cells) ws s .answer) (stepped (stateOf cells) ws s .state)
+  pub all : cells′ ≡ lentAfter cells s (stepped (stateOf cells) ws s .answer) (stepped (stateOf cells) ws s .state)
   pub words : after ≡ stepped (stateOf cells) ws s .words
 
 -- It is handed the state to read, and no pool, so it changes neither.

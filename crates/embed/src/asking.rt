@@ -10,7 +10,7 @@ pub enum Asked {
 }
 
 // 1 is a search, 2 an insertion, 3 a deletion. Only an insertion looks at the information.
-pub fn asked(kind: u32, key: u32, information: u32) -> Asked
+pub fn read_asked(kind: u32, key: u32, information: u32) -> Asked
     ensures { λ r. ⌜ r ≡ askedBy kind key information ⌝ }
 {
     if kind == 1 {

@@ -1,6 +1,6 @@
 // The exported calls. A slice is handed in from C as a pointer and a length, an array as a pointer.
 use crate::asking::Asked;
-use crate::asking::asked;
+use crate::asking::read_asked;
 use crate::telling::tell;
 use crate::telling::tell_bad_kind;
 use index::calls::begin;
@@ -37,7 +37,7 @@ pub extern "C" fn ghazfulit_begin(
 )
     ensures { λ _. ⌜ BeginTells (now (state .entry)) slot kind key information (now (state .exit)) (now (answer .exit)) ⌝ }
 {
-    let asked = asked(kind, key, information);
+    let asked = read_asked(kind, key, information);
     let Asked::Known(op) = asked else {
         tell_bad_kind(answer);
         return;
