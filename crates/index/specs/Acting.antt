@@ -32,7 +32,7 @@ actedCells cells s (ends answer writes) st = written cells s st
 pub record Leaves (cells ws : List ℕ) (s : ℕ) (op : Op) (v : Verdict) (r : Answer) (cells′ after : List ℕ) : Type 0 where
   pub answer : r ≡ acted (asRead cells) ws s op v .answer
   pub state : stateOf cells′ ≡ acted (asRead cells) ws s op v .state
-  pub cells : cells′ ≡ actedCells cells s v (acted (asRead cells) ws s op v .state)
+  pub all : cells′ ≡ actedCells cells s v (acted (asRead cells) ws s op v .state)
   pub words : after ≡ acted (asRead cells) ws s op v .words
 
 -- Slot s of the state waits for its want.

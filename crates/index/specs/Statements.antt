@@ -13,11 +13,11 @@ use Rattle.index.specs.Make.{made}
 pub record MakeSays (k n : ℕ) (ws : List ℕ) (r : Answer) (cells′ after : List ℕ) : Type 0 where
   pub answer : heard r ≡ heard (made k n ws .answer)
   pub state : stateOf cells′ ≡ made k n ws .state
-  pub cells : cells′ ≡ wordsOf (made k n ws .state)
+  pub all : cells′ ≡ wordsOf (made k n ws .state)
   pub words : after ≡ made k n ws .words
 
 pub record StepSays (cells ws : List ℕ) (s : ℕ) (r : Answer) (cells′ after : List ℕ) : Type 0 where
   pub answer : heard r ≡ heard (stepped (stateOf cells) ws s .answer)
   pub state : stateOf cells′ ≡ stepped (stateOf cells) ws s .state
-  pub cells : cells′ ≡ lentAfter cells s (stepped (stateOf cells) ws s .answer) (stepped (stateOf cells) ws s .state)
+  pub all : cells′ ≡ lentAfter cells s (stepped (stateOf cells) ws s .answer) (stepped (stateOf cells) ws s .state)
   pub words : after ≡ stepped (stateOf cells) ws s .words

@@ -1,1 +1,5 @@
 pub mod ListLaws
+pub mod SpreadLaws
+pub mod StateLaws
+pub mod WritingLaws
+pub mod HoldLaws

@@ -22,7 +22,7 @@ otherHolds ws s least p t = counts ws s least t && member p (held (slotIn ws t))
 
 -- it holds page p on top of its path
 abbrev pub topHolds : List ℕ → ℕ → ℕ → ℕ → ℕ → Bool
-topHolds ws s least p t = counts ws s least t && (ltb 0 (cell ws 4 t) && eqb (cell ws 6 t) p)
+topHolds ws s least p t = counts ws s least t && (ltb 0 (cell ws 4 t) && eqb p (cell ws 6 t))
 
 -- it holds more than one page
 abbrev pub isDeep : List ℕ → ℕ → Bool

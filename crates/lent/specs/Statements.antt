@@ -14,7 +14,7 @@ use Rattle.lent.specs.Words.{stateOf, lentAfter}
 pub record BeginSays (cells : List ℕ) (s : ℕ) (op : Op) (r : Answer) (after : List ℕ) : Type 0 where
   pub answer : heard r ≡ heard (begun (stateOf cells) s op .answer)
   pub state : stateOf after ≡ begun (stateOf cells) s op .state
-  pub cells : after ≡ lentAfter cells s (begun (stateOf cells) s op .answer) (begun (stateOf cells) s op .state)
+  pub all : after ≡ lentAfter cells s (begun (stateOf cells) s op .answer) (begun (stateOf cells) s op .state)
 
 -- Report answers what the rules say. It is handed the words to read, and no pool, so it changes neither.
 pub record ReportSays (cells : List ℕ) (p : ℕ) (r : Answer) : Type 0 where

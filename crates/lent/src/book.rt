@@ -3,6 +3,7 @@ use crate::ORDER;
 use crate::ROWS_FROM;
 use crate::STATE;
 use crate::WAITING;
+use crate::cells::sized;
 use crate::cells::waiting_of;
 use crate::lifting::lay;
 use slots::Op;
@@ -72,6 +73,7 @@ pub fn join_order(cells: &mut [u32; STATE], waiting: usize, s: usize)
     requires { ⌜ (waiting < 16) × (s < 16) ⌝ }
     ensures { λ _. ⌜ now (cells .exit) ≡ orderLaid (now (cells .entry)) (waiting + 1) (set (orderIn (now (cells .entry))) waiting s) ⌝ }
 {
+    sized(cells);
     cells[waiting + ORDER] = s as u32;
     cells[WAITING] = (waiting + 1) as u32;
 }
@@ -81,6 +83,7 @@ pub fn begins(cells: &mut [u32; STATE], s: usize, op: Op)
     requires { ⌜ (s < 16) × (getD (now cells) 2 0 < 16) ⌝ }
     ensures { λ _. ⌜ now (cells .exit) ≡ written (now (cells .entry)) s (begins (asRead (now (cells .entry))) s op) ⌝ }
 {
+    sized(cells);
     let waiting = waiting_of(cells);
     join_order(cells, waiting, s);
     lay(cells, s, fresh_slot(op));
@@ -91,6 +94,7 @@ pub fn requeues(cells: &mut [u32; STATE], s: usize, slot: Slot)
     requires { ⌜ (s < 16) × (getD (now cells) 2 0 ≤ 16) × (member s (waitingOrder (asRead (now cells))) ≡ true) × (slot .depth ≤ 10) × (slot .beside ≤ 10) ⌝ }
     ensures { λ _. ⌜ now (cells .exit) ≡ written (now (cells .entry)) s (requeued (asRead (now (cells .entry))) s slot) ⌝ }
 {
+    sized(cells);
     let waiting = waiting_of(cells);
     leave_order(cells, waiting, s as u32, s as u32);
     lay(cells, s, slot);
@@ -101,6 +105,7 @@ pub fn closes(cells: &mut [u32; STATE], s: usize)
     requires { ⌜ (s < 16) × (getD (now cells) 2 0 ≤ 16) × (member s (waitingOrder (asRead (now cells))) ≡ true) ⌝ }
     ensures { λ _. ⌜ now (cells .exit) ≡ written (now (cells .entry)) s (closes (asRead (now (cells .entry))) s) ⌝ }
 {
+    sized(cells);
     let waiting = waiting_of(cells);
     leave_order(cells, waiting, s as u32, 0);
     cells[WAITING] = (waiting - 1) as u32;

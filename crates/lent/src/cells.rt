@@ -13,13 +13,20 @@ use crate::WIDTH;
 use ground::SLOTS;
 ghost use mathlib.Core.Path.{_≡_};
 ghost use Prim.Native.Nat.{_+_, _<_};
-ghost use lib.ListN.{getD, set};
+ghost use lib.ListN.{length, getD, set};
 ghost use Rattle.lent.specs.Words.{address, cell};
 
 pub fn wide(x: u32) -> usize
     ensures { λ r. ⌜ r ≡ x ⌝ }
 {
     x as usize
+}
+
+// The words are as many as a state has.
+pub fn sized(cells: &[u32])
+    requires { ⌜ length (now cells) ≡ 435 ⌝ }
+    ensures { λ _. ⌜ length (now (cells .entry)) ≡ 435 ⌝ }
+{
 }
 
 // The word in a row of slot s.

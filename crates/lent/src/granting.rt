@@ -9,6 +9,7 @@ use crate::cells::beside_at;
 use crate::cells::depth_at;
 use crate::cells::kind_at;
 use crate::cells::order_at;
+use crate::cells::sized;
 use crate::cells::top_at;
 use crate::cells::waiting_of;
 use crate::cells::want_at;
@@ -55,9 +56,9 @@ pub fn holds_at(cells: &[u32; STATE], s: usize, p: u32) -> bool
 
 // Slot t is another one than s, its kind is not below `least`, and page p is the top of its path.
 pub fn is_top(t: usize, s: usize, least: u32, kind: u32, depth: u32, top: u32, p: u32) -> bool
-    ensures { λ r. ⌜ r ≡ (not (eqb t s) && leb least kind) && (ltb 0 depth && eqb top p) ⌝ }
+    ensures { λ r. ⌜ r ≡ (not (eqb t s) && leb least kind) && (ltb 0 depth && eqb p top) ⌝ }
 {
-    (t != s) & (least <= kind) & ((0 < depth) & (top == p))
+    (t != s) & (least <= kind) & ((0 < depth) & (p == top))
 }
 
 // Page p is on top of another slot's path.
@@ -160,6 +161,7 @@ pub fn no_older(cells: &[u32; STATE], s: usize) -> bool
     requires { ⌜ (s < 16) × (getD (now cells) 2 0 ≤ 16) × ((t : ℕ) → member t (waitingOrder (asRead (now cells))) ≡ true → t < slotCount) ⌝ }
     ensures { λ r. ⌜ r ≡ rule.noOlder (asRead (now (cells .entry))) s ⌝ }
 {
+    sized(cells);
     let want = want_at(cells, s);
     let waiting = waiting_of(cells);
     let mut i = 0;

@@ -141,9 +141,9 @@ pub fn lay_task(cells: &mut [u32; STATE], s: usize, task: Task)
 }
 
 // Ten pages, down the column of slot s.
-pub fn lay_column(cells: &mut [u32; STATE], row: usize, s: usize, pages: &[u32; HELD])
+pub fn lay_column(cells: &mut [u32; STATE], row: usize, s: usize, pages: [u32; HELD])
     requires { ⌜ (row ≤ 16) × (s < 16) ⌝ }
-    ensures { λ _. ⌜ now (cells .exit) ≡ spread (now (cells .entry)) row s (now (pages .entry)) ⌝ }
+    ensures { λ _. ⌜ now (cells .exit) ≡ spread (now (cells .entry)) row s pages ⌝ }
 {
     let mut j = 0;
     while j < HELD {
@@ -163,7 +163,7 @@ pub fn lay(cells: &mut [u32; STATE], s: usize, slot: Slot)
     put(cells, DEPTH, s, slot.depth as u32);
     put(cells, BESIDE, s, slot.beside as u32);
     let path = slot.path;
-    lay_column(cells, PATH, s, &path);
+    lay_column(cells, PATH, s, path);
     let siblings = slot.siblings;
-    lay_column(cells, SIBLINGS, s, &siblings);
+    lay_column(cells, SIBLINGS, s, siblings);
 }

@@ -1,5 +1,4 @@
--- Laws for the test of a state, on lists: a stretch of a list is scanned, the first elements of a list pass a test or
--- differ, and pages are put into a list one by one.
+-- Laws for the test of a state, on lists: the first elements of a list pass a test or differ, and pages are named one by one.
 use Prim.Native.Nat.{ℕ, suc, _+_, _≤_, _<_}
 use mathlib.Core.Bool.{Bool, true, false, not, _&&_, _||_}
 use mathlib.Core.List.{List, [], _++_}
@@ -26,27 +25,6 @@ allBelow-on p i t h = ap (λ (n : ℕ). allBelow n p) (add-one i) ∙ allBelow-m
 -- all numbers were passed
 pub allBelow-end : (p : ℕ → Bool) (i n : ℕ) → i ≤ n → n ≤ i → allBelow i p ≡ true → allBelow n p ≡ true
 allBelow-end p i n a b t = subst (λ (m : ℕ). allBelow m p ≡ true) (le-antisymm a b) t
-
--- ---- a stretch of a list, scanned
-
-module _ (x : ℕ) (l : List ℕ) (i to : ℕ) (room : to ≤ length l) where
-  -- the number stands first in the stretch
-  pub stands-here : i < to → x ≡ getD l i 0 → member x (slice i to l) ≡ true
-  unfolding member
-  stands-here h e = ap (member x) (slice-cons i to l 0 h room) ∙ or-first (member x (slice (suc i) to l)) (eq-eqb x (getD l i 0) e)
-
-  -- the number does not stand first in the stretch
-  pub stands-later : i < to → (x ≡ getD l i 0 → ⊥) → member x (slice i to l) ≡ member x (slice (i + 1) to l)
-  unfolding member
-  stands-later h n =
-      ap (member x) (slice-cons i to l 0 h room)
-      ∙ ap (λ (b : Bool). b || member x (slice (suc i) to l)) (ne-eqb x (getD l i 0) n)
-      ∙ ap (λ (j : ℕ). member x (slice j to l)) (sym (add-one i))
-
-  -- nothing is left of the stretch
-  pub stands-nowhere : i ≤ to → to ≤ i → member x (slice i to l) ≡ false
-  unfolding member
-  stands-nowhere a b = ap (λ (j : ℕ). member x (slice j to l)) (le-antisymm a b) ∙ ap (member x) (slice-empty to l)
 
 -- ---- the first elements of a list, one more in each turn
 
@@ -78,35 +56,7 @@ module _ (xs : List ℕ) (i : ℕ) where
       ∙ found .2
       ∙ sym (getD-take count xs i 0 h)))
 
--- one page more that does not stand among the others
-pub apart-on : (xs ys : List ℕ) (i : ℕ) → i < length xs → apart (take i xs) ys ≡ true → member (getD xs i 0) ys ≡ false → apart (take (i + 1) xs) ys ≡ true
-unfolding apart
-apart-on xs ys i h t f = all-on xs i (λ (x : ℕ). not (member x ys)) h t (not-of-false f)
-
--- a page stands among the others
-pub apart-stop : (xs ys : List ℕ) (i count : ℕ) → i < count → count ≤ length xs → member (getD xs i 0) ys ≡ true → apart (take count xs) ys ≡ false
-unfolding apart
-apart-stop xs ys i count h room m = all-stop xs i (λ (x : ℕ). not (member x ys)) count h room (not-of-true m)
-
--- nothing is apart from everything
-pub apart-none : (ys : List ℕ) → apart [] ys ≡ true
-unfolding apart all
-apart-none ys = refl
-
--- ---- pages put into a list
-
--- what stands in the list once i pages have been put in
-pub slice-entered : (from at i : ℕ) (list pages : List ℕ) → from ≤ at → at + i ≤ length list → i ≤ length pages
-    → slice from (at + i) (paste list at pages i) ≡ slice from at list ++ take i pages
-slice-entered from at i list pages h room k =
-    ap (drop from) (take-paste list at pages i (omega arith) k)
-    ∙ drop-append-le from (take at list) (take i pages) (omega (arith, length-take-le at list (omega arith)))
-
--- whether a page stands in the list then
-pub stands-entered : (x from at i : ℕ) (list list₀ pages : List ℕ) → list ≡ paste list₀ at pages i → from ≤ at → at + i ≤ length list₀ → i ≤ length pages
-    → member x (slice from (at + i) list) ≡ member x (slice from at list₀ ++ take i pages)
-stands-entered x from at i list list₀ pages e h room k =
-    ap (λ (l : List ℕ). member x (slice from (at + i) l)) e ∙ ap (member x) (slice-entered from at i list₀ pages h room k)
+-- ---- pages, one more in each turn
 
 -- no page: nothing is asked
 pub may-none : (n want : ℕ) (own : List ℕ) → mayEnter n want own [] ≡ true

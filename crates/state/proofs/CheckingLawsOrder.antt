@@ -7,6 +7,7 @@ use mathlib.Core.Logic.{⊎-elim}
 use mathlib.Core.Path.{_≡_, refl, sym, ap, _∙_, subst}
 use native.Mathlib.Nat.{le-antisymm}
 use native.Mathlib.Decide.{ℕ-discrete}
+use native.Mathlib.Omega.{arith}
 use native.Mathlib.Numerals.{add-one}
 use borrow.Author.Tests.{eq-eqb, ne-eqb, lt-ltb, le-ltb, le-leb, lt-leb, not-true, not-false}
 use lib.Dec.{eqb, ltb, leb}
@@ -15,7 +16,7 @@ use lib.Seq.{getD-set-same, getD-set-other}
 use Rattle.ground.specs.Limits.{slotCount}
 use Rattle.ground.specs.Tests.{all, allBelow, member, distinct}
 use Rattle.ground.proofs.Bools.{and-both, and-first, and-second, and-first-fails, and-second-fails, and-fails, or-second, not-of-true}
-use Rattle.ground.proofs.Tests.{all-none, member-none, member-more, distinct-none, allBelow-same}
+use Rattle.ground.proofs.Tests.{all-none, member-none, member-more, distinct-none, allBelow-same, below-or-at}
 use Rattle.state.specs.Checking.{namesEach}
 use Rattle.state.proofs.CheckingLaws.{all-on, all-stop, differ-on, differ-stop}
 
@@ -123,3 +124,12 @@ naming-end busy unnamed order i waiting so-far a b few =
     turned true true = refl
     turned true false = refl
     turned false m = refl
+
+-- one mark more
+pub marks-on : (opened : ℕ → Bool) (busy : List Bool) (i : ℕ) (o : Bool) → i < length busy → ((s : ℕ) → s < i → getD busy s false ≡ opened s) → o ≡ opened i
+    → (s : ℕ) → s < i + 1 → getD (set busy i o) s false ≡ opened s
+marks-on opened busy i o h before e s l =
+    below-or-at (λ (t : ℕ). getD (set busy i o) t false ≡ opened t)
+    (subst (λ (m : ℕ). s < m) (add-one i) l)
+    (λ b. getD-set-other busy i s o false (λ q. absurd (omega arith)) ∙ before s b)
+    (getD-set-same busy i o false h ∙ e)

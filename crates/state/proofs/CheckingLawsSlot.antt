@@ -23,7 +23,6 @@ use Rattle.slots.specs.Parts.{isOpen, held, pathOf, siblingsOf}
 use Rattle.slots.specs.Locks.{lockOf, isXi}
 use Rattle.slots.specs.Sound.{withinLimits, pagesSound, ifOpen, slotSound}
 use Rattle.state.specs.Checking.{enters, mayEnter}
-use Rattle.state.proofs.CheckingLaws.{slice-entered}
 
 -- ---- the pages of one slot
 
@@ -131,54 +130,30 @@ module _ (n want : ℕ) (path siblings : List ℕ) where
   asked-high high =
       and-first-fails (distinct (want ∷ path ++ siblings)) (and-first-fails (low n (path ++ siblings)) (le-ltb want n high))
 
--- ---- path and siblings of a slot put into a list, the one behind the other
+-- ---- path and siblings of a slot, the one behind the other
 
-module _ (n at : ℕ) (s : Slot) (list : List ℕ) where
+module _ (n : ℕ) (s : Slot) where
   -- the wanted page is not below n
-  pub slot-high : n ≤ s .want → pagesSound n s ≡ false
-  slot-high = asked-high n (s .want) (pathOf s) (siblingsOf s)
+  pub pages-high : n ≤ s .want → pagesSound n s ≡ false
+  pages-high = asked-high n (s .want) (pathOf s) (siblingsOf s)
 
-  module _ (below : s .want < n) (r : Bool) (said : r ≡ mayEnter n (s .want) (slice at at list) (take (s .depth) (s .path))) where
-    path-said : r ≡ mayEnter n (s .want) [] (pathOf s)
+  module _ (below : s .want < n) {r : Bool} (said : r ≡ mayEnter n (s .want) [] (take (s .depth) (s .path))) where
+    -- the path fails
+    pub pages-path : r ≡ false → pagesSound n s ≡ false
     unfolding pathOf
-    path-said = said ∙ ap (λ (own : List ℕ). mayEnter n (s .want) own (take (s .depth) (s .path))) (slice-empty at list)
-
-    -- the path may not enter
-    pub slot-path : r ≡ false → pagesSound n s ≡ false
-    slot-path f =
+    pages-path f =
         asked-is n (s .want) (pathOf s) (siblingsOf s) below
-        ∙ and-first-fails (mayEnter n (s .want) (pathOf s) (siblingsOf s)) (sym path-said ∙ f)
+        ∙ and-first-fails (mayEnter n (s .want) (pathOf s) (siblingsOf s)) (sym said ∙ f)
 
-    module _ (list₁ : List ℕ) (t : r ≡ true) (is : list₁ ≡ paste list at (s .path) (s .depth)) (room : at + s .depth ≤ length list) (whole : s .depth ≤ length (s .path)) where
-      -- the path has entered: the siblings decide
-      pub slot-siblings : (r₁ : Bool) → r₁ ≡ mayEnter n (s .want) (slice at (at + s .depth) list₁) (take (s .beside) (s .siblings)) → r₁ ≡ pagesSound n s
-      unfolding siblingsOf pathOf
-      slot-siblings r₁ said₁ =
-          said₁
-          ∙ ap (λ (own : List ℕ). mayEnter n (s .want) own (siblingsOf s))
-          (ap (slice at (at + s .depth)) is
-          ∙ slice-entered at at (s .depth) list (s .path) (le-refl at) room whole
-          ∙ ap (λ (own : List ℕ). own ++ pathOf s) (slice-empty at list))
-          ∙ sym (ap (λ (b : Bool). b && mayEnter n (s .want) (pathOf s) (siblingsOf s)) (sym path-said ∙ t))
-          ∙ sym (asked-is n (s .want) (pathOf s) (siblingsOf s) below)
-
-      -- all that the slot holds stands in the list
-      pub slot-held : (list₂ : List ℕ) → list₂ ≡ paste list₁ (at + s .depth) (s .siblings) (s .beside) → at + s .depth ≤ length list₁ → s .beside ≤ length (s .siblings)
-          → take (at + (s .depth + s .beside)) list₂ ≡ take at list ++ held s
-      unfolding siblingsOf pathOf
-      slot-held list₂ is₂ room₂ whole₂ =
-          ap (λ (j : ℕ). take j list₂) (sym (add-assoc at (s .depth) (s .beside)))
-          ∙ ap (take (at + s .depth + s .beside)) is₂
-          ∙ take-paste list₁ (at + s .depth) (s .siblings) (s .beside) room₂ whole₂
-          ∙ ap (λ (front : List ℕ). front ++ siblingsOf s) (ap (take (at + s .depth)) is ∙ take-paste list at (s .path) (s .depth) (omega arith) whole)
-          ∙ append-assoc (take at list) (pathOf s) (siblingsOf s)
+    -- the path passes: the siblings decide
+    pub pages-siblings : r ≡ true → {q : Bool} → q ≡ mayEnter n (s .want) (take (s .depth) (s .path)) (take (s .beside) (s .siblings)) → q ≡ pagesSound n s
+    unfolding pathOf siblingsOf
+    pages-siblings t e =
+        e
+        ∙ sym (ap (λ (b : Bool). b && mayEnter n (s .want) (pathOf s) (siblingsOf s)) (sym said ∙ t))
+        ∙ sym (asked-is n (s .want) (pathOf s) (siblingsOf s) below)
 
 -- ---- what a task allows
-
--- a slot that holds pages under ξ is open
-pub xi-open : (t : Task) → isXi (lockOf t) ≡ true → isOpen t ≡ true
-xi-open Closed e = e
-xi-open (Open op) e = refl
 
 -- no slot holds more than 10 pages on its path and 9 siblings
 pub limits-all : (t : Task) (depth beside : ℕ) → withinLimits t depth beside ≡ true → (depth ≤ 10) × (beside ≤ 9)
@@ -197,66 +172,3 @@ limits-all (Open (Insert x v)) depth beside y =
 limits-all (Open (Delete x)) depth beside y =
     let both = and-first (leb depth 10 && leb beside 9) (eqb beside 0 || ltb beside depth) y in
     (leb-true depth 10 (and-first (leb depth 10) (leb beside 9) both), leb-true beside 9 (and-second (leb depth 10) (leb beside 9) both))
-
--- a slot that holds nothing under ξ holds at most 1 page
-pub limits-rho : (t : Task) (depth beside : ℕ) → isXi (lockOf t) ≡ false → withinLimits t depth beside ≡ true → (depth ≤ 1) × (beside ≡ 0)
-unfolding searchHolds
-limits-rho Closed depth beside e y =
-    let d = eqb-true depth 0 (and-first (eqb depth 0) (eqb beside 0) y) in
-    (omega arith, eqb-true beside 0 (and-second (eqb depth 0) (eqb beside 0) y))
-limits-rho (Open (Search x)) depth beside e y =
-    (leb-true depth 1 (and-first (leb depth 1) (eqb beside 0) y), eqb-true beside 0 (and-second (leb depth 1) (eqb beside 0) y))
-limits-rho (Open (Insert x v)) depth beside e y = absurd (true≢false e)
-limits-rho (Open (Delete x)) depth beside e y = absurd (true≢false e)
-
--- a closed slot holds nothing
-pub limits-closed : (t : Task) (depth beside : ℕ) → isOpen t ≡ false → withinLimits t depth beside ≡ true → (depth ≡ 0) × (beside ≡ 0)
-limits-closed Closed depth beside e y =
-    (eqb-true depth 0 (and-first (eqb depth 0) (eqb beside 0) y), eqb-true beside 0 (and-second (eqb depth 0) (eqb beside 0) y))
-limits-closed (Open op) depth beside e y = absurd (true≢false e)
-
--- ---- one slot
-
-if-open : (t : Task) (b : Bool) → isOpen t ≡ true → ifOpen t b ≡ b
-if-open Closed b e = absurd (false≢true e)
-if-open (Open op) b e = refl
-
-if-closed : (t : Task) (b : Bool) → isOpen t ≡ false → ifOpen t b ≡ true
-if-closed Closed b e = refl
-if-closed (Open op) b e = absurd (true≢false e)
-
-module _ (n : ℕ) (s : Slot) where
-  -- it holds more than its task allows
-  pub slot-limits : withinLimits (s .task) (s .depth) (s .beside) ≡ false → slotSound n s ≡ false
-  unfolding slotSound
-  slot-limits f = and-first-fails (ifOpen (s .task) (pagesSound n s)) f
-
-  module _ (y : withinLimits (s .task) (s .depth) (s .beside) ≡ true) where
-    -- an open slot is sound where its pages are
-    pub slot-open : isOpen (s .task) ≡ true → slotSound n s ≡ pagesSound n s
-    unfolding slotSound
-    slot-open o = ap (λ (b : Bool). b && ifOpen (s .task) (pagesSound n s)) y ∙ if-open (s .task) (pagesSound n s) o
-
-    -- a closed slot is sound
-    pub slot-closed : isOpen (s .task) ≡ false → slotSound n s ≡ true
-    unfolding slotSound
-    slot-closed o = and-both y (if-closed (s .task) (pagesSound n s) o)
-
-    -- a closed slot holds nothing
-    pub held-closed : isOpen (s .task) ≡ false → held s ≡ []
-    unfolding pathOf siblingsOf
-    held-closed o =
-        let none = limits-closed (s .task) (s .depth) (s .beside) o y in
-        ap (λ (d : ℕ). take d (s .path) ++ take (s .beside) (s .siblings)) (none .0) ∙ ap (λ (b : ℕ). take b (s .siblings)) (none .1)
-
-  -- a sound slot holds no page twice
-  pub slot-differ : slotSound n s ≡ true → distinct (held s) ≡ true
-  unfolding slotSound distinct
-  slot-differ t =
-      let y = and-first (withinLimits (s .task) (s .depth) (s .beside)) (ifOpen (s .task) (pagesSound n s)) t in
-      ⊎-elim
-      (λ o. let sound = sym (slot-open y o) ∙ t in
-      and-second (not (member (s .want) (held s))) (distinct (held s))
-      (and-second (low n (s .want ∷ held s)) (distinct (s .want ∷ held s)) sound))
-      (λ o. ap distinct (held-closed y o))
-      (true-or-false (isOpen (s .task)))

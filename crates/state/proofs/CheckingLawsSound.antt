@@ -1,191 +1,35 @@
--- Laws for the pass over the slots: what has been found when i slots are passed, how one slot more carries it on, what one
--- bad slot says of the whole state, and how the rule of a sound state follows when all are passed.
-use Prim.Native.Nat.{ℕ, zero, suc, _+_, _*_, _≤_, _<_}
-use mathlib.Core.Bool.{Bool, true, false, not, _&&_, _||_, and-true, and-assoc}
-use mathlib.Core.List.{List, [], _∷_, _++_, append-nil}
+-- The tests of a state in words together are the rule of a sound state, and what is known of the words of one.
+use Prim.Native.Nat.{ℕ, _≤_, _<_}
+use mathlib.Core.Bool.{Bool, true, false, not, _&&_, _||_, false≢true}
+use mathlib.Core.List.{List}
 use mathlib.Core.Logic.{⊎-elim}
 use mathlib.Core.Path.{_≡_, refl, sym, ap, ap₂, _∙_, subst, fun-ext}
-use native.Mathlib.Nat.{le-antisymm, add-assoc, not-suc-le-zero, le-of-suc-le-suc}
-use native.Mathlib.Numerals.{add-one}
 use native.Mathlib.Omega.{arith}
-use borrow.Author.Tests.{ltb-true}
-use lib.Dec.{ltb, leb}
-use lib.ListN.{length, getD, take, set}
-use lib.Seq.{getD-set-same, getD-set-other}
-use Rattle.ground.specs.Limits.{slotCount}
-use Rattle.ground.specs.Tests.{all, allBelow, member, distinct, apart}
-use Rattle.ground.proofs.Bools.{and-first-fails, and-second-fails, true-or-false, not-of-true, not-of-false}
-use Rattle.ground.proofs.Tests.{allBelow-none, allBelow-at, allBelow-stops, allBelow-same, below-or-at}
-use Rattle.slots.specs.declared.Task.the-variants.{Closed}
+use borrow.Author.Tests.{ltb-true, lt-ltb, ne-eqb, le-leb}
+use lib.Dec.{leb, ltb, eqb}
+use lib.ListN.{getD, take}
+use Rattle.ground.specs.Limits.{largestK, largestN, slotCount}
+use Rattle.ground.specs.Tests.{all, allBelow, member, distinct}
+use Rattle.ground.proofs.Bools.{and-both, not-of-false, and-first-fails, and-second-fails, not-both, false-if-not-true, true-or-false}
+use Rattle.ground.proofs.Choice.{cond-false}
+use Rattle.ground.proofs.Tests.{allBelow-same, allBelow-from}
 use Rattle.slots.specs.declared.Slot.{Slot}
-use Rattle.slots.specs.declared.State.{State}
-use Rattle.slots.specs.Parts.{closedSlot, slotAt, openAt, isOpen, held, waitingOrder}
-use Rattle.slots.specs.Locks.{lockOf, lockAt, isXi}
-use Rattle.slots.specs.Sound.{numbersInRange, orderSound, withinLimits, pagesSound, slotSound, noClashingHolds, sound}
-use Rattle.state.specs.Checking.{namesEach}
-use Rattle.state.proofs.CheckingLaws.{allBelow-on}
-use Rattle.state.proofs.CheckingLawsHeld.{gathered, gathered-none, gathered-passes, gathered-fails, lists-for-pairs}
-use Rattle.state.proofs.CheckingLawsSlot.{limits-all, limits-rho, slot-open, slot-closed, held-closed, slot-differ, xi-open}
+use Rattle.slots.specs.Parts.{idleState, slotAt, openAt, isOpen, waitingOrder}
+use Rattle.slots.specs.Sound.{orderSound, withinLimits, slotSound, noClashingHolds, sound}
+use Rattle.slots.proofs.SoundFacts.{SoundState, sound-facts}
+use Rattle.lent.specs.Words.{cell, taskFrom, slotIn, orderIn, asRead, known, stateOf}
+use Rattle.lent.specs.Holds.{Short}
+use Rattle.lent.proofs.StateLaws.{slot-read, state-known}
+use Rattle.lent.proofs.HoldLaws.{all-both, by-kind, kind-known}
+use Rattle.state.specs.Checking.{namesEach, rowFine, deepFine, openKind, xiAlone}
+use Rattle.state.proofs.CheckingLawsSlot.{limits-all}
+use Rattle.state.proofs.CheckingLawsRows.{slot-fits, row-at}
+use Rattle.state.proofs.CheckingLawsAlone.{no-clashes}
 
--- ---- what one finding says of the whole
-
-module _ (st : State) where
-  -- k or N is out of range
-  pub unsound-numbers : numbersInRange st ≡ false → sound st ≡ false
-  unfolding sound
-  unsound-numbers f =
-      and-first-fails (noClashingHolds st)
-      (and-first-fails (allBelow slotCount (λ (s : ℕ). slotSound (st .n) (slotAt st s))) (and-first-fails (orderSound st) f))
-
-  -- a slot is not sound
-  pub unsound-slot : (i : ℕ) → i < slotCount → slotSound (st .n) (slotAt st i) ≡ false → sound st ≡ false
-  unfolding sound
-  unsound-slot i h f =
-      and-first-fails (noClashingHolds st)
-      (and-second-fails (numbersInRange st && orderSound st) (allBelow-stops (λ (s : ℕ). slotSound (st .n) (slotAt st s)) slotCount i h f))
-
--- ---- a slot as it is read
-
--- slot i, with nothing in it where there is none
-abbrev pub readSlot : State → ℕ → Slot
-readSlot st i = getD (st .slots) i record { task = Closed; want = 0; path = []; depth = 0; siblings = []; beside = 0 }
-
-within-list : {A : Type 0} (l : List A) (i : ℕ) (d e : A) → i < length l → getD l i d ≡ getD l i e
-within-list [] i d e h = absurd (not-suc-le-zero h)
-within-list (x ∷ l) zero d e h = refl
-within-list (x ∷ l) (suc i) d e h = within-list l i d e (le-of-suc-le-suc h)
-
--- a slot that there is, is read as the rules read it
-pub read-is : (st : State) (i : ℕ) → i < length (st .slots) → slotAt st i ≡ readSlot st i
-read-is st i h = within-list (st .slots) i closedSlot record { task = Closed; want = 0; path = []; depth = 0; siblings = []; beside = 0 } h
-
--- ---- the pass
-
--- slot s of a state holds its pages under ξ; under ρ, or holds none
-abbrev xiAt : State → ℕ → Bool
-xiAt st s = isXi (lockAt st s)
-
-abbrev heldAt : State → ℕ → List ℕ
-heldAt st s = held (slotAt st s)
-
--- the slots below i are sound; `busy` has which are open, `xi` their ξ-held pages, `rho` the others
-pub record Passed (st : State) (busy : List Bool) (xi : List ℕ) (xis : ℕ) (rho : List ℕ) (rhos : ℕ) (i : ℕ) : Type 0 where
-  pub fine : allBelow i (λ (s : ℕ). slotSound (st .n) (slotAt st s)) ≡ true
-  pub opened : (s : ℕ) → s < i → getD busy s false ≡ openAt st s
-  pub xi-held : take xis xi ≡ gathered (xiAt st) (heldAt st) i
-  pub rho-held : take rhos rho ≡ gathered (λ (s : ℕ). not (xiAt st s)) (heldAt st) i
-  pub xi-few : xis ≤ 19 * i
-  pub rho-few : rhos ≤ i
-
--- no slot is passed
-pub passed-none : (st : State) (busy : List Bool) (xi rho : List ℕ) → Passed st busy xi 0 rho 0 0
-passed-none st busy xi rho = record {
-  fine = allBelow-none (λ (s : ℕ). slotSound (st .n) (slotAt st s));
-  opened = λ s h. absurd (omega arith);
-  xi-held = sym (gathered-none (xiAt st) (heldAt st));
-  rho-held = sym (gathered-none (λ (s : ℕ). not (xiAt st s)) (heldAt st));
-  xi-few = omega arith;
-  rho-few = omega arith;
-}
-
--- one mark more
-opened-on : (st : State) (busy : List Bool) (i : ℕ) (o : Bool) → i < length busy → ((s : ℕ) → s < i → getD busy s false ≡ openAt st s)
-    → o ≡ openAt st i → (s : ℕ) → s < i + 1 → getD (set busy i o) s false ≡ openAt st s
-opened-on st busy i o h before e s l =
-    below-or-at (λ (t : ℕ). getD (set busy i o) t false ≡ openAt st t)
-    (subst (λ (m : ℕ). s < m) (add-one i) l)
-    (λ b. getD-set-other busy i s o false (λ q. absurd (omega arith)) ∙ before s b)
-    (getD-set-same busy i o false h ∙ e)
-
--- the pages of one slot more
-gathered-on : (p : ℕ → Bool) (f : ℕ → List ℕ) (i : ℕ) → p i ≡ true → gathered p f (i + 1) ≡ gathered p f i ++ f i
-gathered-on p f i t = ap (gathered p f) (add-one i) ∙ gathered-passes p f i t
-
--- one slot more that is not asked for
-gathered-stays : (p : ℕ → Bool) (f : ℕ → List ℕ) (i : ℕ) → p i ≡ false → gathered p f (i + 1) ≡ gathered p f i
-gathered-stays p f i e = ap (gathered p f) (add-one i) ∙ gathered-fails p f i e
-
-module _ {st : State} {busy : List Bool} {xi rho : List ℕ} {xis rhos i : ℕ} (was : Passed st busy xi xis rho rhos i) {o : Bool} {s : Slot}
-    (this : slotAt st i ≡ s) (marks : o ≡ isOpen (s .task)) (within : withinLimits (s .task) (s .depth) (s .beside) ≡ true) (h : i < length busy) where
-  -- one sound slot more, and its mark
-  fine-on : slotSound (st .n) s ≡ true → allBelow (i + 1) (λ (t : ℕ). slotSound (st .n) (slotAt st t)) ≡ true
-  fine-on y = allBelow-on (λ (t : ℕ). slotSound (st .n) (slotAt st t)) i (was .fine) (ap (slotSound (st .n)) this ∙ y)
-
-  marked-on : (t : ℕ) → t < i + 1 → getD (set busy i o) t false ≡ openAt st t
-  marked-on = opened-on st busy i o h (was .opened) (marks ∙ ap (λ (z : Slot). isOpen (z .task)) (sym this))
-
-  -- the slot holds its pages under ξ
-  pub passed-xi : (xi′ : List ℕ) → isXi (lockOf (s .task)) ≡ true → pagesSound (st .n) s ≡ true
-      → take (xis + (s .depth + s .beside)) xi′ ≡ take xis xi ++ held s
-      → Passed st (set busy i o) xi′ (xis + s .depth + s .beside) rho rhos (i + 1)
-  passed-xi xi′ x pages e =
-      let limits = limits-all (s .task) (s .depth) (s .beside) within in
-      let few = was .xi-few in
-      let few′ = was .rho-few in
-      let here : xiAt st i ≡ true = ap (λ (z : Slot). isXi (lockOf (z .task))) this ∙ x in
-      record {
-        fine = fine-on (slot-open (st .n) s within (xi-open (s .task) x) ∙ pages);
-        opened = marked-on;
-        xi-held = ap (λ (n : ℕ). take n xi′) (add-assoc xis (s .depth) (s .beside))
-            ∙ e
-            ∙ ap₂ (λ (a b : List ℕ). a ++ b) (was .xi-held) (ap held (sym this))
-            ∙ sym (gathered-on (xiAt st) (heldAt st) i here);
-        rho-held = was .rho-held ∙ sym (gathered-stays (λ (t : ℕ). not (xiAt st t)) (heldAt st) i (not-of-true here));
-        xi-few = omega arith;
-        rho-few = omega arith;
-      }
-
-  -- the slot is open and holds its pages under ρ
-  pub passed-rho : (rho′ : List ℕ) → isXi (lockOf (s .task)) ≡ false → isOpen (s .task) ≡ true → pagesSound (st .n) s ≡ true
-      → take (rhos + (s .depth + s .beside)) rho′ ≡ take rhos rho ++ held s
-      → Passed st (set busy i o) xi xis rho′ (rhos + s .depth + s .beside) (i + 1)
-  passed-rho rho′ x y pages e =
-      let limits = limits-rho (s .task) (s .depth) (s .beside) x within in
-      let few = was .xi-few in
-      let few′ = was .rho-few in
-      let here : xiAt st i ≡ false = ap (λ (z : Slot). isXi (lockOf (z .task))) this ∙ x in
-      record {
-        fine = fine-on (slot-open (st .n) s within y ∙ pages);
-        opened = marked-on;
-        xi-held = was .xi-held ∙ sym (gathered-stays (xiAt st) (heldAt st) i here);
-        rho-held = ap (λ (n : ℕ). take n rho′) (add-assoc rhos (s .depth) (s .beside))
-            ∙ e
-            ∙ ap₂ (λ (a b : List ℕ). a ++ b) (was .rho-held) (ap held (sym this))
-            ∙ sym (gathered-on (λ (t : ℕ). not (xiAt st t)) (heldAt st) i (not-of-false here));
-        xi-few = omega arith;
-        rho-few = omega arith;
-      }
-
-  -- the slot is closed
-  pub passed-closed : isXi (lockOf (s .task)) ≡ false → isOpen (s .task) ≡ false → Passed st (set busy i o) xi xis rho rhos (i + 1)
-  passed-closed x y =
-      let few = was .xi-few in
-      let few′ = was .rho-few in
-      let here : xiAt st i ≡ false = ap (λ (z : Slot). isXi (lockOf (z .task))) this ∙ x in
-      record {
-        fine = fine-on (slot-closed (st .n) s within y);
-        opened = marked-on;
-        xi-held = was .xi-held ∙ sym (gathered-stays (xiAt st) (heldAt st) i here);
-        rho-held = was .rho-held
-            ∙ sym (append-nil (gathered (λ (t : ℕ). not (xiAt st t)) (heldAt st) i))
-            ∙ ap (λ (r : List ℕ). gathered (λ (t : ℕ). not (xiAt st t)) (heldAt st) i ++ r) (sym (ap held this ∙ held-closed (st .n) s within y))
-            ∙ sym (gathered-on (λ (t : ℕ). not (xiAt st t)) (heldAt st) i (not-of-false here));
-        xi-few = omega arith;
-        rho-few = omega arith;
-      }
-
--- the same lists and counts by other names
-pub passed-as : {st : State} {busy : List Bool} {xi xi′ rho rho′ : List ℕ} {xis xis′ rhos rhos′ i : ℕ}
-    → xi′ ≡ xi → xis′ ≡ xis → rho′ ≡ rho → rhos′ ≡ rhos → Passed st busy xi xis rho rhos i → Passed st busy xi′ xis′ rho′ rhos′ i
-passed-as {st} {busy} {xi} {rho = rho} {rho′ = rho′} {xis = xis} {xis′ = xis′} {rhos′ = rhos′} {i = i} e f g h was =
-    subst (λ (a : List ℕ). Passed st busy a xis′ rho′ rhos′ i) (sym e)
-    (subst (λ (a : ℕ). Passed st busy xi a rho′ rhos′ i) (sym f)
-    (subst (λ (a : List ℕ). Passed st busy xi xis a rhos′ i) (sym g) (subst (λ (a : ℕ). Passed st busy xi xis rho a i) (sym h) was)))
-
--- ---- all slots are passed
+-- ---- the order
 
 -- two tests of open slots that agree on the slots
-named-same : (p q : ℕ → Bool) (waiting : ℕ) (order : List ℕ) → ((s : ℕ) → s < slotCount → p s ≡ q s) → namesEach p waiting order ≡ namesEach q waiting order
+pub named-same : (p q : ℕ → Bool) (waiting : ℕ) (order : List ℕ) → ((s : ℕ) → s < slotCount → p s ≡ q s) → namesEach p waiting order ≡ namesEach q waiting order
 unfolding namesEach
 named-same p q waiting order same =
     ap₂ (λ (a b : Bool). leb waiting slotCount && a && distinct (take waiting order) && b)
@@ -200,53 +44,133 @@ named-same p q waiting order same =
         (λ f. and-first-fails (p s) f ∙ sym (and-first-fails (q s) f))
         (true-or-false (ltb s slotCount))
 
--- the order is sound where it names the slots that are marked
-order-named : (st : State) (busy : List Bool) → ((s : ℕ) → s < slotCount → getD busy s false ≡ openAt st s)
-    → orderSound st ≡ namesEach (λ (s : ℕ). getD busy s false) (st .waiting) (st .order)
-unfolding orderSound waitingOrder namesEach
-order-named st busy same = sym (named-same (λ (s : ℕ). getD busy s false) (openAt st) (st .waiting) (st .order) same)
+open-kind : (key information kind : ℕ) → kind < 4 → isOpen (taskFrom kind key information) ≡ openKind kind
+open-kind key information = by-kind (λ (k : ℕ). isOpen (taskFrom k key information) ≡ openKind k) refl refl refl refl
 
--- the whole rule
-passed-all : (st : State) (busy : List Bool) (xi : List ℕ) (xis : ℕ) (rho : List ℕ) (rhos : ℕ) (i : ℕ) → Passed st busy xi xis rho rhos i
-    → i ≤ 16 → 16 ≤ i → numbersInRange st ≡ true
-    → sound st ≡ namesEach (λ (s : ℕ). getD busy s false) (st .waiting) (st .order) && distinct (take xis xi) && apart (take xis xi) (take rhos rho)
-unfolding sound noClashingHolds slotCount
-passed-all st busy xi xis rho rhos i last a b numbers =
-    ap (λ (t : Bool). t && orderSound st && slots && noClashingHolds st) numbers
-    ∙ ap₂ (λ (q t : Bool). q && t && noClashingHolds st) (order-named st busy (whole .opened)) (whole .fine)
-    ∙ ap (λ (t : Bool). t && noClashingHolds st) (and-true names)
-    ∙ ap (λ (t : Bool). names && t) (sym lists)
-    ∙ sym (and-assoc names (distinct (take xis xi)) (apart (take xis xi) (take rhos rho)))
-  where
-    names : Bool
-    names = namesEach (λ (s : ℕ). getD busy s false) (st .waiting) (st .order)
+-- a slot is open as its kind tells
+open-as : (ws : List ℕ) (s : ℕ) → known ws ≡ true → s < 16 → openAt (asRead ws) s ≡ openKind (cell ws 0 s)
+open-as ws s e h = ap (λ (x : Slot). isOpen (x .task)) (slot-read ws s h) ∙ open-kind (cell ws 1 s) (cell ws 2 s) (cell ws 0 s) (kind-known ws e s h)
 
-    slots : Bool
-    slots = allBelow 16 (λ (s : ℕ). slotSound (st .n) (slotAt st s))
+pub kind-closed : (ws : List ℕ) (s : ℕ) → known ws ≡ true → s < 16 → cell ws 0 s ≡ 0 → openAt (asRead ws) s ≡ false
+kind-closed ws s e h z = open-as ws s e h ∙ ap openKind z
 
-    whole : Passed st busy xi xis rho rhos 16
-    whole = subst (Passed st busy xi xis rho rhos) (le-antisymm a b) last
+pub kind-open : (ws : List ℕ) (s : ℕ) → known ws ≡ true → s < 16 → (cell ws 0 s ≡ 0 → ⊥) → openAt (asRead ws) s ≡ true
+kind-open ws s e h n =
+    let exists = kind-known ws e s h in
+    open-as ws s e h ∙ and-both (not-of-false (ne-eqb (cell ws 0 s) 0 n)) (le-leb (cell ws 0 s) 3 (omega arith))
 
-    lists : distinct (take xis xi) && apart (take xis xi) (take rhos rho) ≡ noClashingHolds st
-    lists =
-        ap₂ (λ (x r : List ℕ). distinct x && apart x r) (whole .xi-held) (whole .rho-held)
-        ∙ lists-for-pairs (xiAt st) (heldAt st) 16
-        (λ j h. slot-differ (st .n) (slotAt st j) (allBelow-at (λ (s : ℕ). slotSound (st .n) (slotAt st s)) 16 (whole .fine) j h))
+order-words : (ws : List ℕ) → known ws ≡ true → orderSound (asRead ws) ≡ namesEach (λ (s : ℕ). openKind (cell ws 0 s)) (getD ws 2 0) (orderIn ws)
+unfolding orderSound waitingOrder namesEach slotCount
+order-words ws e =
+    named-same (openAt (asRead ws)) (λ (s : ℕ). openKind (cell ws 0 s)) (getD ws 2 0) (orderIn ws)
+    (λ s h. open-as ws s e h)
 
-module _ {st : State} {busy : List Bool} {xi rho : List ℕ} {xis rhos i : ℕ} (last : Passed st busy xi xis rho rhos i)
-    (a : i ≤ 16) (b : 16 ≤ i) (numbers : numbersInRange st ≡ true) {o : Bool} (said : o ≡ namesEach (λ (s : ℕ). getD busy s false) (st .waiting) (st .order)) where
-  -- the order is not sound
-  pub passed-order : o ≡ false → o ≡ sound st
-  passed-order f =
-      f
+-- ---- the slots
+
+slots-words : (ws : List ℕ) → known ws ≡ true
+    → allBelow 16 (rowFine ws (getD ws 1 0)) && allBelow 16 (deepFine ws (getD ws 1 0)) ≡ allBelow slotCount (λ (s : ℕ). slotSound (getD ws 1 0) (slotAt (asRead ws) s))
+unfolding slotCount
+slots-words ws e =
+    all-both (rowFine ws (getD ws 1 0)) (deepFine ws (getD ws 1 0)) 16
+    ∙ allBelow-same _ _ 16
+    (λ s h. slot-fits ws (getD ws 1 0) s (kind-known ws e s h) ∙ ap (slotSound (getD ws 1 0)) (sym (slot-read ws s h)))
+
+-- rows that are fine are of kinds that exist
+rows-known : (ws : List ℕ) (n : ℕ) → allBelow 16 (rowFine ws n) ≡ true → known ws ≡ true
+unfolding known slotCount
+rows-known ws n e = allBelow-from (λ (s : ℕ). ltb (cell ws 0 s) 4) 16 (λ s h. lt-ltb (cell ws 0 s) 4 (row-at ws n e s h .exists))
+
+-- ---- the whole
+
+reorder : (n w r d a : Bool) → n && w && (r && d) && a ≡ n && r && w && d && a
+reorder false w r d a = refl
+reorder true true true d a = refl
+reorder true true false d a = refl
+reorder true false true d a = refl
+reorder true false false d a = refl
+
+pub empty-unsound : sound (idleState 0 0) ≡ false
+unfolding sound
+empty-unsound = refl
+
+module _ (ws : List ℕ) where
+  abbrev numbers : Bool
+  numbers = leb 1 (getD ws 0 0) && leb (getD ws 0 0) largestK && leb 1 (getD ws 1 0) && leb (getD ws 1 0) largestN
+
+  abbrev rows : Bool
+  rows = allBelow 16 (rowFine ws (getD ws 1 0))
+
+  abbrev names : Bool
+  names = namesEach (λ (s : ℕ). openKind (cell ws 0 s)) (getD ws 2 0) (orderIn ws)
+
+  abbrev deeps : Bool
+  deeps = allBelow 16 (deepFine ws (getD ws 1 0))
+
+  abbrev alones : Bool
+  alones = allBelow 16 (xiAlone ws)
+
+  known-sound : known ws ≡ true → sound (asRead ws) ≡ numbers && rows && names && deeps && alones
+  unfolding sound
+  known-sound e =
+      ap (λ (w : Bool). numbers && w && allBelow slotCount (λ (s : ℕ). slotSound (getD ws 1 0) (slotAt (asRead ws) s)) && noClashingHolds (asRead ws)) (order-words ws e)
+      ∙ ap₂ (λ (x a : Bool). numbers && names && x && a) (sym (slots-words ws e)) (no-clashes ws e)
+      ∙ reorder numbers names rows deeps alones
+
+  unknown-state : known ws ≡ false → sound (stateOf ws) ≡ false
+  unfolding stateOf
+  unknown-state f = ap sound (cond-false (asRead ws) (idleState 0 0) f) ∙ empty-unsound
+
+  whole : sound (stateOf ws) ≡ numbers && rows && names && deeps && alones
+  whole =
+      ⊎-elim
+      (λ e. ap sound (state-known ws e) ∙ known-sound e)
+      (λ f.
+      let none : rows ≡ false = false-if-not-true rows (λ t. not-both (rows-known ws (getD ws 1 0) t) f) in
+      unknown-state f
       ∙ sym
-      (passed-all st busy xi xis rho rhos i last a b numbers
-      ∙ and-first-fails (apart (take xis xi) (take rhos rho)) (and-first-fails (distinct (take xis xi)) (sym said ∙ f)))
+      (and-first-fails alones (and-first-fails deeps (and-first-fails names (and-second-fails numbers none)))))
+      (true-or-false (known ws))
 
-  -- the order is sound: the two lists decide
-  pub passed-lists : o ≡ true → {r : Bool} → r ≡ distinct (take xis xi) && apart (take xis xi) (take rhos rho) → r ≡ sound st
-  passed-lists t e =
-      e
+  -- test by test
+  pub sound-numbers : {n : Bool} → n ≡ numbers → n ≡ false → false ≡ sound (stateOf ws)
+  sound-numbers e f = sym (whole ∙ and-first-fails alones (and-first-fails deeps (and-first-fails names (and-first-fails rows (sym e ∙ f)))))
+
+  pub sound-rows : {r : Bool} → r ≡ rows → r ≡ false → false ≡ sound (stateOf ws)
+  sound-rows e f = sym (whole ∙ and-first-fails alones (and-first-fails deeps (and-first-fails names (and-second-fails numbers (sym e ∙ f)))))
+
+  pub sound-order : {w : Bool} → w ≡ names → w ≡ false → false ≡ sound (stateOf ws)
+  sound-order e f = sym (whole ∙ and-first-fails alones (and-first-fails deeps (and-second-fails (numbers && rows) (sym e ∙ f))))
+
+  pub sound-deep : {d : Bool} → d ≡ deeps → d ≡ false → false ≡ sound (stateOf ws)
+  sound-deep e f = sym (whole ∙ and-first-fails alones (and-second-fails (numbers && rows && names) (sym e ∙ f)))
+
+  pub sound-alone : {n r w d a : Bool} → n ≡ numbers → n ≡ true → r ≡ rows → r ≡ true → w ≡ names → w ≡ true → d ≡ deeps → d ≡ true → a ≡ alones → a ≡ sound (stateOf ws)
+  sound-alone en tn er tr ew tw ed td ea =
+      ea
       ∙ sym
-      (passed-all st busy xi xis rho rhos i last a b numbers
-      ∙ ap (λ (q : Bool). q && distinct (take xis xi) && apart (take xis xi) (take rhos rho)) (sym said ∙ t))
+      (whole
+      ∙ ap₂ (λ (x y : Bool). x && y && names && deeps && alones) (sym en ∙ tn) (sym er ∙ tr)
+      ∙ ap₂ (λ (x y : Bool). x && y && alones) (sym ew ∙ tw) (sym ed ∙ td))
+
+-- What is known of the words of a sound state.
+pub record SoundWords (ws : List ℕ) : Type 0 where
+  pub exist : known ws ≡ true
+  pub read : stateOf ws ≡ asRead ws
+  pub facts : SoundState (asRead ws)
+  pub short : Short ws
+
+pub sound-words : (ws : List ℕ) → sound (stateOf ws) ≡ true → SoundWords ws
+unfolding slotCount
+sound-words ws e =
+    let exist : known ws ≡ true = ⊎-elim (λ y. y) (λ f. not-both e (unknown-state ws f)) (true-or-false (known ws)) in
+    let read : stateOf ws ≡ asRead ws = state-known ws exist in
+    let facts : SoundState (asRead ws) = sound-facts (asRead ws) (ap sound (sym read) ∙ e) in
+    let limits : (s : ℕ) → s < 16 → (cell ws 4 s ≤ 10) × (cell ws 5 s ≤ 9)
+    = λ s h. limits-all (slotIn ws s .task) (cell ws 4 s) (cell ws 5 s)
+    (subst (λ (x : Slot). withinLimits (x .task) (x .depth) (x .beside) ≡ true) (slot-read ws s h) (facts .slot s h .limits)) in
+    record {
+      exist = exist;
+      read = read;
+      facts = facts;
+      short = record { path = λ s h. limits s h .0; siblings = λ s h. let few = limits s h .1 in omega arith };
+    }

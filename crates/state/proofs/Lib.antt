@@ -1,8 +1,9 @@
 pub mod MaskLaws
-pub mod CallLaws
 pub mod ReportLaws
 pub mod CheckingLaws
 pub mod CheckingLawsOrder
-pub mod CheckingLawsHeld
 pub mod CheckingLawsSlot
+pub mod CheckingLawsRows
+pub mod CheckingLawsAlone
 pub mod CheckingLawsSound
+pub mod CallLaws

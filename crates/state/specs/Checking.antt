@@ -31,7 +31,7 @@ namesEach opened waiting order =
 
 -- the wanted page and the top of the path, if there is one, are below n and not the same
 abbrev pub named : ℕ → ℕ → ℕ → ℕ → Bool
-named depth n want top = ltb want n && (eqb depth 0 || (ltb top n && not (eqb top want)))
+named depth n want top = ltb want n && (eqb depth 0 || (ltb top n && not (eqb want top)))
 
 -- what a slot of a kind may hold, and what its rows tell of its pages
 abbrev pub fineRow : ℕ → ℕ → ℕ → ℕ → ℕ → ℕ → Bool

@@ -4,6 +4,7 @@ use ground::SLOTS;
 use lent::STATE;
 use lent::book::begins;
 use lent::cells::kind_at;
+use lent::cells::sized;
 use slots::Answer;
 use slots::Op;
 ghost use Rattle.lent.specs.Statements.{BeginSays};
@@ -12,6 +13,7 @@ ghost use Rattle.lent.specs.Statements.{BeginSays};
 pub fn begin(state: &mut [u32; STATE], s: usize, op: Op) -> Answer
     ensures { λ r. ⌜ BeginSays (now (state .entry)) s op r (now (state .exit)) ⌝ }
 {
+    sized(state);
     if !is_sound(state) {
         return Answer::BadState;
     }

@@ -17,6 +17,7 @@ use lent::cells::k_of;
 use lent::cells::kind_at;
 use lent::cells::n_of;
 use lent::cells::order_at;
+use lent::cells::sized;
 use lent::cells::top_at;
 use lent::cells::waiting_of;
 use lent::cells::want_at;
@@ -65,7 +66,7 @@ pub fn numbers_in_range(k: usize, n: usize) -> bool
 fn is_named(depth: u32, n: u32, want: u32, top: u32) -> bool
     ensures { λ r. ⌜ r ≡ named depth n want top ⌝ }
 {
-    (want < n) & ((depth == 0) | ((top < n) & (top != want)))
+    (want < n) & ((depth == 0) | ((top < n) & (want != top)))
 }
 
 // A slot with these numbers holds what its kind may hold, as far as the rows tell.
@@ -194,6 +195,7 @@ fn none_of(marks: [bool; SLOTS]) -> bool
 fn order_sound(cells: &[u32; STATE], waiting: usize, busy: [bool; SLOTS]) -> bool
     ensures { λ r. ⌜ r ≡ namesEach (λ (s : ℕ). getD busy s false) waiting (orderIn (now (cells .entry))) ⌝ }
 {
+    sized(cells);
     if SLOTS < waiting {
         return false;
     }

@@ -1,106 +1,91 @@
 -- Each way out is a case of the rule; a closed slot of a sound state leaves room in the waiting order.
-use Prim.Native.Nat.{_<_}
-use mathlib.Core.Bool.{Bool, true, false}
-use mathlib.Core.Path.{_≡_, sym, ap, _∙_}
-use lib.ListN.{length, getD}
-use borrow.Author.Tests.{not-true, not-false}
-use borrow.Author.Needs.{needs}
-use Rattle.ground.specs.Limits.{slotCount}
-use Rattle.slots.specs.declared.State.{State}
-use Rattle.slots.specs.declared.Slot.{Slot}
-use Rattle.slots.specs.declared.Answer.the-variants.{Begun}
-use Rattle.slots.specs.Parts.{isOpen, openAt}
-use Rattle.slots.specs.Sound.{sound}
-use Rattle.slots.specs.Begin.{outcome}
-use Rattle.slots.proofs.SoundFacts.{sound-facts}
+use Rattle.state.proofs.CallLaws.{says-unsound, says-nowhere, says-busy, says-begun}
+use Rattle.state.proofs.CheckingLawsSound.{SoundWords, sound-words, kind-closed, kind-open}
+use Rattle.lent.proofs.StateLaws.{length-order}
+use Rattle.lent.specs.Words.{asRead, stateOf}
 use Rattle.slots.proofs.OrderLaws.{order-has-room}
-use Rattle.slots.proofs.GrantingLaws.{counted, blank, slot-read}
-use Rattle.state.proofs.CallLaws.{begin-says, begun-unsound, begun-nowhere, begun-busy, begun-done}
+use Rattle.slots.specs.Sound.{sound}
+use Rattle.slots.specs.Parts.{openAt}
+use Rattle.ground.specs.Limits.{slotCount}
+use borrow.Author.Tests.{not-true, not-false}
+use lib.ListN.{length}
+use mathlib.Core.Path.{_≡_, sym, _∙_}
+use mathlib.Core.Bool.{true, false}
+use Prim.Native.Nat.{_<_}
+use borrow.Author.Needs.{needs}
 use Rattle.state.proofs.calls.begin.Statement.{statement}
 use Rattle.state.proofs.calls.begin.Tie as tie
+use Rattle.state.proofs.calls.begin.Reads as reads
+use Rattle.state.proofs.calls.begin.Lts as lts
+use Rattle.lent.proofs.book.begins.Reads as begins-reads
+use Rattle.lent.proofs.cells.kind_at.Reads as kind-at-reads
+use Rattle.lent.proofs.cells.sized.Reads as sized-reads
+use Rattle.state.proofs.checking.is_sound.Reads as is-sound-reads
+
+sized-requires : tie.Need-sized-requires
+sized-requires c κs = search needs
 
 is-sound-requires : tie.Need-is-sound-requires
 is-sound-requires c κs = search needs
 
 returns : tie.Need-returns
 returns c =
-    let was = c .before .before .args in
+    let was = c .before .before .before .before .before .before .args in
     let said = c .before .is-sound in
-    begin-says (was .t1) (was .s) (was .op) _ (begun-unsound (was .t1) (was .s) (was .op) (sym (said .ensures) ∙ not-true (said .result) (c .if1 .taken)))
+    says-unsound (was .state .now) (was .s) (was .op) (sym (said .ensures) ∙ not-true (said .result) (c .if1 .taken))
+
+kept : (c : tie.Else1) → sound (stateOf (c .before .before .before .before .before .before .args .state .now)) ≡ true
+kept c =
+    let said = c .before .is-sound in
+    sym (said .ensures) ∙ not-false (said .result) (c .if1 .left)
 
 returns-2 : tie.Need-returns-2
 unfolding slotCount
 returns-2 c =
-    let was = c .before .before .before .args in
-    let said = c .before .before .is-sound in
-    begin-says (was .t1) (was .s) (was .op) _
-    (begun-nowhere (was .t1) (was .s) (was .op) (sym (said .ensures) ∙ not-false (said .result) (c .before .if1 .left)) (c .if2 .taken))
+    let was = c .before .before .before .before .before .before .before .args in
+    says-nowhere (was .state .now) (was .s) (was .op) (kept (c .before)) (c .if2 .taken)
 
-mul-slot : tie.Need-mul-slot
-mul-slot c = search needs
+kind-at-requires : tie.Need-kind-at-requires
+kind-at-requires c κs = search needs
 
-element-copy-out-slot : tie.Need-element-copy-out-slot
-element-copy-out-slot c = search needs
-
-enum-told : tie.Need-enum-told
-enum-told c = search needs
-
-enum-told-2 : tie.Need-enum-told-2
-enum-told-2 c = search needs
-
--- past the first two tests the state is sound, the slot is one of the sixteen, and it is open as its task is
-kept : (c : tie.Else2) → sound (c .before .before .before .args .t1) ≡ true
-kept c =
-    let said = c .before .before .is-sound in
-    sym (said .ensures) ∙ not-false (said .result) (c .before .if1 .left)
-
-below : (c : tie.Else2) → c .before .before .before .args .s < slotCount
+returns-3 : tie.Need-returns-3
 unfolding slotCount
-below c = c .if2 .left
+returns-3 c =
+    let was = c .before .before .before .before .before .before .before .before .before .before .args in
+    let known = sound-words (was .state .now) (kept (c .before .before .before .before)) in
+    says-busy (was .state .now) (was .s) (was .op) (kept (c .before .before .before .before)) (c .before .before .before .if2 .left) (known .exist)
+    (kind-open (was .state .now) (was .s) (known .exist) (c .before .before .before .if2 .left) (λ e. c .if3 .taken (c .before .kind-at .ensures ∙ e)))
 
-open-as : (c : tie.Else2) (b : Bool) → isOpen (getD (c .before .before .before .args .t1 .slots) (c .before .before .before .args .s) blank .task) ≡ b
-    → openAt (c .before .before .before .args .t1) (c .before .before .before .args .s) ≡ b
-unfolding slotCount
-open-as c b e =
-    let was = c .before .before .before .args in
-    let long : length (was .t1 .slots) ≡ slotCount = search (needs, counted) in
-    ap (λ (x : Slot). isOpen (x .task)) (sym (slot-read (was .t1) (was .s) long (below c))) ∙ e
+-- the slot is closed
+shut : (c : tie.Else3) → openAt (asRead (c .before .before .before .before .before .before .before .before .before .before .args .state .now)) (c .before .before .before .before .before .before .before .before .before .before .args .s) ≡ false
+shut c =
+    let was = c .before .before .before .before .before .before .before .before .before .before .args in
+    kind-closed (was .state .now) (was .s) (sound-words (was .state .now) (kept (c .before .before .before .before)) .exist) (c .before .before .before .if2 .left) (sym (c .before .kind-at .ensures) ∙ c .if3 .left)
 
 begins-requires : tie.Need-begins-requires
 unfolding slotCount
 begins-requires c κs =
-    let here = c .before .before .before in
-    let was = here .before .before .before .args in
-    let order : length (was .t1 .order) ≡ slotCount = search needs in
-    let room = order-has-room (was .t1) order (sound-facts (was .t1) (kept here)) (was .s) (below here) in
-    (below here, room (open-as here false (ap isOpen (c .enum-told2 .given .1))))
-
-returns-3 : tie.Need-returns-3
-returns-3 c =
-    let here = c .before .before .before in
-    let was = here .before .before .before .args in
-    begin-says (was .t1) (was .s) (was .op) _
-    (begun-busy (was .t1) (was .s) (was .op) (kept here) (below here) (open-as here true (ap isOpen (c .enum-told .given .1))))
+    let was = c .before .before .before .before .before .before .before .before .before .before .before .args in
+    let known = sound-words (was .state .now) (kept (c .before .before .before .before .before)) in
+    (c .before .before .before .before .if2 .left,
+     order-has-room (asRead (was .state .now)) (length-order (was .state .now) (c .before .before .before .before .before .before .before .before .sized .ensures)) (known .facts) (was .s) (c .before .before .before .before .if2 .left) (shut (c .before)))
 
 returns-4 : tie.Need-returns-4
+unfolding slotCount
 returns-4 c =
-    let here = c .before .before .before .before in
-    let was = here .before .before .before .args in
-    begin-says (was .t1) (was .s) (was .op) _
-    (ap (λ (x : State). outcome Begun x) (c .begins .ensures)
-    ∙ begun-done (was .t1) (was .s) (was .op) (kept here) (below here) (open-as here false (ap isOpen (c .before .enum-told2 .given .1))))
+    let was = c .before .before .before .before .before .before .before .before .before .before .before .before .args in
+    let known = sound-words (was .state .now) (kept (c .before .before .before .before .before .before)) in
+    says-begun (was .state .now) (was .s) (was .op) (kept (c .before .before .before .before .before .before)) (c .before .before .before .before .before .if2 .left) (known .exist) (c .before .before .before .before .before .before .before .before .before .sized .ensures) (shut (c .before .before)) (c .begins .ensures)
 
 pub begin-spec : {M : Type 1} → statement M
 begin-spec =
     tie.close
     (tie.spec
+    sized-requires
     is-sound-requires
     returns
     returns-2
-    mul-slot
-    element-copy-out-slot
-    enum-told
-    enum-told-2
-    begins-requires
+    kind-at-requires
     returns-3
+    begins-requires
     returns-4)

@@ -1,79 +1,97 @@
--- `state::checking::order_sound` meets its contract. The loop's invariant: what the order has named so far are open slots,
--- none twice, and the marks left are those of the other open slots.
-use Prim.Native.Nat.{_≤_, _-_}
-use mathlib.Core.Bool.{false}
-use mathlib.Core.Path.{_≡_, sym, _∙_}
-use native.Mathlib.Omega.{arith}
-use lib.ListN.{length, getD, length-set}
-use borrow.Author.Needs.{needs}
-use borrow.Author.Tests.{not-true, not-false}
-use Rattle.ground.specs.Limits.{slotCount}
+-- What the order has named so far are open slots, none twice, and the marks left are those of the other open slots.
 use Rattle.state.proofs.CheckingLawsOrder.{Naming, naming-start, naming-long, naming-on, naming-high, naming-unmarked, naming-end}
+use Rattle.lent.proofs.StateLaws.{length-order, order-cell}
+use Rattle.lent.specs.Words.{orderIn}
+use Rattle.ground.specs.Limits.{slotCount}
+use borrow.Author.Tests.{not-true, not-false}
+use lib.ListN.{length, getD, set, length-set}
+use native.Mathlib.Omega.{arith}
+use mathlib.Core.Path.{_≡_, sym, ap, _∙_, subst}
+use mathlib.Core.List.{List}
+use mathlib.Core.Bool.{false}
+use Prim.Native.Nat.{ℕ, _+_, _≤_, _<_, _-_}
+use borrow.Author.Needs.{needs}
 use Rattle.state.proofs.checking.order_sound.Statement.{statement}
 use Rattle.state.proofs.checking.order_sound.Tie as tie
+use Rattle.state.proofs.checking.order_sound.Reads as reads
+use Rattle.state.proofs.checking.order_sound.Lts as lts
+use Rattle.lent.proofs.cells.order_at.Reads as order-at-reads
+use Rattle.lent.proofs.cells.sized.Reads as sized-reads
+use Rattle.state.proofs.checking.none_of.Reads as none-of-reads
 
 abbrev Inv-loop : tie.InvT-loop
-Inv-loop waiting order unnamed₀ i₀ unnamed i =
-    (i ≤ waiting) × (waiting ≤ 16) × (length order ≡ 16) × (length unnamed ≡ 16) × Naming unnamed₀ unnamed order i
+Inv-loop cells waiting unnamed₀ i₀ unnamed i = (i ≤ waiting) × (waiting ≤ 16) × (length unnamed ≡ 16) × Naming unnamed₀ unnamed (orderIn cells) i
 
 abbrev μ-loop : tie.MeasureT-loop
-μ-loop waiting order unnamed₀ i₀ unnamed i = waiting - i
+μ-loop cells waiting unnamed₀ i₀ unnamed i = waiting - i
+
+sized-requires : tie.Need-sized-requires Inv-loop μ-loop
+sized-requires c κs = search needs
 
 returns : tie.Need-returns Inv-loop μ-loop
 unfolding slotCount
 returns c =
-    let a = c .before .args in
-    sym (naming-long (a .busy) (a .t1) (a .waiting) (c .if1 .taken))
+    let a = c .before .before .before .args in
+    sym (naming-long (a .busy) (orderIn (a .cells .now)) (a .waiting) (c .if1 .taken))
 
 loop-holds : tie.Need-loop-holds Inv-loop μ-loop
 loop-holds c =
-    let a = c .before .args in
-    (omega arith, c .if1 .left, search needs, search needs, naming-start (a .busy) (a .t1))
+    let a = c .before .before .before .args in
+    (omega arith, c .if1 .left, search needs, naming-start (a .busy) (orderIn (a .cells .now)))
 
-mul-s : tie.Need-mul-s Inv-loop μ-loop
-mul-s c = omega arith
+order-at-requires : tie.Need-order-at-requires Inv-loop μ-loop
+order-at-requires c κs = omega arith
 
-array-read-s : tie.Need-array-read-s Inv-loop μ-loop
-array-read-s c = omega arith
+-- the slot read is the next that the order names
+next : (c : tie.After-order-at Inv-loop μ-loop) → getD (orderIn (c .before .before .before .before .before .before .args .cells .now)) (c .before .before .loop .i) 0 ≡ c .order-at .result
+next c = order-cell (c .before .before .before .before .before .before .args .cells .now) (c .before .before .loop .i) (omega arith) ∙ sym (c .order-at .ensures)
 
 returns-2 : tie.Need-returns-2 Inv-loop μ-loop
 unfolding slotCount
 returns-2 c =
-    let a = c .before .before .before .before .args in
-    let l = c .before .before .loop in
-    sym (naming-high (a .busy) (l .unnamed) (a .t1) (l .i) (l .inv .4) (a .waiting) (omega arith) (omega arith) (c .if2 .taken))
+    let a = c .before .before .before .before .before .before .before .args in
+    let l = c .before .before .before .loop in
+    let long = length-order (a .cells .now) (c .before .before .before .before .before .sized .ensures) in
+    sym (naming-high (a .busy) (l .unnamed) (orderIn (a .cells .now)) (l .i) (l .inv .3) (a .waiting) (omega arith) (omega arith) (subst (λ (s : ℕ). 16 ≤ s) (sym (next (c .before))) (c .if2 .taken)))
 
 array-read-if3 : tie.Need-array-read-if3 Inv-loop μ-loop
-array-read-if3 c = omega arith
+array-read-if3 c = search needs
 
 returns-3 : tie.Need-returns-3 Inv-loop μ-loop
 returns-3 c =
-    let a = c .before .before .before .before .before .args in
-    let l = c .before .before .before .loop in
-    let unmarked = not-true (getD (l .unnamed) (getD (a .t1) (l .i) 0) false) (c .if3 .taken) in
-    sym (naming-unmarked (a .busy) (l .unnamed) (a .t1) (l .i) (l .inv .4) (a .waiting) (omega arith) (omega arith) unmarked)
+    let a = c .before .before .before .before .before .before .before .before .args in
+    let l = c .before .before .before .before .loop in
+    let long = length-order (a .cells .now) (c .before .before .before .before .before .before .sized .ensures) in
+    let unmarked = not-true (getD (l .unnamed) (c .before .before .order-at .result) false) (c .if3 .taken) in
+    sym
+    (naming-unmarked (a .busy) (l .unnamed) (orderIn (a .cells .now)) (l .i) (l .inv .3) (a .waiting) (omega arith) (omega arith)
+    (ap (λ (s : ℕ). getD (l .unnamed) s false) (next (c .before .before)) ∙ unmarked))
 
 array-write-unnamed : tie.Need-array-write-unnamed Inv-loop μ-loop
-array-write-unnamed c = omega arith
+array-write-unnamed c = search needs
 
 add-i : tie.Need-add-i Inv-loop μ-loop
-add-i c = omega arith
+add-i c = search needs
 
 loop-less : tie.Need-loop-less Inv-loop μ-loop
-loop-less c = omega arith
+loop-less c = search needs
 
 loop-again : tie.Need-loop-again Inv-loop μ-loop
 unfolding slotCount
 loop-again c =
-    let a = c .before .before .before .before .before .args in
-    let l = c .before .before .before .loop in
-    let s = getD (a .t1) (l .i) 0 in
+    let a = c .before .before .before .before .before .before .before .before .args in
+    let l = c .before .before .before .before .loop in
+    let order : List ℕ = orderIn (a .cells .now) in
+    let long : length order ≡ 16 = length-order (a .cells .now) (c .before .before .before .before .before .before .sized .ensures) in
+    let s : ℕ = c .before .before .order-at .result in
+    let read : getD order (l .i) 0 ≡ s = next (c .before .before) in
     let marked = not-false (getD (l .unnamed) s false) (c .if3 .left) in (
       omega arith,
       l .inv .1,
-      l .inv .2,
-      length-set (l .unnamed) _ _ ∙ l .inv .3,
-      naming-on (a .busy) (l .unnamed) (a .t1) (l .i) (l .inv .4) (omega arith) (c .before .if2 .left) (omega arith) marked,
+      length-set (l .unnamed) s false ∙ l .inv .2,
+      subst (λ (x : ℕ). Naming (a .busy) (set (l .unnamed) x false) order (l .i + 1)) read
+          (naming-on (a .busy) (l .unnamed) order (l .i) (l .inv .3) (omega arith) (subst (λ (x : ℕ). x < 16) (sym read) (c .before .if2 .left)) (omega arith)
+          (ap (λ (x : ℕ). getD (l .unnamed) x false) read ∙ marked)),
     )
 
 none-of-requires : tie.Need-none-of-requires Inv-loop μ-loop
@@ -82,9 +100,9 @@ none-of-requires c κs = search needs
 returns-4 : tie.Need-returns-4 Inv-loop μ-loop
 unfolding slotCount
 returns-4 c =
-    let a = c .before .before .before .before .args in
+    let a = c .before .before .before .before .before .before .args in
     let l = c .before .before .loop in
-    let rest = naming-end (a .busy) (l .unnamed) (a .t1) (l .i) (a .waiting) (l .inv .4) (l .inv .0) (c .before .loop-test .left) (l .inv .1) in
+    let rest = naming-end (a .busy) (l .unnamed) (orderIn (a .cells .now)) (l .i) (a .waiting) (l .inv .3) (l .inv .0) (c .before .loop-test .left) (l .inv .1) in
     c .none-of .ensures ∙ sym rest
 
 pub order-sound-spec : {M : Type 1} → statement M
@@ -93,10 +111,10 @@ order-sound-spec =
     (tie.spec
     Inv-loop
     μ-loop
+    sized-requires
     returns
     loop-holds
-    mul-s
-    array-read-s
+    order-at-requires
     returns-2
     array-read-if3
     returns-3

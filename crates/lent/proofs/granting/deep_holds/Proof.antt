@@ -1,0 +1,56 @@
+-- Each way out is a test of the rule.
+use Rattle.lent.proofs.HoldLaws.{deep-not, deep-own, deep-low, deep-is}
+use borrow.Author.Tests.{not-true, not-false, ne-eqb}
+use native.Mathlib.Omega.{arith}
+use mathlib.Core.Path.{sym, _∙_, subst}
+use Prim.Native.Nat.{ℕ, _<_}
+use borrow.Author.Needs.{needs}
+use Rattle.lent.proofs.granting.deep_holds.Statement.{statement}
+use Rattle.lent.proofs.granting.deep_holds.Tie as tie
+use Rattle.lent.proofs.granting.deep_holds.Reads as reads
+use Rattle.lent.proofs.granting.deep_holds.Lts as lts
+use Rattle.lent.proofs.cells.kind_at.Reads as kind-at-reads
+use Rattle.lent.proofs.granting.holds_at.Reads as holds-at-reads
+use Rattle.lent.proofs.granting.is_deep.Reads as is-deep-reads
+
+is-deep-requires : tie.Need-is-deep-requires
+is-deep-requires c κs = search needs
+
+returns : tie.Need-returns
+returns c =
+    let was = c .before .before .args in
+    deep-not (was .cells .now) (was .s) (was .least) (was .p) (was .t) (sym (c .before .is-deep .ensures) ∙ not-true (c .before .is-deep .result) (c .if1 .taken))
+
+returns-2 : tie.Need-returns-2
+returns-2 c =
+    let was = c .before .before .before .args in
+    deep-own (was .cells .now) (was .s) (was .least) (was .p) (was .t) (c .if2 .taken)
+
+kind-at-requires : tie.Need-kind-at-requires
+kind-at-requires c κs = search needs
+
+returns-3 : tie.Need-returns-3
+returns-3 c =
+    let was = c .before .before .before .before .before .args in
+    deep-low (was .cells .now) (was .s) (was .least) (was .p) (was .t) (omega (arith, c .before .kind-at .ensures, c .if3 .taken))
+
+holds-at-requires : tie.Need-holds-at-requires
+holds-at-requires c κs = search needs
+
+returns-4 : tie.Need-returns-4
+returns-4 c =
+    let was = c .before .before .before .before .before .before .args in
+    deep-is (was .cells .now) (was .s) (was .least) (was .p) (was .t) (sym (c .before .before .before .before .before .is-deep .ensures) ∙ not-false (c .before .before .before .before .before .is-deep .result) (c .before .before .before .before .if1 .left))
+    (ne-eqb (was .t) (was .s) (c .before .before .before .if2 .left)) (omega (arith, c .before .before .kind-at .ensures, c .before .if3 .left)) (c .holds-at .ensures)
+
+pub deep-holds-spec : {M : Type 1} → statement M
+deep-holds-spec =
+    tie.close
+    (tie.spec
+    is-deep-requires
+    returns
+    returns-2
+    kind-at-requires
+    returns-3
+    holds-at-requires
+    returns-4)

@@ -1,0 +1,30 @@
+-- The tops, then the slots that hold more.
+use Rattle.lent.proofs.HoldLaws.{others-top, others-deep}
+use mathlib.Core.Path.{sym, _∙_}
+use borrow.Author.Needs.{needs}
+use Rattle.lent.proofs.granting.others_hold.Statement.{statement}
+use Rattle.lent.proofs.granting.others_hold.Tie as tie
+use Rattle.lent.proofs.granting.others_hold.Reads as reads
+use Rattle.lent.proofs.granting.others_hold.Lts as lts
+use Rattle.lent.proofs.granting.some_deep_holds.Reads as some-deep-holds-reads
+use Rattle.lent.proofs.granting.tops_hold.Reads as tops-hold-reads
+
+tops-hold-requires : tie.Need-tops-hold-requires
+tops-hold-requires c κs = search needs
+
+returns : tie.Need-returns
+returns c =
+    let was = c .before .before .args in
+    others-top (was .cells .now) (was .s) (was .least) (was .p) (c .before .tops-hold .ensures) (c .if1 .taken)
+
+some-deep-holds-requires : tie.Need-some-deep-holds-requires
+some-deep-holds-requires c κs = search needs
+
+returns-2 : tie.Need-returns-2
+returns-2 c =
+    let was = c .before .before .before .args in
+    others-deep (was .cells .now) (was .s) (was .least) (was .p) (c .before .before .tops-hold .ensures) (c .before .if1 .left) (c .some-deep-holds .ensures)
+
+pub others-hold-spec : {M : Type 1} → statement M
+others-hold-spec =
+    tie.close (tie.spec tops-hold-requires returns some-deep-holds-requires returns-2)

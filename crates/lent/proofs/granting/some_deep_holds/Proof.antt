@@ -1,0 +1,69 @@
+-- None of the slots passed holds the page among others.
+use Rattle.lent.proofs.HoldLaws.{any-on}
+use Rattle.lent.specs.Holds.{deepHolds}
+use Rattle.ground.proofs.Tests.{anyBelow-none, anyBelow-from}
+use Rattle.ground.proofs.Bools.{or-none}
+use Rattle.ground.specs.Tests.{anyBelow}
+use denote.Ref.{now}
+use native.Mathlib.Omega.{arith}
+use mathlib.Core.Path.{_≡_, sym, ap, _∙_}
+use mathlib.Core.Bool.{Bool, false}
+use Prim.Native.Nat.{ℕ, _≤_, _-_, _+_}
+use borrow.Author.Needs.{needs}
+use Rattle.lent.proofs.granting.some_deep_holds.Statement.{statement}
+use Rattle.lent.proofs.granting.some_deep_holds.Tie as tie
+use Rattle.lent.proofs.granting.some_deep_holds.Reads as reads
+use Rattle.lent.proofs.granting.some_deep_holds.Lts as lts
+use Rattle.lent.proofs.granting.deep_holds.Reads as deep-holds-reads
+
+abbrev Inv-loop : tie.InvT-loop
+Inv-loop cells s least p t₀ t = (t ≤ 16) × (anyBelow t (deepHolds cells s least p) ≡ false)
+
+abbrev μ-loop : tie.MeasureT-loop
+μ-loop cells s least p t₀ t = 16 - t
+
+loop-holds : tie.Need-loop-holds Inv-loop μ-loop
+loop-holds c = (omega arith, anyBelow-none (deepHolds (c .args .cells .now) (c .args .s) (c .args .least) (c .args .p)))
+
+deep-holds-requires : tie.Need-deep-holds-requires Inv-loop μ-loop
+deep-holds-requires c κs = search needs
+
+returns : tie.Need-returns Inv-loop μ-loop
+returns c =
+    let was = c .before .before .before .before .args in
+    let t : ℕ = c .before .before .before .loop .t in
+    sym (anyBelow-from (deepHolds (was .cells .now) (was .s) (was .least) (was .p)) 16 t (omega arith) (sym (c .before .deep-holds .ensures) ∙ c .if1 .taken))
+
+add-t : tie.Need-add-t Inv-loop μ-loop
+add-t c = search needs
+
+loop-less : tie.Need-loop-less Inv-loop μ-loop
+loop-less c = search needs
+
+loop-again : tie.Need-loop-again Inv-loop μ-loop
+loop-again c =
+    let was = c .before .before .before .before .args in
+    let t : ℕ = c .before .before .before .loop .t in
+    (omega arith,
+     any-on (deepHolds (was .cells .now) (was .s) (was .least) (was .p)) t
+     ∙ or-none (c .before .before .before .loop .inv .1) (sym (c .before .deep-holds .ensures) ∙ c .if1 .left))
+
+returns-2 : tie.Need-returns-2 Inv-loop μ-loop
+returns-2 c =
+    let was = c .before .before .args in
+    let end : c .before .loop .t ≡ 16 = omega arith in
+    sym (ap (λ (n : ℕ). anyBelow n (deepHolds (was .cells .now) (was .s) (was .least) (was .p))) (sym end) ∙ c .before .loop .inv .1)
+
+pub some-deep-holds-spec : {M : Type 1} → statement M
+some-deep-holds-spec =
+    tie.close
+    (tie.spec
+    Inv-loop
+    μ-loop
+    loop-holds
+    deep-holds-requires
+    returns
+    add-t
+    loop-less
+    loop-again
+    returns-2)

@@ -1,0 +1,84 @@
+-- Whether one of the slots passed has the page on top.
+use Rattle.lent.proofs.HoldLaws.{any-on}
+use Rattle.lent.specs.Words.{cell}
+use Rattle.ground.proofs.Tests.{anyBelow-none}
+use denote.Ref.{now}
+use lib.Dec.{eqb, leb, ltb}
+use mathlib.Core.Path.{sym, ap, ap₂, _∙_}
+use mathlib.Core.Bool.{Bool, not, _&&_, _||_}
+use Prim.Native.Nat.{ℕ, _+_}
+use Rattle.lent.specs.Holds.{topHolds}
+use Rattle.ground.specs.Tests.{anyBelow}
+use native.Mathlib.Omega.{arith}
+use mathlib.Core.Path.{_≡_}
+use Prim.Native.Nat.{_≤_, _-_}
+use borrow.Author.Needs.{needs}
+use Rattle.lent.proofs.granting.tops_hold.Statement.{statement}
+use Rattle.lent.proofs.granting.tops_hold.Tie as tie
+use Rattle.lent.proofs.granting.tops_hold.Reads as reads
+use Rattle.lent.proofs.granting.tops_hold.Lts as lts
+use Rattle.lent.proofs.cells.depth_at.Reads as depth-at-reads
+use Rattle.lent.proofs.cells.kind_at.Reads as kind-at-reads
+use Rattle.lent.proofs.cells.top_at.Reads as top-at-reads
+use Rattle.lent.proofs.granting.is_top.Reads as is-top-reads
+
+abbrev Inv-loop : tie.InvT-loop
+Inv-loop cells s least p found₀ t₀ found t = (t ≤ 16) × (found ≡ anyBelow t (topHolds cells s least p))
+
+abbrev μ-loop : tie.MeasureT-loop
+μ-loop cells s least p found₀ t₀ found t = 16 - t
+
+loop-holds : tie.Need-loop-holds Inv-loop μ-loop
+loop-holds c = (omega arith, sym (anyBelow-none (topHolds (c .args .cells .now) (c .args .s) (c .args .least) (c .args .p))))
+
+kind-at-requires : tie.Need-kind-at-requires Inv-loop μ-loop
+kind-at-requires c κs = search needs
+
+depth-at-requires : tie.Need-depth-at-requires Inv-loop μ-loop
+depth-at-requires c κs = search needs
+
+top-at-requires : tie.Need-top-at-requires Inv-loop μ-loop
+top-at-requires c κs = search needs
+
+is-top-requires : tie.Need-is-top-requires Inv-loop μ-loop
+is-top-requires c κs = search needs
+
+add-t : tie.Need-add-t Inv-loop μ-loop
+add-t c = search needs
+
+loop-less : tie.Need-loop-less Inv-loop μ-loop
+loop-less c = search needs
+
+loop-again : tie.Need-loop-again Inv-loop μ-loop
+loop-again c =
+    let was = c .before .before .before .before .before .before .args in
+    let t : ℕ = c .before .before .before .before .before .loop .t in
+    let this : c .is-top .result ≡ topHolds (was .cells .now) (was .s) (was .least) (was .p) t =
+    c .is-top .ensures
+    ∙ ap (λ (k : ℕ). (not (eqb t (was .s)) && leb (was .least) k) && (ltb 0 (c .before .before .depth-at .result) && eqb (was .p) (c .before .top-at .result))) (c .before .before .before .kind-at .ensures)
+    ∙ ap₂ (λ (d x : ℕ). (not (eqb t (was .s)) && leb (was .least) (cell (was .cells .now) 0 t)) && (ltb 0 d && eqb (was .p) x)) (c .before .before .depth-at .ensures) (c .before .top-at .ensures) in
+    (omega arith,
+     ap₂ (λ (a b : Bool). a || b) (c .before .before .before .before .before .loop .inv .1) this
+     ∙ sym (any-on (topHolds (was .cells .now) (was .s) (was .least) (was .p)) t))
+
+returns : tie.Need-returns Inv-loop μ-loop
+returns c =
+    let was = c .before .before .args in
+    let end : c .before .loop .t ≡ 16 = omega arith in
+    c .before .loop .inv .1 ∙ ap (λ (n : ℕ). anyBelow n (topHolds (was .cells .now) (was .s) (was .least) (was .p))) end
+
+pub tops-hold-spec : {M : Type 1} → statement M
+tops-hold-spec =
+    tie.close
+    (tie.spec
+    Inv-loop
+    μ-loop
+    loop-holds
+    kind-at-requires
+    depth-at-requires
+    top-at-requires
+    is-top-requires
+    add-t
+    loop-less
+    loop-again
+    returns)

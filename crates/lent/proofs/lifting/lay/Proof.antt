@@ -1,0 +1,58 @@
+-- The numbers of the slot, row by row.
+use Rattle.lent.proofs.WritingLaws.{laid-by}
+use lib.ListN.{length}
+use mathlib.Core.Path.{_≡_}
+use borrow.Author.Needs.{needs}
+use Rattle.lent.proofs.lifting.lay.Statement.{statement}
+use Rattle.lent.proofs.lifting.lay.Tie as tie
+use Rattle.lent.proofs.lifting.lay.Reads as reads
+use Rattle.lent.proofs.lifting.lay.Lts as lts
+use Rattle.lent.proofs.cells.put.Reads as put-reads
+use Rattle.lent.proofs.lifting.lay_column.Reads as lay-column-reads
+use Rattle.lent.proofs.lifting.lay_task.Reads as lay-task-reads
+
+lay-task-requires : tie.Need-lay-task-requires
+lay-task-requires c κs = search needs
+
+put-requires : tie.Need-put-requires
+put-requires c κs = search needs
+
+cast-put : tie.Need-cast-put
+cast-put c = search needs
+
+put-requires-2 : tie.Need-put-requires-2
+put-requires-2 c κs = search needs
+
+cast-put-2 : tie.Need-cast-put-2
+cast-put-2 c = search needs
+
+put-requires-3 : tie.Need-put-requires-3
+put-requires-3 c κs = search needs
+
+lay-column-requires : tie.Need-lay-column-requires
+lay-column-requires c κs = search needs
+
+lay-column-requires-2 : tie.Need-lay-column-requires-2
+lay-column-requires-2 c κs = search needs
+
+path-long : (c : tie.Start) → length (c .args .slot .path) ≡ 10
+path-long c = search needs
+
+returns : tie.Need-returns
+returns c =
+    let was = c .before .before .before .before .before .before .before .before .before .before .before .before .before .before .before .before .args in
+    laid-by (was .cells .now) (was .s) (was .slot) (path-long (c .before .before .before .before .before .before .before .before .before .before .before .before .before .before .before .before)) (c .before .before .before .before .before .before .before .before .before .before .before .before .before .before .lay-task .ensures) (c .before .before .before .before .before .before .before .before .before .before .before .before .put .ensures) (c .before .before .before .before .before .before .before .before .before .put2 .ensures) (c .before .before .before .before .before .before .put3 .ensures) (c .before .before .before .lay-column .ensures) (c .lay-column2 .ensures)
+
+pub lay-spec : {M : Type 1} → statement M
+lay-spec =
+    tie.close
+    (tie.spec
+    lay-task-requires
+    put-requires
+    cast-put
+    put-requires-2
+    cast-put-2
+    put-requires-3
+    lay-column-requires
+    lay-column-requires-2
+    returns)

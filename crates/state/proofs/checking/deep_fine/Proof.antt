@@ -1,0 +1,86 @@
+-- Of the slots passed those that hold more than one page have sound ones.
+use Rattle.state.specs.Checking.{deepFine}
+use Rattle.lent.proofs.HoldLaws.{all-on}
+use Rattle.lent.specs.Holds.{isDeep}
+use Rattle.lent.specs.Words.{slotIn}
+use Rattle.slots.specs.Sound.{pagesSound}
+use Rattle.ground.proofs.Tests.{allBelow-none, allBelow-stops}
+use Rattle.ground.proofs.Bools.{and-both, or-first, or-second, or-none, not-of-true, not-of-false}
+use Rattle.ground.specs.Tests.{allBelow}
+use borrow.Author.Tests.{not-true, not-false}
+use native.Mathlib.Omega.{arith}
+use mathlib.Core.Path.{_≡_, sym, ap, _∙_}
+use mathlib.Core.Logic.{⊎-elim}
+use mathlib.Core.Bool.{Bool, true, not}
+use Prim.Native.Nat.{ℕ, _≤_, _-_, _+_}
+use borrow.Author.Needs.{needs}
+use Rattle.state.proofs.checking.deep_fine.Statement.{statement}
+use Rattle.state.proofs.checking.deep_fine.Tie as tie
+use Rattle.state.proofs.checking.deep_fine.Reads as reads
+use Rattle.state.proofs.checking.deep_fine.Lts as lts
+use Rattle.lent.proofs.granting.is_deep.Reads as is-deep-reads
+use Rattle.state.proofs.checking.pages_fine.Reads as pages-fine-reads
+
+abbrev Inv-loop : tie.InvT-loop
+Inv-loop cells n s₀ s = (s ≤ 16) × (allBelow s (deepFine cells n) ≡ true)
+
+abbrev μ-loop : tie.MeasureT-loop
+μ-loop cells n s₀ s = 16 - s
+
+loop-holds : tie.Need-loop-holds Inv-loop μ-loop
+loop-holds c = (omega arith, allBelow-none (deepFine (c .args .cells .now) (c .args .n)))
+
+is-deep-requires : tie.Need-is-deep-requires Inv-loop μ-loop
+is-deep-requires c κs = omega arith
+
+pages-fine-requires : tie.Need-pages-fine-requires Inv-loop μ-loop
+pages-fine-requires c κs = search needs
+
+returns : tie.Need-returns Inv-loop μ-loop
+returns c =
+    let ws = c .before .before .before .before .before .before .args .cells .now in
+    let n : ℕ = c .before .before .before .before .before .before .args .n in
+    let s : ℕ = c .before .before .before .before .before .loop .s in
+    sym
+    (allBelow-stops (deepFine ws n) 16 s (omega arith)
+    (or-none (not-of-true (sym (c .before .before .before .is-deep .ensures) ∙ c .before .before .if1 .taken)) (sym (c .before .pages-fine .ensures) ∙ not-true (c .before .pages-fine .result) (c .if2 .taken))))
+
+add-s : tie.Need-add-s Inv-loop μ-loop
+add-s c = search needs
+
+loop-less : tie.Need-loop-less Inv-loop μ-loop
+loop-less c = search needs
+
+loop-again : tie.Need-loop-again Inv-loop μ-loop
+loop-again c =
+    let ws = c .before .before .before .before .args .cells .now in
+    let n : ℕ = c .before .before .before .before .args .n in
+    let s : ℕ = c .before .before .before .loop .s in
+    let this : deepFine ws n s ≡ true =
+    ⊎-elim
+    (λ w. or-second (not (isDeep ws s)) (sym (w .1 .ensures) ∙ not-false (w .1 .result) (w .2 .left)))
+    (λ w. or-first (pagesSound n (slotIn ws s)) (not-of-false (sym (c .before .is-deep .ensures) ∙ w .left)))
+    (c .if1 .came) in
+    (omega arith, all-on (deepFine ws n) s ∙ and-both (c .before .before .before .loop .inv .1) this)
+
+returns-2 : tie.Need-returns-2 Inv-loop μ-loop
+returns-2 c =
+    let ws = c .before .before .args .cells .now in
+    let n : ℕ = c .before .before .args .n in
+    let end : c .before .loop .s ≡ 16 = omega arith in
+    sym (ap (λ (m : ℕ). allBelow m (deepFine ws n)) (sym end) ∙ c .before .loop .inv .1)
+
+pub deep-fine-spec : {M : Type 1} → statement M
+deep-fine-spec =
+    tie.close
+    (tie.spec
+    Inv-loop
+    μ-loop
+    loop-holds
+    is-deep-requires
+    pages-fine-requires
+    returns
+    add-s
+    loop-less
+    loop-again
+    returns-2)
