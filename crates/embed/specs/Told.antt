@@ -1,6 +1,8 @@
 -- An answer as four numbers. "a definition gives this paper's number and values for each of its cases" (document 01).
 use Prim.Native.Nat.{ℕ}
+use mathlib.Core.Bool.{Bool}
 use mathlib.Core.List.{List, [], _∷_}
+use lib.Dec.{leb}
 use lib.ListN.{getD}
 use Rattle.slots.specs.declared.Answer.{Answer}
 use Rattle.slots.specs.Heard.{heard, numberOf}
@@ -17,6 +19,10 @@ told answer = numberOf answer ∷ valueOf answer 1 ∷ valueOf answer 2 ∷ valu
 -- A kind that does not exist: refusals have the numbers 1 to 7 in 01, answers begin at 32, and this one stands between them.
 abbrev pub badKind : List ℕ
 badKind = 31 ∷ 0 ∷ 0 ∷ 0 ∷ []
+
+-- The number that is told is a refusal's (01's table, the one above, and Waiting, which changes nothing either).
+abbrev pub isRefusal : List ℕ → Bool
+isRefusal heard′ = leb (getD heard′ 0 0) 32
 
 -- four numbers as a list
 abbrev pub listed : Four → List ℕ
