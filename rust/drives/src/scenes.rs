@@ -183,7 +183,7 @@ fn spoil(random: &mut Random, draw: &Draw, scene: &mut Scene, spoils: Spoils, at
             let call = next(random, draw, scene, at);
             let line = spoiled(random, &call_line(call));
             scene.line(line);
-            return 1;
+            1
         }
         Spoils::Words => spoil_cells(random, draw, scene, at, 'w'),
         _ => spoil_cells(random, draw, scene, at, 's'),
