@@ -98,7 +98,9 @@ fn next(random: &mut Random, draw: &Draw, scene: &mut Scene, at: usize) -> Call 
     let goes_on = is_sound(&moment.state)
         && moment.state.n == draw.n
         && moment.state.k == draw.k
-        && moment.words.len() == length;
+        && moment.words.len() == length
+        // in a spoiled state it may be that no open slot can be granted
+        && (moment.open().is_empty() || !moment.ready().is_empty());
     let call = if goes_on {
         next_call(random, draw, &moment, at)
     } else {
