@@ -98,7 +98,9 @@ fn next(random: &mut Random, draw: &Draw, scene: &mut Scene, at: usize) -> Call 
     let goes_on = is_sound(&moment.state)
         && moment.state.n == draw.n
         && moment.state.k == draw.k
-        && moment.words.len() == length;
+        && moment.words.len() == length
+        // in a spoiled state it may be that no open slot can be granted
+        && (moment.open().is_empty() || !moment.ready().is_empty());
     let call = if goes_on {
         next_call(random, draw, &moment, at)
     } else {
@@ -183,7 +185,7 @@ fn spoil(random: &mut Random, draw: &Draw, scene: &mut Scene, spoils: Spoils, at
             let call = next(random, draw, scene, at);
             let line = spoiled(random, &call_line(call));
             scene.line(line);
-            return 1;
+            1
         }
         Spoils::Words => spoil_cells(random, draw, scene, at, 'w'),
         _ => spoil_cells(random, draw, scene, at, 's'),
