@@ -1,17 +1,19 @@
-//! How long a call takes, in nanoseconds: `bench [RUNS [OPERATIONS]]`.
+//! How long a call takes, in nanoseconds: `bench [RUNS [OPERATIONS [PICTURE]]]`.
 
 mod layout;
 mod pages;
+mod plot;
 mod proved;
 mod rival;
 mod schedule;
 mod second;
 
 use std::env::args;
-use std::fs::read_to_string;
+use std::fs::{read_to_string, write};
 use std::time::Instant;
 
 use layout::{Columns, Structs};
+use plot::{svg, Table};
 use proved::Proved;
 use rival::Rival;
 use schedule::{run, Outcome, Program, Schedule};
@@ -46,6 +48,9 @@ fn now(start: &Instant) -> u64 {
     let first = stat.split(' ').next().and_then(|word| word.parse().ok());
     first.unwrap_or_else(|| start.elapsed().as_nanos() as u64)
 }
+
+/// The proved one and its rivals, without the second program.
+const RIVALS: &[Timed] = PROGRAMS.split_at(5).0;
 
 /// Runs a schedule once: the pool is filled first, and only what follows is timed.
 fn timed<P: Program>(schedule: &Schedule) -> (f64, Outcome) {
@@ -91,9 +96,10 @@ fn medians(schedule: &Schedule, runs: usize, programs: &[Timed]) -> Vec<f64> {
 }
 
 fn main() {
-    let words: Vec<usize> = args().skip(1).flat_map(|word| word.parse()).collect();
-    let runs = words.first().copied().unwrap_or(5);
-    let count = words.get(1).copied().unwrap_or(100_000);
+    let words: Vec<String> = args().skip(1).collect();
+    let number = |i: usize| words.get(i).and_then(|word| word.parse().ok());
+    let runs = number(0).unwrap_or(5);
+    let count = number(1).unwrap_or(100_000);
     println!("nanoseconds a call, medians of {runs} runs; nine searches to one update; same answers, same words");
     println!("\nk = 16, 1,024 pages, 16 slots, {count} operations");
     let schedule = Schedule::draw(16, 1024, 16, count, 1);
@@ -101,25 +107,28 @@ fn main() {
     for ((name, _), time) in PROGRAMS.iter().zip(&all) {
         println!("{time:8.1}  {name:40} proved / this {:6.2}", all[0] / time);
     }
-    let few = &PROGRAMS[..5];
-    println!("\nby the number of pages (k = 16, 16 slots): proved, then the four rivals");
-    for n in [64, 128, 256, 512, 1024] {
-        line(
-            n,
-            &medians(&Schedule::draw(16, n, 16, count / 4, 2), runs, few),
-        );
-    }
-    println!("\nby the number of open slots (k = 16, 1,024 pages)");
-    for slots in [1, 2, 4, 8, 16] {
-        line(
-            slots,
-            &medians(&Schedule::draw(16, 1024, slots, count / 4, 3), runs, few),
-        );
+    println!("\nproved, then the four rivals in the same order");
+    let pages = table("pages", &[64, 128, 256, 512, 1024], |n| {
+        medians(&Schedule::draw(16, n, 16, count / 4, 2), runs, RIVALS)
+    });
+    let slots = table("open slots", &[1, 2, 4, 8, 16], |slots| {
+        medians(&Schedule::draw(16, 1024, slots, count / 4, 3), runs, RIVALS)
+    });
+    if let Some(file) = words.get(2) {
+        let names: Vec<&str> = RIVALS.iter().map(|(name, _)| *name).collect();
+        write(file, svg(&[pages, slots], &names)).expect("the picture is written");
     }
 }
 
-/// One line of a table.
-fn line(first: u32, times: &[f64]) {
-    let each: Vec<String> = times.iter().map(|time| format!("{time:8.1}")).collect();
-    println!("{first:6} {}", each.join(" "));
+/// A table, printed row by row.
+fn table(by: &'static str, numbers: &[u32], times: impl Fn(u32) -> Vec<f64>) -> Table {
+    println!("\nby the number of {by}");
+    let row = |&number: &u32| {
+        let times = times(number);
+        let each: Vec<String> = times.iter().map(|time| format!("{time:8.1}")).collect();
+        println!("{number:6} {}", each.join(" "));
+        (number, times)
+    };
+    let rows = numbers.iter().map(row).collect();
+    Table { by, rows }
 }
