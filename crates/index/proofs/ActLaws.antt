@@ -2,15 +2,15 @@
 -- rule's word for it.
 use Prim.Native.Nat.{ℕ, _+_, _-_, _*_, _≤_, _<_}
 use mathlib.Core.Bool.{Bool, true, false, cond}
-use mathlib.Core.List.{List, [], _++_, reverse}
+use mathlib.Core.List.{List, [], _∷_, _++_, reverse}
 use mathlib.Core.Logic.{_⊎_, inl, inr, ⊎-elim}
 use mathlib.Core.Path.{_≡_, refl, sym, ap, _∙_, subst}
 use native.Mathlib.Omega.{arith}
 use borrow.Author.Tests.{leb-true, leb-false, ltb-true, lt-ltb, le-ltb}
 use lib.Dec.{ltb}
-use lib.ListN.{length, getD, take, drop, replicate, take-append-drop}
+use lib.ListN.{length, getD, take, drop, replicate, length-append, length-drop, length-replicate, take-append-drop}
 use lib.Seq.{length-take-le, getD-take, take-at}
-use Rattle.ground.specs.Limits.{pathHolds, mostNew}
+use Rattle.ground.specs.Limits.{slotCount, pathHolds, mostNew}
 use Rattle.ground.specs.Tests.{member, distinct, padded}
 use Rattle.ground.proofs.Bools.{or-first, false-if-not-true}
 use Rattle.ground.proofs.Choice.{cond-true, cond-false}
@@ -33,17 +33,17 @@ use Rattle.slots.specs.declared.Slot.{Slot}
 use Rattle.slots.specs.declared.State.{State}
 use Rattle.slots.specs.declared.Answer.{Answer}
 use Rattle.slots.specs.declared.Answer.the-variants.{Moved, Inserted, Deleted, NoRoom, Damaged}
-use Rattle.slots.specs.declared.Outcome.{Outcome}
-use Rattle.slots.specs.Parts.{pathOf, siblingsOf}
-use Rattle.slots.specs.Begin.{outcome}
-use Rattle.slots.specs.Book.{requeued, goesOn, closes}
+use Rattle.slots.specs.Parts.{pathOf, siblingsOf, closedSlot, waitingOrder}
+use Rattle.slots.specs.Book.{leaving, requeued, goesOn, closes}
+use Rattle.slots.proofs.OrderLaws.{length-leaving, length-waiting}
+use Rattle.lent.specs.Words.{orderIn, asRead, known, stateOf, written}
+use Rattle.lent.proofs.StateLaws.{length-order, state-known, state-written}
 use Rattle.course.specs.declared.judging.Course.{Course}
 use Rattle.course.specs.declared.judging.Course.the-variants.{Broken, Goes, Ends, Inserts, Deletes}
 use Rattle.grant.specs.Granted.{Verdict, ends, fromLeaf}
 use Rattle.grant.specs.Standing.{Stands}
 use Rattle.course.specs.Judged.{courseOf, ready, standsLast}
 use Rattle.course.proofs.JudgeLaws.{standing-needing, standing-holding, stand-upward}
-use Rattle.index.specs.Step.{acted}
 use Rattle.index.specs.Acting.{Leaves, Acts, wanting, standLeaf, standFathers, lacksRoom, roomAnswer, afterInsertion, afterDeletion}
 
 -- ---- an operation that stands somewhere
@@ -193,43 +193,93 @@ module _
 
 -- ---- each course, carried out
 
-module _ {st : State} {ws : List ℕ} {s : ℕ} {op : Op} {stand : Slot} (a : Acts st ws s op stand) where
+-- an array of pages is as long as every other
+padded-long : (xs : List ℕ) → length xs ≤ 10 → length (padded pathHolds xs) ≡ 10
+unfolding padded pathHolds
+padded-long xs h = length-append xs (replicate (10 - length xs) 0) ∙ omega (arith, length-replicate {A = ℕ} (10 - length xs) 0)
+
+-- the arrays of a slot where an operation stands, and its numbers
+module _ {op : Op} {k n : ℕ} {ws : List ℕ} {stand : Slot} (h : Stands op k n ws stand) where
+  deep : length (pathOf stand) ≤ 10
+  unfolding pathHolds
+  deep = h .standing .deep
+
+  pub stand-short : (stand .depth ≤ 10) × (stand .beside ≤ 10)
+  stand-short =
+      let few = h .standing .few in
+      let most = deep in
+      (omega (arith, path-long h), omega (arith, siblings-long h))
+
+  stand-path : length (stand .path) ≡ 10
+  stand-path = ap (λ (x : Slot). length (x .path)) (h .exact) ∙ padded-long (pathOf stand) deep
+
+  stand-siblings : length (stand .siblings) ≡ 10
+  stand-siblings =
+      let few = h .standing .few in
+      let most = deep in
+      ap (λ (x : Slot). length (x .siblings)) (h .exact) ∙ padded-long (siblingsOf stand) (omega arith)
+
+module _ (cells : List ℕ) {ws : List ℕ} {s : ℕ} {op : Op} {stand : Slot} (long : length cells ≡ 435) (exist : known cells ≡ true) (a : Acts (asRead cells) ws s op stand) where
+  abbrev st : State
+  st = asRead cells
+
   -- the rule's word for a course, and what it leaves
   abbrev said : Course → Verdict
   said = courseOf (st .k) (pageAt (st .k) ws) (freePages (st .k) (st .n) ws) (pathOf stand) (siblingsOf stand)
 
-  abbrev leaves : Course → Outcome → List ℕ → Type 0
-  leaves course r after = Leaves (acted st ws s op (said course)) r after
+  abbrev leaves : Course → Answer → List ℕ → List ℕ → Type 0
+  leaves course r cells′ after = Leaves cells ws s op (said course) r cells′ after
 
-  pub acts-broken : {course : Course} → course ≡ Broken → leaves course (outcome Damaged st) ws
-  acts-broken is = subst (λ (c : Course). leaves c (outcome Damaged st) ws) (sym is) (record { answer = refl; state = refl; words = refl })
+  inside : s < 16
+  unfolding slotCount
+  inside = a .waits .inside
 
-  pub acts-goes : {course : Course} {next : ℕ} {r : Outcome} → course ≡ Goes next → r ≡ outcome Moved (requeued st s (wanting next stand)) → leaves course r ws
+  -- an order that slot s left has the cells that it had
+  order-long : (last : ℕ) → length (leaving s (waitingOrder st) ++ last ∷ drop (st .waiting) (st .order)) ≡ 16
+  unfolding slotCount
+  order-long last =
+      let whole : length (orderIn cells) ≡ 16 = length-order cells long in
+      let few = a .waits .few in
+      let fewer = length-leaving s (waitingOrder st) (a .waits .named) in
+      let waiting = length-waiting st (omega arith) in
+      length-append (leaving s (waitingOrder st)) (last ∷ drop (st .waiting) (st .order)) ∙ omega (arith, length-drop (st .waiting) (st .order))
+
+  closed-state : stateOf (written cells s (closes st s)) ≡ closes st s
+  unfolding closes padded pathHolds
+  closed-state = state-written cells s closedSlot (leaving s (waitingOrder st) ++ 0 ∷ drop (st .waiting) (st .order)) (st .waiting - 1) long inside (order-long 0) refl refl exist
+
+  gone-state : (next : ℕ) → stateOf (written cells s (requeued st s (wanting next stand))) ≡ requeued st s (wanting next stand)
+  gone-state next =
+      state-written cells s (wanting next stand) (leaving s (waitingOrder st) ++ s ∷ drop (st .waiting) (st .order)) (st .waiting) long inside (order-long s)
+      (stand-path (a .stands)) (stand-siblings (a .stands)) exist
+
+  pub acts-broken : {course : Course} → course ≡ Broken → leaves course Damaged cells ws
+  acts-broken is = subst (λ (c : Course). leaves c Damaged cells ws) (sym is) (record { answer = refl; state = state-known cells exist; all = refl; words = refl })
+
+  pub acts-goes : {course : Course} {next : ℕ} {cells′ : List ℕ} → course ≡ Goes next → cells′ ≡ written cells s (requeued st s (wanting next stand)) → leaves course Moved cells′ ws
   unfolding goesOn
-  acts-goes {next = next} {r = r} is e =
-      subst (λ (c : Course). leaves c r ws) (sym is)
-      (record {
-        answer = ap (λ (o : Outcome). o .answer) e;
-        state = ap (λ (o : Outcome). o .state) e ∙ ap (λ (slot : Slot). requeued st s (wanting next slot)) (a .stands .exact);
-        words = refl;
-      })
+  acts-goes {next = next} {cells′ = cells′} is e =
+      let same : requeued st s (wanting next stand) ≡ goesOn st s op next (pathOf stand) (siblingsOf stand) =
+      ap (λ (slot : Slot). requeued st s (wanting next slot)) (a .stands .exact) in
+      subst (λ (c : Course). leaves c Moved cells′ ws) (sym is)
+      (record { answer = refl; state = ap stateOf e ∙ gone-state next ∙ same; all = e ∙ ap (written cells s) same; words = refl })
 
-  pub acts-ends : {course : Course} {answer : Answer} {after : State} → course ≡ Ends answer → after ≡ closes st s → leaves course (outcome answer after) ws
+  pub acts-ends : {course : Course} {answer : Answer} {cells′ : List ℕ} → course ≡ Ends answer → cells′ ≡ written cells s (closes st s) → leaves course answer cells′ ws
   unfolding applied
-  acts-ends {answer = answer} {after = after} is e =
-      subst (λ (c : Course). leaves c (outcome answer after) ws) (sym is) (record { answer = refl; state = e; words = refl })
+  acts-ends {answer = answer} {cells′ = cells′} is e =
+      subst (λ (c : Course). leaves c answer cells′ ws) (sym is) (record { answer = refl; state = ap stateOf e ∙ closed-state; all = e; words = refl })
 
   -- an insertion: with room or without
-  pub acts-inserts : {course : Course} {x v : ℕ} {answer : Answer} {after : State} {words : List ℕ} → course ≡ Inserts x v
+  pub acts-inserts : {course : Course} {x v : ℕ} {answer : Answer} {cells′ words : List ℕ} → course ≡ Inserts x v
       → answer ≡ roomAnswer (st .k) (st .n) ws stand
       → words ≡ afterInsertion (st .k) (st .n) ws x v stand
-      → after ≡ closes st s
-      → leaves course (outcome answer after) words
+      → cells′ ≡ written cells s (closes st s)
+      → leaves course answer cells′ words
   unfolding applied
-  acts-inserts {x = x} {v = v} {answer = answer} {after = after} {words = words} is heard written e =
-      subst (λ (c : Course). leaves c (outcome answer after) words) (sym is)
-      (subst (λ (up : List ℕ). Leaves (acted st ws s op (fromLeaf change up)) (outcome answer after) words) (sym (stand-upward (a .stands)))
-      (split (lacksRoom (st .k) (st .n) ws stand) heard written))
+  acts-inserts {x = x} {v = v} {answer = answer} {cells′ = cells′} {words = words} is heard made e =
+      subst (λ (c : Course). leaves c answer cells′ words) (sym is)
+      (subst (λ (up : List ℕ). Leaves cells ws s op (fromLeaf change up) answer cells′ words) (sym (stand-upward (a .stands)))
+      (split (lacksRoom (st .k) (st .n) ws stand) heard made))
     where
       free : List ℕ
       free = freePages (st .k) (st .n) ws
@@ -240,28 +290,29 @@ module _ {st : State} {ws : List ℕ} {s : ℕ} {op : Op} {stand : Slot} (a : Ac
           (ends NoRoom [])
           (ends Inserted (insertion (st .k) (pageAt (st .k) ws) x v free leaf fathers))
 
-      made : List Write
-      made = insertion (st .k) (pageAt (st .k) ws) x v free (standLeaf stand) (standFathers stand)
+      writes : List Write
+      writes = insertion (st .k) (pageAt (st .k) ws) x v free (standLeaf stand) (standFathers stand)
 
-      split : (b : Bool) → answer ≡ cond b NoRoom Inserted → words ≡ cond b ws (applied (st .k) made ws)
-          → Leaves (acted st ws s op (cond b (ends NoRoom []) (ends Inserted made))) (outcome answer after) words
-      split true h w = record { answer = h; state = e; words = w }
-      split false h w = record { answer = h; state = e; words = w }
+      split : (b : Bool) → answer ≡ cond b NoRoom Inserted → words ≡ cond b ws (applied (st .k) writes ws)
+          → Leaves cells ws s op (cond b (ends NoRoom []) (ends Inserted writes)) answer cells′ words
+      split true h w = record { answer = h; state = ap stateOf e ∙ closed-state; all = e; words = w }
+      split false h w = record { answer = h; state = ap stateOf e ∙ closed-state; all = e; words = w }
 
   -- a deletion
-  pub acts-deletes : {course : Course} {x v : ℕ} {after : State} {words : List ℕ} → course ≡ Deletes x v
+  pub acts-deletes : {course : Course} {x v : ℕ} {cells′ words : List ℕ} → course ≡ Deletes x v
       → words ≡ afterDeletion (st .k) ws x stand
-      → after ≡ closes st s
-      → leaves course (outcome (Deleted v) after) words
-  acts-deletes {x = x} {v = v} {after = after} {words = words} is written e =
-      subst (λ (c : Course). leaves c (outcome (Deleted v) after) words) (sym is)
-      (subst (λ (up : List ℕ). Leaves (acted st ws s op (fromLeaf change up)) (outcome (Deleted v) after) words) (sym (stand-upward (a .stands)))
-      (record { answer = refl; state = e; words = written }))
+      → cells′ ≡ written cells s (closes st s)
+      → leaves course (Deleted v) cells′ words
+  acts-deletes {x = x} {v = v} {cells′ = cells′} {words = words} is made e =
+      subst (λ (c : Course). leaves c (Deleted v) cells′ words) (sym is)
+      (subst (λ (up : List ℕ). Leaves cells ws s op (fromLeaf change up) (Deleted v) cells′ words) (sym (stand-upward (a .stands)))
+      (record { answer = refl; state = ap stateOf e ∙ closed-state; all = e; words = made }))
     where
       change : ℕ → List ℕ → Verdict
       change leaf fathers = ends (Deleted v) (deletion (st .k) (pageAt (st .k) ws) x leaf fathers (siblingsOf stand))
 
-  -- what a change may count on
+-- what a change may count on
+module _ {st : State} {ws : List ℕ} {s : ℕ} {op : Op} {stand : Slot} (a : Acts st ws s op stand) where
   module _ (course : Course) (fit : ready op (pageAt (st .k) ws) (pathOf stand) course) where
     pub inserts-stands : {x v : ℕ} → course ≡ Inserts x v → Stands (Insert x v) (st .k) (st .n) ws stand
     inserts-stands is =

@@ -12,12 +12,12 @@ use Rattle.ground.proofs.Bools.{and-first, and-second, and-first-fails}
 use Rattle.ground.proofs.Choice.{cond-true, cond-false}
 use Rattle.pool.specs.Pool.{kInRange, nInRange, poolLength, start, fresh}
 use Rattle.pool.proofs.StretchLaws.{poolLength-start, ends-in-pool}
-use Rattle.slots.specs.declared.State.{State}
-use Rattle.slots.specs.declared.Outcome.{Outcome}
+use Rattle.slots.specs.declared.Answer.{Answer}
 use Rattle.slots.specs.declared.Answer.the-variants.{Made, BadPool}
-use Rattle.slots.specs.Begin.{outcome}
 use Rattle.slots.specs.Heard.{heard}
 use Rattle.slots.specs.Parts.{idleState}
+use Rattle.lent.specs.Words.{stateOf, wordsOf}
+use Rattle.lent.proofs.Inverse.{state-back, idle-words, idle-sized}
 use Rattle.index.specs.Step.{Left, left}
 use Rattle.index.specs.Make.{made}
 use Rattle.index.specs.Statements.{MakeSays}
@@ -46,39 +46,62 @@ module _ (k n : ℕ) (ws : List ℕ) {r : Bool} (told : r ≡ (leb 1 k && leb k 
       ap (eqb (length ws)) (e ∙ sym (poolLength-start k n))
       ∙ sym (ap (λ (b : Bool). b && eqb (length ws) (poolLength k n)) (sym in-range ∙ t))
 
+-- the words are a pool's
+module _ (k n : ℕ) (ws : List ℕ) (good : isPool k n ws ≡ true) where
+  pool-whole : length ws ≡ poolLength k n
+  pool-whole = eqb-true (length ws) (poolLength k n) (and-second (kInRange k && nInRange n) (eqb (length ws) (poolLength k n)) good)
+
+  -- k and n are small
+  pub pool-small : (k ≤ largestK) × (n ≤ largestN)
+  pool-small =
+      let both = and-first (kInRange k && nInRange n) (eqb (length ws) (poolLength k n)) good in (
+        leb-true k largestK (and-second (leb 1 k) (leb k largestK) (and-first (kInRange k) (nInRange n) both)),
+        leb-true n largestN (and-second (leb 1 n) (leb n largestN) (and-second (kInRange k) (nInRange n) both)),
+      )
+
+  -- there is a first word
+  pub pool-some : 1 ≤ length ws
+  pool-some =
+      let some = leb-true 1 n (and-first (leb 1 n) (leb n largestN) (and-second (kInRange k) (nInRange n) (and-first (kInRange k && nInRange n) (eqb (length ws) (poolLength k n)) good))) in
+      omega (arith, ends-in-pool k n 0 some, pool-whole)
+
 -- what the rule leaves, given back
-made-says : {k n : ℕ} {ws : List ℕ} {r : Outcome} {after : List ℕ} (l : Left) → made k n ws ≡ l
-    → r ≡ outcome (l .answer) (l .state)
+made-says : {k n : ℕ} {ws : List ℕ} {r : Answer} {cells′ after : List ℕ} (l : Left) → made k n ws ≡ l
+    → r ≡ l .answer
+    → stateOf cells′ ≡ l .state
+    → cells′ ≡ wordsOf (l .state)
     → after ≡ l .words
-    → MakeSays k n ws r after
-made-says l e said words =
+    → MakeSays k n ws r cells′ after
+made-says l e answer state all words =
     record {
-      answer = ap (λ (o : Outcome). heard (o .answer)) said ∙ sym (ap (λ (m : Left). heard (m .answer)) e);
-      state = ap (λ (o : Outcome). o .state) said ∙ sym (ap (λ (m : Left). m .state) e);
+      answer = ap heard answer ∙ sym (ap (λ (m : Left). heard (m .answer)) e);
+      state = state ∙ sym (ap (λ (m : Left). m .state) e);
+      all = all ∙ sym (ap (λ (m : Left). wordsOf (m .state)) e);
       words = words ∙ sym (ap (λ (m : Left). m .words) e);
     }
 
-module _ (k n : ℕ) (ws : List ℕ) where
-  pub make-refuses : {st : State} {r : Outcome} → isPool k n ws ≡ false → st ≡ idleState 0 0 → r ≡ outcome BadPool st → MakeSays k n ws r ws
-  unfolding made
-  make-refuses bad empty said =
-      made-says (left BadPool (idleState 0 0) ws) (cond-false (left Made (idleState k n) (fresh k n)) (left BadPool (idleState 0 0) ws) bad)
-      (said ∙ ap (outcome BadPool) empty) refl
+-- the words of an idle state
+module _ (cells : List ℕ) (long : length cells ≡ 435) {cleared : List ℕ} (zeros : cleared ≡ replicate (length cells) 0) where
+  all-zero : cleared ≡ replicate 435 0
+  all-zero = zeros ∙ ap (λ (m : ℕ). replicate m 0) long
 
-  module _ (good : isPool k n ws ≡ true) where
-    whole : length ws ≡ poolLength k n
-    whole = eqb-true (length ws) (poolLength k n) (and-second (kInRange k && nInRange n) (eqb (length ws) (poolLength k n)) good)
+  idle-cells : (k n : ℕ) → set (set cleared 0 k) 1 n ≡ wordsOf (idleState k n)
+  idle-cells k n = ap (λ (l : List ℕ). set (set l 0 k) 1 n) all-zero ∙ idle-words k n
 
-    -- there is a first word
-    pub pool-some : 1 ≤ length ws
-    pool-some =
-        let some = leb-true 1 n (and-first (leb 1 n) (leb n largestN) (and-second (kInRange k) (nInRange n) (and-first (kInRange k && nInRange n) (eqb (length ws) (poolLength k n)) good))) in
-        omega (arith, ends-in-pool k n 0 some, whole)
+  idle-state : (k n : ℕ) → stateOf (wordsOf (idleState k n)) ≡ idleState k n
+  idle-state k n = state-back (idleState k n) (idle-sized k n)
 
-    pub make-done : {st : State} {r : Outcome} {after : List ℕ} → after ≡ set (replicate (length ws) 0) 0 1 → st ≡ idleState k n → r ≡ outcome Made st
-        → MakeSays k n ws r after
+  module _ (k n : ℕ) (ws : List ℕ) where
+    pub make-refuses : isPool k n ws ≡ false → MakeSays k n ws BadPool cleared ws
+    unfolding made
+    make-refuses bad =
+        let all : cleared ≡ wordsOf (idleState 0 0) = all-zero ∙ idle-words 0 0 in
+        made-says (left BadPool (idleState 0 0) ws) (cond-false (left Made (idleState k n) (fresh k n)) (left BadPool (idleState 0 0) ws) bad)
+        refl (ap stateOf all ∙ idle-state 0 0) all refl
+
+    pub make-done : isPool k n ws ≡ true → {after : List ℕ} → after ≡ set (replicate (length ws) 0) 0 1 → MakeSays k n ws Made (set (set cleared 0 k) 1 n) after
     unfolding made fresh
-    make-done written idle said =
+    make-done good written =
         made-says (left Made (idleState k n) (fresh k n)) (cond-true (left Made (idleState k n) (fresh k n)) (left BadPool (idleState 0 0) ws) good)
-        (said ∙ ap (outcome Made) idle)
-        (written ∙ ap (λ (m : ℕ). set (replicate m 0) 0 1) whole)
+        refl (ap stateOf (idle-cells k n) ∙ idle-state k n) (idle-cells k n)
+        (written ∙ ap (λ (m : ℕ). set (replicate m 0) 0 1) (pool-whole k n ws good))

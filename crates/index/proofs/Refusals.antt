@@ -33,7 +33,7 @@ use Rattle.index.specs.Step.{Left, left, acted, steppedTask, stepped}
 use Rattle.index.specs.Make.{made}
 
 -- an operation ends with no refusal, and not with Waiting
-abbrev Answers : Verdict → Type 0
+abbrev pub Answers : Verdict → Type 0
 Answers broken = Unit {0}
 Answers (goes path siblings want) = Unit {0}
 Answers (ends answer writes) = changesNothing answer ≡ false
@@ -67,7 +67,7 @@ granted-answers op k memory free path siblings want =
     (λ _. from-leaf _ (λ leaf fathers. deletes-answers k memory (keyOf op) path leaf fathers (siblings ++ want ∷ [])) (reverse path))
     (λ _. cond-ind Answers (isLeaf (memory want)) (λ _. from-leaf _ (λ leaf fathers. leaf-answers op k memory free (kept op k memory path want) leaf fathers) (reverse (kept op k memory path want))) (λ _. tt))
 
-verdict-answers : (op : Op) (k n : ℕ) (ws path siblings : List ℕ) (want : ℕ) → Answers (verdict op k n ws path siblings want)
+pub verdict-answers : (op : Op) (k n : ℕ) (ws path siblings : List ℕ) (want : ℕ) → Answers (verdict op k n ws path siblings want)
 unfolding verdict
 verdict-answers op k n ws path siblings want =
     cond-ind Answers (soundForStep op k n ws path siblings want) (λ _. granted-answers op k (pageAt k ws) (freePages k n ws) path siblings want) (λ _. tt)

@@ -5,10 +5,9 @@ use mathlib.Core.Bool.{Bool, true, false, cond, not, _&&_}
 use mathlib.Core.List.{List, [], _∷_, _++_}
 use mathlib.Core.Path.{_≡_, refl, sym, ap, ap₂, _∙_, subst}
 use lib.Dec.{ltb, eqb}
-use lib.ListN.{length}
+use lib.ListN.{length, getD}
 use borrow.Author.Tests.{le-leb, lt-ltb, le-ltb, eqb-true}
 use Rattle.ground.specs.Limits.{largestK, largestN, slotCount}
-use Rattle.ground.specs.Tests.{member}
 use Rattle.ground.proofs.Bools.{and-second, and-both, and-first-fails, not-of-true, not-of-false}
 use Rattle.ground.proofs.Choice.{cond-true, cond-false}
 use Rattle.pool.specs.Pool.{poolLength, pageAt, freePages}
@@ -17,18 +16,19 @@ use Rattle.slots.specs.declared.Task.{Task}
 use Rattle.slots.specs.declared.Task.the-variants.{Closed, Open}
 use Rattle.slots.specs.declared.Slot.{Slot}
 use Rattle.slots.specs.declared.State.{State}
-use Rattle.slots.specs.declared.Outcome.{Outcome}
 use Rattle.slots.specs.declared.Answer.{Answer}
 use Rattle.slots.specs.declared.Answer.the-variants.{Waiting, BadState, BadPool, BadSlot, SlotIdle, Damaged}
-use Rattle.slots.specs.Begin.{outcome}
 use Rattle.slots.specs.Grant.{grants}
-use Rattle.slots.specs.Heard.{heard}
-use Rattle.slots.specs.Parts.{slotAt, isOpen, pathOf, siblingsOf, waitingOrder}
+use Rattle.slots.specs.Heard.{heard, changesNothing}
+use Rattle.slots.specs.Parts.{slotAt, isOpen, pathOf, siblingsOf}
 use Rattle.slots.specs.Sound.{slotSound, sound}
 use Rattle.slots.proofs.Keeping.{path-new, siblings-new}
-use Rattle.slots.proofs.SoundFacts.{SoundState, sound-facts, slot-sound}
+use Rattle.slots.proofs.SoundFacts.{SoundState, sound-facts, facts-sound, slot-sound}
+use Rattle.lent.specs.Words.{asRead, known, stateOf, written, lentAfter}
+use Rattle.lent.proofs.StateLaws.{state-known}
+use Rattle.state.proofs.CheckingLawsSound.{SoundWords}
 use Rattle.course.specs.declared.judging.Course.{Course}
-use Rattle.grant.specs.Granted.{Verdict, broken, granted}
+use Rattle.grant.specs.Granted.{Verdict, broken, goes, ends, granted}
 use Rattle.grant.specs.Fitting.{pagesSound, fitting, nextIsNew, soundForStep, verdict}
 use Rattle.grant.specs.Standing.{Asks, Stands, fits, standPath, standSiblings, stood}
 use Rattle.course.specs.Judged.{judged, ifNew, courseOf}
@@ -36,8 +36,9 @@ use Rattle.course.proofs.JudgeLaws.{granted-judged}
 use Rattle.course.proofs.StandLaws.{stood-stands}
 use Rattle.index.specs.Step.{Left, left, acted, steppedTask, stepped}
 use Rattle.index.specs.Statements.{StepSays}
-use Rattle.index.specs.Acting.{Leaves, Waits, Acts}
+use Rattle.index.specs.Acting.{actedCells, Leaves, Waits, Acts}
 use Rattle.index.proofs.MakeLaws.{isPool}
+use Rattle.index.proofs.Refusals.{Answers, verdict-answers}
 
 -- ---- a granted step
 
@@ -82,14 +83,18 @@ module _ (op : Op) (k n : ℕ) (ws : List ℕ) (slot : Slot) where
 
 -- The slot's want is granted, and its pages were tested.
 module _
-    {st : State} {ws : List ℕ} {s : ℕ} {op : Op} {slot : Slot} (waits : Waits st s) (asks : Asks (st .k) (st .n) ws op slot)
-    {fit : Bool} (told : fit ≡ fits op (st .k) (st .n) ws slot)
+    (cells : List ℕ) {ws : List ℕ} {s : ℕ} {op : Op} {slot : Slot} (exist : known cells ≡ true) (waits : Waits (asRead cells) s)
+    (asks : Asks (asRead cells .k) (asRead cells .n) ws op slot)
+    {fit : Bool} (told : fit ≡ fits op (asRead cells .k) (asRead cells .n) ws slot)
   where
+    abbrev st : State
+    st = asRead cells
+
     -- they do not fit
-    pub granted-damaged : fit ≡ false → Leaves (acted st ws s op (here op (st .k) (st .n) ws slot)) (outcome Damaged st) ws
+    pub granted-damaged : fit ≡ false → Leaves cells ws s op (here op (st .k) (st .n) ws slot) Damaged cells ws
     granted-damaged f =
-        subst (λ (v : Verdict). Leaves (acted st ws s op v) (outcome Damaged st) ws) (sym (verdict-damaged op (st .k) (st .n) ws slot (sym told ∙ f)))
-        (record { answer = refl; state = refl; words = refl })
+        subst (λ (v : Verdict). Leaves cells ws s op v Damaged cells ws) (sym (verdict-damaged op (st .k) (st .n) ws slot (sym told ∙ f)))
+        (record { answer = refl; state = state-known cells exist; all = refl; words = refl })
 
     -- they fit
     module _ (t : fit ≡ true) where
@@ -108,27 +113,42 @@ module _
         pub granted-leaves : (course : Course)
             → courseOf (st .k) (pageAt (st .k) ws) (freePages (st .k) (st .n) ws) (pathOf stand) (siblingsOf stand) course
             ≡ ifNew (judged op (st .k) (pageAt (st .k) ws) (freePages (st .k) (st .n) ws) (pathOf stand) (siblingsOf stand))
-            → {r : Outcome} {after : List ℕ}
-            → Leaves (acted st ws s op (courseOf (st .k) (pageAt (st .k) ws) (freePages (st .k) (st .n) ws) (pathOf stand) (siblingsOf stand) course)) r after
-            → Leaves (acted st ws s op (here op (st .k) (st .n) ws slot)) r after
-        granted-leaves course found {r} {after} h =
-            subst (λ (v : Verdict). Leaves (acted st ws s op v) r after) (sym (verdict-course op (st .k) (st .n) ws slot course e granted-fits found)) h
+            → {r : Answer} {cells′ after : List ℕ}
+            → Leaves cells ws s op (courseOf (st .k) (pageAt (st .k) ws) (freePages (st .k) (st .n) ws) (pathOf stand) (siblingsOf stand) course) r cells′ after
+            → Leaves cells ws s op (here op (st .k) (st .n) ws slot) r cells′ after
+        granted-leaves course found {r} {cells′} {after} h =
+            subst (λ (v : Verdict). Leaves cells ws s op v r cells′ after) (sym (verdict-course op (st .k) (st .n) ws slot course e granted-fits found)) h
 
 -- ---- the tests, in their order
 
 -- what is left is what the rule says
-leaves-says : {st : State} {ws : List ℕ} {s : ℕ} {r : Outcome} {after : List ℕ} (l : Left) → l ≡ stepped st ws s → Leaves l r after → StepSays st ws s r after
-leaves-says l e h =
+left-says : {cells ws : List ℕ} {s : ℕ} {r : Answer} {cells′ after : List ℕ} (l : Left) → l ≡ stepped (stateOf cells) ws s
+    → r ≡ l .answer
+    → stateOf cells′ ≡ l .state
+    → cells′ ≡ lentAfter cells s (l .answer) (l .state)
+    → after ≡ l .words
+    → StepSays cells ws s r cells′ after
+left-says {cells} {s = s} l e answer state all words =
     record {
-      answer = ap heard (h .answer) ∙ ap (λ (m : Left). heard (m .answer)) e;
-      state = h .state ∙ ap (λ (m : Left). m .state) e;
-      words = h .words ∙ ap (λ (m : Left). m .words) e;
+      answer = ap heard answer ∙ ap (λ (m : Left). heard (m .answer)) e;
+      state = state ∙ ap (λ (m : Left). m .state) e;
+      all = all ∙ ap (λ (m : Left). lentAfter cells s (m .answer) (m .state)) e;
+      words = words ∙ ap (λ (m : Left). m .words) e;
     }
 
--- an answer with state and words as given
-same-says : {st : State} {ws : List ℕ} {s : ℕ} {r : Outcome} (a : Answer) → left a st ws ≡ stepped st ws s → r ≡ outcome a st → StepSays st ws s r ws
-same-says {st} {ws} a e said =
-    leaves-says (left a st ws) e (record { answer = ap (λ (o : Outcome). o .answer) said; state = ap (λ (o : Outcome). o .state) said; words = refl })
+-- an answer with every word as given
+same-says : {cells ws : List ℕ} {s : ℕ} (a : Answer) → left a (stateOf cells) ws ≡ stepped (stateOf cells) ws s → changesNothing a ≡ true → StepSays cells ws s a cells ws
+unfolding lentAfter
+same-says {cells} {ws} {s} a e q =
+    left-says (left a (stateOf cells) ws) e refl refl (sym (cond-true cells (written cells s (stateOf cells)) q)) refl
+
+-- the words of the state by the verdict, and by the answer
+acted-cells : (cells ws : List ℕ) (s : ℕ) (op : Op) (v : Verdict) → Answers v
+    → actedCells cells s v (acted (asRead cells) ws s op v .state) ≡ lentAfter cells s (acted (asRead cells) ws s op v .answer) (acted (asRead cells) ws s op v .state)
+unfolding lentAfter
+acted-cells cells ws s op broken h = refl
+acted-cells cells ws s op (goes path siblings want) h = refl
+acted-cells cells ws s op (ends answer writes) h = sym (cond-false cells _ h)
 
 -- The state is sound, the words are a pool's, and there is such a slot.
 pub record Passed (st : State) (ws : List ℕ) (s : ℕ) : Type 0 where
@@ -140,9 +160,9 @@ pub record Passed (st : State) (ws : List ℕ) (s : ℕ) : Type 0 where
 
 -- The state was tested.
 module _ (st : State) (ws : List ℕ) (s : ℕ) {ok : Bool} (soundTold : ok ≡ sound st) where
-  pub says-unsound : {r : Outcome} → ok ≡ false → r ≡ outcome BadState st → StepSays st ws s r ws
+  pub is-unsound : ok ≡ false → left BadState st ws ≡ stepped st ws s
   unfolding stepped
-  says-unsound f = same-says BadState (sym (cond-true _ _ (not-of-false (sym soundTold ∙ f))))
+  is-unsound f = sym (cond-true _ _ (not-of-false (sym soundTold ∙ f)))
 
   -- It is sound, and the pool was tested. From here on a pool is what has the right number of words.
   module _ (good : ok ≡ true) {pool : Bool} (poolTold : pool ≡ isPool (st .k) (st .n) ws) where
@@ -164,16 +184,16 @@ module _ (st : State) (ws : List ℕ) (s : ℕ) {ok : Bool} (soundTold : ok ≡ 
         ap (λ (b : Bool). cond (not b) (left BadPool st ws) (cond (not (ltb s slotCount)) (left BadSlot st ws) (steppedTask st ws s (slotAt st s) (slotAt st s .task)))) pool-words
         ∙ sym (cond-false _ _ (not-of-true (sym soundTold ∙ good)))
 
-    pub says-pool : {r : Outcome} → pool ≡ false → r ≡ outcome BadPool st → StepSays st ws s r ws
-    says-pool f = same-says BadPool (sym (cond-true _ _ (not-of-false f)) ∙ after-sound)
+    pub no-pool : pool ≡ false → left BadPool st ws ≡ stepped st ws s
+    no-pool f = sym (cond-true _ _ (not-of-false f)) ∙ after-sound
 
     -- It is a pool.
     module _ (whole : pool ≡ true) where
       after-pool : cond (not (ltb s slotCount)) (left BadSlot st ws) (steppedTask st ws s (slotAt st s) (slotAt st s .task)) ≡ stepped st ws s
       after-pool = sym (cond-false _ _ (not-of-true whole)) ∙ after-sound
 
-      pub says-slot : {r : Outcome} → slotCount ≤ s → r ≡ outcome BadSlot st → StepSays st ws s r ws
-      says-slot b = same-says BadSlot (sym (cond-true _ _ (not-of-false (le-ltb s slotCount b))) ∙ after-pool)
+      pub no-slot : slotCount ≤ s → left BadSlot st ws ≡ stepped st ws s
+      no-slot b = sym (cond-true _ _ (not-of-false (le-ltb s slotCount b))) ∙ after-pool
 
       pub tests-passed : s < slotCount → Passed st ws s
       tests-passed b =
@@ -185,10 +205,6 @@ module _ (st : State) (ws : List ℕ) (s : ℕ) {ok : Bool} (soundTold : ok ≡ 
           }
 
 module _ {st : State} {ws : List ℕ} {s : ℕ} (p : Passed st ws s) where
-  -- as the test of a grant asks
-  pub grants-asks : (s < slotCount) × (st .waiting ≤ slotCount) × ((t : ℕ) → member t (waitingOrder st) ≡ true → t < slotCount)
-  grants-asks = (p .inside, p .facts .waits, p .facts .orderBelow)
-
   -- the slot was read
   module _ {slot : Slot} (read : slot ≡ slotAt st s) where
     by-task : {task : Task} → slot .task ≡ task → steppedTask st ws s slot task ≡ stepped st ws s
@@ -196,9 +212,6 @@ module _ {st : State} {ws : List ℕ} {s : ℕ} (p : Passed st ws s) where
         sym (ap (steppedTask st ws s slot) e)
         ∙ ap (λ (x : Slot). steppedTask st ws s x (x .task)) read
         ∙ p .rest
-
-    pub says-idle : {r : Outcome} → slot .task ≡ Closed → r ≡ outcome SlotIdle st → StepSays st ws s r ws
-    says-idle e = same-says SlotIdle (by-task e)
 
     -- it is open
     module _ {op : Op} (task : slot .task ≡ Open op) where
@@ -228,9 +241,54 @@ module _ {st : State} {ws : List ℕ} {s : ℕ} (p : Passed st ws s) where
         by-grant : cond granted (acted st ws s op (here op (st .k) (st .n) ws slot)) (left Waiting st ws) ≡ stepped st ws s
         by-grant = ap (λ (b : Bool). cond b (acted st ws s op (here op (st .k) (st .n) ws slot)) (left Waiting st ws)) told ∙ by-task task
 
-        pub says-waiting : {r : Outcome} → granted ≡ false → r ≡ outcome Waiting st → StepSays st ws s r ws
-        says-waiting f = same-says Waiting (sym (cond-false _ _ f) ∙ by-grant)
+        is-waiting : granted ≡ false → left Waiting st ws ≡ stepped st ws s
+        is-waiting f = sym (cond-false _ _ f) ∙ by-grant
 
-        pub says-granted : {r : Outcome} {after : List ℕ} → granted ≡ true → Leaves (acted st ws s op (here op (st .k) (st .n) ws slot)) r after
-            → StepSays st ws s r after
-        says-granted t h = leaves-says (acted st ws s op (here op (st .k) (st .n) ws slot)) (sym (cond-true _ _ t) ∙ by-grant) h
+        is-granted : granted ≡ true → acted st ws s op (here op (st .k) (st .n) ws slot) ≡ stepped st ws s
+        is-granted t = sym (cond-true _ _ t) ∙ by-grant
+
+-- ---- what is promised, by the words
+
+-- the state is not sound
+pub says-unsound : (cells ws : List ℕ) (s : ℕ) → sound (stateOf cells) ≡ false → StepSays cells ws s BadState cells ws
+says-unsound cells ws s f = same-says BadState (is-unsound (stateOf cells) ws s refl f) refl
+
+-- it is
+module _ (cells ws : List ℕ) (s : ℕ) (w : SoundWords cells) where
+  as-read : (l : Left) → l ≡ stepped (asRead cells) ws s → l ≡ stepped (stateOf cells) ws s
+  as-read l e = e ∙ ap (λ (st : State). stepped st ws s) (sym (w .read))
+
+  given : (a : Answer) → left a (asRead cells) ws ≡ stepped (asRead cells) ws s → changesNothing a ≡ true → StepSays cells ws s a cells ws
+  given a e q = same-says a (ap (λ (st : State). left a st ws) (w .read) ∙ as-read (left a (asRead cells) ws) e) q
+
+  sound-read : true ≡ sound (asRead cells)
+  sound-read = sym (facts-sound (asRead cells) (w .facts))
+
+  module _ {pool : Bool} (poolTold : pool ≡ isPool (getD cells 0 0) (getD cells 1 0) ws) where
+    pub says-pool : pool ≡ false → StepSays cells ws s BadPool cells ws
+    says-pool f = given BadPool (no-pool (asRead cells) ws s sound-read refl poolTold f) refl
+
+    module _ (whole : pool ≡ true) where
+      pub says-slot : slotCount ≤ s → StepSays cells ws s BadSlot cells ws
+      says-slot b = given BadSlot (no-slot (asRead cells) ws s sound-read refl poolTold whole b) refl
+
+      pub words-passed : s < slotCount → Passed (asRead cells) ws s
+      words-passed = tests-passed (asRead cells) ws s sound-read refl poolTold whole
+
+  module _ (p : Passed (asRead cells) ws s) {slot : Slot} (read : slot ≡ slotAt (asRead cells) s) where
+    pub says-idle : slot .task ≡ Closed → StepSays cells ws s SlotIdle cells ws
+    says-idle e = given SlotIdle (by-task p read e) refl
+
+    module _ {op : Op} (task : slot .task ≡ Open op) {granted : Bool} (told : granted ≡ grants (asRead cells) s) where
+      pub says-waiting : granted ≡ false → StepSays cells ws s Waiting cells ws
+      says-waiting f = given Waiting (is-waiting p read task told f) refl
+
+      pub says-granted : {r : Answer} {cells′ after : List ℕ} → granted ≡ true
+          → Leaves cells ws s op (here op (getD cells 0 0) (getD cells 1 0) ws slot) r cells′ after
+          → StepSays cells ws s r cells′ after
+      says-granted t h =
+          let v = here op (getD cells 0 0) (getD cells 1 0) ws slot in
+          let l : Left = acted (asRead cells) ws s op v in
+          left-says l (as-read l (is-granted p read task told t)) (h .answer) (h .state)
+          (h .all ∙ acted-cells cells ws s op v (verdict-answers op (getD cells 0 0) (getD cells 1 0) ws (pathOf slot) (siblingsOf slot) (slot .want)))
+          (h .words)

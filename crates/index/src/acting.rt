@@ -11,6 +11,7 @@ use lent::STATE;
 use lent::WIDTH;
 use lent::book::closes;
 use lent::book::requeues;
+use lent::cells::sized;
 use pool::lying::take_pages;
 use slots::Answer;
 use slots::Op;
@@ -80,6 +81,7 @@ pub fn act(
     requires { ⌜ ready op (pageAt (asRead (now state) .k) (now words)) (pathOf stand) course ⌝ }
     ensures { λ r. ⌜ Leaves (now (state .entry)) (now (words .entry)) s op (courseOf (asRead (now (state .entry)) .k) (pageAt (asRead (now (state .entry)) .k) (now (words .entry))) (freePages (asRead (now (state .entry)) .k) (asRead (now (state .entry)) .n) (now (words .entry))) (pathOf stand) (siblingsOf stand) course) r (now (state .exit)) (now (words .exit)) ⌝ }
 {
+    sized(state);
     let k = state[WIDTH] as usize;
     let n = state[PAGES] as usize;
     match course {

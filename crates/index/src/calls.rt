@@ -5,6 +5,7 @@ use lent::PAGES;
 use lent::STATE;
 use lent::WIDTH;
 use lent::book::clear;
+use lent::cells::sized;
 use lent::granting::grants;
 use lent::lifting::slot_at;
 use pool::lying::make_fresh;
@@ -36,6 +37,7 @@ fn is_pool(words: &[u32], k: usize, n: usize) -> bool
 pub fn make(k: usize, n: usize, state: &mut [u32; STATE], words: &mut [u32]) -> Answer
     ensures { λ r. ⌜ MakeSays k n (now (words .entry)) r (now (state .exit)) (now (words .exit)) ⌝ }
 {
+    sized(state);
     clear(state);
     if !is_pool(words, k, n) {
         return Answer::BadPool;

@@ -3,3 +3,4 @@ pub mod SpreadLaws
 pub mod StateLaws
 pub mod WritingLaws
 pub mod HoldLaws
+pub mod Inverse

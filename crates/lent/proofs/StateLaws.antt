@@ -62,6 +62,55 @@ kind-exists (Open (Search x)) = omega arith
 kind-exists (Open (Insert x v)) = omega arith
 kind-exists (Open (Delete x)) = omega arith
 
+-- A slot whose numbers stand in these rows.
+module _ (ws : List ℕ) (s : ℕ) (slot : Slot) (path : length (slot .path) ≡ 10) (beside : length (slot .siblings) ≡ 10)
+    (rows : (r : ℕ) → r < 26 → cell ws r s ≡ getD (rowsOf slot) r 0) where
+  -- behind the six numbers stand the pages
+  six-behind : (j : ℕ) → getD (rowsOf slot) (6 + j) 0 ≡ getD (slot .path ++ slot .siblings) j 0
+  six-behind j =
+      getD-append-add (kindOf (slot .task) ∷ keyIn (slot .task) ∷ informationIn (slot .task) ∷ slot .want ∷ slot .depth ∷ slot .beside ∷ [])
+      (slot .path ++ slot .siblings) j 0
+
+  path-read : column ws 6 s ≡ slot .path
+  unfolding column
+  path-read =
+      listOf-same 10 (λ (j : ℕ). cell ws (6 + j) s) (λ (j : ℕ). getD (slot .path) j 0)
+      (λ j h. rows (6 + j) (omega arith) ∙ six-behind j ∙ List·getD-append (slot .path) (slot .siblings) 0 j (omega arith))
+      ∙ listOf-getD (slot .path) 0 10 path
+
+  siblings-read : column ws 16 s ≡ slot .siblings
+  unfolding column
+  siblings-read =
+      listOf-same 10 (λ (j : ℕ). cell ws (16 + j) s) (λ (j : ℕ). getD (slot .siblings) j 0)
+      (λ j h.
+      let same : 16 + j ≡ 6 + (10 + j) = omega arith in
+      rows (16 + j) (omega arith)
+      ∙ ap (λ (r : ℕ). getD (rowsOf slot) r 0) same
+      ∙ six-behind (10 + j)
+      ∙ subst (λ (n : ℕ). getD (slot .path ++ slot .siblings) (n + j) 0 ≡ getD (slot .siblings) j 0) path
+      (getD-append-add (slot .path) (slot .siblings) j 0))
+      ∙ listOf-getD (slot .siblings) 0 10 beside
+
+  -- it reads as the slot
+  pub rows-read : slotIn ws s ≡ slot
+  rows-read =
+      let task : taskFrom (cell ws 0 s) (cell ws 1 s) (cell ws 2 s) ≡ slot .task =
+      ap (λ (a : ℕ). taskFrom a (cell ws 1 s) (cell ws 2 s)) (rows 0 (omega arith))
+      ∙ ap₂ (taskFrom (kindOf (slot .task))) (rows 1 (omega arith)) (rows 2 (omega arith))
+      ∙ task-back (slot .task) in
+      λ i. record {
+        task = task i;
+        want = rows 3 (omega arith) i;
+        path = path-read i;
+        depth = rows 4 (omega arith) i;
+        siblings = siblings-read i;
+        beside = rows 5 (omega arith) i;
+      }
+
+  -- and its kind exists
+  pub rows-kind : cell ws 0 s < 4
+  rows-kind = subst (λ (a : ℕ). a < 4) (sym (rows 0 (omega arith))) (kind-exists (slot .task))
+
 module _ (ws : List ℕ) (s : ℕ) (slot : Slot) (long : length ws ≡ 435) (inside : s < 16) (path : length (slot .path) ≡ 10) (beside : length (slot .siblings) ≡ 10) where
   rows-long : length (rowsOf slot) ≡ 26
   rows-long = ap (λ (n : ℕ). suc (suc (suc (suc (suc (suc n)))))) (length-append (slot .path) (slot .siblings) ∙ omega arith)
@@ -73,51 +122,13 @@ module _ (ws : List ℕ) (s : ℕ) (slot : Slot) (long : length ws ≡ 435) (ins
       ap (λ (q : ℕ). cell (spread ws 0 s (rowsOf slot)) q s) (sym same)
       ∙ spread-at ws 0 s (rowsOf slot) r inside (omega (arith, rows-long)) (omega (arith, rows-long))
 
-  -- behind the six numbers stand the pages
-  six-behind : (j : ℕ) → getD (rowsOf slot) (6 + j) 0 ≡ getD (slot .path ++ slot .siblings) j 0
-  six-behind j =
-      getD-append-add (kindOf (slot .task) ∷ keyIn (slot .task) ∷ informationIn (slot .task) ∷ slot .want ∷ slot .depth ∷ slot .beside ∷ [])
-      (slot .path ++ slot .siblings) j 0
-
-  path-laid : column (slotLaid ws s slot) 6 s ≡ slot .path
-  unfolding column
-  path-laid =
-      listOf-same 10 (λ (j : ℕ). cell (slotLaid ws s slot) (6 + j) s) (λ (j : ℕ). getD (slot .path) j 0)
-      (λ j h. row-laid (6 + j) (omega arith) ∙ six-behind j ∙ List·getD-append (slot .path) (slot .siblings) 0 j (omega arith))
-      ∙ listOf-getD (slot .path) 0 10 path
-
-  siblings-laid : column (slotLaid ws s slot) 16 s ≡ slot .siblings
-  unfolding column
-  siblings-laid =
-      listOf-same 10 (λ (j : ℕ). cell (slotLaid ws s slot) (16 + j) s) (λ (j : ℕ). getD (slot .siblings) j 0)
-      (λ j h.
-      let same : 16 + j ≡ 6 + (10 + j) = omega arith in
-      row-laid (16 + j) (omega arith)
-      ∙ ap (λ (r : ℕ). getD (rowsOf slot) r 0) same
-      ∙ six-behind (10 + j)
-      ∙ subst (λ (n : ℕ). getD (slot .path ++ slot .siblings) (n + j) 0 ≡ getD (slot .siblings) j 0) path
-      (getD-append-add (slot .path) (slot .siblings) j 0))
-      ∙ listOf-getD (slot .siblings) 0 10 beside
-
   -- it reads back
-  pub slot-laid : slotIn (slotLaid ws s slot) s ≡ slot
-  slot-laid =
-      let task : taskFrom (cell (slotLaid ws s slot) 0 s) (cell (slotLaid ws s slot) 1 s) (cell (slotLaid ws s slot) 2 s) ≡ slot .task =
-      ap (λ (a : ℕ). taskFrom a (cell (slotLaid ws s slot) 1 s) (cell (slotLaid ws s slot) 2 s)) (row-laid 0 (omega arith))
-      ∙ ap₂ (taskFrom (kindOf (slot .task))) (row-laid 1 (omega arith)) (row-laid 2 (omega arith))
-      ∙ task-back (slot .task) in
-      λ i. record {
-        task = task i;
-        want = row-laid 3 (omega arith) i;
-        path = path-laid i;
-        depth = row-laid 4 (omega arith) i;
-        siblings = siblings-laid i;
-        beside = row-laid 5 (omega arith) i;
-      }
+  slot-laid : slotIn (slotLaid ws s slot) s ≡ slot
+  slot-laid = rows-read (slotLaid ws s slot) s slot path beside row-laid
 
   -- its kind exists
   laid-kind : cell (slotLaid ws s slot) 0 s < 4
-  laid-kind = subst (λ (a : ℕ). a < 4) (sym (row-laid 0 (omega arith))) (kind-exists (slot .task))
+  laid-kind = rows-kind (slotLaid ws s slot) s slot path beside row-laid
 
   -- the cells of the others stay
   laid-beside : (q t : ℕ) → t < 16 → t ≢ s → cell (slotLaid ws s slot) q t ≡ cell ws q t

@@ -1,16 +1,20 @@
 -- The slot with its new want is put where it was, and stands last in the waiting order.
-use mathlib.Core.Path.{ap}
-use Rattle.slots.specs.declared.Answer.the-variants.{Moved}
-use Rattle.slots.specs.declared.State.{State}
-use Rattle.slots.specs.Begin.{outcome}
+use Rattle.ground.specs.Limits.{slotCount}
+use borrow.Author.Needs.{needs}
 use Rattle.index.proofs.acting.go_on.Statement.{statement}
 use Rattle.index.proofs.acting.go_on.Tie as tie
+use Rattle.index.proofs.acting.go_on.Reads as reads
+use Rattle.index.proofs.acting.go_on.Lts as lts
+use Rattle.lent.proofs.book.requeues.Reads as requeues-reads
 
 requeues-requires : tie.Need-requeues-requires
-requeues-requires c κs = (c .pre .inside, c .pre .few, c .pre .named)
+unfolding slotCount
+requeues-requires c κs =
+    let w = c .before .pre .0 in
+    (w .inside, w .few, w .named, c .before .pre .1, c .before .pre .2)
 
 returns : tie.Need-returns
-returns c = ap (λ (st : State). outcome Moved st) (c .requeues .ensures)
+returns c = search needs
 
 pub go-on-spec : {M : Type 1} → statement M
 go-on-spec = tie.close (tie.spec requeues-requires returns)
