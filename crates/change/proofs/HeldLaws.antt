@@ -50,6 +50,20 @@ held-page {k} {n} {ws} {p} width most whole h =
 pub held-known : {k n : ℕ} {ws pages : List ℕ} → Held k n ws pages → (p : ℕ) → member p pages ≡ true → Known k n ws p
 held-known h p m = held-page (h .width) (h .most) (h .whole) (h .each p m)
 
+-- pages that are among those held are held
+pub held-some : {k n : ℕ} {ws pages : List ℕ} (some : List ℕ) → Held k n ws pages → ((p : ℕ) → member p some ≡ true → member p pages ≡ true)
+    → Held k n ws some
+held-some some h f =
+    record { least = h .least; width = h .width; most = h .most; whole = h .whole; each = λ p m. h .each p (f p m) }
+
+-- the first of them
+pub held-front : {k n : ℕ} {ws : List ℕ} (front back : List ℕ) → Held k n ws (front ++ back) → Held k n ws front
+held-front front back h = held-some front h (λ p m. member-append p front back ∙ or-first (member p back) m)
+
+-- and the last
+pub held-back : {k n : ℕ} {ws : List ℕ} (front back : List ℕ) → Held k n ws (front ++ back) → Held k n ws back
+held-back front back h = held-some back h (λ p m. member-append p front back ∙ or-second (member p front) m)
+
 -- above the leaves a page has a reference key
 pub held-upper : {k n : ℕ} {ws : List ℕ} {p : ℕ} → 1 ≤ k → Known k n ws p → isLeaf (pageAt k ws p) ≡ false → 1 ≤ μ (pageAt k ws p)
 held-upper {k} {n} {ws} {p} one h upper =

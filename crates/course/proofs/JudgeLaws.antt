@@ -10,20 +10,19 @@ use lib.ListN.{length, take}
 use lib.Seq.{getD-take}
 use Rattle.ground.specs.Limits.{pathHolds}
 use Rattle.ground.specs.Tests.{member}
-use Rattle.ground.proofs.Bools.{and-first, and-second, or-first}
+use Rattle.ground.proofs.Bools.{and-first, and-second}
 use Rattle.ground.proofs.Choice.{cond-ind, cond-true, cond-false}
-use Rattle.ground.proofs.Tests.{member-append}
+use Rattle.ground.proofs.Padded.{length-padded}
 use Rattle.page.specs.Words.{Page, μ, isLeaf}
 use Rattle.page.specs.Place.{route, has, information}
 use Rattle.page.specs.Reading.{looked}
 use Rattle.page.specs.declared.reading.Lot.{Lot}
 use Rattle.page.specs.declared.reading.Lot.the-variants.{There, Missing}
 use Rattle.pool.specs.Pool.{Write, pageAt}
-use Rattle.pool.proofs.LyingLaws.{length-padded}
 use Rattle.change.specs.Insertion.{room, insertion}
 use Rattle.change.specs.Deletion.{Need, nothing, sibling, astray, needs, deletion}
 use Rattle.change.specs.Held.{Needing, Holding, leafOf, fathersOf}
-use Rattle.change.proofs.HeldLaws.{Known, upward-reverse, upward-father, holding-known}
+use Rattle.change.proofs.HeldLaws.{Known, held-front, upward-reverse, upward-father, holding-known}
 use Rattle.slots.specs.declared.Op.{Op}
 use Rattle.slots.specs.declared.Op.the-variants.{Search, Insert, Delete}
 use Rattle.slots.specs.declared.Answer.{Answer}
@@ -146,16 +145,7 @@ module _ {op : Op} {k n : ℕ} {ws : List ℕ} {stand : Slot} (h : Stands op k n
         cells = f .pathCells;
         some = f .some;
         deep = f .deep;
-        held =
-            record {
-              least = f .held .least;
-              width = f .held .width;
-              most = f .held .most;
-              whole = f .held .whole;
-              each = λ p m. f .held .each p
-                  (member-append p (take (stand .depth) (stand .path)) (take (stand .beside) (stand .siblings))
-                  ∙ or-first (member p (take (stand .beside) (stand .siblings))) m);
-            };
+        held = held-front (take (stand .depth) (stand .path)) (take (stand .beside) (stand .siblings)) (f .held);
       }
 
   -- the path upward: the leaf, or the page that the operation has come down to, and those above it

@@ -12,10 +12,10 @@ use lib.ListN.{length, getD, take, length-append, length-take, length-reverse}
 use lib.Seq.{take-length}
 use Rattle.ground.specs.Limits.{pathHolds}
 use Rattle.ground.specs.Tests.{all, member, distinct}
-use Rattle.ground.proofs.Bools.{not-both, and-first, and-second, and-both, or-first, or-second, or-cases}
+use Rattle.ground.proofs.Bools.{not-both, and-first, and-second, and-both, or-cases}
 use Rattle.ground.proofs.Choice.{cond-ind, cond-true, cond-false}
 use Rattle.ground.proofs.Limits.{path-is-way}
-use Rattle.ground.proofs.Tests.{member-append, member-from, distinct-back, distinct-snoc}
+use Rattle.ground.proofs.Tests.{member-from, distinct-back, distinct-snoc}
 use Rattle.page.specs.Words.{Page, μ, isLeaf}
 use Rattle.page.specs.Place.{place, has}
 use Rattle.page.specs.Short.{hasRight, neighbour}
@@ -24,7 +24,7 @@ use Rattle.page.proofs.PlaceLaws.{place-most}
 use Rattle.pool.specs.Pool.{pageAt}
 use Rattle.change.specs.Deletion.{Need, satisfied, needs}
 use Rattle.change.specs.Held.{Held, upward}
-use Rattle.change.proofs.HeldLaws.{Known, held-known, held-upper, upward-reverse, upward-father}
+use Rattle.change.proofs.HeldLaws.{Known, held-known, held-front, held-back, held-upper, upward-reverse, upward-father}
 use Rattle.slots.specs.declared.Op.{Op}
 use Rattle.slots.specs.declared.Slot.{Slot}
 use Rattle.slots.specs.Parts.{keyOf, isDelete, isOpen, openSlot, pathOf, siblingsOf, held}
@@ -33,8 +33,7 @@ use Rattle.slots.proofs.Keeping.{path-new, siblings-new}
 use Rattle.grant.specs.Granted.{isSafe, kept, atItsLeaf}
 use Rattle.grant.specs.Fitting.{descends, pagesSound, rightlyKept, sameLevels, isSibling, rightlyBeside, isNone, fitting}
 use Rattle.grant.specs.Standing.{Asks, fits, stood, standPath, standSiblings, Standing, Stands}
-use Rattle.grant.proofs.LookLaws.{pagesOf, asks-held}
-use Rattle.grant.proofs.KeepLaws.{descends-levels}
+use Rattle.grant.proofs.LookLaws.{descends-levels, pagesOf, asks-held}
 
 -- ---- a way down
 
@@ -52,24 +51,6 @@ falls-steps memory path falls (suc i) h =
     omega arith
 
 -- ---- pages held
-
--- some of the pages held
-held-part : {k n : ℕ} {ws pages part : List ℕ} → Held k n ws pages → ((p : ℕ) → member p part ≡ true → member p pages ≡ true)
-    → Held k n ws part
-held-part held inside =
-    record {
-      least = held .least;
-      width = held .width;
-      most = held .most;
-      whole = held .whole;
-      each = λ p m. held .each p (inside p m);
-    }
-
-held-front : {k n : ℕ} {ws : List ℕ} (front back : List ℕ) → Held k n ws (front ++ back) → Held k n ws front
-held-front front back held = held-part held (λ p m. member-append p front back ∙ or-first (member p back) m)
-
-held-back : {k n : ℕ} {ws : List ℕ} (front back : List ℕ) → Held k n ws (front ++ back) → Held k n ws back
-held-back front back held = held-part held (λ p m. member-append p front back ∙ or-second (member p front) m)
 
 held-at : {k n : ℕ} {ws pages : List ℕ} → Held k n ws pages → (i : ℕ) → i < length pages → Known k n ws (getD pages i 0)
 held-at {pages = pages} held i h = held-known held (getD pages i 0) (member-from (getD pages i 0) pages i 0 h refl)

@@ -19,7 +19,7 @@ use Rattle.page.specs.Short.{hasRight, betweenAt, merged, lessKey}
 use Rattle.page.specs.Sound.{rises}
 use Rattle.page.specs.Reading.{Readable}
 use Rattle.page.specs.Exact.{Exact}
-use Rattle.page.proofs.Fits.{Fits}
+use Rattle.page.specs.Fits.{Fits}
 use Rattle.page.proofs.ExactLaws.{exact-fits, exact-encode}
 use Rattle.page.proofs.WordLaws.{length-encode}
 use Rattle.page.proofs.ReadingLaws.{readable}

@@ -18,20 +18,16 @@ use Rattle.page.specs.Reading.{Readable}
 use Rattle.page.specs.Exact.{Exact}
 use Rattle.sheet.specs.Sheets.{Holds, sheetPage}
 use Rattle.sheet.specs.declared.sheets.Sheet.{Sheet}
-use Rattle.page.proofs.Fits.{Fits}
+use Rattle.page.specs.Fits.{Fits}
 use Rattle.page.proofs.ExactLaws.{exact-fits, left-fits, right-fits, joined-μ}
 use Rattle.page.proofs.ReadingLaws.{readable}
 use Rattle.page.proofs.WordLaws.{free-fits}
 use Rattle.pool.specs.Pool.{wordsOf, pageAt, Write, write, written, applied}
 use Rattle.pool.specs.Wrapped.{InPool}
-use Rattle.pool.proofs.WriteLaws.{length-written}
+use Rattle.pool.proofs.PagesLaws.{in-pool-written}
+use Rattle.pool.proofs.WriteLaws.{applied-three}
 use Rattle.deletion.specs.Deleting.{Three, Sheeted, Cutting, Joining, Settling, sharing, collapsing, uniting, emptied, paired, lost}
 use Rattle.change.proofs.AppliedLaws.{elsewhere}
-
--- writing a page leaves the pool's pages
-pub in-pool-kept : {k n p : ℕ} {ws vs : List ℕ} (w : Write) → vs ≡ written k w ws → InPool k n p ws → InPool k n p vs
-in-pool-kept {k} {ws = ws} w e h =
-    record { width = h .width; most = h .most; whole = ap length e ∙ length-written k w ws ∙ h .whole; inside = h .inside }
 
 -- The two neighbours are written.
 module _ {k n f b l w : ℕ} {ws : List ℕ} (h : Three k n ws f b l w) (A B : Page) (fa : Fits k A) (fb : Fits k B) {w₁ w₂ : List ℕ}
@@ -50,7 +46,7 @@ module _ {k n f b l w : ℕ} {ws : List ℕ} (h : Three k n ws f b l w) (A B : P
   father-same = rw father-words
 
   pub father-in-pool : InPool k n f w₂
-  father-in-pool = in-pool-kept (write w B) second (in-pool-kept (write l A) first (h .father))
+  father-in-pool = in-pool-written (write w B) second (in-pool-written (write l A) first (h .father))
 
   pub father-exact : Exact k (wordsOf k f w₂)
   father-exact = subst (Exact k) (sym father-words) (h .exact)
@@ -61,17 +57,9 @@ module _ {k n f b l w : ℕ} {ws : List ℕ} (h : Three k n ws f b l w) (A B : P
   -- then the father
   pub three-written : (g : Page → Page) {w₃ : List ℕ} → w₃ ≡ written k (write f (g (pageAt k w₂ f))) w₂
       → w₃ ≡ applied k (write l A ∷ write w B ∷ write f (g (pageAt k ws f)) ∷ []) ws
-  unfolding applied
   three-written g third =
-      third
-      ∙ ap (λ (F : Page). written k (write f (g F)) w₂) father-same
-      ∙ ap (written k (write f (g (pageAt k ws f)))) (second ∙ ap (written k (write w B)) first)
-
--- three pages written, one after the other
-pub three-after : (k : ℕ) (a b c : Write) (ws : List ℕ) {w₁ w₂ w₃ : List ℕ} → w₁ ≡ written k a ws → w₂ ≡ written k b w₁ → w₃ ≡ written k c w₂
-    → w₃ ≡ applied k (a ∷ b ∷ c ∷ []) ws
-unfolding applied
-three-after k a b c ws first second third = third ∙ ap (written k c) (second ∙ ap (written k b) first)
+      applied-three k (write l A) (write w B) (write f (g (pageAt k ws f))) ws first second
+      (third ∙ ap (λ (F : Page). written k (write f (g F)) w₂) father-same)
 
 -- a buffer's page with room fits
 pub sheet-fits : {k : ℕ} {s : Sheet} → Sheeted s → s .count ≤ 2 * k → Fits k (sheetPage s)

@@ -17,7 +17,7 @@ use Rattle.page.proofs.RiseLaws.{keyAt}
 use Rattle.page.proofs.PlaceLaws.{place-most, has-place, without-at}
 use Rattle.change.specs.Deletion.{shrunk, deletion}
 use lib.ListN.{length, getD, take}
-use Rattle.ground.proofs.Choice.{cond-false}
+use Rattle.ground.proofs.Choice.{same-or-not, cond-false}
 use Rattle.page.specs.Words.{Page, μ, view}
 use Rattle.page.specs.Short.{lessKey}
 use Rattle.page.specs.Sound.{rises}
@@ -26,11 +26,11 @@ use Rattle.page.proofs.SoundPage.{sound-fits}
 use Rattle.page.proofs.ExactLaws.{exact-encode, lessKey-fits}
 use Rattle.page.proofs.WordLaws.{length-encode}
 use Rattle.pool.specs.Pool.{poolLength, wordsOf, pageAt, Write, write, written, applied}
+use Rattle.pool.proofs.PagesLaws.{in-pool-written}
 use Rattle.pool.proofs.WriteLaws.{length-written, wordsOf-written-same, pageAt-written-same, FitWrite}
 use Rattle.change.specs.Held.{upward, leafOf, fathersOf}
 use Rattle.deletion.specs.Deleting.{Climbing, Deleting}
-use Rattle.change.proofs.AppliedLaws.{same-or-not, elsewhere}
-use Rattle.deletion.proofs.DeleteLaws.{in-pool-kept}
+use Rattle.change.proofs.AppliedLaws.{elsewhere}
 use Rattle.deletion.proofs.ClimbLaws.{climbed-over, shrunk-memory}
 use Rattle.change.proofs.NeedLaws.{path-known, sibling-known, father-key}
 
@@ -85,11 +85,12 @@ module _ {k n : ℕ} {ws : List ℕ} {x : ℕ} {path : List ℕ} {depth : ℕ} {
   level-same : (i : ℕ) → i < depth → pageAt k vs (getD path i 0) .level ≡ pageAt k ws (getD path i 0) .level
   unfolding lessKey
   level-same i l =
-      same-or-not i (depth - 1)
+      ⊎-elim
       (λ e.
       subst (λ (t : ℕ). pageAt k vs (getD path t 0) .level ≡ pageAt k ws (getD path t 0) .level) (sym e)
       (ap (λ (P : Page). P .level) leaf-value))
       (λ ne. ap (λ (P : Page). P .level) (kept-value (getD path i 0) (other i (omega arith))))
+      (same-or-not i (depth - 1))
 
   pub leaf-climbs : Climbing k n vs path depth siblings beside
   leaf-climbs =
@@ -100,12 +101,13 @@ module _ {k n : ℕ} {ws : List ℕ} {x : ℕ} {path : List ℕ} {depth : ℕ} {
         deep = h .held .deep;
         few = h .held .few;
         whole = whole;
-        pathIn = λ i l. in-pool-kept (write leaf left) done (path-known x (h .held) i l .inPool);
+        pathIn = λ i l. in-pool-written (write leaf left) done (path-known x (h .held) i l .inPool);
         pathExact =
             λ i l.
-            same-or-not i (depth - 1)
+            ⊎-elim
             (λ e. subst (λ (t : ℕ). Exact k (wordsOf k (getD path t 0) vs)) (sym e) leaf-exact)
-            (λ ne. subst (Exact k) (sym (kept (getD path i 0) (other i (omega arith)))) (path-known x (h .held) i l .exact));
+            (λ ne. subst (Exact k) (sym (kept (getD path i 0) (other i (omega arith)))) (path-known x (h .held) i l .exact))
+            (same-or-not i (depth - 1));
         rising =
             λ i l.
             subst (λ (P : Page). rises (P .entries) ≡ true) (sym (kept-value (getD path i 0) (other i l)))
@@ -115,7 +117,7 @@ module _ {k n : ℕ} {ws : List ℕ} {x : ℕ} {path : List ℕ} {depth : ℕ} {
             let e : i + 1 - 1 ≡ i = omega arith in
             subst (λ (P : Page). 1 ≤ μ P) (sym (kept-value (getD path i 0) (other i l)))
             (subst (λ (t : ℕ). 1 ≤ μ (pageAt k ws (getD path t 0))) e (father-key x (h .held) (i + 1) (omega arith) l));
-        besideIn = λ j l. in-pool-kept (write leaf left) done (sibling-known x (h .held) j l .inPool);
+        besideIn = λ j l. in-pool-written (write leaf left) done (sibling-known x (h .held) j l .inPool);
         besideExact = λ j l. subst (Exact k) (sym (kept (getD siblings j 0) (beside-other j l))) (sibling-known x (h .held) j l .exact);
         besideSome =
             λ j l.

@@ -7,18 +7,19 @@ use mathlib.Core.Logic.{⊎-elim}
 use mathlib.Core.Path.{_≡_, refl, sym, ap, _∙_, subst}
 use native.Mathlib.Numerals.{add-one}
 use native.Mathlib.Omega.{arith}
-use borrow.Author.Tests.{ltb-true, ltb-false, eq-eqb}
-use lib.Dec.{ltb, eqb}
+use borrow.Author.Tests.{ltb-true, ltb-false}
+use lib.Dec.{ltb}
 use Rattle.ground.specs.Limits.{largestK}
 use Rattle.ground.specs.Tests.{member}
-use Rattle.ground.proofs.Bools.{true-or-false, or-first, or-second}
+use Rattle.ground.proofs.Bools.{true-or-false}
 use Rattle.ground.proofs.Choice.{cond-ind}
+use Rattle.ground.proofs.Tests.{member-here, member-there}
 use Rattle.page.specs.Words.{Page, μ, isLeaf, freePage}
 use Rattle.page.specs.Place.{place}
 use Rattle.page.specs.Splits.{Parted, entryAt, split}
 use Rattle.page.specs.Short.{hasRight, betweenAt, keyBetween, fromRight, fromLeft, joined, lessKey, rekeyed}
 use Rattle.page.specs.Reading.{Readable}
-use Rattle.page.proofs.Fits.{Fits}
+use Rattle.page.specs.Fits.{Fits}
 use Rattle.page.proofs.ExactLaws.{exact-fits, lessKey-fits, rekeyed-fits, left-fits, right-fits, joined-fits, joined-μ}
 use Rattle.page.proofs.WordLaws.{free-fits}
 use Rattle.page.proofs.PlaceLaws.{place-most}
@@ -57,14 +58,6 @@ joining f F b l w J = cond (emptied f F b) (collapsing f l w J) (uniting f F b l
 -- every page that a list writes fits, and page p is one of them
 abbrev pub Covers : ℕ → ℕ → ℕ → List Write → Type 0
 Covers k n p list = (AllFit k n list) × (member p (namedBy list) ≡ true)
-
-member-here : (p : ℕ) (rest : List ℕ) → member p (p ∷ rest) ≡ true
-unfolding member
-member-here p rest = or-first (member p rest) (eq-eqb p p refl)
-
-member-there : (p q : ℕ) (rest : List ℕ) → member p rest ≡ true → member p (q ∷ rest) ≡ true
-unfolding member
-member-there p q rest m = or-second (eqb p q) m
 
 -- what neighbours and their father are given fits
 module _ {k n f b r l w : ℕ} {ws : List ℕ} {spares : Bool} {c : ℕ} (h : Settling k n ws f b r l w spares c) where
@@ -318,7 +311,7 @@ module _ {k n : ℕ} {ws : List ℕ} {f p s : ℕ} (h : Mending k n ws f p s) wh
       (λ u. ((cut-left g u, (cut-right g u, (keyed-fit g _, tt))), member-here p (s ∷ f ∷ [])))
       (λ u.
       cond-ind (Covers k n p) (emptied f F (betweenAt x F))
-      (λ v. ((whole-fit g f (h .father .inside) u, (free-fit g p (h .page .inside), (free-fit g s (h .beside .inside), tt))), member-there p f (p ∷ s ∷ []) (member-here p (s ∷ []))))
+      (λ v. ((whole-fit g f (h .father .inside) u, (free-fit g p (h .page .inside), (free-fit g s (h .beside .inside), tt))), member-there f p (p ∷ s ∷ []) (member-here p (s ∷ []))))
       (λ v. ((whole-fit g p (h .page .inside) u, (free-fit g s (h .beside .inside), (less-fit g, tt))), member-here p (s ∷ f ∷ []))))))
       (λ t.
       let g = settling-left {b = betweenAt x F} {r = keyBetween x F} (between-inside x) refl refl in
@@ -327,6 +320,6 @@ module _ {k n : ℕ} {ws : List ℕ} {f p s : ℕ} (h : Mending k n ws f p s) wh
       (λ u. ((cut-right g u, (cut-left g u, (keyed-fit g _, tt))), member-here p (s ∷ f ∷ [])))
       (λ u.
       cond-ind (Covers k n p) (emptied f F (betweenAt x F))
-      (λ v. ((whole-fit g f (h .father .inside) u, (free-fit g s (h .beside .inside), (free-fit g p (h .page .inside), tt))), member-there p f (s ∷ p ∷ []) (member-there p s (p ∷ []) (member-here p []))))
-      (λ v. ((whole-fit g s (h .beside .inside) u, (free-fit g p (h .page .inside), (less-fit g, tt))), member-there p s (p ∷ f ∷ []) (member-here p (f ∷ [])))))))
+      (λ v. ((whole-fit g f (h .father .inside) u, (free-fit g s (h .beside .inside), (free-fit g p (h .page .inside), tt))), member-there f p (s ∷ p ∷ []) (member-there s p (p ∷ []) (member-here p []))))
+      (λ v. ((whole-fit g s (h .beside .inside) u, (free-fit g p (h .page .inside), (less-fit g, tt))), member-there s p (p ∷ f ∷ []) (member-here p (f ∷ [])))))))
       (true-or-false (hasRight x F))

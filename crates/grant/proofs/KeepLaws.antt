@@ -8,29 +8,30 @@ use mathlib.Core.Path.{_≡_, refl, sym, ap, ap₂, _∙_, subst, subst₂}
 use native.Mathlib.Nat.{le-of-suc-le-suc, not-suc-le-zero}
 use native.Mathlib.Numerals.{add-one}
 use native.Mathlib.Omega.{arith}
-use borrow.Author.Tests.{eqb-true, eq-eqb, ne-eqb}
+use borrow.Author.Tests.{eq-eqb, ne-eqb}
 use lib.Dec.{eqb}
 use lib.ListN.{length, getD, take, drop, replicate, length-reverse, drop-of-length-le}
 use lib.Seq.{length-take-le, getD-take, drop-cons, take-at}
 use Rattle.ground.specs.Limits.{pathHolds}
 use Rattle.ground.specs.Tests.{all, padded}
-use Rattle.ground.proofs.Bools.{and-first, and-second, and-both, and-first-fails, and-second-fails, or-first, not-of-false, not-of-true}
-use Rattle.ground.proofs.Tests.{member-append, member-from}
+use Rattle.ground.proofs.Bools.{and-both, and-first-fails, and-second-fails, not-of-false, not-of-true}
+use Rattle.ground.proofs.Tests.{member-from}
 use Rattle.page.specs.Words.{Entry, Page, μ}
-use Rattle.page.specs.Place.{route, has, information}
+use Rattle.page.specs.Place.{has, information}
 use Rattle.page.specs.Reading.{looked}
 use Rattle.page.specs.declared.reading.Lot.{Lot}
 use Rattle.page.specs.declared.reading.Lot.the-variants.{There, Missing}
 use Rattle.pool.specs.Pool.{pageAt}
 use Rattle.change.specs.Deletion.{Need, needs}
 use Rattle.change.specs.Held.{Held, Needing, upward, leafOf, fathersOf}
-use Rattle.change.proofs.HeldLaws.{Known, held-known, upward-father, upward-reverse}
+use Rattle.change.proofs.HeldLaws.{Known, held-known, held-front, upward-father, upward-reverse}
 use Rattle.slots.specs.declared.Op.{Op}
 use Rattle.slots.specs.declared.Op.the-variants.{Delete}
 use Rattle.slots.specs.Parts.{keyOf, isDelete}
 use Rattle.slots.proofs.BookLaws.{length-add}
 use Rattle.grant.specs.Granted.{isSafe, atItsLeaf}
-use Rattle.grant.specs.Fitting.{leads, descends, rightlyKept, sameLevels, isSibling, rightlyBeside}
+use Rattle.grant.specs.Fitting.{descends, rightlyKept, sameLevels, isSibling, rightlyBeside}
+use Rattle.grant.proofs.LookLaws.{descends-levels}
 
 -- ---- cells
 
@@ -177,33 +178,10 @@ module _ (memory : ℕ → Page) (path : List ℕ) (depth : ℕ) (siblings : Lis
 
 -- ---- a deletion at its leaf
 
--- each page of a way down lies a level above the next one
-pub descends-levels : (memory : ℕ → Page) (x : ℕ) (path : List ℕ) → descends memory x path ≡ true → (i : ℕ) → suc i < length path
-    → memory (getD path i 0) .level ≡ memory (getD path (suc i) 0) .level + 1
-unfolding descends
-descends-levels memory x [] d i h = absurd (not-suc-le-zero h)
-descends-levels memory x (p ∷ []) d i h = absurd (not-suc-le-zero (le-of-suc-le-suc h))
-descends-levels memory x (p ∷ (q ∷ rest)) d zero h =
-    eqb-true (memory p .level) (memory q .level + 1)
-    (and-second (eqb (route x (memory p)) q) (eqb (memory p .level) (memory q .level + 1)) (and-first (leads memory x p q) (descends memory x (q ∷ rest)) d))
-descends-levels memory x (p ∷ (q ∷ rest)) d (suc i) h =
-    descends-levels memory x (q ∷ rest) (and-second (leads memory x p q) (descends memory x (q ∷ rest)) d) i (le-of-suc-le-suc h)
-
 -- a path that ends in a leaf has a page
 leaf-some : (memory : ℕ → Page) (path : List ℕ) (depth : ℕ) → atItsLeaf memory (reverse (take depth path)) ≡ true → 1 ≤ depth
 leaf-some memory path zero e = absurd (false≢true e)
 leaf-some memory path (suc depth) e = omega arith
-
--- some of the pages held
-held-first : {k n : ℕ} {ws : List ℕ} (pages more : List ℕ) → Held k n ws (pages ++ more) → Held k n ws pages
-held-first pages more h =
-    record {
-      least = h .least;
-      width = h .width;
-      most = h .most;
-      whole = h .whole;
-      each = λ p m. h .each p (member-append p pages more ∙ or-first _ m);
-    }
 
 -- what the search for the next sibling asks, in the cells of a slot whose deletion stands at its leaf
 pub beside-needing : {k n : ℕ} {ws : List ℕ} (x : ℕ) (path : List ℕ) (depth : ℕ) (siblings : List ℕ) (beside want : ℕ)
@@ -223,7 +201,7 @@ beside-needing {k} {n} {ws} x path depth siblings beside want cells cells′ dee
       some = leaf-some (pageAt k ws) path depth leaf;
       deep = deep;
       few = omega arith;
-      held = held-first (take depth path ++ take beside siblings) (want ∷ []) held;
+      held = held-front (take depth path ++ take beside siblings) (want ∷ []) held;
       descends = λ i h.
           subst₂ (λ (p q : ℕ). pageAt k ws p .level ≡ pageAt k ws q .level + 1)
           (getD-take depth path i 0 (omega arith))

@@ -22,7 +22,7 @@ use Rattle.page.specs.Place.{route}
 use Rattle.page.specs.Sound.{soundByItself}
 use Rattle.pool.specs.Pool.{wordsOf, pageAt}
 use Rattle.change.specs.Held.{Held}
-use Rattle.change.proofs.HeldLaws.{Known, held-known, on-path, among-siblings, upward-father, upward-reverse}
+use Rattle.change.proofs.HeldLaws.{Known, held-known, held-some, held-front, on-path, among-siblings, upward-father, upward-reverse}
 use Rattle.slots.specs.declared.Op.{Op}
 use Rattle.slots.specs.declared.Op.the-variants.{Search, Insert, Delete}
 use Rattle.slots.specs.declared.Task.{Task}
@@ -67,7 +67,16 @@ module _ (memory : ℕ → Page) (x : ℕ) where
   descends-at (p ∷ (q ∷ rest)) t (suc i) h =
       descends-at (q ∷ rest) (and-second (leads memory x p q) (descends memory x (q ∷ rest)) t) i (le-of-suc-le-suc h)
 
-  -- and where each leads to the one behind it, it is a way down
+  -- and lies a level above it
+  pub descends-levels : (path : List ℕ) → descends memory x path ≡ true → (i : ℕ) → suc i < length path
+      → memory (getD path i 0) .level ≡ memory (getD path (suc i) 0) .level + 1
+  descends-levels path t i h =
+      let p : ℕ = getD path i 0 in
+      let q : ℕ = getD path (suc i) 0 in
+      eqb-true (memory p .level) (memory q .level + 1)
+      (and-second (eqb (route x (memory p)) q) (eqb (memory p .level) (memory q .level + 1)) (descends-at path t i h))
+
+  -- where each leads to the one behind it, it is a way down
   pub descends-from : (path : List ℕ)
       → ((i : ℕ) → suc i < length path → leads memory x (getD path i 0) (getD path (suc i) 0) ≡ true) → descends memory x path ≡ true
   unfolding descends
@@ -137,13 +146,7 @@ module _ (memory : ℕ → Page) (x : ℕ) where
 
 -- ---- pages held
 
--- pages that are among those held are held
-pub held-some : {k n : ℕ} {ws pages : List ℕ} (some : List ℕ) → Held k n ws pages → ((p : ℕ) → member p some ≡ true → member p pages ≡ true)
-    → Held k n ws some
-held-some some h f =
-    record { least = h .least; width = h .width; most = h .most; whole = h .whole; each = λ p m. h .each p (f p m) }
-
--- two of them
+-- two of the pages held
 pub held-two : {k n : ℕ} {ws pages : List ℕ} → Held k n ws pages → (p q : ℕ) → member p pages ≡ true → member q pages ≡ true
     → Held k n ws (p ∷ q ∷ [])
 unfolding member
@@ -319,9 +322,7 @@ module _ {k n : ℕ} {ws : List ℕ} {op : Op} {slot : Slot} (h : Asks k n ws op
   -- and those of its path alone
   pub asks-path-held : {answer : Bool} → answer ≡ pagesSound k n ws (pagesOf slot) → not answer ≡ false → Held k n ws (pathOf slot)
   asks-path-held said t =
-      held-some (pathOf slot) (asks-held said t)
-      (λ p m. member-append p (held slot) (slot .want ∷ [])
-      ∙ or-first (member p (slot .want ∷ [])) (member-append p (pathOf slot) (siblingsOf slot) ∙ or-first (member p (siblingsOf slot)) m))
+      held-front (pathOf slot) (siblingsOf slot) (held-front (held slot) (slot .want ∷ []) (asks-held said t))
 
 -- ---- coming down
 

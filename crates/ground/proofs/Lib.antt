@@ -1,4 +1,5 @@
 pub mod Bools
 pub mod Choice
 pub mod Tests
+pub mod Padded
 pub mod Limits

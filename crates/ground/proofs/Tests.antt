@@ -87,6 +87,16 @@ pub member-none : (x : ℕ) → member x [] ≡ false
 unfolding member
 member-none x = refl
 
+-- a number stands in a list that begins with it,
+pub member-here : (x : ℕ) (xs : List ℕ) → member x (x ∷ xs) ≡ true
+unfolding member
+member-here x xs = or-first (member x xs) (eq-eqb x x refl)
+
+-- and where it stands behind another
+pub member-there : (y x : ℕ) (xs : List ℕ) → member x xs ≡ true → member x (y ∷ xs) ≡ true
+unfolding member
+member-there y x xs m = or-second (eqb x y) m
+
 -- a number stands in two lists where it stands in one of them
 pub member-append : (x : ℕ) (xs ys : List ℕ) → member x (xs ++ ys) ≡ member x xs || member x ys
 unfolding member

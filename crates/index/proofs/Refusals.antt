@@ -3,11 +3,11 @@ use Prim.Native.Nat.{ℕ}
 use mathlib.Core.Bool.{true, false, not, _&&_, false≢true}
 use mathlib.Core.Path.{_≡_, refl, sym, _∙_}
 use mathlib.Core.List.{List, [], _∷_, _++_, reverse}
-use lib.Dec.{ltb, eqb}
+use lib.Dec.{leb, ltb, eqb}
 use lib.ListN.{length}
-use borrow.Author.Tests.{eqb-true}
+use borrow.Author.Tests.{leb-true, lt-leb, eqb-true}
 use Rattle.ground.specs.Limits.{slotCount}
-use Rattle.ground.proofs.Bools.{and-second}
+use Rattle.ground.proofs.Bools.{not-both, and-first, and-second}
 use Rattle.ground.proofs.Choice.{cond-ind}
 use Rattle.pool.proofs.WriteLaws.{length-applied}
 use Rattle.pool.proofs.FreshLaws.{length-fresh}
@@ -23,20 +23,21 @@ use Rattle.slots.specs.declared.Task.the-variants.{Closed, Open}
 use Rattle.slots.specs.declared.Slot.{Slot}
 use Rattle.slots.specs.declared.State.{State}
 use Rattle.slots.specs.declared.Answer.{Answer}
-use Rattle.slots.specs.Heard.{refuses, changesNothing}
+use Rattle.slots.specs.declared.Answer.the-variants.{Waiting, Moved, NoRoom}
+use Rattle.slots.specs.Heard.{numberOf, refuses, changesNothing}
 use Rattle.slots.specs.Parts.{keyOf, slotAt, idleState, pathOf, siblingsOf}
 use Rattle.slots.specs.Sound.{sound}
 use Rattle.slots.specs.Grant.{grants}
 use Rattle.grant.specs.Granted.{Verdict, broken, goes, ends, kept, byNeed, deletes, atLeaf, fromLeaf, comesDown, besides, atItsLeaf, granted}
 use Rattle.grant.specs.Fitting.{soundForStep, verdict}
-use Rattle.index.specs.Step.{Left, left, acted, steppedTask, stepped}
+use Rattle.index.specs.Step.{Left, left, ofGranted, acted, steppedTask, stepped}
 use Rattle.index.specs.Make.{made}
 
--- an operation ends with no refusal, and not with Waiting
+-- an operation ends with an answer of a granted step: with no refusal, and not with Waiting
 abbrev pub Answers : Verdict → Type 0
 Answers broken = Unit {0}
 Answers (goes path siblings want) = Unit {0}
-Answers (ends answer writes) = changesNothing answer ≡ false
+Answers (ends answer writes) = ofGranted answer ≡ true
 
 by-need : (path siblings : List ℕ) (whole : Verdict) (n : Need) → Answers whole → Answers (byNeed path siblings whole n)
 by-need path siblings whole nothing h = h
@@ -49,7 +50,7 @@ deletes-answers k memory x path leaf fathers siblings = by-need path siblings _ 
 
 leaf-answers : (op : Op) (k : ℕ) (memory : ℕ → Page) (free path : List ℕ) (leaf : ℕ) (fathers : List ℕ) → Answers (atLeaf op k memory free path leaf fathers)
 unfolding atLeaf
-leaf-answers (Search x) k memory free path leaf fathers = cond-ind (λ (a : Answer). changesNothing a ≡ false) (has x (memory leaf .entries)) (λ _. refl) (λ _. refl)
+leaf-answers (Search x) k memory free path leaf fathers = cond-ind (λ (a : Answer). ofGranted a ≡ true) (has x (memory leaf .entries)) (λ _. refl) (λ _. refl)
 leaf-answers (Insert x v) k memory free path leaf fathers =
     cond-ind Answers (has x (memory leaf .entries)) (λ _. refl)
     (λ _. cond-ind Answers (ltb (length free) (room k memory leaf path)) (λ _. refl) (λ _. refl))
@@ -60,7 +61,7 @@ from-leaf : (act : ℕ → List ℕ → Verdict) → ((leaf : ℕ) (fathers : Li
 from-leaf act h [] = tt
 from-leaf act h (leaf ∷ fathers) = h leaf fathers
 
-granted-answers : (op : Op) (k : ℕ) (memory : ℕ → Page) (free path siblings : List ℕ) (want : ℕ) → Answers (granted op k memory free path siblings want)
+pub granted-answers : (op : Op) (k : ℕ) (memory : ℕ → Page) (free path siblings : List ℕ) (want : ℕ) → Answers (granted op k memory free path siblings want)
 unfolding granted comesDown besides
 granted-answers op k memory free path siblings want =
     cond-ind Answers (atItsLeaf memory (reverse path))
@@ -71,6 +72,10 @@ pub verdict-answers : (op : Op) (k n : ℕ) (ws path siblings : List ℕ) (want 
 unfolding verdict
 verdict-answers op k n ws path siblings want =
     cond-ind Answers (soundForStep op k n ws path siblings want) (λ _. granted-answers op k (pageAt k ws) (freePages k n ws) path siblings want) (λ _. tt)
+
+-- an answer of a granted step is none that leaves all as given
+changes : (a : Answer) → ofGranted a ≡ true → changesNothing a ≡ false
+changes a h = lt-leb (numberOf a) (numberOf Waiting) (leb-true (numberOf Moved) (numberOf a) (and-first (leb (numberOf Moved) (numberOf a)) (leb (numberOf a) (numberOf NoRoom)) h))
 
 -- state and words are as they were given
 pub record AsGiven (st : State) (ws : List ℕ) (after : Left) : Type 0 where
@@ -86,7 +91,7 @@ unchanged st ws a _ = record { state = refl; words = refl }
 acted-stays : (st : State) (ws : List ℕ) (s : ℕ) (op : Op) (v : Verdict) → Answers v → Stays st ws (acted st ws s op v)
 acted-stays st ws s op broken h = unchanged st ws _
 acted-stays st ws s op (goes path siblings want) h = λ e. absurd (false≢true e)
-acted-stays st ws s op (ends answer writes) h = λ e. absurd (false≢true (sym h ∙ e))
+acted-stays st ws s op (ends answer writes) h = λ e. not-both e (changes answer h)
 
 task-stays : (st : State) (ws : List ℕ) (s : ℕ) (slot : Slot) (task : Task) → Stays st ws (steppedTask st ws s slot task)
 task-stays st ws s slot Closed = unchanged st ws _

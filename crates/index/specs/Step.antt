@@ -1,8 +1,8 @@
 -- A step, for every argument. "Slots, locks and steps" and "What the caller hears" of document 01.
 use Prim.Native.Nat.{ℕ}
-use mathlib.Core.Bool.{cond, not}
+use mathlib.Core.Bool.{Bool, cond, not, _&&_}
 use mathlib.Core.List.{List}
-use lib.Dec.{ltb, eqb}
+use lib.Dec.{leb, ltb, eqb}
 use lib.ListN.{length}
 use Rattle.ground.specs.Limits.{slotCount}
 use Rattle.pool.specs.Pool.{poolLength, applied}
@@ -12,7 +12,8 @@ use Rattle.slots.specs.declared.Task.the-variants.{Closed, Open}
 use Rattle.slots.specs.declared.Slot.{Slot}
 use Rattle.slots.specs.declared.State.{State}
 use Rattle.slots.specs.declared.Answer.{Answer}
-use Rattle.slots.specs.declared.Answer.the-variants.{Waiting, Moved, BadState, BadPool, BadSlot, SlotIdle, Damaged}
+use Rattle.slots.specs.declared.Answer.the-variants.{Waiting, Moved, NoRoom, BadState, BadPool, BadSlot, SlotIdle, Damaged}
+use Rattle.slots.specs.Heard.{numberOf}
 use Rattle.slots.specs.Parts.{slotAt, pathOf, siblingsOf}
 use Rattle.slots.specs.Sound.{sound}
 use Rattle.slots.specs.Grant.{grants}
@@ -28,6 +29,11 @@ pub record Left : Type 0 where
 
 abbrev pub left : Answer → State → List ℕ → Left
 left a st ws = record { answer = a; state = st; words = ws }
+
+-- "Step answers: Waiting, Moved, Found (information), NotFound, Inserted, AlreadyThere, Deleted (information), NoSuchKey,
+-- NoRoom." All but Waiting are answers of a granted step. They are numbered in this order.
+abbrev pub ofGranted : Answer → Bool
+ofGranted a = leb (numberOf Moved) (numberOf a) && leb (numberOf a) (numberOf NoRoom)
 
 -- Moved, with the new holdings and want; an ending answer, with the pages written; or Damaged: "as given, the slot stays
 -- open, the lock is not taken".

@@ -7,7 +7,7 @@ use mathlib.Core.Path.{_≡_, refl, sym, ap, ap₂, _∙_}
 use native.Mathlib.Omega.{arith}
 use borrow.Author.Tests.{le-leb, lt-leb, eq-eqb}
 use lib.Dec.{leb}
-use lib.ListN.{length, drop}
+use lib.ListN.{drop}
 use Rattle.ground.specs.Tests.{member}
 use Rattle.ground.proofs.Bools.{or-first}
 use Rattle.ground.proofs.Choice.{cond-true, cond-false}
@@ -31,18 +31,6 @@ use Rattle.change.proofs.HeldLaws.{Known, held-known}
 pub applied-one : (k : ℕ) (w : Write) (ws : List ℕ) → applied k (w ∷ []) ws ≡ written k w ws
 unfolding applied
 applied-one k w ws = refl
-
--- two
-pub applied-two : (k : ℕ) (w u : Write) (ws : List ℕ) {mid after : List ℕ} → mid ≡ written k w ws → after ≡ written k u mid
-    → after ≡ applied k (w ∷ u ∷ []) ws
-unfolding applied
-applied-two k w u ws e f = f ∙ ap (written k u) e
-
--- three
-pub applied-three : (k : ℕ) (w u z : Write) (ws : List ℕ) {first second after : List ℕ} → first ≡ written k w ws → second ≡ written k u first
-    → after ≡ written k z second → after ≡ applied k (w ∷ u ∷ z ∷ []) ws
-unfolding applied
-applied-three k w u z ws e f g = g ∙ ap (written k z) (f ∙ ap (written k u) e)
 
 -- two, taken apart
 applied-both : (k : ℕ) (w u : Write) (ws : List ℕ) → applied k (w ∷ u ∷ []) ws ≡ written k u (written k w ws)
@@ -147,10 +135,6 @@ over-count k at key value F holds full = omega (arith, holds .counted, put-μ at
 -- has the page's level
 pub over-level : (at key value : ℕ) (F : Page) {s : Sheet} → Holds (put at (entry key value) F) s → s .level ≡ F .level
 over-level at key value F holds = ap (λ (P : Page). P .level) (holds .value) ∙ put-level at (entry key value) F
-
--- a page stays one of the pool
-pub in-pool-kept : {k n p : ℕ} {ws after : List ℕ} → InPool k n p ws → length after ≡ length ws → InPool k n p after
-in-pool-kept h e = record { width = h .width; most = h .most; whole = e ∙ h .whole; inside = h .inside }
 
 module _ (k x key value p a : ℕ) (F : Page) (at m : ℕ) (ws : List ℕ) (there : at ≡ place x (F .entries)) (counted : m ≡ μ F) where
   -- it fits

@@ -99,14 +99,14 @@ fn read_number(line: &[u8], from: usize) -> Number
 {
     let read = read_digits(line, from);
     let end = read.end;
-    let worth = read.worth;
+    let value = read.worth;
     if end == from {
         return Number::None;
     }
-    if LARGEST < worth {
+    if LARGEST < value {
         return Number::None;
     }
-    Number::Read(worth as u32, end)
+    Number::Read(value as u32, end)
 }
 
 // The number at a position, if the line ends behind it.

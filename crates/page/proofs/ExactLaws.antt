@@ -13,7 +13,7 @@ use Rattle.page.specs.Sound.{soundByItself}
 use Rattle.page.specs.Splits.{put, split, raised, entryAt}
 use Rattle.page.specs.Short.{joined, lessKey, rekeyed}
 use Rattle.page.specs.Exact.{Exact}
-use Rattle.page.proofs.Fits.{Fits}
+use Rattle.page.specs.Fits.{Fits}
 use Rattle.page.proofs.WordLaws.{length-encode, view-encode, encode-μ, view-μ, free-fits, encode-free}
 use Rattle.page.proofs.SoundPage.{sound-facts, sound-words, sound-μ}
 use Rattle.page.proofs.PutLaws.{put-μ}

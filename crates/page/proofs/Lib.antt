@@ -1,4 +1,3 @@
-pub mod Fits
 pub mod PlaceLaws
 pub mod PutLaws
 pub mod RiseLaws

@@ -13,7 +13,7 @@ use Rattle.ground.specs.Tests.{count}
 use Rattle.ground.proofs.Bools.{and-first, and-second, and-both, or-first, or-second, or-cases, or-first-fails, or-second-fails, true-or-false, not-both, same-if-true-together}
 use Rattle.ground.proofs.Choice.{cond-ind, cond-true, cond-false}
 use Rattle.ground.proofs.Tests.{count-append, count-most}
-use Rattle.page.specs.Words.{Entry}
+use Rattle.page.specs.Words.{Keyed, Entry}
 use Rattle.page.specs.Splits.{entryAt}
 use Rattle.page.specs.Sound.{rises}
 use Rattle.page.specs.Place.{place, has, information, without}
@@ -21,15 +21,15 @@ use Rattle.page.proofs.RiseLaws.{keyAt, rises-at, rises-drop, rises-wit
 
 -- ---- place
 
--- a key's place is at most the number of entries
-pub place-most : (x : ℕ) (es : List Entry) → place x es ≤ length es
+-- a key's place is at most the number of pairs
+pub place-most : {A : Type 0} (x : ℕ) (es : List (Keyed A)) → place x es ≤ length es
 unfolding place
-place-most x es = count-most (λ (e : Entry). leb (e .key) x) es
+place-most {A} x es = count-most (λ (e : Keyed A). leb (e .key) x) es
 
 -- in two lists, one behind the other, a key's places add up
-pub place-append : (x : ℕ) (front back : List Entry) → place x (front ++ back) ≡ place x front + place x back
+pub place-append : {A : Type 0} (x : ℕ) (front back : List (Keyed A)) → place x (front ++ back) ≡ place x front + place x back
 unfolding place
-place-append x front back = count-append (λ (e : Entry). leb (e .key) x) front back
+place-append {A} x front back = count-append (λ (e : Keyed A). leb (e .key) x) front back
 
 -- an entry in front whose key is at most x moves x's place by one
 pub place-passes : (x : ℕ) (e : Entry) (es : List Entry) → e .key ≤ x → place x (e ∷ es) ≡ suc (place x es)

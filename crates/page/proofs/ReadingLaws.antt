@@ -33,7 +33,7 @@ unfolding view
 upper-from ws upper = cond-false 2 3 upper
 
 -- pair i of some words is the two words at 2i
-pairs-at : (m : ℕ) (ws : List ℕ) (i : ℕ) → i < m → 2 * m ≤ length ws
+pub pairs-at : (m : ℕ) (ws : List ℕ) (i : ℕ) → i < m → 2 * m ≤ length ws
     → entryAt i (pairs m ws) ≡ entry (getD ws (2 * i) 0) (getD ws (2 * i + 1) 0)
 unfolding pairs
 pairs-at zero ws i l h = absurd (not-suc-le-zero l)

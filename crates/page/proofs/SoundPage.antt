@@ -16,7 +16,7 @@ use Rattle.ground.proofs.Choice.{cond-ind, cond-true, cond-false}
 use Rattle.page.specs.Words.{Page, μ, isLeaf, pointers, valueOf, used, pairsFrom, view, encode, size}
 use Rattle.page.specs.Place.{pointer}
 use Rattle.page.specs.Sound.{rises, least, goodPointers, soundByItself}
-use Rattle.page.proofs.Fits.{Fits}
+use Rattle.page.specs.Fits.{Fits}
 use Rattle.page.proofs.WordLaws.{encode-μ, view-encode, encode-view, view-μ, encode-behind, zeros-pass}
 
 -- The value P is sound as page p of a pool of n pages.

@@ -11,7 +11,7 @@ use Rattle.ground.specs.Tests.{all}
 use Rattle.ground.proofs.Bools.{and-first, and-second}
 use Rattle.ground.proofs.Choice.{cond-ind}
 use Rattle.page.specs.Words.{Entry, Page, page, μ, isLeaf, freePage, flat, used, encode, pairs, pairsFrom, view, size}
-use Rattle.page.proofs.Fits.{Fits}
+use Rattle.page.specs.Fits.{Fits}
 use borrow.Author.Tests.{eqb-true}
 
 -- each pair takes two words

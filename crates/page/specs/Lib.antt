@@ -5,3 +5,4 @@ pub mod Splits
 pub mod Short
 pub mod Reading
 pub mod Exact
+pub mod Fits

@@ -55,7 +55,7 @@ fn rising(w: &[u32]) -> bool
     requires { ⌜ Readable (now w) ⌝ }
     ensures { λ r. ⌜ r ≡ rises (view (now (w .entry)) .entries) ⌝ }
 {
-    let from = pairs_from(w);
+    let from = pairs_from(w[0]);
     let m = count(w);
     let mut good = true;
     let mut i = 0;
@@ -159,7 +159,7 @@ pub fn sound_page(w: &[u32], k: usize, n: usize, p: u32) -> bool
     if !pointers_sound(w, n) {
         return false;
     }
-    let from = pairs_from(w);
+    let from = pairs_from(w[0]);
     let m = count(w);
     unused(w, from + 2 * m)
 }

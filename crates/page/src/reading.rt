@@ -48,12 +48,11 @@ pub fn is_leaf(w: &[u32]) -> bool
     w[0] == 1
 }
 
-// Where the pairs begin.
-pub fn pairs_from(w: &[u32]) -> usize
-    requires { ⌜ 3 ≤ length (now w) ⌝ }
-    ensures { λ r. ⌜ r ≡ pairsFrom (getD (now (w .entry)) 0 0) ⌝ }
+// Where a page's pairs begin: behind word 1 in a leaf, behind p0 above.
+pub fn pairs_from(level: u32) -> usize
+    ensures { λ r. ⌜ r ≡ pairsFrom level ⌝ }
 {
-    if w[0] == 1 { 2 } else { 3 }
+    if level == 1 { 2 } else { 3 }
 }
 
 // The key of pair i.
@@ -62,7 +61,7 @@ pub fn key_at(w: &[u32], i: usize) -> u32
     requires { ⌜ i < getD (now w) 1 0 ⌝ }
     ensures { λ r. ⌜ r ≡ entryAt i (view (now (w .entry)) .entries) .key ⌝ }
 {
-    let from = pairs_from(w);
+    let from = pairs_from(w[0]);
     w[from + 2 * i]
 }
 
@@ -72,7 +71,7 @@ pub fn value_at(w: &[u32], i: usize) -> u32
     requires { ⌜ i < getD (now w) 1 0 ⌝ }
     ensures { λ r. ⌜ r ≡ entryAt i (view (now (w .entry)) .entries) .value ⌝ }
 {
-    let from = pairs_from(w);
+    let from = pairs_from(w[0]);
     w[from + 2 * i + 1]
 }
 
@@ -83,7 +82,7 @@ pub fn place(w: &[u32], x: u32) -> usize
     ensures { λ r. ⌜ r ≡ placeOf x (view (now (w .entry)) .entries) ⌝ }
     ensures { λ r. ⌜ r ≤ getD (now (w .entry)) 1 0 ⌝ }
 {
-    let from = pairs_from(w);
+    let from = pairs_from(w[0]);
     let m = count(w);
     let mut i = 0;
     while i < m {

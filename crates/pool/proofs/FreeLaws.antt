@@ -12,7 +12,7 @@ use Rattle.ground.specs.Tests.{member, listBelow}
 use Rattle.ground.proofs.Bools.{and-first, and-second, and-both, and-second-fails, not-of-false, true-or-false, false-if-not-true}
 use Rattle.ground.proofs.Tests.{listBelow-at, listBelow-from, listBelow-index, listBelow-first, listBelow-less, listBelow-same, length-listBelow, countBelow-less, firstBelow-least, firstBelow-below}
 use Rattle.page.specs.Words.{Page, view}
-use Rattle.page.proofs.Fits.{Fits}
+use Rattle.page.specs.Fits.{Fits}
 use Rattle.pool.specs.Pool.{poolLength, wordsOf, pageAt, Write, write, written, applied, isFree, freePages}
 use Rattle.pool.proofs.WriteLaws.{pageAt-written-same, pageAt-written-other, FitWrite, AllFit, length-written}
 

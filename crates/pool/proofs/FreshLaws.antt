@@ -12,7 +12,7 @@ use Rattle.ground.specs.Tests.{listBelow}
 use Rattle.ground.proofs.Tests.{listBelow-same, length-listBelow, countBelow-less, countBelow-all}
 use Rattle.ground.proofs.Bools.{not-of-false}
 use Rattle.page.specs.Words.{Page, page, freePage, size, view, encode, flat}
-use Rattle.page.proofs.Fits.{Fits}
+use Rattle.page.specs.Fits.{Fits}
 use Rattle.page.proofs.WordLaws.{view-encode, view-zeros}
 use Rattle.pool.specs.Pool.{poolLength, start, wordsOf, pageAt, isFree, freePages, fresh}
 use Rattle.pool.proofs.StretchLaws.{start-zero, ends-before, ends-in-pool}

@@ -1,5 +1,5 @@
 -- Where pages lie, for the code: no number of words wraps, and the free pages behind a page.
-use Prim.Native.Nat.{ℕ, zero, suc, _+_, _-_, _*_, _≤_, _<_}
+use Prim.Native.Nat.{ℕ, zero, suc, _+_, _*_, _≤_, _<_}
 use mathlib.Core.Bool.{Bool, true, false, not, _&&_, false≢true}
 use mathlib.Core.List.{List, [], _∷_, _++_, append-nil}
 use mathlib.Core.Logic.{⊎-elim}
@@ -8,11 +8,12 @@ use native.Mathlib.Nat.{mul-le-mul}
 use native.Mathlib.Omega.{arith}
 use borrow.Author.Tests.{leb-true, le-leb, lt-leb, eq-eqb, ne-eqb, ltb-true, ltb-false}
 use lib.Dec.{leb, eqb, ltb}
-use lib.ListN.{length, getD, take, drop, set, replicate, length-append, length-replicate}
-use lib.Seq.{getD-take, getD-drop, drop-cons, set-at, append-snoc, take-at}
+use lib.ListN.{length, getD, take, drop, set, length-append}
+use lib.Seq.{getD-take, getD-drop, drop-cons, append-snoc, take-at}
 use Rattle.ground.specs.Limits.{largestK, largestN, mostNew}
 use Rattle.ground.specs.Tests.{listBelow, firstBelow, padded}
 use Rattle.ground.proofs.Bools.{and-first, and-both, and-first-fails, and-second-fails, not-of-false, true-or-false}
+use Rattle.ground.proofs.Padded.{length-padded, padded-at, padded-set}
 use Rattle.ground.proofs.Tests.{listBelow-same, listBelow-fails, listBelow-first, listBelow-less, listBelow-from, member-at, firstBelow-fails, firstBelow-most, firstBelow-passes, firstBelow-before, firstBelow-all-fail}
 use Rattle.page.specs.Words.{size}
 use Rattle.pool.specs.Pool.{start, wordsOf, isFree, freePages, freeFrom}
@@ -92,40 +93,6 @@ module _ (k : ℕ) (ws : List ℕ) where
         ap (λ (t : Bool). t && isFree k ws i) (le-leb (p + 1) i (omega arith) ∙ sym (le-leb from i (omega arith))))
         (true-or-false (ltb i p)))))
 
--- ---- a list in an array
-
--- the array has all its cells
-pub length-padded : (n : ℕ) (xs : List ℕ) → length xs ≤ n → length (padded n xs) ≡ n
-unfolding padded
-length-padded n xs h = omega (arith, length-append xs (replicate (n - length xs) 0), length-replicate {A = ℕ} (n - length xs) 0)
-
--- a cell holds what stands there in the list, and 0 behind it
-padded-at : (n : ℕ) (xs : List ℕ) (i : ℕ) → getD (padded n xs) i 0 ≡ getD xs i 0
-unfolding padded
-padded-at n xs i = behind xs (n - length xs) i
-  where
-    zeros : (m j : ℕ) → getD {A = ℕ} (replicate m 0) j 0 ≡ 0
-    zeros zero j = refl
-    zeros (suc m) zero = refl
-    zeros (suc m) (suc j) = zeros m j
-
-    behind : (ys : List ℕ) (m j : ℕ) → getD (ys ++ replicate m 0) j 0 ≡ getD ys j 0
-    behind [] m j = zeros m j
-    behind (y ∷ ys) m zero = refl
-    behind (y ∷ ys) m (suc j) = behind ys m j
-
--- the next cell stored is the list with one more
-pub padded-more : (n : ℕ) (xs : List ℕ) (i v : ℕ) → length xs ≡ i → i < n → set (padded n xs) i v ≡ padded n (xs ++ v ∷ [])
-unfolding padded
-padded-more n xs i v len h =
-    let left : ℕ = n - suc (length xs) in
-    let one : n - length xs ≡ suc left = omega arith in
-    let rest : left ≡ n - length (xs ++ v ∷ []) = omega (arith, length-append xs (v ∷ [])) in
-    ap (λ (j : ℕ). set (xs ++ replicate j 0) i v) one
-    ∙ set-at xs 0 (replicate left 0) v i len
-    ∙ sym (append-snoc xs v (replicate left 0))
-    ∙ ap (λ (j : ℕ). (xs ++ v ∷ []) ++ replicate j 0) rest
-
 -- ---- free pages taken one after the other
 
 -- The first i free pages are taken and stand in the array; the others are those behind the last one taken.
@@ -167,7 +134,7 @@ module _ (k n need : ℕ) (ws : List ℕ) where
               ∙ ap (λ (ps : List ℕ). was .taken ++ ps) (free-from-next k ws n from p (sym found) below)
               ∙ sym (append-snoc (was .taken) p (listBelow n (freeFrom k ws (p + 1))));
           counted = omega (arith, length-append (was .taken) (p ∷ []), was .counted);
-          cells = ap (λ (ps : List ℕ). set ps i p) (was .cells) ∙ padded-more mostNew (was .taken) i p (was .counted) (omega arith);
+          cells = ap (λ (ps : List ℕ). set ps i p) (was .cells) ∙ padded-set mostNew (was .taken) i p (was .counted) (omega arith);
         }
 
     -- as many are taken as are needed

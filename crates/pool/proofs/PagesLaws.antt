@@ -8,10 +8,11 @@ use lib.Seq.{sets-eq, drop-drop}
 use Rattle.page.specs.Words.{Page, size, μ, encode, view}
 use Rattle.page.specs.Reading.{Readable}
 use Rattle.page.proofs.ReadingLaws.{readable-μ}
-use Rattle.pool.specs.Pool.{start, wordsOf, pageAt, write, written}
+use Rattle.pool.specs.Pool.{start, wordsOf, pageAt, Write, write, written}
 use Rattle.pool.specs.Wrapped.{InPool, Lies}
 use Rattle.pool.specs.declared.pages.Stretch.{Stretch}
 use Rattle.pool.proofs.StretchLaws.{length-wordsOf}
+use Rattle.pool.proofs.WriteLaws.{length-written}
 
 -- the part where page p lies is the page's words
 pub lies-words : {k n p : ℕ} {s : Stretch} (ws : List ℕ) → Lies k n p s → take (s .to - s .from) (drop (s .from) ws) ≡ wordsOf k p ws
@@ -19,6 +20,14 @@ unfolding wordsOf
 lies-words {k} {n} {p} {s} ws lies =
     let long : s .to - s .from ≡ size k = omega arith in
     ap₂ (λ (m i : ℕ). take m (drop i ws)) long (lies .from)
+
+-- a page stays one of the pool while the number of words is kept,
+pub in-pool-kept : {k n p : ℕ} {ws after : List ℕ} → InPool k n p ws → length after ≡ length ws → InPool k n p after
+in-pool-kept h e = record { width = h .width; most = h .most; whole = e ∙ h .whole; inside = h .inside }
+
+-- as it is where a page is written
+pub in-pool-written : {k n p : ℕ} {ws after : List ℕ} (w : Write) → after ≡ written k w ws → InPool k n p ws → InPool k n p after
+in-pool-written {k} {ws = ws} w e h = in-pool-kept h (ap length e ∙ length-written k w ws)
 
 -- the page has a page's number of words
 pub in-pool-size : {k n p : ℕ} {ws : List ℕ} → InPool k n p ws → length (wordsOf k p ws) ≡ size k

@@ -12,7 +12,7 @@ use lib.Dec.{eqb}
 use Rattle.ground.specs.Tests.{member}
 use Rattle.ground.proofs.Bools.{or-first-fails, or-second-fails}
 use Rattle.page.specs.Words.{Page, size, encode}
-use Rattle.page.proofs.Fits.{Fits}
+use Rattle.page.specs.Fits.{Fits}
 use Rattle.page.proofs.WordLaws.{length-encode, view-encode}
 use Rattle.pool.specs.Pool.{poolLength, start, wordsOf, pageAt, Write, write, written, applied}
 use Rattle.pool.proofs.StretchLaws.{ends-in-pool, stretches-apart}
@@ -27,6 +27,18 @@ pub length-applied : (k : ℕ) (writes : List Write) (ws : List ℕ) → length 
 unfolding applied
 length-applied k [] ws = refl
 length-applied k (w ∷ rest) ws = length-applied k rest (written k w ws) ∙ length-written k w ws
+
+-- two pages written, one after the other
+pub applied-two : (k : ℕ) (w u : Write) (ws : List ℕ) {mid after : List ℕ} → mid ≡ written k w ws → after ≡ written k u mid
+    → after ≡ applied k (w ∷ u ∷ []) ws
+unfolding applied
+applied-two k w u ws e f = f ∙ ap (written k u) e
+
+-- three
+pub applied-three : (k : ℕ) (w u z : Write) (ws : List ℕ) {first second after : List ℕ} → first ≡ written k w ws → second ≡ written k u first
+    → after ≡ written k z second → after ≡ applied k (w ∷ u ∷ z ∷ []) ws
+unfolding applied
+applied-three k w u z ws e f g = g ∙ ap (written k z) (applied-two k w u ws e f)
 
 -- a stretch that was stored is read back
 read-stored : (l : List ℕ) (i n : ℕ) (vs : List ℕ) → length vs ≡ n → i + n ≤ length l → take n (drop i (sets l i vs)) ≡ vs

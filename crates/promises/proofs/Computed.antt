@@ -25,14 +25,14 @@ use Rattle.grant.specs.Granted.{deletes, atLeaf, comesDown, besides, granted}
 use Rattle.grant.specs.Fitting.{pagesSound, descends, sameLevels, fitting, soundForStep, verdict}
 use Rattle.index.specs.Step.{stepped}
 use Rattle.index.specs.Make.{made}
-use Rattle.promises.specs.Run.{called, run, runFresh}
+use Rattle.runs.specs.Run.{called, run, runFrom}
 use Rattle.promises.specs.Bench.{Row, Holds, bench}
 use Rattle.promises.specs.MoreRows.{more}
 use Rattle.promises.specs.LongRun.{again, longRows}
 
 -- Everything that a call unfolds to: who unfolds this unfolds all of it.
 calls : Unit {0}
-unfolding largestK largestN tallest slotCount searchHolds pathHolds siblingHolds all count member distinct apart allBelow anyBelow countBelow listBelow firstBelow padded flat encode pairs view place has information without risesFrom rises soundByItself put split neighbour betweenAt fromRight fromLeft joined lessKey rekeyed poolLength start wordsOf pageAt written applied isFree freePages fresh room settled insertion needs shares shrunk deletion pathOf siblingsOf waitingOrder olderThan noClash noOlder leaving begins goesOn closes orderSound slotSound noClashingHolds sound begun reported deletes atLeaf comesDown besides granted pagesSound descends sameLevels fitting soundForStep verdict stepped made called run runFresh
+unfolding largestK largestN tallest slotCount searchHolds pathHolds siblingHolds all count member distinct apart allBelow anyBelow countBelow listBelow firstBelow padded flat encode pairs view place has information without risesFrom rises soundByItself put split neighbour betweenAt fromRight fromLeft joined lessKey rekeyed poolLength start wordsOf pageAt written applied isFree freePages fresh room settled insertion needs shares shrunk deletion pathOf siblingsOf waitingOrder olderThan noClash noOlder leaving begins goesOn closes orderSound slotSound noClashingHolds sound begun reported deletes atLeaf comesDown besides granted pagesSound descends sameLevels fitting soundForStep verdict stepped made called run runFrom
 calls = tt
 
 -- Two lists are compared number by number, so that the prover computes a test and compares no terms.

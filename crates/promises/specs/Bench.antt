@@ -2,16 +2,16 @@
 -- A row has what the rules give and what 01 says, each as lists of numbers: answers as they are heard, and words.
 use Prim.Native.Nat.{ℕ, zero, suc}
 use mathlib.Core.Path.{_≡_}
-use mathlib.Core.List.{List, [], _∷_, _++_}
-use lib.ListN.{length}
-use Rattle.pool.specs.Pool.{wordsOf, pageAt, freePages}
+use mathlib.Core.List.{List, [], _∷_, _++_, map}
+use lib.ListN.{length, replicate}
+use Rattle.pool.specs.Pool.{poolLength, wordsOf, pageAt, freePages}
 use Rattle.change.specs.Insertion.{room}
 use Rattle.slots.specs.declared.Op.{Op}
 use Rattle.slots.specs.declared.Op.the-variants.{Search, Insert, Delete}
 use Rattle.slots.specs.declared.Answer.the-variants.{Moved, Found, NotFound, AlreadyThere, Deleted, NoRoom, Begun}
 use Rattle.slots.specs.Heard.{heard}
 use Rattle.slots.specs.Parts.{wantAt}
-use Rattle.promises.specs.Run.{Call, begin, step, Told, run, runFresh}
+use Rattle.runs.specs.Run.{Call, begin, step, Told, run, runFrom}
 
 pub record Row : Type 0 where
   pub given : List (List ℕ)
@@ -44,9 +44,17 @@ two = puts 10 ++ puts 20
 abbrev pub three : List Call
 three = two ++ puts 30
 
+-- a run from a fresh pool, made in words that were all 9
+abbrev pub runFresh : ℕ → ℕ → List Call → Told
+runFresh k n cs = runFrom k n (replicate (poolLength k n) 9) cs
+
 -- k = 1: the run of some calls from a fresh pool of n pages; the run of more calls from there
 abbrev pub pool : ℕ → List Call → Told
 pool n cs = runFresh 1 n cs
+
+-- what is heard in a run, call by call
+abbrev pub heardIn : Told → List (List ℕ)
+heardIn t = map heard (t .answers)
 
 abbrev pub after : Told → List Call → Told
 after t cs = run cs (t .state) (t .words)
@@ -78,28 +86,29 @@ bench =
     -- "A: fresh, N = 1: words 1,0,0,0,0,0,0."
     row (pool 1 [] .words ∷ []) ((1 ∷ 0 ∷ 0 ∷ 0 ∷ 0 ∷ 0 ∷ 0 ∷ []) ∷ [])
     -- "B: search 5 in A: NotFound in one grant."
-    ∷ row (pool 1 (runs 0 (Search 5) 1) .answers) (heard Begun ∷ heard NotFound ∷ [])
+    ∷ row (heardIn (pool 1 (runs 0 (Search 5) 1))) (heard Begun ∷ heard NotFound ∷ [])
     -- "C: insert 10, 20: page 0 is 1,2,10,7,20,7,0."
     ∷ row (pool 1 two .words ∷ []) ((1 ∷ 2 ∷ 10 ∷ 7 ∷ 20 ∷ 7 ∷ 0 ∷ []) ∷ [])
     -- "D: then 30, N = 2: NoRoom (needs 2, free 1)."
     ∷ row
-    ((needed (pool 2 two) ∷ free 2 (pool 2 two) ∷ []) ∷ after (pool 2 two) (puts 30) .answers)
-    ((2 ∷ 1 ∷ []) ∷ heard Begun ∷ heard NoRoom ∷ [])
+    ((needed (pool 2 two) ∷ free 2 (pool 2 two) ∷ []) ∷ after (pool 2 two) (puts 30) .words ∷ heardIn (after (pool 2 two) (puts 30)))
+    ((2 ∷ 1 ∷ []) ∷ pool 2 two .words ∷ heard Begun ∷ heard NoRoom ∷ [])
     -- "E: then 30, N = 3: page 0 is 2,1,1,20,2,0,0; page 1 is 1,1,10,7,0,0,0; page 2 is 1,2,20,7,30,7,0."
     ∷ row (pages (pool 3 three))
     ((2 ∷ 1 ∷ 1 ∷ 20 ∷ 2 ∷ 0 ∷ 0 ∷ []) ∷ (1 ∷ 1 ∷ 10 ∷ 7 ∷ 0 ∷ 0 ∷ 0 ∷ []) ∷ (1 ∷ 2 ∷ 20 ∷ 7 ∷ 30 ∷ 7 ∷ 0 ∷ []) ∷ [])
     -- "F: in E, search 20: Found 7, by page 2, two grants."
     ∷ row
-    ((wantAt (after caseE (runs 0 (Search 20) 1) .state) 0 ∷ []) ∷ after caseE (runs 0 (Search 20) 2) .answers)
+    ((wantAt (after caseE (runs 0 (Search 20) 1) .state) 0 ∷ []) ∷ heardIn (after caseE (runs 0 (Search 20) 2)))
     ((2 ∷ []) ∷ heard Begun ∷ heard Moved ∷ heard (Found 7) ∷ [])
     -- "G: in E, delete 10: three grants; page 0 is 2,1,1,30,2,0,0; page 1 holds 20, page 2 holds 30."
-    ∷ row (after caseE delete10 .answers ++ pages (after caseE delete10))
+    ∷ row (heardIn (after caseE delete10) ++ pages (after caseE delete10))
     (heard Begun ∷ heard Moved ∷ heard Moved ∷ heard (Deleted 7)
     ∷ (2 ∷ 1 ∷ 1 ∷ 30 ∷ 2 ∷ 0 ∷ 0 ∷ []) ∷ (1 ∷ 1 ∷ 20 ∷ 7 ∷ 0 ∷ 0 ∷ 0 ∷ []) ∷ (1 ∷ 1 ∷ 30 ∷ 7 ∷ 0 ∷ 0 ∷ 0 ∷ []) ∷ [])
     -- "H: in G, delete 20: page 0 is 1,1,30,7,0,0,0; pages 1 and 2 all zero."
-    ∷ row (pages (after (after caseE delete10) delete20))
-    ((1 ∷ 1 ∷ 30 ∷ 7 ∷ 0 ∷ 0 ∷ 0 ∷ []) ∷ (0 ∷ 0 ∷ 0 ∷ 0 ∷ 0 ∷ 0 ∷ 0 ∷ []) ∷ (0 ∷ 0 ∷ 0 ∷ 0 ∷ 0 ∷ 0 ∷ 0 ∷ []) ∷ [])
+    ∷ row (heardIn (after (after caseE delete10) delete20) ++ pages (after (after caseE delete10) delete20))
+    (heard Begun ∷ heard Moved ∷ heard Moved ∷ heard (Deleted 7)
+    ∷ (1 ∷ 1 ∷ 30 ∷ 7 ∷ 0 ∷ 0 ∷ 0 ∷ []) ∷ (0 ∷ 0 ∷ 0 ∷ 0 ∷ 0 ∷ 0 ∷ 0 ∷ []) ∷ (0 ∷ 0 ∷ 0 ∷ 0 ∷ 0 ∷ 0 ∷ 0 ∷ []) ∷ [])
     -- "I: in E, insert 20: AlreadyThere, words unchanged."
-    ∷ row (after caseE (runs 0 (Insert 20 7) 2) .answers ++ pages (after caseE (runs 0 (Insert 20 7) 2)))
+    ∷ row (heardIn (after caseE (runs 0 (Insert 20 7) 2)) ++ pages (after caseE (runs 0 (Insert 20 7) 2)))
     (heard Begun ∷ heard Moved ∷ heard AlreadyThere ∷ pages caseE)
     ∷ []

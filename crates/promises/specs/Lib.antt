@@ -1,4 +1,6 @@
-pub mod Run
 pub mod Bench
+pub mod Demand1
+pub mod Demand2
+pub mod Demand3
 pub mod MoreRows
 pub mod LongRun

@@ -9,8 +9,8 @@ use Rattle.slots.specs.declared.Op.{Op}
 use Rattle.slots.specs.declared.Op.the-variants.{Search, Insert, Delete}
 use Rattle.slots.specs.declared.Answer.the-variants.{Waiting, Moved, Found, NotFound, Inserted, AlreadyThere, Deleted, NoSuchKey, NoRoom, Begun}
 use Rattle.slots.specs.Heard.{heard}
-use Rattle.promises.specs.Run.{Call, begin, step, runFresh}
-use Rattle.promises.specs.Bench.{Row, row}
+use Rattle.runs.specs.Run.{Call, begin, step}
+use Rattle.promises.specs.Bench.{Row, row, runFresh, heardIn}
 
 abbrev pub began : List ℕ
 began = heard Begun
@@ -104,6 +104,6 @@ longAnswers =
 -- What is heard, and the fresh pool at the end.
 abbrev pub longRows : List Row
 longRows =
-    row (runFresh 1 18 longRun .answers) longAnswers
+    row (heardIn (runFresh 1 18 longRun)) longAnswers
     ∷ row (runFresh 1 18 longRun .words ∷ []) (fresh 1 18 ∷ [])
     ∷ []

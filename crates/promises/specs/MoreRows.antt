@@ -11,8 +11,8 @@ use Rattle.slots.specs.Heard.{heard}
 use Rattle.slots.specs.Parts.{idleState}
 use Rattle.index.specs.Step.{Left}
 use Rattle.index.specs.Make.{made}
-use Rattle.promises.specs.Run.{Call, begin, step, report, Told, told, run}
-use Rattle.promises.specs.Bench.{Row, row, runs, puts, pool, after, caseE, delete10, delete20, pages}
+use Rattle.runs.specs.Run.{Call, begin, step, report, Told, told, run}
+use Rattle.promises.specs.Bench.{Row, row, runs, puts, pool, heardIn, after, caseE, delete10, delete20, pages}
 
 -- a making with k and n, in words of the right number
 abbrev pub making : ℕ → ℕ → Left
@@ -36,7 +36,7 @@ long t = told [] (t .state) (t .words ++ 0 ∷ [])
 
 -- the answers of some calls after a run
 abbrev pub answers : Told → List Call → List (List ℕ)
-answers t cs = after t cs .answers
+answers t cs = heardIn (after t cs)
 
 abbrev pub more : List Row
 more =
@@ -71,7 +71,7 @@ more =
     ∷ row (pages (after (after (after caseE delete10) delete20) (puts 10 ++ puts 20)))
     ((2 ∷ 1 ∷ 1 ∷ 20 ∷ 2 ∷ 0 ∷ 0 ∷ []) ∷ (1 ∷ 1 ∷ 10 ∷ 7 ∷ 0 ∷ 0 ∷ 0 ∷ []) ∷ (1 ∷ 2 ∷ 20 ∷ 7 ∷ 30 ∷ 7 ∷ 0 ∷ []) ∷ [])
     -- 1, BadState: the empty state, for every call
-    ∷ row (run (begin 0 (Search 5) ∷ step 0 ∷ report 0 ∷ []) (idleState 0 0) [] .answers) (heard BadState ∷ heard BadState ∷ heard BadState ∷ [])
+    ∷ row (heardIn (run (begin 0 (Search 5) ∷ step 0 ∷ report 0 ∷ []) (idleState 0 0) [])) (heard BadState ∷ heard BadState ∷ heard BadState ∷ [])
     -- 2, BadPool: a word too few, a word too many
     ∷ row (answers (short caseE) (step 0 ∷ []) ++ answers (long caseE) (step 0 ∷ [])) (heard BadPool ∷ heard BadPool ∷ [])
     -- 3, BadSlot: begin and step

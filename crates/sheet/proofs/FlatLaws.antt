@@ -1,14 +1,13 @@
 -- Pairs and their words: each pair stands on two words, so a cut between pairs is a cut of the words at twice the place.
-use Prim.Native.Nat.{ℕ, zero, suc, _+_, _-_, _*_, _≤_, _<_}
+use Prim.Native.Nat.{ℕ, zero, suc, _+_, _-_, _*_, _≤_}
 use mathlib.Core.Bool.{Bool, true, false, cond}
 use mathlib.Core.List.{List, [], _∷_, _++_}
 use mathlib.Core.Path.{_≡_, refl, sym, ap, _∙_}
 use native.Mathlib.Omega.{arith}
 use lib.Dec.{eqb}
-use lib.ListN.{length, getD, take, drop, replicate}
+use lib.ListN.{length, take, drop, replicate}
 use lib.Seq.{drop-nil}
 use Rattle.page.specs.Words.{Entry, Page, entry, μ, flat, used, encode, pairs, pairsFrom, size}
-use Rattle.page.specs.Splits.{entryAt}
 use Rattle.sheet.specs.Sheets.{front}
 use Rattle.page.proofs.WordLaws.{length-used}
 
@@ -80,17 +79,3 @@ drop-pairs (suc c) (suc m) (x ∷ (v ∷ ws)) =
     let twice : 2 * suc c ≡ suc (suc (2 * c)) = omega arith in
     let less : m - c ≡ suc m - suc c = omega arith in
     drop-pairs c m ws ∙ ap (λ (n : ℕ). pairs n (drop (2 * c) ws)) less ∙ ap (λ (n : ℕ). pairs (suc m - suc c) (drop n (x ∷ v ∷ ws))) (sym twice)
-
--- pair c among the first m pairs of some words
-pub pairs-at : (c m : ℕ) (ws : List ℕ) → c < m → 2 * m ≤ length ws → entryAt c (pairs m ws) ≡ entry (getD ws (2 * c) 0) (getD ws (2 * c + 1) 0)
-unfolding pairs
-pairs-at c zero ws h room = absurd (omega arith)
-pairs-at c (suc m) [] h room = absurd (omega arith)
-pairs-at c (suc m) (x ∷ []) h room = absurd (omega arith)
-pairs-at zero (suc m) (x ∷ (v ∷ ws)) h room = refl
-pairs-at (suc c) (suc m) (x ∷ (v ∷ ws)) h room =
-    let key : 2 * suc c ≡ suc (suc (2 * c)) = omega arith in
-    let value : 2 * suc c + 1 ≡ suc (suc (2 * c + 1)) = omega arith in
-    pairs-at c m ws (omega arith) (omega arith)
-    ∙ ap (λ (n : ℕ). entry (getD (x ∷ v ∷ ws) n 0) (getD ws (2 * c + 1) 0)) (sym key)
-    ∙ ap (λ (n : ℕ). entry (getD (x ∷ v ∷ ws) (2 * suc c) 0) (getD (x ∷ v ∷ ws) n 0)) (sym value)

@@ -11,8 +11,9 @@ use Rattle.ground.proofs.Choice.{cond-true, cond-false}
 use Rattle.page.specs.Words.{Entry, entry, keyOf, valueOf, page, flat, encode, pairs, pairsFrom, size}
 use Rattle.page.specs.Splits.{entryAt, split}
 use Rattle.sheet.specs.Sheets.{front}
+use Rattle.page.proofs.ReadingLaws.{pairs-at}
 use Rattle.page.proofs.WordLaws.{length-pairs, flat-pairs, pairsFrom-most}
-use Rattle.sheet.proofs.FlatLaws.{length-front, encode-front, take-pairs, drop-pairs, pairs-at}
+use Rattle.sheet.proofs.FlatLaws.{length-front, encode-front, take-pairs, drop-pairs}
 
 module _ (k l f n : ℕ) (w₀ : List ℕ) {at : ℕ} {w₁ : List ℕ} (long : length w₀ ≡ size k) (from : at ≡ pairsFrom l)
     (fronted : w₁ ≡ front l n f ++ drop (pairsFrom l) w₀) where
@@ -76,7 +77,7 @@ module _ (c l f n : ℕ) (ps : List ℕ) where
   -- the key between the parts
   pub cut-between : c < n → 2 * n ≤ length ps → getD ps (2 * c) 0 ≡ split c (page l f (pairs n ps)) .between
   unfolding split
-  cut-between inside enough = ap keyOf (sym (pairs-at c n ps inside enough))
+  cut-between inside enough = ap keyOf (sym (pairs-at n ps c inside enough))
 
   -- the right part of a leaf
   pub cut-right-leaf : l ≡ 1 → page l f (pairs (n - c) (drop (2 * c) ps)) ≡ split c (page l f (pairs n ps)) .right
@@ -89,7 +90,7 @@ module _ (c l f n : ℕ) (ps : List ℕ) where
   unfolding split
   cut-right-upper upper inside enough =
       let less : n - c - 1 ≡ n - suc c = omega arith in
-      ap (λ (v : ℕ). page l v (pairs (n - c - 1) (drop (2 * (c + 1)) ps))) (ap valueOf (sym (pairs-at c n ps inside enough)))
+      ap (λ (v : ℕ). page l v (pairs (n - c - 1) (drop (2 * (c + 1)) ps))) (ap valueOf (sym (pairs-at n ps c inside enough)))
       ∙ ap (λ (z : ℕ). page l (entryAt c (pairs n ps) .value) (pairs z (drop (2 * (c + 1)) ps))) less
       ∙ ap (λ (z : ℕ). page l (entryAt c (pairs n ps) .value) (pairs (n - suc c) (drop (2 * z) ps))) (add-one c)
       ∙ ap (page l (entryAt c (pairs n ps) .value)) (sym (drop-pairs (suc c) n ps))

@@ -1,9 +1,9 @@
 // A page in a buffer of its own, where it may have more pairs than a page has room for: a page with one pair too many,
 // or two pages joined. From there it is laid into pages, whole or cut in two.
 use crate::writing::copy_words;
-use crate::writing::pairs_from;
 use crate::writing::put_front;
 use crate::writing::wipe;
+use page::reading::pairs_from;
 use page::reading::wide;
 ghost use mathlib.Core.Path.{_≡_};
 ghost use Prim.Native.Nat.{_+_, _-_, _*_, _≤_, _<_};

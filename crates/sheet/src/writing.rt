@@ -1,5 +1,6 @@
 // How the words of one page change where they lie: runs of words are moved, copied and zeroed, and a pair is put in or
 // taken out with only what lies behind it moving.
+use page::reading::pairs_from;
 use page::reading::wide;
 ghost use mathlib.Core.Path.{_≡_};
 ghost use mathlib.Core.List.{_∷_, [], _++_};
@@ -12,13 +13,6 @@ ghost use Rattle.page.specs.Splits.{put};
 ghost use Rattle.page.specs.Short.{lessKey, rekeyed};
 ghost use Rattle.page.specs.Exact.{Exact};
 ghost use Rattle.sheet.specs.Sheets.{front};
-
-// Where a page's pairs begin: behind word 1 in a leaf, behind p0 above.
-pub fn pairs_from(level: u32) -> usize
-    ensures { λ r. ⌜ r ≡ pairsFrom level ⌝ }
-{
-    if level == 1 { 2 } else { 3 }
-}
 
 // The n words of `src` from word a on, copied to `dst` from word b on.
 pub fn copy_words(src: &[u32], a: usize, dst: &mut [u32], b: usize, n: usize)

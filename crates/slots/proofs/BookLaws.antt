@@ -6,41 +6,16 @@ use mathlib.Core.List.{List, [], _∷_, _++_, append-assoc, append-nil}
 use mathlib.Core.Logic.{⊎-elim}
 use native.Mathlib.Omega.{arith}
 use native.Mathlib.Numerals.{add-one}
-use lib.ListN.{length, getD, take, drop, set, replicate, length-append, length-drop, take-append-drop, drop-of-length-le}
-use lib.Seq.{set-append-seam, set-at, take-suc, drop-cons, drop-append-le, slice-empty, length-take-le, append-snoc, take-take, getD-take}
+use lib.ListN.{length, getD, take, drop, set, length-append, length-drop, take-append-drop, drop-of-length-le}
+use lib.Seq.{set-at, take-suc, drop-cons, drop-append-le, slice-empty, length-take-le, append-snoc, take-take, getD-take}
 use borrow.Author.Tests.{eq-eqb, ne-eqb}
-use Rattle.ground.specs.Tests.{member, padded}
+use Rattle.ground.specs.Tests.{member}
 use Rattle.ground.proofs.Choice.{cond-true, cond-false}
 use Rattle.ground.proofs.Bools.{not-both}
+pub use Rattle.ground.proofs.Padded.{padded-add, padded-more}
 use Rattle.ground.proofs.Tests.{member-none}
 use Rattle.slots.specs.Book.{leaving}
 use Rattle.slots.proofs.OrderLaws.{member-cases}
-
--- a page stored behind a list in its cells
-padded-set : (n : ℕ) (xs : List ℕ) (a : ℕ) → length xs < n → set (padded n xs) (length xs) a ≡ padded n (xs ++ a ∷ [])
-unfolding padded
-padded-set n xs a h =
-    let e : n - length xs ≡ suc (n - suc (length xs)) = omega arith in
-    let f : n - length (xs ++ a ∷ []) ≡ n - suc (length xs) = omega (arith, length-append xs (a ∷ [])) in
-    ap (λ (m : ℕ). set (xs ++ replicate m 0) (length xs) a) e
-    ∙ set-append-seam xs 0 (replicate (n - suc (length xs)) 0) a
-    ∙ sym (append-assoc xs (a ∷ []) (replicate (n - suc (length xs)) 0))
-    ∙ ap (λ (m : ℕ). (xs ++ a ∷ []) ++ replicate m 0) (sym f)
-
--- a page stored behind the first i cells
-pub padded-add : (n : ℕ) (cells : List ℕ) (i a : ℕ) → i < n → i ≤ length cells
-    → set (padded n (take i cells)) i a ≡ padded n (take i cells ++ a ∷ [])
-padded-add n cells i a h j =
-    let e : length (take i cells) ≡ i = length-take-le i cells j in
-    subst (λ (m : ℕ). set (padded n (take i cells)) m a ≡ padded n (take i cells ++ a ∷ [])) e
-    (padded-set n (take i cells) a (omega arith))
-
--- the next of some cells copied
-pub padded-more : (n : ℕ) (cells : List ℕ) (i : ℕ) → i < n → i < length cells
-    → set (padded n (take i cells)) i (getD cells i 0) ≡ padded n (take (i + 1) cells)
-padded-more n cells i h j =
-    padded-add n cells i (getD cells i 0) h (omega arith)
-    ∙ ap (padded n) (sym (take-suc cells i 0 j) ∙ ap (λ (m : ℕ). take m cells) (sym (add-one i)))
 
 -- one page more behind the first i cells
 pub length-add : (cells : List ℕ) (i a : ℕ) → i ≤ length cells → i + 1 ≡ length (take i cells ++ a ∷ [])

@@ -257,7 +257,7 @@ module _ (st : State) (shaped : Shaped st) (f : SoundState st) (s : ℕ) (b : s 
 -- ---- the state of making
 
 -- every slot of a list of equal ones is that one
-same-everywhere : {A : Type 0} (n i : ℕ) (a : A) → getD (replicate n a) i a ≡ a
+pub same-everywhere : {A : Type 0} (n i : ℕ) (a : A) → getD (replicate n a) i a ≡ a
 same-everywhere zero i a = refl
 same-everywhere (suc n) zero a = refl
 same-everywhere (suc n) (suc i) a = same-everywhere n i a

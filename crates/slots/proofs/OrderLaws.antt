@@ -9,11 +9,12 @@ use native.Mathlib.Numerals.{add-one}
 use lib.Dec.{eqb}
 use lib.ListN.{length, take, drop, set, length-append}
 use lib.Seq.{length-take-le, take-suc-set, take-at, append-snoc}
-use borrow.Author.Tests.{eq-eqb, ne-eqb, eqb-true, eqb-false, not-true}
+use borrow.Author.Tests.{eq-eqb, ne-eqb, eqb-true, not-true}
 use Rattle.ground.specs.Limits.{slotCount}
 use Rattle.ground.specs.Tests.{member, distinct, countBelow}
-use Rattle.ground.proofs.Bools.{true-or-false, not-both, or-cases, and-first, and-second, and-both, or-first, or-second, false-if-not-true}
+use Rattle.ground.proofs.Bools.{not-both, or-cases, and-first, and-second, and-both, or-first, or-second, false-if-not-true}
 use Rattle.ground.proofs.Choice.{cond-true, cond-false}
+pub use Rattle.ground.proofs.Choice.{same-or-not}
 use Rattle.ground.proofs.Tests.{member-none, countBelow-less, countBelow-fails, countBelow-most}
 use Rattle.slots.specs.declared.Op.{Op}
 use Rattle.slots.specs.declared.Slot.{Slot}
@@ -67,9 +68,6 @@ order-has-room st len f s b closed =
     subst (λ (m : ℕ). m < slotCount) long (length-missing slotCount s (waitingOrder st) (f .orderOnce) (f .orderBelow) b absent)
 
 -- ---- a slot taken out of the order
-
-pub same-or-not : (a b : ℕ) → (a ≡ b) ⊎ (a ≢ b)
-same-or-not a b = ⊎-elim (λ e. inl (eqb-true a b e)) (λ e. inr (eqb-false a b e)) (true-or-false (eqb a b))
 
 in-front : (x t : ℕ) (xs ys : List ℕ) → member x xs ≡ member x ys → member x (t ∷ xs) ≡ member x (t ∷ ys)
 unfolding member

@@ -23,10 +23,10 @@ use Rattle.grant.specs.Fitting.{pagesSound, descends, sameLevels, fitting, soun
 use Rattle.index.specs.Step.{left, stepped}
 use Rattle.index.specs.Make.{made}
 use Rattle.talk.specs.Split.{linesOf}
-use Rattle.talk.specs.Talk.{replies, blank, opening, mostBytes, programWrites}
+use Rattle.talk.specs.Talk.{replies, programK, programPages, blank, opening, mostBytes, programWrites}
 
 -- the program's pool is made, and is fresh
-pub opened : opening ≡ left Made (idleState 2 64) (fresh 2 64)
+pub opened : opening ≡ left Made (idleState programK programPages) (fresh programK programPages)
 unfolding largestK largestN poolLength made blank
 opened = refl
 

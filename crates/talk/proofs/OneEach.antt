@@ -2,7 +2,7 @@
 use Prim.Native.Nat.{ℕ, suc, _≤_}
 use mathlib.Core.Bool.{Bool, true, not}
 use mathlib.Core.List.{List, [], _∷_, _++_, append-assoc}
-use mathlib.Core.Path.{_≡_, refl, ap, _∙_}
+use mathlib.Core.Path.{_≡_, refl, sym, ap, _∙_}
 use native.Mathlib.Omega.{arith}
 use borrow.Author.Tests.{ne-eqb, leb-true, le-ltb, not-true}
 use lib.Dec.{leb, eqb}
@@ -18,14 +18,15 @@ use Rattle.lines.specs.declared.Command.the-variants.{Begin, Step, Bad}
 use Rattle.lines.specs.Text.{bytes}
 use Rattle.lines.specs.Meaning.{isDigit, meaning}
 use Rattle.lines.specs.Decimal.{decimal}
-use Rattle.lines.specs.Names.{written}
+use Rattle.lines.specs.Names.{written, badLine}
+use Rattle.lines.specs.Ends.{firstLine}
 use Rattle.lines.proofs.Decimals.{decimal-digital}
 use Rattle.index.specs.Step.{stepped}
 use Rattle.talk.specs.Split.{Line, ended, unended, longer, linesOf}
 use Rattle.talk.specs.Talk.{commanded, answered, replies, opening, mostBytes, programWrites}
 
 -- no line feed
-abbrev plain : ℕ → Bool
+abbrev pub plain : ℕ → Bool
 plain b = not (eqb b 10)
 
 -- a word of plain bytes and a line feed are one line
@@ -36,11 +37,20 @@ line-of (b ∷ word) rest t =
     rw (not-true (eqb b 10) (and-first (plain b) (all plain word) t))
     (ap (longer b) (line-of word rest (and-second (plain b) (all plain word) t)))
 
-one-line : (word rest : List ℕ) → all plain word ≡ true → length (linesOf (word ++ (10 ∷ []) ++ rest)) ≡ suc (length (linesOf rest))
-one-line word rest t =
-    ap (λ (bs : List ℕ). length (linesOf bs)) (append-assoc word (10 ∷ []) rest) ∙ ap length (line-of word rest t)
+-- and the word is the first line there
+pub first-of : (word rest : List ℕ) → all plain word ≡ true → firstLine (word ++ 10 ∷ rest) ≡ word
+unfolding all firstLine
+first-of [] rest t = refl
+first-of (b ∷ word) rest t =
+    rw (not-true (eqb b 10) (and-first (plain b) (all plain word) t))
+    (ap (λ (l : List ℕ). b ∷ l) (first-of word rest (and-second (plain b) (all plain word) t)))
 
-digits-plain : (ds : List ℕ) → all isDigit ds ≡ true → all plain ds ≡ true
+one-line : (word rest : List ℕ) → all plain word ≡ true → linesOf (word ++ (10 ∷ []) ++ rest) ≡ ended (firstLine (word ++ 10 ∷ [])) ∷ linesOf rest
+one-line word rest t =
+    ap linesOf (append-assoc word (10 ∷ []) rest) ∙ line-of word rest t ∙ ap (λ (l : List ℕ). ended l ∷ linesOf rest) (sym (first-of word [] t))
+
+-- a digit is no line feed
+pub digits-plain : (ds : List ℕ) → all isDigit ds ≡ true → all plain ds ≡ true
 unfolding all
 digits-plain [] t = refl
 digits-plain (d ∷ ds) t =
@@ -49,41 +59,41 @@ digits-plain (d ∷ ds) t =
     (digits-plain ds (and-second (isDigit d) (all isDigit ds) t))
 
 -- the line of an answer is one line
-answer-one : (a : Answer) (rest : List ℕ) → length (linesOf (written a ++ rest)) ≡ suc (length (linesOf rest))
+pub answer-line : (a : Answer) (rest : List ℕ) → linesOf (written a ++ rest) ≡ ended (firstLine (written a)) ∷ linesOf rest
 unfolding all
-answer-one Waiting rest = one-line (bytes "Waiting") rest refl
-answer-one Moved rest = one-line (bytes "Moved") rest refl
-answer-one (Found v) rest = one-line (bytes "Found " ++ decimal v) rest (digits-plain (decimal v) (decimal-digital v))
-answer-one NotFound rest = one-line (bytes "NotFound") rest refl
-answer-one Inserted rest = one-line (bytes "Inserted") rest refl
-answer-one AlreadyThere rest = one-line (bytes "AlreadyThere") rest refl
-answer-one (Deleted v) rest = one-line (bytes "Deleted " ++ decimal v) rest (digits-plain (decimal v) (decimal-digital v))
-answer-one NoSuchKey rest = one-line (bytes "NoSuchKey") rest refl
-answer-one NoRoom rest = one-line (bytes "NoRoom") rest refl
-answer-one Begun rest = one-line (bytes "Begun") rest refl
-answer-one Made rest = one-line (bytes "Made") rest refl
-answer-one (Reported kind holders lowest) rest = one-line (bytes "Reported") rest refl
-answer-one BadState rest = one-line (bytes "BadState") rest refl
-answer-one BadPool rest = one-line (bytes "BadPool") rest refl
-answer-one BadSlot rest = one-line (bytes "BadSlot") rest refl
-answer-one SlotBusy rest = one-line (bytes "SlotBusy") rest refl
-answer-one SlotIdle rest = one-line (bytes "SlotIdle") rest refl
-answer-one Damaged rest = one-line (bytes "Damaged") rest refl
-answer-one BadPage rest = one-line (bytes "BadPage") rest refl
+answer-line Waiting rest = one-line (bytes "Waiting") rest refl
+answer-line Moved rest = one-line (bytes "Moved") rest refl
+answer-line (Found v) rest = one-line (bytes "Found " ++ decimal v) rest (digits-plain (decimal v) (decimal-digital v))
+answer-line NotFound rest = one-line (bytes "NotFound") rest refl
+answer-line Inserted rest = one-line (bytes "Inserted") rest refl
+answer-line AlreadyThere rest = one-line (bytes "AlreadyThere") rest refl
+answer-line (Deleted v) rest = one-line (bytes "Deleted " ++ decimal v) rest (digits-plain (decimal v) (decimal-digital v))
+answer-line NoSuchKey rest = one-line (bytes "NoSuchKey") rest refl
+answer-line NoRoom rest = one-line (bytes "NoRoom") rest refl
+answer-line Begun rest = one-line (bytes "Begun") rest refl
+answer-line Made rest = one-line (bytes "Made") rest refl
+answer-line (Reported kind holders lowest) rest = one-line (bytes "Reported") rest refl
+answer-line BadState rest = one-line (bytes "BadState") rest refl
+answer-line BadPool rest = one-line (bytes "BadPool") rest refl
+answer-line BadSlot rest = one-line (bytes "BadSlot") rest refl
+answer-line SlotBusy rest = one-line (bytes "SlotBusy") rest refl
+answer-line SlotIdle rest = one-line (bytes "SlotIdle") rest refl
+answer-line Damaged rest = one-line (bytes "Damaged") rest refl
+answer-line BadPage rest = one-line (bytes "BadPage") rest refl
 
-bad-one : (rest : List ℕ) → length (linesOf (bytes "BadLine\n" ++ rest)) ≡ suc (length (linesOf rest))
+pub bad-line : (rest : List ℕ) → linesOf (badLine ++ rest) ≡ ended (firstLine badLine) ∷ linesOf rest
 unfolding all
-bad-one rest = one-line (bytes "BadLine") rest refl
+bad-line rest = one-line (bytes "BadLine") rest refl
 
 module _ (st : State) (ws : List ℕ) where
   command-one : (c : Command) (rest : List ℕ) → length (linesOf (commanded st ws c .said ++ rest)) ≡ suc (length (linesOf rest))
-  command-one (Begin s op) = answer-one (begun st s op .answer)
-  command-one (Step s) = answer-one (stepped st ws s .answer)
-  command-one Bad = bad-one
+  command-one (Begin s op) rest = ap length (answer-line (begun st s op .answer) rest)
+  command-one (Step s) rest = ap length (answer-line (stepped st ws s .answer) rest)
+  command-one Bad rest = ap length (bad-line rest)
 
   line-one : (line : Line) (rest : List ℕ) → length (linesOf (answered st ws line .said ++ rest)) ≡ suc (length (linesOf rest))
   line-one (ended line) = command-one (meaning line)
-  line-one (unended line) = bad-one
+  line-one (unended line) = command-one Bad
 
 one-each : (st : State) (ws : List ℕ) (lines : List Line) → length (linesOf (replies st ws lines)) ≡ length lines
 unfolding linesOf replies

@@ -12,7 +12,7 @@ use Rattle.lines.specs.Text.{laid}
 use Rattle.lines.specs.Names.{tooLong}
 use Rattle.index.specs.Statements.{MakeSays}
 use Rattle.talk.specs.Split.{linesOf}
-use Rattle.talk.specs.Talk.{replies, blank, opening, mostBytes, programWrites}
+use Rattle.talk.specs.Talk.{replies, programK, programPages, blank, opening, mostBytes, programWrites}
 use Rattle.talk.specs.Leaves.{Writes}
 
 module _ (input out : List ℕ) {end : ℕ} {after : List ℕ} where
@@ -20,7 +20,7 @@ module _ (input out : List ℕ) {end : ℕ} {after : List ℕ} where
   unfolding programWrites mostBytes
   too-long-writes h b e = rw (lt-ltb 65536 (length input) h) (record { bytes = b; behind = e })
 
-  pub lines-write : {words : List ℕ} {r : Outcome} → length input ≤ 65536 → MakeSays 2 64 blank r words
+  pub lines-write : {words : List ℕ} {r : Outcome} → length input ≤ 65536 → MakeSays programK programPages blank r words
       → Writes (replies (r .state) words (linesOf input)) out end after
       → Writes (programWrites input) out end after
   unfolding programWrites mostBytes

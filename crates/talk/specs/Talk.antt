@@ -4,6 +4,7 @@ use mathlib.Core.Bool.{cond}
 use mathlib.Core.List.{List, [], _∷_, _++_}
 use lib.Dec.{ltb}
 use lib.ListN.{length, replicate}
+use Rattle.pool.specs.Pool.{poolLength}
 use Rattle.slots.specs.declared.State.{State}
 use Rattle.slots.specs.declared.Outcome.{Outcome}
 use Rattle.slots.specs.Begin.{begun}
@@ -49,12 +50,19 @@ replies st ws (line ∷ rest) =
     let r = answered st ws line in
     r .said ++ replies (r .state) (r .words) rest
 
--- "It makes a pool with k = 2, N = 64", in words that are 0 before: 64 pages of 4k + 3 = 11 words
+-- "It makes a pool with k = 2, N = 64",
+abbrev pub programK : ℕ
+programK = 2
+
+abbrev pub programPages : ℕ
+programPages = 64
+
+-- in words that are 0 before
 unfoldable pub blank : List ℕ
-blank = replicate 704 0
+blank = replicate (poolLength programK programPages) 0
 
 abbrev pub opening : Left
-opening = made 2 64 blank
+opening = made programK programPages blank
 
 -- "at most 65,536 bytes (more: one line TooLong)"
 unfoldable pub mostBytes : ℕ

@@ -12,7 +12,7 @@ use lib.Dec.{ltb}
 use lib.ListN.{length, getD, length-append, List·getD-append}
 use lib.Seq.{append-snoc, getD-at}
 use Rattle.ground.specs.Limits.{wordRange}
-use Rattle.ground.proofs.Choice.{cond-true, cond-false}
+use Rattle.ground.proofs.Choice.{by-test, cond-true, cond-false}
 use Rattle.page.specs.Words.{Keyed, Page, μ}
 use Rattle.page.specs.Place.{has}
 use Rattle.page.specs.Short.{neighbour}
@@ -22,7 +22,7 @@ use Rattle.tree.specs.Tree.{Tr, pageNumber, entriesOf, once, occurs, Sta
 use Rattle.tree.specs.Change.{HeldWay}
 use Rattle.tree.specs.Deletion.{canSpare, Asked, Beside, Wanted, Needed, SiblingsThere}
 use Rattle.tree.proofs.Search.{way-length, way-top}
-use Rattle.tree.proofs.Rows.{by-test, headKey-append, headKey-most, span-left, span-right, total-append, somewhere-right, spot}
+use Rattle.tree.proofs.Rows.{headKey-append, headKey-most, span-left, span-right, total-append, somewhere-right, spot}
 use Rattle.tree.proofs.Memory.{once-same, times, times-append, member-times, times-absent, times-distinct, root-occurs}
 use Rattle.tree.proofs.Mend.{treeAt, pageIn, occursIn, StandsIn, stands-top}
 use Rattle.tree.proofs.Pages.{right-neighbour, left-neighbour}

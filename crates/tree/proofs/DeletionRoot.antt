@@ -10,7 +10,7 @@ use lib.Dec.{leb, eqb}
 use lib.ListN.{length, length-append}
 use Rattle.ground.specs.Limits.{wordRange}
 use Rattle.ground.proofs.Bools.{and-second, and-fails, not-both}
-use Rattle.ground.proofs.Choice.{cond-true}
+use Rattle.ground.proofs.Choice.{by-test, cond-true}
 use Rattle.page.specs.Words.{Keyed, Page, μ, freePage}
 use Rattle.page.specs.Place.{without}
 use Rattle.page.proofs.WordLaws.{free-fits}
@@ -19,7 +19,6 @@ use Rattle.change.specs.Deletion.{shrunk}
 use Rattle.tree.specs.Rows.{headKey}
 use Rattle.tree.specs.Tree.{Tr, pageNumber, pageOf, entriesOf, once, occurs, InRange, rootLeast, Holds, Stands, Forms}
 use Rattle.tree.specs.Change.{memoryAfter, writtenPages, Fitting, Leads}
-use Rattle.tree.proofs.Rows.{by-test}
 use Rattle.tree.proofs.Memory.{once-same, once-is, times-distinct, times-written, absent-times, member-times, unwritten, Stores, stores-left, stores-right, written-stores, fitting-append}
 use Rattle.tree.proofs.Mend.{Things, thingsOf, treeAt, pageIn, tier, Run, entriesIn, occursIn, HoldsIn, StandsIn, things-back, number-back, page-back, entries-things, occurs-things, holds-things, stands-things, stands-top, stands-below, run-range, things-μ, things-fit}
 use Rattle.tree.proofs.MendPatch.{hits, Elsewhere, Patch, opened, opened-occurs, opened-entries, opened-cases}

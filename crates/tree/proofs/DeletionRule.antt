@@ -11,7 +11,7 @@ use lib.Dec.{leb, ltb, eqb}
 use lib.ListN.{length, length-append}
 use Rattle.ground.specs.Tests.{member}
 use Rattle.ground.proofs.Bools.{or-first, or-second, or-none, or-first-fails, or-second-fails}
-use Rattle.ground.proofs.Choice.{cond-true, cond-false, cond-ind}
+use Rattle.ground.proofs.Choice.{by-test, cond-true, cond-false, cond-ind}
 use Rattle.page.specs.Words.{Page, μ, freePage}
 use Rattle.page.specs.Splits.{parted, withEntries}
 use Rattle.page.specs.Place.{without}
@@ -21,7 +21,6 @@ use Rattle.change.specs.Deletion.{Need, nothing, sibling, astray, satisfied, ne
 use Rattle.tree.specs.Tree.{once}
 use Rattle.tree.specs.Change.{writtenPages, topOf}
 use Rattle.tree.specs.Deletion.{Asked}
-use Rattle.tree.proofs.Rows.{by-test}
 use Rattle.tree.proofs.Memory.{times, times-append, member-times, times-member}
 
 -- ---- what is needed

@@ -8,12 +8,13 @@ use borrow.Author.Tests.{leb-true, leb-false}
 use lib.Dec.{leb}
 use lib.ListN.{length}
 use Rattle.ground.specs.Limits.{largestN, tallest, wordRange}
+use Rattle.ground.proofs.Choice.{by-test}
 use Rattle.ground.proofs.Limits.{pages-few}
 use Rattle.page.specs.Words.{Keyed, Page}
 use Rattle.tree.specs.Rows.{Each, total}
 use Rattle.tree.specs.Tree.{Tr, once, occurs, rootLeast, InRange, Forms}
 use Rattle.tree.specs.Facts.{pageCount, HeightFacts}
-use Rattle.tree.proofs.Rows.{by-test, each-span}
+use Rattle.tree.proofs.Rows.{each-span}
 use Rattle.tree.proofs.Memory.{once-same, once-other}
 
 -- ---- many pages for its height

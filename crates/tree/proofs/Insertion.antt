@@ -12,6 +12,7 @@ use lib.ListN.{length, take, drop}
 use lib.Seq.{drop-drop}
 use Rattle.ground.specs.Limits.{wordRange}
 use Rattle.ground.specs.Tests.{member}
+use Rattle.ground.proofs.Choice.{by-test}
 use Rattle.page.specs.Words.{Entry, Page, μ, keyed}
 use Rattle.page.specs.Splits.{Parted, raised}
 use Rattle.pool.specs.Pool.{Write, write}
@@ -20,7 +21,6 @@ use Rattle.tree.specs.Tree.{Node, Tr, pageNumber, pageOf, entriesOf, onc
 use Rattle.tree.specs.Sorted.{inserted}
 use Rattle.tree.specs.Change.{memoryAfter, writtenPages, Fitting, Leads, FreeFor}
 use Rattle.tree.specs.Insertion.{fillings, newPages, treeRoom, InsertionLeads, RoomOfTree}
-use Rattle.tree.proofs.Rows.{by-test}
 use Rattle.tree.proofs.Pages.{rowPage-raised}
 use Rattle.tree.proofs.Memory.{times, times-cut, times-member, member-times, absent-times, distinct-times, times-distinct, times-written, unwritten, Stores, stores-left, stores-right, written-stores, fitting-append, fits-page, holds-top}
 use Rattle.tree.proofs.InsertionWay.{newPages-full, settled-fits, settled-raises}

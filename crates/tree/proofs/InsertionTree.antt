@@ -11,6 +11,7 @@ use borrow.Author.Tests.{leb-true, leb-false}
 use lib.Dec.{leb}
 use lib.ListN.{length, take, drop, length-append}
 use lib.Seq.{drop-drop}
+use Rattle.ground.proofs.Choice.{by-test}
 use Rattle.page.specs.Words.{Keyed, Entry, Page, entry, page, μ, keyed}
 use Rattle.page.specs.Place.{place, has}
 use Rattle.page.specs.Splits.{Parted, put}
@@ -21,7 +22,7 @@ use Rattle.tree.specs.Tree.{Leaf, Tr, pageNumber, pageOf, entriesOf, onc
 use Rattle.tree.specs.Sorted.{inserted}
 use Rattle.tree.specs.Change.{writtenPages, Fitting}
 use Rattle.tree.specs.Insertion.{fillings, newPages}
-use Rattle.tree.proofs.Rows.{by-test, headKey-append, span-replace, middle-rises, middle-has, middle-before, middle-after, spot, followed-spot, gathered-append, total-append, each-append, each-left, each-right, somewhere-left, somewhere-right, somewhere-cases}
+use Rattle.tree.proofs.Rows.{headKey-append, span-replace, middle-rises, middle-has, middle-before, middle-after, spot, followed-spot, gathered-append, total-append, each-append, each-left, each-right, somewhere-left, somewhere-right, somewhere-cases}
 use Rattle.tree.proofs.Sorted.{Within, within-gathered, has-parts, inserted-parts, within-inserted, length-inserted}
 use Rattle.tree.proofs.Pages.{rowPage-place, rowPage-same, rowPage-put, rowPage-μ-around}
 use Rattle.tree.proofs.Memory.{once-same, times, times-cut, times-written, Stores, stores-left, stores-right, fitting-append, fits-page, holds-top, top-holds, root-occurs, row-same, total-middle}

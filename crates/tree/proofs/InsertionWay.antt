@@ -11,7 +11,7 @@ use lib.Dec.{leb, ltb, eqb}
 use lib.ListN.{length, take, drop, length-drop}
 use Rattle.ground.specs.Tests.{all, count, member}
 use Rattle.ground.proofs.Bools.{and-first, and-second}
-use Rattle.ground.proofs.Choice.{cond-true, cond-false}
+use Rattle.ground.proofs.Choice.{by-test, cond-true, cond-false}
 use Rattle.page.specs.Words.{Page, entry, μ}
 use Rattle.page.specs.Place.{place}
 use Rattle.page.specs.Splits.{put, split, raised}
@@ -21,7 +21,6 @@ use Rattle.tree.specs.Tree.{once}
 use Rattle.tree.specs.Change.{writtenPages, topOf, belowTop}
 use Rattle.tree.specs.Insertion.{hasSpace, newPages}
 use Rattle.page.proofs.PutLaws.{put-μ}
-use Rattle.tree.proofs.Rows.{by-test}
 use Rattle.tree.proofs.Memory.{times}
 
 -- a full page takes one new page more than those above it,

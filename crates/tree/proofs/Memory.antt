@@ -11,14 +11,14 @@ use lib.Dec.{eqb, leb}
 use lib.ListN.{take, drop, take-append-drop}
 use Rattle.ground.specs.Tests.{member, distinct}
 use Rattle.ground.proofs.Bools.{and-first, and-second, and-both, or-first, or-second, or-cases, or-first-fails, or-second-fails, not-of-false, not-both, false-if-not-true}
-use Rattle.ground.proofs.Choice.{cond-true, cond-false, cond-ind}
+use Rattle.ground.proofs.Choice.{by-test, cond-true, cond-false, cond-ind}
 use Rattle.page.specs.Words.{Keyed, Page, μ}
-use Rattle.page.proofs.Fits.{Fits}
+use Rattle.page.specs.Fits.{Fits}
 use Rattle.pool.specs.Pool.{Write}
 use Rattle.tree.specs.Rows.{headKey, Somewhere, Each, total, followed}
 use Rattle.tree.specs.Tree.{Tr, pageNumber, pageOf, once, occurs, Holds, HoldsBelow, Stands, way}
 use Rattle.tree.specs.Change.{rewritten, memoryAfter, writtenPages, Fitting}
-use Rattle.tree.proofs.Rows.{by-test, total-append}
+use Rattle.tree.proofs.Rows.{total-append}
 use Rattle.tree.proofs.Pages.{noLeaf}
 
 -- ---- how often a page stands in a list

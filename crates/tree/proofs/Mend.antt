@@ -9,7 +9,7 @@ use lib.ListN.{length}
 use Rattle.page.specs.Words.{Keyed, Entry, Page, page, μ}
 use Rattle.page.specs.Splits.{parted}
 use Rattle.page.specs.Short.{joined, fromRight, fromLeft}
-use Rattle.page.proofs.Fits.{Fits}
+use Rattle.page.specs.Fits.{Fits}
 use Rattle.tree.specs.Rows.{headKey, Span, Somewhere, Each, gathered, total, rowPage}
 use Rattle.tree.specs.Tree.{Tr, pageNumber, pageOf, entriesOf, once, occurs, InRange, Holds, Stands, ChildIn}
 use Rattle.tree.proofs.Rows.{headKey-append, span-left, span-right, span-append, gathered-append, total-append, each-append, each-left, each-right, somewhere-left, somewhere-right, somewhere-cases}

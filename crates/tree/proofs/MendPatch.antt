@@ -8,6 +8,7 @@ use mathlib.Core.Logic.{_⊎_, inl, inr, ⊎-elim}
 use mathlib.Core.Path.{_≡_, refl, sym, ap, ap₂, _∙_}
 use borrow.Author.Tests.{leb-true, leb-false}
 use lib.Dec.{leb}
+use Rattle.ground.proofs.Choice.{by-test}
 use Rattle.page.specs.Words.{Keyed, Entry, Page, μ, freePage}
 use Rattle.page.specs.Place.{without}
 use Rattle.page.proofs.WordLaws.{free-fits}
@@ -15,7 +16,7 @@ use Rattle.pool.specs.Pool.{Write, write}
 use Rattle.tree.specs.Rows.{headKey, Span, Somewhere, Each, gathered, total}
 use Rattle.tree.specs.Tree.{Tr, pageNumber, pageOf, entriesOf, once, Holds, Stands, ChildIn}
 use Rattle.tree.specs.Change.{writtenPages, Fitting}
-use Rattle.tree.proofs.Rows.{by-test, somewhere-map}
+use Rattle.tree.proofs.Rows.{somewhere-map}
 use Rattle.tree.proofs.Sorted.{without-parts}
 use Rattle.tree.proofs.Memory.{once-same, once-is, times, times-written, Stores, stores-left, stores-right, fitting-append, fits-page}
 use Rattle.tree.proofs.Mend.{Things, thingsOf, Run, entriesIn, occursIn, HoldsIn, StandsIn, TopStands, entries-things, occurs-things, holds-things, holds-below, stands-things, stands-top, stands-below, range-run, run-nil, entriesIn-append, occursIn-append, holdsIn-append, holdsIn-left, holdsIn-right, run-append, run-within, standsIn-cases, standsIn-left, standsIn-right, things-same}

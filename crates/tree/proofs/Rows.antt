@@ -1,6 +1,6 @@
 -- Laws of rows: a row cut in two, two rows joined, a thing replaced, and the thing to which a key belongs.
 use Prim.Native.Nat.{ℕ, suc, _+_, _≤_, _<_}
-use mathlib.Core.Bool.{Bool, true, false, cond}
+use mathlib.Core.Bool.{cond}
 use mathlib.Core.List.{List, [], _∷_, _++_, append-assoc}
 use mathlib.Core.Logic.{_⊎_, inl, inr, ⊎-elim}
 use mathlib.Core.Path.{_≡_, refl, sym, ap, _∙_, subst}
@@ -9,15 +9,12 @@ use borrow.Author.Tests.{leb-true, leb-false, le-leb, lt-leb}
 use lib.Dec.{leb}
 use lib.ListN.{length, length-map}
 use Rattle.ground.specs.Tests.{count}
+pub use Rattle.ground.proofs.Choice.{by-test}
 use Rattle.ground.proofs.Choice.{cond-true, cond-false}
 use Rattle.page.specs.Words.{Keyed, Entry, entry}
 use Rattle.page.specs.Place.{place}
+use Rattle.page.proofs.PlaceLaws.{place-append}
 use Rattle.tree.specs.Rows.{headKey, Span, Somewhere, Each, gathered, total, followed, references}
-
--- what follows from a test's success and from its failure holds
-pub by-test : {X : Type 0} (b : Bool) → (b ≡ true → X) → (b ≡ false → X) → X
-by-test true f g = f refl
-by-test false f g = g refl
 
 -- a joined row begins where its first part does, which ends where the second begins
 pub headKey-append : {C : Type 0} (xs ys : List (Keyed C)) (hi : ℕ) → headKey (xs ++ ys) hi ≡ headKey xs (headKey ys hi)
@@ -165,16 +162,6 @@ followed-spot P f none x (a ∷ []) d ys hi s from to = cond-true _ _ (le-leb (d
 followed-spot P f none x (a ∷ (b ∷ bs)) d ys hi s from to =
     let below : b .key ≤ d .key = headKey-most P (b ∷ bs) (d .key) (span-left P (b ∷ bs) (d ∷ ys) hi (s .2)) in
     cond-true _ _ (le-leb (b .key) x (omega arith)) ∙ followed-spot P f none x (b ∷ bs) d ys hi (s .2) from to
-
--- the place of a key in two rows joined
-pub place-append : {C : Type 0} (x : ℕ) (xs ys : List (Keyed C)) → place x (xs ++ ys) ≡ place x xs + place x ys
-unfolding place count
-place-append x [] ys = omega arith
-place-append x (d ∷ ds) ys =
-    let ih = place-append x ds ys in
-    by-test (leb (d .key) x)
-    (λ t. rw (t) (omega arith))
-    (λ t. rw (t) ih)
 
 -- a key's place is behind keys that are at most it
 pub place-all : {C : Type 0} (x : ℕ) (row : List (Keyed C)) → Keys (λ k. k ≤ x) row → place x row ≡ length row

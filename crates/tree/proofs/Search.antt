@@ -8,12 +8,13 @@ use lib.Dec.{leb, ltb}
 use lib.ListN.{length, getD, length-append, List·getD-append}
 use lib.Seq.{getD-at, getD-append-seam, getD-append-add}
 use Rattle.ground.specs.Limits.{wordRange}
+use Rattle.ground.proofs.Choice.{by-test}
 use Rattle.page.specs.Words.{Keyed, Page, page}
 use Rattle.page.specs.Place.{route, has, information}
 use Rattle.tree.specs.Rows.{headKey, Span, Each, gathered, followed, rowPage}
 use Rattle.tree.specs.Tree.{Tr, pageNumber, pageOf, entriesOf, rootLeast, InRange, Holds, way, leafOn, Forms}
 use Rattle.tree.specs.Facts.{WayFacts}
-use Rattle.tree.proofs.Rows.{by-test, spot, followed-spot, gathered-append, each-right, middle-has, middle-before, middle-after}
+use Rattle.tree.proofs.Rows.{spot, followed-spot, gathered-append, each-right, middle-has, middle-before, middle-after}
 use Rattle.tree.proofs.Sorted.{Within, within-gathered, has-parts, information-parts}
 use Rattle.tree.proofs.Pages.{rowPage-route}
 

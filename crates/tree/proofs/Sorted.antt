@@ -9,13 +9,14 @@ use lib.Dec.{leb, ltb, eqb}
 use lib.ListN.{length, take, drop, length-append, take-append-drop}
 use lib.Seq.{take-append-le, drop-append-le, take-append-add, drop-append-add}
 use Rattle.ground.specs.Tests.{count}
-use Rattle.ground.proofs.Choice.{cond-true, cond-false, cond-ind}
+use Rattle.ground.proofs.Choice.{by-test, cond-true, cond-false, cond-ind}
 use Rattle.page.specs.Words.{Keyed, Entry, entry}
 use Rattle.page.specs.Place.{place, has, information, without}
 use Rattle.page.specs.Sound.{rises, risesFrom}
+use Rattle.page.proofs.PlaceLaws.{place-most, place-append}
 use Rattle.tree.specs.Rows.{headKey, Span, gathered, references}
 use Rattle.tree.specs.Sorted.{inserted}
-use Rattle.tree.proofs.Rows.{by-test, headKey-append, span-left, span-right, span-append, headKey-most, Keys, keys-below, keys-from, keys-map, place-append, place-behind, place-before}
+use Rattle.tree.proofs.Rows.{headKey-append, span-left, span-right, span-append, headKey-most, Keys, keys-below, keys-from, keys-map, place-behind, place-before}
 
 -- nothing is asked of an entry's information
 abbrev pub Anything : ℕ → ℕ → ℕ → Type 0
@@ -162,12 +163,6 @@ without-first x (e ∷ es) ys h =
     by-test (eqb (e .key) x)
     (λ t. cond-true _ _ t ∙ sym (ap (λ (l : List Entry). l ++ ys) (cond-true es (e ∷ without x es) t)))
     (λ t. cond-false _ _ t ∙ ap (λ (l : List Entry). e ∷ l) (without-first x es ys h) ∙ sym (ap (λ (l : List Entry). l ++ ys) (cond-false es (e ∷ without x es) t)))
-
--- a place is in the list or at its end
-pub place-most : {C : Type 0} (x : ℕ) (row : List (Keyed C)) → place x row ≤ length row
-unfolding place count
-place-most x [] = omega arith
-place-most x (d ∷ ds) = let ih = place-most x ds in cond-ind (λ n. n ≤ suc (length ds)) (leb (d .key) x) (λ t. omega arith) (λ t. omega arith)
 
 -- Three parts of a list: one that ends at or before x, one with x in its range, and one that begins behind x.
 module _ (x lo a b hi : ℕ) (A B C : List Entry) (first : Within lo A a) (last : Within b C hi) (from : a ≤ x) (to : x < b) where

@@ -11,18 +11,19 @@ use lib.ListN.{length}
 use Rattle.ground.specs.Limits.{largestN, tallest, wordRange}
 use Rattle.ground.specs.Tests.{all, distinct}
 use Rattle.ground.proofs.Bools.{and-both, not-both}
-use Rattle.ground.proofs.Choice.{cond-ind, cond-true, cond-false}
+use Rattle.ground.proofs.Choice.{by-test, cond-ind, cond-true, cond-false}
 use Rattle.ground.proofs.Tests.{all-from-members}
 use Rattle.page.specs.Words.{Keyed, Page, μ, isLeaf, pointers}
 use Rattle.page.specs.Place.{place, pointer, route}
 use Rattle.page.specs.Short.{hasRight, neighbour}
 use Rattle.page.specs.Sound.{rises, least, soundByItself}
+use Rattle.page.proofs.PlaceLaws.{place-most}
 use Rattle.page.proofs.SoundPage.{SoundPage, sound-test, sound-pointers-differ}
 use Rattle.pool.specs.Pool.{wordsOf, pageAt}
 use Rattle.tree.specs.Rows.{headKey, Span, total, references, rowPage}
 use Rattle.tree.specs.Tree.{Tr, pageNumber, pageOf, once, occurs, rootLeast, InRange, Holds, Forms, PoolForms}
-use Rattle.tree.proofs.Rows.{by-test, middle-has}
-use Rattle.tree.proofs.Sorted.{place-most, rises-within, within-references}
+use Rattle.tree.proofs.Rows.{middle-has}
+use Rattle.tree.proofs.Sorted.{rises-within, within-references}
 use Rattle.tree.proofs.Memory.{once-same, once-is, times, member-times, times-distinct, root-occurs, total-middle}
 use Rattle.tree.proofs.Pages.{noLeaf, rowPage-pointers}
 use Rattle.tree.proofs.Search.{each-here}

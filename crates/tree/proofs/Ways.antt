@@ -11,16 +11,16 @@ use lib.ListN.{length, getD, drop, length-append, List·getD-append}
 use lib.Seq.{drop-at, drop-append-le, drop-append-seam, getD-append-seam}
 use Rattle.ground.specs.Limits.{wordRange}
 use Rattle.ground.proofs.Limits.{range-rises}
-use Rattle.ground.proofs.Choice.{cond-true, cond-false}
+use Rattle.ground.proofs.Choice.{by-test, cond-true, cond-false}
 use Rattle.page.specs.Words.{Keyed, Page, μ}
 use Rattle.page.specs.Place.{pointer, place}
 use Rattle.page.specs.Short.{hasRight, neighbour}
+use Rattle.page.proofs.PlaceLaws.{place-most}
 use Rattle.tree.specs.Rows.{headKey, Span, Somewhere, total, rowPage}
 use Rattle.tree.specs.Tree.{Tr, pageNumber, once, occurs, rootLeast, InRange, Holds, Stands, way, Forms}
 use Rattle.tree.specs.Facts.{Placed, PlacedWithin, PlacedFor, PlaceInside, SamePlace, PlaceFacts}
-use Rattle.tree.proofs.Rows.{by-test, headKey-append, headKey-most, somewhere-right, middle-has, middle-rises, middle-before, middle-after}
+use Rattle.tree.proofs.Rows.{headKey-append, headKey-most, somewhere-right, middle-has, middle-rises, middle-before, middle-after}
 use Rattle.tree.proofs.Pages.{rowPage-μ, rowPage-pointer}
-use Rattle.tree.proofs.Sorted.{place-most}
 use Rattle.tree.proofs.Memory.{once-same, once-is, somewhere-total, stands-occurs}
 use Rattle.tree.proofs.Search.{Down, down, down-at, each-here, way-length, way-lower, way-top}
 

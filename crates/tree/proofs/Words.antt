@@ -11,7 +11,7 @@ use lib.Dec.{leb, eqb}
 use lib.ListN.{length}
 use Rattle.ground.specs.Tests.{member, countBelow}
 use Rattle.ground.proofs.Bools.{or-first, or-second, not-both, same-if-true-together}
-use Rattle.ground.proofs.Choice.{cond-true, cond-false, cond-ind}
+use Rattle.ground.proofs.Choice.{by-test, cond-true, cond-false, cond-ind}
 use Rattle.ground.proofs.Tests.{listBelow-distinct, length-listBelow, countBelow-none, countBelow-passes, countBelow-skips}
 use Rattle.page.specs.Words.{Entry, Page, freePage, encode}
 use Rattle.page.proofs.WordLaws.{length-encode, encode-free}
@@ -23,7 +23,6 @@ use Rattle.pool.proofs.FreshLaws.{length-fresh, wordsOf-fresh-root, wordsOf-fre
 use Rattle.tree.specs.Tree.{Tr, pageNumber, once, occurs, Holds, Forms, PoolForms}
 use Rattle.tree.specs.Change.{rewritten, memoryAfter, writtenPages, Fitting, Leads}
 use Rattle.tree.specs.Facts.{emptyTree, FreeFacts}
-use Rattle.tree.proofs.Rows.{by-test}
 use Rattle.tree.proofs.Memory.{once-same, once-is, holds-same, root-occurs}
 use Rattle.tree.proofs.Ways.{total-found, place-facts}
 use Rattle.tree.proofs.Search.{each-here}

@@ -8,7 +8,7 @@ use lib.Dec.{eqb}
 use Rattle.ground.specs.Limits.{wordRange}
 use Rattle.ground.specs.Tests.{all, member, distinct}
 use Rattle.page.specs.Words.{Entry, Page}
-use Rattle.page.proofs.Fits.{Fits}
+use Rattle.page.specs.Fits.{Fits}
 use Rattle.pool.specs.Pool.{Write}
 use Rattle.tree.specs.Tree.{Tr, entriesOf, occurs, Stands, way, Forms}
 

@@ -3,7 +3,7 @@ use borrow.Author.Needs.{needs}
 use Rattle.page.specs.Words.{freePage}
 use Rattle.sheet.specs.Sheets.{sheetPage}
 use Rattle.pool.specs.Pool.{write}
-use Rattle.deletion.proofs.DeleteLaws.{three-after}
+use Rattle.pool.proofs.WriteLaws.{applied-three}
 use Rattle.deletion.proofs.deleting.collapse.Statement.{statement}
 use Rattle.deletion.proofs.deleting.collapse.Tie as tie
 
@@ -22,7 +22,7 @@ same-length c = search needs
 returns : tie.Need-returns
 returns c =
     let outset = c .before .before .before .before .before .before .before .before .before .before .before .before .before in
-    three-after (outset .args .k) (write (outset .args .f) (sheetPage (outset .args .s))) (write (outset .args .l) freePage) (write (outset .args .w) freePage)
+    applied-three (outset .args .k) (write (outset .args .f) (sheetPage (outset .args .s))) (write (outset .args .l) freePage) (write (outset .args .w) freePage)
     (outset .args .words .now)
     (c .before .before .before .before .before .before .before .before .before .before .lay-at .ensures)
     (c .before .before .before .before .before .before .clear-at .ensures)

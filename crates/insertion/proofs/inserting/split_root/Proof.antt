@@ -6,7 +6,8 @@ use native.Mathlib.Omega.{arith}
 use Rattle.ground.specs.Limits.{largestK, tallest, wordRange}
 use Rattle.page.specs.Words.{entry, page}
 use Rattle.pool.specs.Pool.{write, written}
-use Rattle.insertion.proofs.SettleLaws.{applied-three, in-pool-kept}
+use Rattle.pool.proofs.PagesLaws.{in-pool-kept}
+use Rattle.pool.proofs.WriteLaws.{applied-three}
 use Rattle.insertion.proofs.inserting.split_root.Statement.{statement}
 use Rattle.insertion.proofs.inserting.split_root.Tie as tie
 

@@ -2,7 +2,8 @@
 use mathlib.Core.Path.{_∙_}
 use native.Mathlib.Omega.{arith}
 use Rattle.ground.specs.Limits.{largestK}
-use Rattle.insertion.proofs.SettleLaws.{applied-two, in-pool-kept}
+use Rattle.pool.proofs.PagesLaws.{in-pool-kept}
+use Rattle.pool.proofs.WriteLaws.{applied-two}
 use Rattle.insertion.proofs.inserting.split_to.Statement.{statement}
 use Rattle.insertion.proofs.inserting.split_to.Tie as tie
 

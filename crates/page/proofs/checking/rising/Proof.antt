@@ -19,8 +19,11 @@ Inv-loop w from m good₀ i₀ good i = (i ≤ m) × Sofar (rises (view w .entri
 abbrev μ-loop : tie.MeasureT-loop
 μ-loop w from m good₀ i₀ good i = m - i
 
+shared-slice-read-pairs-from : tie.Need-shared-slice-read-pairs-from Inv-loop μ-loop
+shared-slice-read-pairs-from c = omega arith
+
 pairs-from-requires : tie.Need-pairs-from-requires Inv-loop μ-loop
-pairs-from-requires c κs = omega arith
+pairs-from-requires c κs = tt
 
 count-requires : tie.Need-count-requires Inv-loop μ-loop
 count-requires c κs = omega arith
@@ -66,14 +69,14 @@ loop-less c = omega arith
 
 loop-again : tie.Need-loop-again Inv-loop μ-loop
 loop-again c =
-    let start = c .before .before .before .before .before .before .before in
+    let start = c .before .before .before .before .before .before .before .before in
     let from = c .before .before .before .before .before .pairs-from in
     let i = c .before .before .before .loop .i in
     (omega arith, sofar-on _ _ _ (c .before .before .before .loop .inv .1) (λ t p. below-more _ _ p (keys-rise (start .args .w .now) (start .pre) (from .result) (from .ensures) i (omega arith) (ltb-true _ _ t))) (λ f. keys-stop (start .args .w .now) (start .pre) (from .result) (from .ensures) i (omega arith) (ltb-false _ _ f)))
 
 returns : tie.Need-returns Inv-loop μ-loop
 returns c =
-    let start = c .before .before .before .before .before in
+    let start = c .before .before .before .before .before .before in
     let from = c .before .before .before .pairs-from in
     sofar-done _ _ (c .before .loop .inv .1) (keys-done (start .args .w .now) (start .pre) (from .result) (from .ensures) (c .before .loop .i) (omega arith))
 
@@ -83,6 +86,7 @@ rising-spec =
     (tie.spec
     Inv-loop
     μ-loop
+    shared-slice-read-pairs-from
     pairs-from-requires
     count-requires
     loop-holds

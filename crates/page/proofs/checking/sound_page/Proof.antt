@@ -50,30 +50,33 @@ returns-3 c =
     pointers-fail (start .args .k) (start .args .n) (start .args .p) (start .args .w .now)
     (sym (c .before .pointers-sound .ensures) ∙ not-true (c .before .pointers-sound .result) (c .if3 .taken))
 
+shared-slice-read-pairs-from : tie.Need-shared-slice-read-pairs-from
+shared-slice-read-pairs-from c = omega arith
+
 pairs-from-requires : tie.Need-pairs-from-requires
-pairs-from-requires c κs = omega arith
+pairs-from-requires c κs = tt
 
 count-requires : tie.Need-count-requires
 count-requires c κs = omega arith
 
 mul-unused : tie.Need-mul-unused
-mul-unused c = omega (arith, words (c .before .before .before .before .before .before) .inside)
+mul-unused c = omega (arith, words (c .before .before .before .before .before .before .before) .inside)
 
 add-unused : tie.Need-add-unused
-add-unused c = omega (arith, words (c .before .before .before .before .before .before) .inside)
+add-unused c = omega (arith, words (c .before .before .before .before .before .before .before) .inside)
 
 unused-requires : tie.Need-unused-requires
 unused-requires c κs = omega arith
 
 returns-4 : tie.Need-returns-4
 returns-4 c =
-    let start = c .before .before .before .before .before .before .before .before .before .before in
+    let start = c .before .before .before .before .before .before .before .before .before .before .before in
     let from = c .before .before .pairs-from in
     let count = c .before .count in
-    let pointers = c .before .before .before .before .pointers-sound in
+    let pointers = c .before .before .before .before .before .pointers-sound in
     c .unused .ensures
     ∙ zeros-left (start .args .k) (start .args .n) (start .args .p) (start .args .w .now) (from .result) (count .result)
-    (shape-held (c .before .before .before .before .before .before .before)) (keys-held (c .before .before .before .before .before)) (sym (pointers .ensures) ∙ not-false (pointers .result) (c .before .before .before .if3 .left))
+    (shape-held (c .before .before .before .before .before .before .before .before)) (keys-held (c .before .before .before .before .before .before)) (sym (pointers .ensures) ∙ not-false (pointers .result) (c .before .before .before .before .if3 .left))
     (from .ensures) (count .ensures)
 
 pub sound-page-spec : {M : Type 1} → statement M
@@ -86,6 +89,7 @@ sound-page-spec =
     returns-2
     pointers-sound-requires
     returns-3
+    shared-slice-read-pairs-from
     pairs-from-requires
     count-requires
     mul-unused

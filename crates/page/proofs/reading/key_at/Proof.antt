@@ -5,8 +5,11 @@ use Rattle.page.proofs.ReadingLaws.{key-word}
 use Rattle.page.proofs.reading.key_at.Statement.{statement}
 use Rattle.page.proofs.reading.key_at.Tie as tie
 
+shared-slice-read-pairs-from : tie.Need-shared-slice-read-pairs-from
+shared-slice-read-pairs-from c = omega arith
+
 pairs-from-requires : tie.Need-pairs-from-requires
-pairs-from-requires c κs = omega arith
+pairs-from-requires c κs = tt
 
 mul-result : tie.Need-mul-result
 mul-result c = omega arith
@@ -22,7 +25,7 @@ shared-slice-read-result c = omega arith
 
 returns : tie.Need-returns
 returns c =
-    let start = c .before .before .before in
+    let start = c .before .before .before .before in
     let from = c .before .pairs-from in
     sym (key-word (start .args .w .now) (start .pre .0) (from .result) (start .args .i) (from .ensures) (start .pre .1))
 
@@ -30,6 +33,7 @@ pub key-at-spec : {M : Type 1} → statement M
 key-at-spec =
     tie.close
     (tie.spec
+    shared-slice-read-pairs-from
     pairs-from-requires
     mul-result
     add-result

@@ -15,8 +15,11 @@ Inv-loop w x from m i₀ i = (i ≤ m) × ((j : ℕ) → j < i → keyAt j (view
 abbrev μ-loop : tie.MeasureT-loop
 μ-loop w x from m i₀ i = m - i
 
+shared-slice-read-pairs-from : tie.Need-shared-slice-read-pairs-from Inv-loop μ-loop
+shared-slice-read-pairs-from c = omega arith
+
 pairs-from-requires : tie.Need-pairs-from-requires Inv-loop μ-loop
-pairs-from-requires c κs = omega arith
+pairs-from-requires c κs = tt
 
 count-requires : tie.Need-count-requires Inv-loop μ-loop
 count-requires c κs = omega arith
@@ -38,7 +41,7 @@ shared-slice-read-if1 c = omega arith
 
 returns : tie.Need-returns Inv-loop μ-loop
 returns c =
-    let start = c .before .before .before .before .before .before .before in
+    let start = c .before .before .before .before .before .before .before .before in
     let from = c .before .before .before .before .before .pairs-from in
     let head = c .before .before .before .loop in (
       place-found (start .args .w .now) (start .pre .0) (start .args .x) (from .result) (head .i) (from .ensures) (start .pre .1)
@@ -54,7 +57,7 @@ loop-less c = omega arith
 
 loop-again : tie.Need-loop-again Inv-loop μ-loop
 loop-again c =
-    let start = c .before .before .before .before .before .before .before in
+    let start = c .before .before .before .before .before .before .before .before in
     let from = c .before .before .before .before .before .pairs-from in
     let head = c .before .before .before .loop in
     let key = key-word (start .args .w .now) (start .pre .0) (from .result) (head .i) (from .ensures) (omega arith) in
@@ -62,7 +65,7 @@ loop-again c =
 
 returns-2 : tie.Need-returns-2 Inv-loop μ-loop
 returns-2 c =
-    let start = c .before .before .before .before .before in
+    let start = c .before .before .before .before .before .before in
     let from = c .before .before .before .pairs-from in (
       place-found (start .args .w .now) (start .pre .0) (start .args .x) (from .result) (c .before .before .count .result) (from .ensures)
           (start .pre .1) (omega arith) (λ j h. c .before .loop .inv .1 j (omega arith)) (λ h. absurd (omega arith)),
@@ -75,6 +78,7 @@ place-spec =
     (tie.spec
     Inv-loop
     μ-loop
+    shared-slice-read-pairs-from
     pairs-from-requires
     count-requires
     loop-holds

@@ -5,8 +5,11 @@ use Rattle.page.proofs.ReadingLaws.{value-word}
 use Rattle.page.proofs.reading.value_at.Statement.{statement}
 use Rattle.page.proofs.reading.value_at.Tie as tie
 
+shared-slice-read-pairs-from : tie.Need-shared-slice-read-pairs-from
+shared-slice-read-pairs-from c = omega arith
+
 pairs-from-requires : tie.Need-pairs-from-requires
-pairs-from-requires c κs = omega arith
+pairs-from-requires c κs = tt
 
 mul-result : tie.Need-mul-result
 mul-result c = omega arith
@@ -25,7 +28,7 @@ shared-slice-read-result c = omega arith
 
 returns : tie.Need-returns
 returns c =
-    let start = c .before .before .before in
+    let start = c .before .before .before .before in
     let from = c .before .pairs-from in
     sym (value-word (start .args .w .now) (start .pre .0) (from .result) (start .args .i) (from .ensures) (start .pre .1))
 
@@ -33,6 +36,7 @@ pub value-at-spec : {M : Type 1} → statement M
 value-at-spec =
     tie.close
     (tie.spec
+    shared-slice-read-pairs-from
     pairs-from-requires
     mul-result
     add-result

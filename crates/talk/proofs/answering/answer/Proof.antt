@@ -1,5 +1,6 @@
 -- `answer` meets its contract: too long, or the answers from a fresh pool.
 use borrow.Author.Needs.{needs}
+use Rattle.pool.specs.Pool.{poolLength}
 use Rattle.talk.specs.Talk.{blank}
 use Rattle.talk.proofs.Whole.{too-long-writes, lines-write}
 use Rattle.talk.proofs.answering.answer.Statement.{statement}
@@ -25,7 +26,7 @@ answer-lines-requires : tie.Need-answer-lines-requires
 answer-lines-requires c κs = search needs
 
 returns-2 : tie.Need-returns-2
-unfolding blank
+unfolding poolLength blank
 returns-2 c =
     lines-write _ _ (c .before .before .before .before .before .before .before .before .if1 .left)
     (c .before .before .before .before .before .before .make .ensures) (c .before .answer-lines .ensures)

@@ -1,0 +1,312 @@
+-- Demand 2 holds: it is read off what holds after every call of a run.
+use Prim.Native.Nat.{ℕ, suc, _-_, _*_, _≤_, _<_}
+use mathlib.Core.Bool.{true, false, false≢true}
+use mathlib.Core.Logic.{inl, inr, ⊎-elim, _≢_}
+use mathlib.Core.List.{List, [], _∷_, _++_, map}
+use mathlib.Core.Path.{_≡_, refl, sym, ap, ap₂, subst, _∙_}
+use native.Mathlib.Omega.{arith}
+use lib.Dec.{eqb}
+use lib.ListN.{length, take}
+use borrow.Author.Tests.{eqb-true, ltb-true, lt-ltb, le-ltb}
+use Rattle.ground.specs.Limits.{slotCount}
+use Rattle.ground.specs.Tests.{member, padded}
+use Rattle.ground.proofs.Bools.{not-both, false-if-not-true, and-first, and-second, or-first, or-second, or-cases}
+use Rattle.ground.proofs.Choice.{cond-true, cond-false}
+use Rattle.ground.proofs.Tests.{member-append}
+use Rattle.page.specs.Words.{Page, μ, encode}
+use Rattle.page.specs.Place.{place, pointer}
+use Rattle.page.specs.Short.{neighbour}
+use Rattle.page.proofs.WordLaws.{encode-free}
+use Rattle.pool.specs.Pool.{Write, wordsOf, applied, pageAt}
+use Rattle.pool.proofs.WriteLaws.{wordsOf-applied-other}
+use Rattle.slots.specs.declared.Op.{Op}
+use Rattle.slots.specs.declared.Op.the-variants.{Search, Insert, Delete}
+use Rattle.slots.specs.declared.Task.{Task}
+use Rattle.slots.specs.declared.Task.the-variants.{Closed, Open}
+use Rattle.slots.specs.declared.Slot.{Slot}
+use Rattle.slots.specs.declared.State.{State}
+use Rattle.slots.specs.declared.Outcome.{Outcome}
+use Rattle.slots.specs.declared.Answer.{Answer}
+use Rattle.slots.specs.declared.Answer.the-variants.{Waiting, Moved, NoRoom, BadSlot, SlotIdle}
+use Rattle.slots.specs.Parts.{isOpen, held, pathOf, siblingsOf, slotAt, openAt, wantAt, holdsAt, openSlot, closedSlot}
+use Rattle.slots.specs.Locks.{lockOf, clash}
+use Rattle.slots.specs.Sound.{withinLimits}
+use Rattle.slots.specs.Heard.{numberOf, changesNothing}
+use Rattle.slots.specs.Report.{reported}
+use Rattle.slots.specs.Grant.{grants}
+use Rattle.slots.specs.Book.{begins, goesOn, closes}
+use Rattle.slots.specs.Begin.{begun}
+use Rattle.slots.proofs.SoundFacts.{facts-sound}
+use Rattle.slots.proofs.Clashes.{no-two-locks-clash}
+use Rattle.slots.proofs.GrantLaws.{holder-open}
+use Rattle.slots.proofs.OrderLaws.{member-here, member-cases, order-has-room, waiting-begins, waiting-requeued, waiting-closes}
+use Rattle.slots.proofs.Keeping.{slot-here, slot-other, path-new, siblings-new, held-new}
+use Rattle.grant.specs.Granted.{isSafe}
+use Rattle.index.specs.Step.{Left, left, stepped}
+use Rattle.tree.specs.Tree.{entriesOf}
+use Rattle.tree.specs.Change.{writtenPages}
+use Rattle.tree.proofs.Words.{fit-writes}
+use Rattle.runs.specs.Run.{Call, begin, step, report, called, runFrom}
+use Rattle.runs.specs.Stance.{Safe, Takes}
+use Rattle.runs.specs.Waits.{Barred}
+use Rattle.runs.specs.Step.{Ended}
+use Rattle.runs.specs.Done.{counted, isOneOf}
+use Rattle.runs.proofs.Invariant.{Invariant}
+use Rattle.runs.proofs.Calls.{StepOf, noSlot, idle, waits, onward, over, step-of}
+use Rattle.runs.proofs.Runs.{call-keeps, call-numbers, BeginOf, noSuch, busy, begins-so, begin-of, ReportOf, noPage, tells, report-of, holds-after, numbers-after}
+use Rattle.runs.proofs.Progress.{barred, barred-waits}
+use Rattle.runs.proofs.Agreement.{plain-counted}
+use Rattle.promises.specs.Demand1.{Exactly}
+use Rattle.promises.specs.Demand2.{Opened, AfterEveryCall, ending, StepLocks, CallLocks, answersOf, Words, Demand2Holds}
+
+-- ---- after every call
+
+-- two open slots whose locks go together both search
+both-search : (a b : Task) → isOpen a ≡ true → isOpen b ≡ true → clash (lockOf a) (lockOf b) ≡ false
+    → ((x : ℕ) × (a ≡ Open (Search x))) × ((x : ℕ) × (b ≡ Open (Search x)))
+both-search Closed b o q c = not-both o refl
+both-search (Open op) Closed o q c = not-both q refl
+both-search (Open (Search x)) (Open (Search y)) o q c = ((x, refl), (y, refl))
+both-search (Open (Search x)) (Open (Insert y v)) o q c = not-both refl c
+both-search (Open (Search x)) (Open (Delete y)) o q c = not-both refl c
+both-search (Open (Insert x w)) (Open (Search y)) o q c = not-both refl c
+both-search (Open (Insert x w)) (Open (Insert y v)) o q c = not-both refl c
+both-search (Open (Insert x w)) (Open (Delete y)) o q c = not-both refl c
+both-search (Open (Delete x)) (Open (Search y)) o q c = not-both refl c
+both-search (Open (Delete x)) (Open (Insert y v)) o q c = not-both refl c
+both-search (Open (Delete x)) (Open (Delete y)) o q c = not-both refl c
+
+-- "a closed slot holds nothing"
+closed-empty : (task : Task) (depth beside : ℕ) (path siblings : List ℕ) → withinLimits task depth beside ≡ true → isOpen task ≡ false → take depth path ++ take beside siblings ≡ []
+closed-empty Closed depth beside path siblings h c =
+    ap₂ (λ (i j : ℕ). take i path ++ take j siblings)
+    (eqb-true depth 0 (and-first (eqb depth 0) (eqb beside 0) h))
+    (eqb-true beside 0 (and-second (eqb depth 0) (eqb beside 0) h))
+closed-empty (Open op) depth beside path siblings h c = not-both refl c
+
+after-call : (st : State) (ws : List ℕ) → Invariant st ws → AfterEveryCall (st .k) (st .n) st ws
+unfolding pathOf siblingsOf
+after-call st ws inv = record {
+  sameK = refl;
+  sameN = refl;
+  height = inv .height;
+  tree = inv .tree;
+  forms = inv .forms;
+  free = λ q b none. inv .forms .exact q b ∙ ap (encode (st .k)) (inv .forms .forms .others q b none) ∙ encode-free (st .k);
+  soundState = facts-sound st (inv .sound);
+  locks = λ s u p b c n hs hu. both-search (slotAt st s .task) (slotAt st u .task)
+      (holder-open (st .n) (slotAt st s) p (inv .sound .slot s b) hs)
+      (holder-open (st .n) (slotAt st u) p (inv .sound .slot u c) hu)
+      (no-two-locks-clash st (inv .sound) s u p b c n hs hu);
+  stands = inv .stands;
+  closed = λ s b c. closed-empty (slotAt st s .task) (slotAt st s .depth) (slotAt st s .beside) (slotAt st s .path) (slotAt st s .siblings) (inv .sound .slot s b .limits) c;
+}
+
+-- ---- what one call takes and gives up
+
+last-member : (p : ℕ) (ps : List ℕ) → member p (ps ++ p ∷ []) ≡ true
+last-member p ps = member-append p ps (p ∷ []) ∙ or-second (member p ps) (member-here p [])
+
+-- the page that was wanted is held afterwards
+takes-wanted : (op : Op) (k : ℕ) (memory : ℕ → Page) (path siblings : List ℕ) (want : ℕ) (path′ siblings′ : List ℕ)
+    → Takes op k memory path siblings want path′ siblings′ → member want (path′ ++ siblings′) ≡ true
+takes-wanted op k memory path siblings want path′ siblings′ (inl g) =
+    member-append want path′ siblings′ ∙ or-first (member want siblings′) (ap (member want) (g .holds) ∙ member-here want [])
+takes-wanted op k memory path siblings want path′ siblings′ (inr (inl g)) =
+    member-append want path′ siblings′ ∙ or-first (member want siblings′) (ap (member want) (g .holds) ∙ last-member want path)
+takes-wanted op k memory path siblings want path′ siblings′ (inr (inr g)) =
+    member-append want path′ siblings′ ∙ or-second (member want path′) (ap (member want) (g .holds) ∙ last-member want siblings)
+
+module _ (st : State) (ws : List ℕ) (inv : Invariant st ws) where
+  order-long : st .waiting ≤ length (st .order)
+  order-long = subst (λ (m : ℕ). st .waiting ≤ m) (sym (inv .shaped .order)) (inv .sound .waits)
+
+  -- a step is answered Waiting exactly if it is barred
+  abbrev Waits : ℕ → Left → Type 0
+  Waits s r = Exactly (r .answer ≡ Waiting) ((s < slotCount) × (openAt st s ≡ true) × Barred st s)
+
+  -- another answer, of a slot that is not barred
+  not-waiting : (s : ℕ) (a : Answer) (next : State) (words : List ℕ) → isOneOf a (Waiting ∷ []) ≡ false
+      → ((s < slotCount) × (openAt st s ≡ true) × Barred st s → ⊥) → Waits s (left a next words)
+  unfolding member
+  not-waiting s a next words other free = (λ e. absurd (false≢true (sym other ∙ ap (λ (x : Answer). isOneOf x (Waiting ∷ [])) e)), λ w. absurd (free w))
+
+  unchanged : (s : ℕ) (a : Answer) → changesNothing a ≡ true → Waits s (left a st ws) → stepped st ws s ≡ left a st ws → StepLocks st ws s (stepped st ws s)
+  unchanged s a same w e = subst (StepLocks st ws s) (sym e) (record { itself = inl (record { answer = same; state = refl; words = refl }); others = λ u n. refl; waits = w })
+
+  moved : (s : ℕ) (b : s < slotCount) (op : Op) (path siblings : List ℕ) (want : ℕ) → Opened st s op
+      → Takes op (st .k) (pageAt (st .k) ws) (pathOf (slotAt st s)) (siblingsOf (slotAt st s)) (wantAt st s) path siblings
+      → grants st s ≡ true → StepLocks st ws s (left Moved (goesOn st s op want path siblings) ws)
+  unfolding goesOn member
+  moved s b op path siblings want runs takes g = record {
+    itself = inr (inl (record {
+      op = op;
+      opened = runs;
+      answer = refl;
+      words = refl;
+      still = ap (λ (sl : Slot). sl .task) here;
+      taken = ap (λ (sl : Slot). member (wantAt st s) (held sl)) here ∙ ap (member (wantAt st s)) (held-new op want path siblings)
+          ∙ takes-wanted op (st .k) (pageAt (st .k) ws) (pathOf (slotAt st s)) (siblingsOf (slotAt st s)) (wantAt st s) path siblings takes;
+      takes = subst (λ (sl : Slot). Takes op (st .k) (pageAt (st .k) ws) (pathOf (slotAt st s)) (siblingsOf (slotAt st s)) (wantAt st s) (pathOf sl) (siblingsOf sl)) (sym here)
+          (subst (λ (ps : List ℕ). Takes op (st .k) (pageAt (st .k) ws) (pathOf (slotAt st s)) (siblingsOf (slotAt st s)) (wantAt st s) ps (siblingsOf slot)) (sym (path-new op want path siblings))
+          (subst (Takes op (st .k) (pageAt (st .k) ws) (pathOf (slotAt st s)) (siblingsOf (slotAt st s)) (wantAt st s) path) (sym (siblings-new op want path siblings)) takes));
+      order = waiting-requeued st s order-long (inv .sound .orderNames s b (ap isOpen runs)) slot;
+    }));
+    others = λ u n. slot-other st (inv .shaped) s b slot [] 0 u n;
+    waits = not-waiting s Moved (goesOn st s op want path siblings) ws refl (λ w. not-both g (barred-waits st s (w .2)));
+  }
+    where
+      slot : Slot
+      slot = openSlot op want path siblings
+
+      here : slotAt (goesOn st s op want path siblings) s ≡ slot
+      here = slot-here st (inv .shaped) s b slot [] 0
+
+  -- what an ended operation did not hold, and was not free, it did not write
+  untouched : (s : ℕ) (op : Op) (a : Answer) (writes : List Write)
+      → Ended op (st .k) (st .n) ws (inv .height) (inv .tree) (pathOf (slotAt st s)) (siblingsOf (slotAt st s)) (wantAt st s) a writes
+      → (q : ℕ) → q < st .n → holdsAt st s q ≡ false → q ≢ wantAt st s → pageAt (st .k) ws q .level ≢ 0 → wordsOf (st .k) q (applied (st .k) writes ws) ≡ wordsOf (st .k) q ws
+  untouched s op a writes e q b h n level =
+      wordsOf-applied-other (st .k) (st .n) q writes ws (fit-writes (st .k) (st .n) writes (e .leads .fitting) (e .leads .inside))
+      (false-if-not-true (member q (writtenPages writes)) (λ w. ⊎-elim
+      (λ m. ⊎-elim (λ same. n same) (λ held-so. not-both held-so h) (member-cases q (wantAt st s) (held (slotAt st s)) m))
+      (λ none. level (ap (λ (P : Page). P .level) (inv .forms .forms .others q b none)))
+      (e .only q w)))
+
+  -- an operation ends with an answer that ends
+  ends-so : (op : Op) (s : ℕ) (a : Answer) (writes : List Write)
+      → Ended op (st .k) (st .n) ws (inv .height) (inv .tree) (pathOf (slotAt st s)) (siblingsOf (slotAt st s)) (wantAt st s) a writes → isOneOf a ending ≡ true
+  unfolding member
+  ends-so op s a writes e =
+      ⊎-elim
+      (λ p. or-second (eqb (numberOf a) (numberOf NoRoom)) (ap (λ (x : Answer). isOneOf x counted) (p .answer) ∙ plain-counted op (entriesOf (inv .height) (inv .tree))))
+      (λ r. ap (λ (x : Answer). isOneOf x ending) (r .0 .answer))
+      (e .how)
+
+  -- which is not Waiting
+  ends-waiting : (op : Op) (s : ℕ) (a : Answer) (writes : List Write)
+      → Ended op (st .k) (st .n) ws (inv .height) (inv .tree) (pathOf (slotAt st s)) (siblingsOf (slotAt st s)) (wantAt st s) a writes → isOneOf a (Waiting ∷ []) ≡ false
+  unfolding member
+  ends-waiting op s a writes e =
+      false-if-not-true (isOneOf a (Waiting ∷ [])) (λ w.
+      let same : numberOf a ≡ numberOf Waiting = ⊎-elim (λ h. eqb-true (numberOf a) (numberOf Waiting) h) (λ h. absurd (false≢true h)) (or-cases (eqb (numberOf a) (numberOf Waiting)) false w) in
+      not-both (ends-so op s a writes e) (ap (λ (m : ℕ). member m (map numberOf ending)) same))
+
+  ended : (s : ℕ) (b : s < slotCount) (op : Op) (a : Answer) (writes : List Write) → Opened st s op → grants st s ≡ true
+      → Ended op (st .k) (st .n) ws (inv .height) (inv .tree) (pathOf (slotAt st s)) (siblingsOf (slotAt st s)) (wantAt st s) a writes
+      → StepLocks st ws s (left a (closes st s) (applied (st .k) writes ws))
+  unfolding closes pathOf siblingsOf padded applied
+  ended s b op a writes runs g e = record {
+    itself = inr (inr (record {
+      op = op;
+      opened = runs;
+      answer = ends-so op s a writes e;
+      nothing = ap held here;
+      closed = ap (λ (sl : Slot). isOpen (sl .task)) here;
+      order = waiting-closes st s order-long (inv .sound .orderNames s b (ap isOpen runs));
+      writes = untouched s op a writes e;
+      reads = λ other. ap (λ (W : List Write). applied (st .k) W ws) (e .writers other);
+    }));
+    others = λ u n. slot-other st (inv .shaped) s b closedSlot [] 0 u n;
+    waits = not-waiting s a (closes st s) (applied (st .k) writes ws) (ends-waiting op s a writes e) (λ w. not-both g (barred-waits st s (w .2)));
+  }
+    where
+      here : slotAt (closes st s) s ≡ closedSlot
+      here = slot-here st (inv .shaped) s b closedSlot [] 0
+
+  step-locks : (s : ℕ) → StepOf st ws inv s → StepLocks st ws s (stepped st ws s)
+  unfolding member
+  step-locks s (noSlot b e) = unchanged s BadSlot refl (not-waiting s BadSlot st ws refl (λ w. let inside = w .0 in absurd (omega arith))) e
+  step-locks s (idle b c e) = unchanged s SlotIdle refl (not-waiting s SlotIdle st ws refl (λ w. not-both (w .1) c)) e
+  step-locks s (waits op b runs g e) = unchanged s Waiting refl (λ _. (b, ap isOpen runs, barred st s g), λ _. refl) e
+  step-locks s (onward op path siblings want b runs g e stance takes) = subst (StepLocks st ws s) (sym e) (moved s b op path siblings want runs takes g)
+  step-locks s (over op a writes b runs g e ends) = subst (StepLocks st ws s) (sym e) (ended s b op a writes runs g ends)
+
+  begin-locks : (s : ℕ) (op : Op) → BeginOf st s op → CallLocks st ws (begin s op) (called st ws (begin s op))
+  unfolding called begins
+  begin-locks s op (noSuch b e) = subst (λ (r : Outcome). CallLocks st ws (begin s op) (left (r .answer) (r .state) ws)) (sym e) (inl (record { answer = refl; state = refl; words = refl }))
+  begin-locks s op (busy b o e) = subst (λ (r : Outcome). CallLocks st ws (begin s op) (left (r .answer) (r .state) ws)) (sym e) (inl (record { answer = refl; state = refl; words = refl }))
+  begin-locks s op (begins-so b c e) =
+      let here : slotAt (begins st s op) s ≡ openSlot op 0 [] [] = slot-here st (inv .shaped) s b (openSlot op 0 [] []) [] 0 in
+      subst (λ (r : Outcome). CallLocks st ws (begin s op) (left (r .answer) (r .state) ws)) (sym e)
+      (inr (record {
+        answer = refl;
+        words = refl;
+        opened = ap (λ (sl : Slot). sl .task) here;
+        nothing = ap held here ∙ held-new op 0 [] [];
+        root = ap (λ (sl : Slot). sl .want) here;
+        order = waiting-begins st s op (subst (λ (m : ℕ). st .waiting < m) (sym (inv .shaped .order)) (order-has-room st (inv .shaped .order) (inv .sound) s b c));
+        others = λ u n. slot-other st (inv .shaped) s b (openSlot op 0 [] []) [] 0 u n;
+      }))
+
+  call-locks : (c : Call) → CallLocks st ws c (called st ws c)
+  unfolding called
+  call-locks (begin s op) = begin-locks s op (begin-of st ws inv s op)
+  call-locks (step s) = step-locks s (step-of st ws inv s)
+  call-locks (report p) = (refl, refl)
+
+  -- ---- what is heard
+
+  begin-heard : (s : ℕ) (op : Op) → BeginOf st s op → isOneOf (begun st s op .answer) (answersOf (begin s op)) ≡ true
+  unfolding member
+  begin-heard s op (noSuch b e) = ap (λ (r : Outcome). isOneOf (r .answer) (answersOf (begin s op))) e
+  begin-heard s op (busy b o e) = ap (λ (r : Outcome). isOneOf (r .answer) (answersOf (begin s op))) e
+  begin-heard s op (begins-so b c e) = ap (λ (r : Outcome). isOneOf (r .answer) (answersOf (begin s op))) e
+
+  step-heard : (s : ℕ) → StepOf st ws inv s → isOneOf (stepped st ws s .answer) (answersOf (step s)) ≡ true
+  unfolding member
+  step-heard s (noSlot b e) = ap (λ (r : Left). isOneOf (r .answer) (answersOf (step s))) e
+  step-heard s (idle b c e) = ap (λ (r : Left). isOneOf (r .answer) (answersOf (step s))) e
+  step-heard s (waits op b runs g e) = ap (λ (r : Left). isOneOf (r .answer) (answersOf (step s))) e
+  step-heard s (onward op path siblings want b runs g e stance takes) = ap (λ (r : Left). isOneOf (r .answer) (answersOf (step s))) e
+  step-heard s (over op a writes b runs g e ends) =
+      ap (λ (r : Left). isOneOf (r .answer) (answersOf (step s))) e
+      ∙ or-second (eqb (numberOf a) (numberOf Waiting)) (or-second (eqb (numberOf a) (numberOf Moved))
+      (or-second (eqb (numberOf a) (numberOf BadSlot)) (or-second (eqb (numberOf a) (numberOf SlotIdle)) (ends-so op s a writes ends))))
+
+  report-heard : (p : ℕ) → ReportOf st p → isOneOf (reported st p) (answersOf (report p)) ≡ true
+  unfolding member
+  report-heard p (noPage b e) = ap (λ (a : Answer). isOneOf a (answersOf (report p))) e
+  report-heard p (tells b e) = ap (λ (a : Answer). isOneOf a (answersOf (report p))) e
+
+  pub call-heard : (c : Call) → isOneOf (called st ws c .answer) (answersOf c) ≡ true
+  unfolding called
+  call-heard (begin s op) = begin-heard s op (begin-of st ws inv s op)
+  call-heard (step s) = step-heard s (step-of st ws inv s)
+  call-heard (report p) = report-heard p (report-of st ws inv p)
+
+-- ---- the words of the rules
+
+safe-is : (k : ℕ) (op : Op) (m : ℕ) → Exactly (isSafe op k m ≡ true) (Safe op k m)
+safe-is k (Search x) m = (λ _. tt, λ _. refl)
+safe-is k (Insert x v) m = (ltb-true m (2 * k), lt-ltb m (2 * k))
+safe-is k (Delete x) m = (ltb-true k m, lt-ltb k m)
+
+words-pinned : (k : ℕ) → Words k
+unfolding neighbour
+words-pinned k = record {
+  safe = safe-is k;
+  right = λ x F h. cond-true (pointer (suc (place x (F .entries))) F) (pointer (place x (F .entries) - 1) F) (lt-ltb (place x (F .entries)) (μ F) h);
+  left = λ x F h. cond-false (pointer (suc (place x (F .entries))) F) (pointer (place x (F .entries) - 1) F) (le-ltb (place x (F .entries)) (μ F) h);
+}
+
+-- ---- the demand
+
+-- of the numbers of a run
+with-numbers : (k n : ℕ) (st : State) (ws : List ℕ) → st .k ≡ k → st .n ≡ n → Invariant st ws → AfterEveryCall k n st ws
+with-numbers k n st ws ek en inv = subst (λ (m : ℕ). AfterEveryCall k m st ws) en (subst (λ (m : ℕ). AfterEveryCall m (st .n) st ws) ek (after-call st ws inv))
+
+pub demand2 : Demand2Holds
+demand2 k n ws cs r =
+    let st : State = runFrom k n ws cs .state in
+    let after : List ℕ = runFrom k n ws cs .words in
+    let inv : Invariant st after = holds-after k n ws cs r in
+    let numbers = numbers-after k n ws cs r in
+    record {
+      left = with-numbers k n st after (numbers .0) (numbers .1) inv;
+      next = λ c key. let same = call-numbers st after inv c in
+          with-numbers k n (called st after c .state) (called st after c .words) (same .0 ∙ numbers .0) (same .1 ∙ numbers .1) (call-keeps st after inv c key);
+      locks = call-locks st after inv;
+      heard = call-heard st after inv;
+      words = words-pinned k;
+    }

@@ -1,0 +1,89 @@
+-- Demand 3 holds: agreement, room, no standstill, rounds and counts, read off what holds of every state of a run.
+use Prim.Native.Nat.{ℕ, _<_}
+use mathlib.Core.Bool.{true}
+use mathlib.Core.List.{List, [], _∷_, _++_}
+use mathlib.Core.Path.{_≡_, refl, subst}
+use Rattle.ground.specs.Limits.{slotCount}
+use Rattle.ground.proofs.Limits.{rounds-of-slots}
+use Rattle.page.specs.Words.{Entry}
+use Rattle.page.specs.Sound.{rises}
+use Rattle.slots.specs.declared.Op.{Op}
+use Rattle.slots.specs.declared.State.{State}
+use Rattle.slots.specs.Parts.{openAt, slotAt}
+use Rattle.tree.specs.Tree.{PoolForms}
+use Rattle.runs.specs.Run.{Call, runFrom, InWords, Run}
+use Rattle.runs.specs.Plain.{plain}
+use Rattle.runs.specs.Done.{plainEntries}
+use Rattle.runs.proofs.Invariant.{Invariant}
+use Rattle.runs.proofs.Runs.{holds-after, numbers-after}
+use Rattle.runs.proofs.Progress.{some-can-go, opened}
+use Rattle.runs.proofs.Agreement.{same-entries, agreement}
+use Rattle.runs.proofs.PlainLaws.{plain-facts}
+use Rattle.runs.proofs.Rounds.{rounds-close}
+use Rattle.runs.proofs.Counts.{granted-heard, counts-from}
+use Rattle.promises.specs.Demand3.{Agreement, Room, SomeGoes, Demand3Holds}
+use Rattle.promises.proofs.Room.{room}
+
+-- ---- the same answers
+
+agrees-so : (k n : ℕ) (ws : List ℕ) (cs : List Call) → Run k n ws cs → Agreement k n cs (runFrom k n ws cs)
+agrees-so k n ws cs r =
+    let st : State = runFrom k n ws cs .state in
+    let after : List ℕ = runFrom k n ws cs .words in
+    let inv : Invariant st after = holds-after k n ws cs r in
+    let a = agreement k n ws cs r in
+    let numbers = numbers-after k n ws cs r in
+    let forms : PoolForms k n after (inv .height) (inv .tree) =
+    subst (λ (m : ℕ). PoolForms k m after (inv .height) (inv .tree)) (numbers .1) (subst (λ (m : ℕ). PoolForms m (st .n) after (inv .height) (inv .tree)) (numbers .0) (inv .forms)) in
+    record {
+      answers = a .answers;
+      height = inv .height;
+      tree = inv .tree;
+      forms = forms;
+      only = λ l t f. same-entries k n after l t (inv .height) (inv .tree) f forms;
+      entries = a .entries (inv .height) (inv .tree) (inv .forms);
+    }
+
+-- the calls before a moment of a run are a run
+words-before : (before rest : List Call) → InWords (before ++ rest) → InWords before
+words-before [] rest h = tt
+words-before (c ∷ before) rest h = (h .0, words-before before rest (h .1))
+
+run-before : (k n : ℕ) (ws : List ℕ) (cs before rest : List Call) → cs ≡ before ++ rest → Run k n ws cs → Run k n ws before
+run-before k n ws cs before rest e r = record { numbers = r .numbers; whole = r .whole; inWords = words-before before rest (subst InWords e (r .inWords)) }
+
+-- ---- no standstill
+
+some-goes : (st : State) (ws : List ℕ) → Invariant st ws → (s : ℕ) → s < slotCount → openAt st s ≡ true → SomeGoes st ws
+some-goes st ws inv s b o =
+    let (u, c, q, g) = some-can-go st ws inv s b o in
+    let (op, runs) = opened (slotAt st u .task) q in
+    record { slot = u; inside = c; opened = q; granted = g; answered = granted-heard st ws inv u (record { op = op; inside = c; runs = runs; granted = g }) }
+
+-- ---- the plain list
+
+-- from the empty list on its keys rise
+plain-rises : (ops : List Op) (es : List Entry) → rises es ≡ true → rises (plainEntries ops es) ≡ true
+unfolding plainEntries
+plain-rises [] es h = h
+plain-rises (op ∷ ops) es h = plain-rises ops (plain op es .entries) (plain-facts es h .rising op)
+
+-- ---- the demand
+
+pub demand3 : Demand3Holds
+unfolding rises
+demand3 k n ws cs r =
+    let st : State = runFrom k n ws cs .state in
+    let after : List ℕ = runFrom k n ws cs .words in
+    let inv : Invariant st after = holds-after k n ws cs r in
+    let numbers = numbers-after k n ws cs r in
+    record {
+      agreement = agrees-so k n ws cs r;
+      everyMoment = λ before rest e. agrees-so k n ws before (run-before k n ws cs before rest e r);
+      plainList = λ ops. plain-facts (plainEntries ops []) (plain-rises ops [] refl);
+      room = subst (λ (m : ℕ). Room k m st after) (numbers .1) (subst (λ (m : ℕ). Room m (st .n) st after) (numbers .0) (room st after inv));
+      someGoes = some-goes st after inv;
+      rounds = rounds-close st after inv;
+      grantCounts = counts-from st after inv;
+      roundsOfSlots = rounds-of-slots;
+    }

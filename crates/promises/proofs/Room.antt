@@ -1,0 +1,208 @@
+-- "No room" comes exactly when a new key needs more pages than are free, and changes nothing.
+use Prim.Native.Nat.{ℕ, _≤_, _<_}
+use mathlib.Core.Bool.{true, false, false≢true}
+use mathlib.Core.Logic.{inl, inr, ⊎-elim}
+use mathlib.Core.List.{List, [], _∷_, reverse, reverse-append}
+use mathlib.Core.Path.{_≡_, refl, sym, ap, subst, _∙_}
+use native.Mathlib.Omega.{arith}
+use lib.ListN.{length, getD, length-append}
+use borrow.Author.Tests.{eqb-true}
+use Rattle.ground.specs.Limits.{slotCount}
+use Rattle.ground.specs.Tests.{member}
+use Rattle.ground.proofs.Bools.{not-both}
+use Rattle.ground.proofs.Choice.{cond-true, cond-false}
+use Rattle.page.specs.Words.{Page, Entry, isLeaf}
+use Rattle.page.specs.Place.{has}
+use Rattle.pool.specs.Pool.{Write, pageAt, freePages, applied}
+use Rattle.slots.specs.declared.Op.{Op}
+use Rattle.slots.specs.declared.Op.the-variants.{Insert}
+use Rattle.slots.specs.declared.Task.the-variants.{Open}
+use Rattle.slots.specs.declared.State.{State}
+use Rattle.slots.specs.declared.Answer.{Answer}
+use Rattle.slots.specs.declared.Answer.the-variants.{Moved, Inserted, AlreadyThere, NoRoom}
+use Rattle.slots.specs.Parts.{isOpen, keyOf, slotAt, wantAt, pathOf, siblingsOf}
+use Rattle.slots.specs.Grant.{grants}
+use Rattle.slots.specs.Book.{goesOn, closes}
+use Rattle.grant.specs.Granted.{atItsLeaf}
+use Rattle.index.specs.Step.{Left, left, acted, stepped}
+use Rattle.tree.specs.Tree.{entriesOf}
+use Rattle.tree.specs.Facts.{AnyTree}
+use Rattle.tree.specs.Insertion.{treeRoom}
+use Rattle.tree.specs.Sorted.{inserted}
+use Rattle.tree.proofs.Determined.{pool-determined}
+use Rattle.tree.proofs.Words.{free-facts}
+use Rattle.runs.specs.Plain.{Reply, reply, plain}
+use Rattle.runs.specs.Stance.{Stance, Takes}
+use Rattle.runs.specs.Step.{Ended, NoRoomLeft, Comes, moves, stops}
+use Rattle.runs.specs.Done.{counted, isOneOf}
+use Rattle.runs.proofs.Invariant.{Invariant, scene}
+use Rattle.runs.proofs.Stepping.{granted-comes}
+use Rattle.runs.proofs.Verdicts.{coming-ends}
+use Rattle.runs.proofs.Calls.{StepOf, noSlot, idle, waits, onward, over, step-of, same-op, granted-does}
+use Rattle.runs.proofs.Measure.{lowestOf, Where, atStart, onTheWay, atTheLeaf, where-it-stands}
+use Rattle.runs.proofs.MeasureLaws.{start-above, low-above}
+use Rattle.runs.proofs.Agreement.{plain-counted}
+use Rattle.promises.specs.Demand2.{Opened}
+use Rattle.promises.specs.Demand3.{RoomExact, NoRoomSays, Room}
+
+-- A page that a slot took coming down, and from which it goes on, is no leaf. (An insertion takes no sibling.)
+lowest-taken : (op : Op) (k : ℕ) (memory : ℕ → Page) (path siblings : List ℕ) (want : ℕ) (path′ siblings′ : List ℕ)
+    → siblings′ ≡ [] → Takes op k memory path siblings want path′ siblings′ → lowestOf path′ ≡ want
+lowest-taken op k memory path siblings want path′ siblings′ none (inl g) = ap lowestOf (g .holds)
+lowest-taken op k memory path siblings want path′ siblings′ none (inr (inl g)) =
+    ap lowestOf (g .holds) ∙ ap (λ (ps : List ℕ). getD ps 0 0) (reverse-append path (want ∷ []))
+lowest-taken op k memory path siblings want path′ siblings′ none (inr (inr g)) =
+    absurd (omega (arith, ap length (sym none ∙ g .holds), length-append siblings (want ∷ [])))
+
+some-taken : (op : Op) (k : ℕ) (memory : ℕ → Page) (path siblings : List ℕ) (want : ℕ) (path′ siblings′ : List ℕ)
+    → siblings′ ≡ [] → Takes op k memory path siblings want path′ siblings′ → 1 ≤ length path′
+some-taken op k memory path siblings want path′ siblings′ none (inl g) = omega (arith, ap length (g .holds))
+some-taken op k memory path siblings want path′ siblings′ none (inr (inl g)) = omega (arith, ap length (g .holds), length-append path (want ∷ []))
+some-taken op k memory path siblings want path′ siblings′ none (inr (inr g)) =
+    absurd (omega (arith, ap length (sym none ∙ g .holds), length-append siblings (want ∷ [])))
+
+module _ (st : State) (ws : List ℕ) (inv : Invariant st ws) (s x v : ℕ) (b : s < slotCount) (runs : Opened st s (Insert x v)) where
+  abbrev memory : ℕ → Page
+  memory = pageAt (st .k) ws
+
+  abbrev es : List Entry
+  es = entriesOf (inv .height) (inv .tree)
+
+  abbrev Here : Left → Type 0
+  Here r = RoomExact (st .k) (st .n) ws (inv .height) (inv .tree) x r
+
+  -- an insertion that is granted its leaf does not go on
+  not-onward : (path siblings : List ℕ) (want : ℕ) → isLeaf (memory (wantAt st s)) ≡ true
+      → Stance (Insert x v) (st .k) memory (inv .height) (inv .tree) path siblings want
+      → Takes (Insert x v) (st .k) memory (pathOf (slotAt st s)) (siblingsOf (slotAt st s)) (wantAt st s) path siblings → ⊥
+  not-onward path siblings want leaf stance takes =
+      by-place (where-it-stands (Insert x v) (st .k) (st .n) memory (inv .height) (inv .tree) (inv .forms .forms) (inv .keys s (Insert x v) b runs) path siblings want stance)
+    where
+      by-place : Where (Insert x v) memory (inv .height) (inv .tree) path siblings want → ⊥
+      by-place (atStart none alone _) =
+          let some = some-taken (Insert x v) (st .k) memory (pathOf (slotAt st s)) (siblingsOf (slotAt st s)) (wantAt st s) path siblings alone takes in
+          omega (arith, ap length none)
+      by-place (onTheWay low stands alone _) =
+          let taken = lowest-taken (Insert x v) (st .k) memory (pathOf (slotAt st s)) (siblingsOf (slotAt st s)) (wantAt st s) path siblings alone takes in
+          let level : memory (lowestOf path) .level ≡ 1 = ap (λ (p : ℕ). memory p .level) taken ∙ eqb-true (memory (wantAt st s) .level) 1 leaf in
+          omega (arith, stands .level)
+      by-place (atTheLeaf _ _ deletes) = false≢true deletes
+
+  plain-room : (a : Answer) (next : State) (words : List ℕ) → a ≡ plain (Insert x v) es .answer
+      → (has x es ≡ false → treeRoom (st .k) x (inv .height) (inv .tree) ≤ length (freePages (st .k) (st .n) ws)) → Here (left a next words)
+  unfolding plain
+  plain-room a next words e enough = record {
+    there = λ h. e ∙ ap (λ (r : Reply). r .answer) (cond-true (reply AlreadyThere es) (reply Inserted (inserted x v es)) h);
+    noRoom = λ h few. let most = enough h in absurd (omega arith);
+    room = λ h most. e ∙ ap (λ (r : Reply). r .answer) (cond-false (reply AlreadyThere es) (reply Inserted (inserted x v es)) h);
+  }
+
+  ended-room : (a : Answer) (writes : List Write) (next : State) (words : List ℕ)
+      → Ended (Insert x v) (st .k) (st .n) ws (inv .height) (inv .tree) (pathOf (slotAt st s)) (siblingsOf (slotAt st s)) (wantAt st s) a writes → Here (left a next words)
+  ended-room a writes next words e =
+      ⊎-elim (λ p. plain-room a next words (p .answer) (p .room x v refl)) (λ r. roomless (r .0)) (e .how)
+    where
+      roomless : NoRoomLeft (Insert x v) (st .k) (st .n) ws (inv .height) (inv .tree) a writes → Here (left a next words)
+      roomless r =
+          let same : r .key ≡ x = sym (ap keyOf (r .inserts)) in
+          record {
+            there = λ h. not-both h (subst (λ (y : ℕ). has y es ≡ false) same (r .missing));
+            noRoom = λ h few. r .answer;
+            room = λ h most.
+                let few = subst (λ (y : ℕ). length (freePages (st .k) (st .n) ws) < treeRoom (st .k) y (inv .height) (inv .tree)) same (r .needsMore) in
+                absurd (omega arith);
+          }
+
+  exact-here : grants st s ≡ true → isLeaf (memory (wantAt st s)) ≡ true → StepOf st ws inv s → Here (stepped st ws s)
+  exact-here g leaf (noSlot c e) = absurd (omega arith)
+  exact-here g leaf (idle c d e) = not-both (ap isOpen runs) d
+  exact-here g leaf (waits op c rs h e) = not-both g h
+  exact-here g leaf (onward op path siblings want c rs h e stance takes) =
+      let same : op ≡ Insert x v = same-op (sym rs ∙ runs) in
+      absurd (not-onward path siblings want leaf
+      (subst (λ (o : Op). Stance o (st .k) memory (inv .height) (inv .tree) path siblings want) same stance)
+      (subst (λ (o : Op). Takes o (st .k) memory (pathOf (slotAt st s)) (siblingsOf (slotAt st s)) (wantAt st s) path siblings) same takes))
+  exact-here g leaf (over op a writes c rs h e ends) =
+      subst Here (sym e)
+      (ended-room a writes (closes st s) (applied (st .k) writes ws)
+      (subst (λ (o : Op). Ended o (st .k) (st .n) ws (inv .height) (inv .tree) (pathOf (slotAt st s)) (siblingsOf (slotAt st s)) (wantAt st s) a writes) (same-op (sym rs ∙ runs)) ends))
+
+-- ---- a step answered NoRoom
+
+moved-not : isOneOf Moved (NoRoom ∷ []) ≡ false
+unfolding member
+moved-not = refl
+
+module _ (st : State) (ws : List ℕ) (inv : Invariant st ws) (s : ℕ) where
+  abbrev Says : Left → Type 0
+  Says r = NoRoomSays (st .k) (st .n) st ws (inv .height) (inv .tree) s r
+
+  -- no other answer is NoRoom
+  says-not : (a : Answer) (next : State) (words : List ℕ) → isOneOf a (NoRoom ∷ []) ≡ false → stepped st ws s ≡ left a next words → stepped st ws s .answer ≡ NoRoom → ⊥
+  unfolding member
+  says-not a next words other e none = false≢true (sym other ∙ ap (λ (r : Answer). isOneOf r (NoRoom ∷ [])) (sym (ap (λ (r : Left). r .answer) e) ∙ none))
+
+  abbrev path : List ℕ
+  path = pathOf (slotAt st s)
+
+  abbrev siblings : List ℕ
+  siblings = siblingsOf (slotAt st s)
+
+  abbrev want : ℕ
+  want = wantAt st s
+
+  abbrev pages : ℕ → Page
+  pages = pageAt (st .k) ws
+
+  -- an insertion does not end above the leaves
+  leaf-reached : (x v : ℕ) → s < slotCount → Opened st s (Insert x v) → grants st s ≡ true → stepped st ws s .answer ≡ NoRoom → isLeaf (pageAt (st .k) ws (wantAt st s)) ≡ true
+  leaf-reached x v b runs g none = by-comes (granted-comes (Insert x v) (st .k) (st .n) ws (inv .height) (inv .tree) path siblings want (scene st ws inv s (Insert x v) b runs))
+    where
+      above : Where (Insert x v) pages (inv .height) (inv .tree) path siblings want → atItsLeaf pages (reverse path) ≡ false
+      above (atStart e _ _) = start-above pages (inv .height) (inv .tree) path e
+      above (onTheWay low w _ _) = low-above pages (inv .height) (inv .tree) path low w
+      above (atTheLeaf _ _ deletes) = absurd (false≢true deletes)
+
+      by-comes : Comes (Insert x v) (st .k) (st .n) ws (inv .height) (inv .tree) path siblings want → isLeaf (pages want) ≡ true
+      by-comes (moves path′ siblings′ want′ e stance takes) =
+          absurd (says-not Moved (goesOn st s (Insert x v) want′ path′ siblings′) ws moved-not (granted-does st ws inv s (Insert x v) b runs g ∙ ap (acted st ws s (Insert x v)) e) none)
+      by-comes (stops a writes e ended) =
+          coming-ends (Insert x v) (st .k) (st .n) ws path siblings want
+          (above (where-it-stands (Insert x v) (st .k) (st .n) pages (inv .height) (inv .tree) (inv .forms .forms) (inv .keys s (Insert x v) b runs) path siblings want (inv .stands s (Insert x v) b runs)))
+          a writes e
+
+  says-here : stepped st ws s .answer ≡ NoRoom → StepOf st ws inv s → Says (stepped st ws s)
+  unfolding member applied
+  says-here none (noSlot c e) = absurd (says-not _ _ _ refl e none)
+  says-here none (idle c d e) = absurd (says-not _ _ _ refl e none)
+  says-here none (waits op c rs h e) = absurd (says-not _ _ _ refl e none)
+  says-here none (onward op path siblings want c rs h e stance takes) = absurd (says-not _ _ _ refl e none)
+  says-here none (over op a writes c rs h e ends) =
+      let here : a ≡ NoRoom = sym (ap (λ (r : Left). r .answer) e) ∙ none in
+      ⊎-elim
+      (λ p. not-both (ap (λ (y : Answer). isOneOf y counted) (p .answer) ∙ plain-counted op (entriesOf (inv .height) (inv .tree))) (ap (λ (y : Answer). isOneOf y counted) here))
+      (λ r.
+      let inserts-so : Opened st s (Insert (r .0 .key) (r .0 .lot)) = rs ∙ ap (λ (o : Op). Open o) (r .0 .inserts) in
+      record {
+        key = r .0 .key;
+        lot = r .0 .lot;
+        inserts = inserts-so;
+        granted = h;
+        atLeaf = leaf-reached (r .0 .key) (r .0 .lot) c inserts-so h none;
+        new = r .0 .missing;
+        needsMore = r .0 .needsMore;
+        words = ap (λ (q : Left). q .words) e ∙ ap (λ (W : List Write). applied (st .k) W ws) (r .0 .nothing);
+      })
+      (ends .how)
+
+-- For whatever tree the words form: there is one.
+pub room : (st : State) (ws : List ℕ) → Invariant st ws → Room (st .k) (st .n) st ws
+room st ws inv = record {
+  free = λ l t f. free-facts (st .k) (st .n) ws l t f .count;
+  exact = λ l t s x v f b runs g leaf. subst (λ (a : AnyTree). RoomExact (st .k) (st .n) ws (a .0) (a .1) x (stepped st ws s))
+      (pool-determined (st .k) (st .n) ws (inv .height) (inv .tree) l t (inv .forms) f)
+      (exact-here st ws inv s x v b runs g leaf (step-of st ws inv s));
+  says = λ l t s f none. subst (λ (a : AnyTree). NoRoomSays (st .k) (st .n) st ws (a .0) (a .1) s (stepped st ws s))
+      (pool-determined (st .k) (st .n) ws (inv .height) (inv .tree) l t (inv .forms) f)
+      (says-here st ws inv s none (step-of st ws inv s));
+}

@@ -1,0 +1,121 @@
+-- Demand 1, call by call: which answer is heard, exactly when, and what is then left.
+-- "Whatever slots, keys, states and page words come in, every call ends, strays nowhere and refuses what it cannot use. Nothing
+-- is left for the caller to check first. A refused call leaves pages, locks and waiting order exactly as found."
+-- State, words and numbers are any here: no record asks anything of them. That a call ends and strays nowhere, and that it
+-- answers and leaves what `begun`, `stepped`, `reported` and `made` say, is proved of the code, where no public call has a
+-- `requires`.
+-- Each record has 01's table for its call, row by row in 01's order. A row is heard exactly if it applies and none before it does.
+use Prim.Native.Nat.{ℕ, _≤_, _<_}
+use mathlib.Core.Bool.{Bool, true, false}
+use mathlib.Core.List.{List}
+use mathlib.Core.Logic.{_⊎_, _≢_}
+use mathlib.Core.Path.{_≡_}
+use lib.ListN.{length}
+use Rattle.ground.specs.Limits.{largestK, largestN, slotCount}
+use Rattle.pool.specs.Pool.{poolLength, fresh}
+use Rattle.slots.specs.declared.Op.{Op}
+use Rattle.slots.specs.declared.Task.{Task}
+use Rattle.slots.specs.declared.Task.the-variants.{Closed, Open}
+use Rattle.slots.specs.declared.Slot.{Slot}
+use Rattle.slots.specs.declared.State.{State}
+use Rattle.slots.specs.declared.Answer.the-variants.{Waiting, Begun, Made, Reported, BadState, BadPool, BadSlot, SlotBusy, SlotIdle, Damaged, BadPage}
+use Rattle.slots.specs.Heard.{refuses, changesNothing}
+use Rattle.slots.specs.Parts.{slotAt, openAt, pathOf, siblingsOf, idleState}
+use Rattle.slots.specs.Sound.{sound}
+use Rattle.slots.specs.Grant.{grants}
+use Rattle.slots.specs.Begin.{begun}
+use Rattle.slots.specs.Report.{holders, lowestHolder, lockKind, reported}
+use Rattle.grant.specs.Fitting.{soundForStep}
+use Rattle.index.specs.Step.{ofGranted, stepped}
+use Rattle.index.specs.Make.{made}
+
+-- P holds exactly if Q does
+abbrev pub Exactly : Type 0 → Type 0 → Type 0
+Exactly P Q = (P → Q) × (Q → P)
+
+-- "Order. Begin: 1, 3, 4." Begin is handed no words, so it leaves them.
+pub record BeginDemand (st : State) (s : ℕ) (op : Op) : Type 0 where
+  -- 1, "the state is not sound"
+  pub badState : Exactly (begun st s op .answer ≡ BadState) (sound st ≡ false)
+  -- 3, "slot above 15"
+  pub badSlot : Exactly (begun st s op .answer ≡ BadSlot) ((sound st ≡ true) × (slotCount ≤ s))
+  -- 4, "begin on an open slot"
+  pub slotBusy : Exactly (begun st s op .answer ≡ SlotBusy) ((sound st ≡ true) × (s < slotCount) × (openAt st s ≡ true))
+  -- "Begin answers: Begun."
+  pub begins : Exactly (begun st s op .answer ≡ Begun) ((sound st ≡ true) × (s < slotCount) × (openAt st s ≡ false))
+  pub noOther : (begun st s op .answer ≡ BadState) ⊎ (begun st s op .answer ≡ BadSlot) ⊎ (begun st s op .answer ≡ SlotBusy) ⊎ (begun st s op .answer ≡ Begun)
+  -- "A refused call leaves pages, locks and waiting order exactly as found."
+  pub asGiven : refuses (begun st s op .answer) ≡ true → begun st s op .state ≡ st
+
+-- "word count is .. N(4k+3)"
+abbrev pub WordsFit : State → List ℕ → Type 0
+WordsFit st ws = length ws ≡ poolLength (st .k) (st .n)
+
+-- "Pages are sound for a step if": of the step of a slot with this task. A closed slot meets no pages.
+abbrev pub soundForTask : State → List ℕ → Slot → Task → Bool
+soundForTask st ws slot Closed = true
+soundForTask st ws slot (Open op) = soundForStep op (st .k) (st .n) ws (pathOf slot) (siblingsOf slot) (slot .want)
+
+abbrev pub pagesSoundAt : State → List ℕ → ℕ → Bool
+pagesSoundAt st ws s = soundForTask st ws (slotAt st s) (slotAt st s .task)
+
+-- "Step: 1, 2, 3, 5, Waiting, 6."
+pub record StepDemand (st : State) (ws : List ℕ) (s : ℕ) : Type 0 where
+  -- 1, "the state is not sound"
+  pub badState : Exactly (stepped st ws s .answer ≡ BadState) (sound st ≡ false)
+  -- 2, "word count is not N(4k+3)"
+  pub badPool : Exactly (stepped st ws s .answer ≡ BadPool) ((sound st ≡ true) × (length ws ≢ poolLength (st .k) (st .n)))
+  -- 3, "slot above 15"
+  pub badSlot : Exactly (stepped st ws s .answer ≡ BadSlot) ((sound st ≡ true) × WordsFit st ws × (slotCount ≤ s))
+  -- 5, "step on a closed slot"
+  pub slotIdle : Exactly (stepped st ws s .answer ≡ SlotIdle) ((sound st ≡ true) × WordsFit st ws × (s < slotCount) × (openAt st s ≡ false))
+  -- "A step grants the want when .. Otherwise it is answered Waiting"
+  pub waiting : Exactly (stepped st ws s .answer ≡ Waiting) ((sound st ≡ true) × WordsFit st ws × (s < slotCount) × (openAt st s ≡ true) × (grants st s ≡ false))
+  -- 6, "a granted step would meet pages that are not sound"
+  pub damaged : Exactly (stepped st ws s .answer ≡ Damaged) ((sound st ≡ true) × WordsFit st ws × (s < slotCount) × (openAt st s ≡ true) × (grants st s ≡ true) × (pagesSoundAt st ws s ≡ false))
+  -- otherwise Moved, or an answer that ends the operation
+  pub granted : Exactly (ofGranted (stepped st ws s .answer) ≡ true) ((sound st ≡ true) × WordsFit st ws × (s < slotCount) × (openAt st s ≡ true) × (grants st s ≡ true) × (pagesSoundAt st ws s ≡ true))
+  pub noOther : (stepped st ws s .answer ≡ BadState) ⊎ (stepped st ws s .answer ≡ BadPool) ⊎ (stepped st ws s .answer ≡ BadSlot) ⊎ (stepped st ws s .answer ≡ SlotIdle) ⊎ (stepped st ws s .answer ≡ Waiting) ⊎ (stepped st ws s .answer ≡ Damaged) ⊎ (ofGranted (stepped st ws s .answer) ≡ true)
+  -- "A refused call leaves pages, locks and waiting order exactly as found."; "Waiting and nothing changes"
+  pub asGiven : changesNothing (stepped st ws s .answer) ≡ true → (stepped st ws s .state ≡ st) × (stepped st ws s .words ≡ ws)
+  -- "strays nowhere": whatever is heard, the pool has as many words as before
+  pub sameLength : length (stepped st ws s .words) ≡ length ws
+
+-- "Report: 1, 7." Report is handed no words and gives no state back, so it changes neither.
+pub record ReportDemand (st : State) (p : ℕ) : Type 0 where
+  -- 1, "the state is not sound"
+  pub badState : Exactly (reported st p ≡ BadState) (sound st ≡ false)
+  -- 7, "a lock report for a page N or above"
+  pub badPage : Exactly (reported st p ≡ BadPage) ((sound st ≡ true) × (st .n ≤ p))
+  -- "A lock report for a page gives the lock kind, how many slots hold the page, and the lowest-numbered holder"
+  pub reports : Exactly (reported st p ≡ Reported (lockKind st p) (holders st p) (lowestHolder st p)) ((sound st ≡ true) × (p < st .n))
+  pub noOther : (reported st p ≡ BadState) ⊎ (reported st p ≡ BadPage) ⊎ (reported st p ≡ Reported (lockKind st p) (holders st p) (lowestHolder st p))
+
+-- "k is 1 to 16. .. The pool has N pages, 1 to 1,024, .. and exactly N(4k+3) words."
+pub record MakingInRange (k n : ℕ) (ws : List ℕ) : Type 0 where
+  pub kLeast : 1 ≤ k
+  pub kMost : k ≤ largestK
+  pub nLeast : 1 ≤ n
+  pub nMost : n ≤ largestN
+  pub words : length ws ≡ poolLength k n
+
+-- Making a pool.
+pub record MakeDemand (k n : ℕ) (ws : List ℕ) : Type 0 where
+  -- 2, "when making a pool: k, N or length out of range"
+  pub badPool : Exactly (made k n ws .answer ≡ BadPool) (MakingInRange k n ws → ⊥)
+  pub makes : Exactly (made k n ws .answer ≡ Made) (MakingInRange k n ws)
+  pub noOther : (made k n ws .answer ≡ BadPool) ⊎ (made k n ws .answer ≡ Made)
+  -- "as given; making returns an empty state, k and N 0, which is itself BadState"
+  pub refused : made k n ws .answer ≡ BadPool → (made k n ws .words ≡ ws) × (made k n ws .state ≡ idleState 0 0)
+  pub emptyRefused : sound (idleState 0 0) ≡ false
+  -- "Making a fresh pool writes every word"; every slot is closed
+  pub freshPool : made k n ws .answer ≡ Made → (made k n ws .words ≡ fresh k n) × (made k n ws .state ≡ idleState k n)
+  pub sameLength : length (made k n ws .words) ≡ length ws
+
+-- ---- the demand
+
+pub record Demand1 : Type 0 where
+  pub begin : (st : State) (s : ℕ) (op : Op) → BeginDemand st s op
+  pub step : (st : State) (ws : List ℕ) (s : ℕ) → StepDemand st ws s
+  pub report : (st : State) (p : ℕ) → ReportDemand st p
+  pub make : (k n : ℕ) (ws : List ℕ) → MakeDemand k n ws

@@ -1,0 +1,157 @@
+-- Demand 2, in the customer's words: "Search, insertion and deletion follow Bayer and Schkolnick's first solution as our paper
+-- fixes it. From a fresh pool, after every call, the pages form their B*-tree (an empty root leaf allowed), every other page is
+-- free, no two locks clash, and each step takes and gives up just the locks the rules name."
+use Prim.Native.Nat.{ℕ, suc, _-_, _≤_, _<_}
+use mathlib.Core.Bool.{true, false}
+use mathlib.Core.List.{List, [], _∷_, _++_}
+use mathlib.Core.Logic.{_⊎_, _≢_}
+use mathlib.Core.Path.{_≡_}
+use lib.ListN.{replicate}
+use Rattle.ground.specs.Limits.{slotCount}
+use Rattle.page.specs.Words.{Page, μ, size}
+use Rattle.page.specs.Place.{place, pointer}
+use Rattle.page.specs.Short.{neighbour}
+use Rattle.pool.specs.Pool.{wordsOf, pageAt}
+use Rattle.slots.specs.declared.Op.{Op}
+use Rattle.slots.specs.declared.Op.the-variants.{Search}
+use Rattle.slots.specs.declared.Task.the-variants.{Open}
+use Rattle.slots.specs.declared.State.{State}
+use Rattle.slots.specs.declared.Lock.the-variants.{None}
+use Rattle.slots.specs.declared.Answer.{Answer}
+use Rattle.slots.specs.declared.Answer.the-variants.{Waiting, Moved, NoRoom, Begun, Reported, BadSlot, SlotBusy, SlotIdle, BadPage}
+use Rattle.slots.specs.Parts.{held, pathOf, siblingsOf, slotAt, openAt, wantAt, holdsAt, waitingOrder}
+use Rattle.slots.specs.Sound.{sound}
+use Rattle.slots.specs.Heard.{changesNothing}
+use Rattle.slots.specs.Book.{leaving}
+use Rattle.grant.specs.Granted.{isSafe}
+use Rattle.index.specs.Step.{Left}
+use Rattle.tree.specs.Tree.{Tr, occurs, PoolForms}
+use Rattle.runs.specs.Run.{Call, begin, step, report, called, runFrom, CallInWords, Run}
+use Rattle.runs.specs.Stance.{Safe, Stance, Takes}
+use Rattle.runs.specs.Waits.{Barred}
+use Rattle.runs.specs.Done.{counted, writing, isOneOf}
+use Rattle.promises.specs.Demand1.{Exactly}
+
+-- ---- after every call
+
+-- slot s is open with this operation
+abbrev pub Opened : State → ℕ → Op → Type 0
+Opened st s op = slotAt st s .task ≡ Open op
+
+-- slot s searches
+abbrev pub Searches : State → ℕ → Type 0
+Searches st s = (x : ℕ) × Opened st s (Search x)
+
+-- What a run with this k and N has left.
+pub record AfterEveryCall (k n : ℕ) (st : State) (ws : List ℕ) : Type 0 where
+  pub sameK : st .k ≡ k
+  pub sameN : st .n ≡ n
+  -- "the pages form their B*-tree (an empty root leaf allowed)"
+  pub height : ℕ
+  pub tree : Tr height
+  pub forms : PoolForms k n ws height tree
+  -- "every other page is free": "A free page has level 0, and in a pool that only these calls wrote it is all zeros."
+  pub free : (q : ℕ) → q < n → occurs q height tree ≡ 0 → wordsOf k q ws ≡ replicate (size k) 0
+  -- the state is sound
+  pub soundState : sound st ≡ true
+  -- "no two locks clash": two different slots that hold one page both search
+  pub locks : (s u p : ℕ) → s < slotCount → u < slotCount → s ≢ u → holdsAt st s p ≡ true → holdsAt st u p ≡ true → Searches st s × Searches st u
+  -- "just the locks the rules name", where everybody stands: an open slot as `Stance` says; a closed one holds nothing
+  pub stands : (s : ℕ) (op : Op) → s < slotCount → Opened st s op → Stance op k (pageAt k ws) height tree (pathOf (slotAt st s)) (siblingsOf (slotAt st s)) (wantAt st s)
+  pub closed : (s : ℕ) → s < slotCount → openAt st s ≡ false → held (slotAt st s) ≡ []
+
+-- ---- what one call takes and gives up
+
+-- "Otherwise it is answered Waiting and nothing changes." Nor does a refusal change anything.
+pub record Unchanged (st : State) (ws : List ℕ) (after : Left) : Type 0 where
+  pub answer : changesNothing (after .answer) ≡ true
+  pub state : after .state ≡ st
+  pub words : after .words ≡ ws
+
+-- Answered Moved: the slot has its lock and goes on.
+pub record MovesOn (st : State) (ws : List ℕ) (s : ℕ) (after : Left) : Type 0 where
+  pub op : Op
+  pub opened : Opened st s op
+  pub answer : after .answer ≡ Moved
+  pub words : after .words ≡ ws
+  pub still : Opened (after .state) s op
+  -- the page that it wanted is now held,
+  pub taken : holdsAt (after .state) s (wantAt st s) ≡ true
+  -- given up are all ancestors or none, by the operation and the page granted, and nothing else
+  pub takes : Takes op (st .k) (pageAt (st .k) ws) (pathOf (slotAt st s)) (siblingsOf (slotAt st s)) (wantAt st s) (pathOf (slotAt (after .state) s)) (siblingsOf (slotAt (after .state) s))
+  -- "A new want goes to the end of the waiting order.": the others stand in the order they had
+  pub order : waitingOrder (after .state) ≡ leaving s (waitingOrder st) ++ s ∷ []
+
+-- the answers that end an operation, whatever their values
+abbrev pub ending : List Answer
+ending = NoRoom ∷ counted
+
+-- "An answer that ends the operation gives up every lock and closes the slot."
+pub record Ends (st : State) (ws : List ℕ) (s : ℕ) (after : Left) : Type 0 where
+  pub op : Op
+  pub opened : Opened st s op
+  pub answer : isOneOf (after .answer) ending ≡ true
+  pub nothing : held (slotAt (after .state) s) ≡ []
+  pub closed : openAt (after .state) s ≡ false
+  pub order : waitingOrder (after .state) ≡ leaving s (waitingOrder st)
+  -- what it writes it holds: every other page, unless it was free, has its words as before
+  pub writes : (q : ℕ) → q < st .n → holdsAt st s q ≡ false → q ≢ wantAt st s → pageAt (st .k) ws q .level ≢ 0
+      → wordsOf (st .k) q (after .words) ≡ wordsOf (st .k) q ws
+  -- and only where a lot was inserted or deleted does it write at all
+  pub reads : isOneOf (after .answer) writing ≡ false → after .words ≡ ws
+
+-- "each step takes and gives up just the locks the rules name"
+pub record StepLocks (st : State) (ws : List ℕ) (s : ℕ) (after : Left) : Type 0 where
+  pub itself : Unchanged st ws after ⊎ (MovesOn st ws s after ⊎ Ends st ws s after)
+  -- no other slot's operation, holdings or want change
+  pub others : (u : ℕ) → u ≢ s → slotAt (after .state) u ≡ slotAt st u
+  -- "A step grants the want when no other slot holds a clashing lock on that page and no older want is for the same page.
+  -- Otherwise it is answered Waiting"
+  pub waits : Exactly (after .answer ≡ Waiting) ((s < slotCount) × (openAt st s ≡ true) × Barred st s)
+
+-- "Beginning an operation makes the slot want page 0." It takes no lock.
+pub record Begins (st : State) (ws : List ℕ) (s : ℕ) (op : Op) (after : Left) : Type 0 where
+  pub answer : after .answer ≡ Begun
+  pub words : after .words ≡ ws
+  pub opened : Opened (after .state) s op
+  pub nothing : held (slotAt (after .state) s) ≡ []
+  pub root : wantAt (after .state) s ≡ 0
+  pub order : waitingOrder (after .state) ≡ waitingOrder st ++ s ∷ []
+  pub others : (u : ℕ) → u ≢ s → slotAt (after .state) u ≡ slotAt st u
+
+-- by call
+abbrev pub CallLocks : State → List ℕ → Call → Left → Type 0
+CallLocks st ws (begin s op) after = Unchanged st ws after ⊎ Begins st ws s op after
+CallLocks st ws (step s) after = StepLocks st ws s after
+CallLocks st ws (report p) after = (after .state ≡ st) × (after .words ≡ ws)
+
+-- ---- what is heard in a run: BadState, BadPool and Damaged never are
+
+abbrev pub answersOf : Call → List Answer
+answersOf (begin s op) = Begun ∷ BadSlot ∷ SlotBusy ∷ []
+answersOf (step s) = Waiting ∷ Moved ∷ BadSlot ∷ SlotIdle ∷ ending
+answersOf (report p) = Reported None 0 0 ∷ BadPage ∷ []
+
+-- ---- the words of the rules that are used above, pinned
+
+pub record Words (k : ℕ) : Type 0 where
+  -- a page is safe, as 01 says when ancestors are given up
+  pub safe : (op : Op) (m : ℕ) → Exactly (isSafe op k m ≡ true) (Safe op k m)
+  -- "its right neighbour under the same father; if it has none, the left one": of the page to which F routes x
+  pub right : (x : ℕ) (F : Page) → place x (F .entries) < μ F → neighbour x F ≡ pointer (suc (place x (F .entries))) F
+  pub left : (x : ℕ) (F : Page) → μ F ≤ place x (F .entries) → neighbour x F ≡ pointer (place x (F .entries) - 1) F
+
+-- ---- the demand
+
+pub record Demand2 (k n : ℕ) (ws : List ℕ) (cs : List Call) : Type 0 where
+  -- what the calls have left. It holds of every run, so it holds after every call of one.
+  pub left : AfterEveryCall k n (runFrom k n ws cs .state) (runFrom k n ws cs .words)
+  pub next : (c : Call) → CallInWords c
+      → AfterEveryCall k n (called (runFrom k n ws cs .state) (runFrom k n ws cs .words) c .state) (called (runFrom k n ws cs .state) (runFrom k n ws cs .words) c .words)
+  -- what any further call takes and gives up, and what it answers
+  pub locks : (c : Call) → CallLocks (runFrom k n ws cs .state) (runFrom k n ws cs .words) c (called (runFrom k n ws cs .state) (runFrom k n ws cs .words) c)
+  pub heard : (c : Call) → isOneOf (called (runFrom k n ws cs .state) (runFrom k n ws cs .words) c .answer) (answersOf c) ≡ true
+  pub words : Words k
+
+abbrev pub Demand2Holds : Type 0
+Demand2Holds = (k n : ℕ) (ws : List ℕ) (cs : List Call) → Run k n ws cs → Demand2 k n ws cs

@@ -1,0 +1,109 @@
+-- Demand 3, in the customer's words: "From a fresh pool, each call given what the last one left, in any order of calls: list the
+-- ended operations, save those answered "no room", in the order of their answers. A plain sorted list, worked through one
+-- operation after another, gives the same answers, and the tree holds its entries at every moment. "No room" changes nothing
+-- and comes exactly when a new key needs more pages than are free. While any operation is open, some open one can be granted
+-- its step, and if none is begun, 304 rounds that each step every open slot end them all."
+use Prim.Native.Nat.{ℕ, _+_, _*_, _≤_, _<_}
+use mathlib.Core.Bool.{true, false}
+use mathlib.Core.List.{List, [], _++_}
+use mathlib.Core.Path.{_≡_}
+use lib.ListN.{length}
+use Rattle.ground.specs.Limits.{slotCount, slotGrants, roundsEnough}
+use Rattle.page.specs.Words.{isLeaf}
+use Rattle.page.specs.Place.{has}
+use Rattle.pool.specs.Pool.{pageAt, freePages}
+use Rattle.slots.specs.declared.Op.{Op}
+use Rattle.slots.specs.declared.Op.the-variants.{Insert}
+use Rattle.slots.specs.declared.State.{State}
+use Rattle.slots.specs.declared.Answer.the-variants.{Inserted, AlreadyThere, NoRoom}
+use Rattle.slots.specs.Parts.{openAt, wantAt}
+use Rattle.slots.specs.Grant.{grants}
+use Rattle.slots.specs.Heard.{changesNothing}
+use Rattle.index.specs.Step.{Left, stepped}
+use Rattle.tree.specs.Tree.{Tr, entriesOf, PoolForms}
+use Rattle.tree.specs.Facts.{pageCount}
+use Rattle.tree.specs.Insertion.{treeRoom}
+use Rattle.runs.specs.Run.{Call, Told, runFrom, Run}
+use Rattle.runs.specs.Done.{Done, nobody, done, plainAnswers, plainEntries, opsOf, answersIn}
+use Rattle.runs.specs.PlainFacts.{PlainFacts}
+use Rattle.runs.specs.Rounds.{RoundsClose}
+use Rattle.runs.specs.Counts.{CountsFrom}
+use Rattle.promises.specs.Demand2.{Opened}
+
+-- ---- the same answers
+
+-- "list the ended operations, save those answered "no room", in the order of their answers"
+abbrev pub doneIn : List Call → Told → List Done
+doneIn cs r = done cs (r .answers) nobody
+
+-- "A plain sorted list, worked through one operation after another, gives the same answers, and the tree holds its entries at
+-- every moment." The tree: the one that the words form, and there is just one (`pool-determined`).
+pub record Agreement (k n : ℕ) (cs : List Call) (r : Told) : Type 0 where
+  pub answers : answersIn (doneIn cs r) ≡ plainAnswers (opsOf (doneIn cs r)) []
+  pub height : ℕ
+  pub tree : Tr height
+  pub forms : PoolForms k n (r .words) height tree
+  pub only : (l : ℕ) (t : Tr l) → PoolForms k n (r .words) l t → entriesOf l t ≡ entriesOf height tree
+  pub entries : entriesOf height tree ≡ plainEntries (opsOf (doneIn cs r)) []
+
+-- ---- room
+
+-- An insertion of x that is granted its leaf, in a pool that is the tree t. ""No room" .. comes exactly when a new key needs more
+-- pages than are free."
+pub record RoomExact (k n : ℕ) (ws : List ℕ) (l : ℕ) (t : Tr l) (x : ℕ) (after : Left) : Type 0 where
+  -- "a key already there is answered so"
+  pub there : has x (entriesOf l t) ≡ true → after .answer ≡ AlreadyThere
+  pub noRoom : has x (entriesOf l t) ≡ false → length (freePages k n ws) < treeRoom k x l t → after .answer ≡ NoRoom
+  pub room : has x (entriesOf l t) ≡ false → treeRoom k x l t ≤ length (freePages k n ws) → after .answer ≡ Inserted
+
+-- A step answered NoRoom: it was such an insertion, its key was new, the tree needs more pages than are free; ""No room" changes
+-- nothing": no word, and so no entry.
+pub record NoRoomSays (k n : ℕ) (st : State) (ws : List ℕ) (l : ℕ) (t : Tr l) (s : ℕ) (after : Left) : Type 0 where
+  pub key : ℕ
+  pub lot : ℕ
+  pub inserts : Opened st s (Insert key lot)
+  pub granted : grants st s ≡ true
+  pub atLeaf : isLeaf (pageAt k ws (wantAt st s)) ≡ true
+  pub new : has key (entriesOf l t) ≡ false
+  pub needsMore : length (freePages k n ws) < treeRoom k key l t
+  pub words : after .words ≡ ws
+
+pub record Room (k n : ℕ) (st : State) (ws : List ℕ) : Type 0 where
+  -- the free pages that are counted are all that are not the tree's
+  pub free : (l : ℕ) (t : Tr l) → PoolForms k n ws l t → length (freePages k n ws) + pageCount l t ≡ n
+  pub exact : (l : ℕ) (t : Tr l) (s x v : ℕ) → PoolForms k n ws l t → s < slotCount → Opened st s (Insert x v) → grants st s ≡ true
+      → isLeaf (pageAt k ws (wantAt st s)) ≡ true → RoomExact k n ws l t x (stepped st ws s)
+  pub says : (l : ℕ) (t : Tr l) (s : ℕ) → PoolForms k n ws l t → stepped st ws s .answer ≡ NoRoom → NoRoomSays k n st ws l t s (stepped st ws s)
+
+-- ---- no standstill
+
+-- "While any operation is open, some open one can be granted its step": its answer is not Waiting, and no refusal.
+pub record SomeGoes (st : State) (ws : List ℕ) : Type 0 where
+  pub slot : ℕ
+  pub inside : slot < slotCount
+  pub opened : openAt st slot ≡ true
+  pub granted : grants st slot ≡ true
+  pub answered : changesNothing (stepped st ws slot .answer) ≡ false
+
+-- ---- the demand
+
+pub record Demand3 (k n : ℕ) (ws : List ℕ) (cs : List Call) : Type 0 where
+  -- "A plain sorted list .. gives the same answers, and the tree holds its entries"
+  pub agreement : Agreement k n cs (runFrom k n ws cs)
+  -- "at every moment": it holds of every run, and so after each of a run's calls
+  pub everyMoment : (before rest : List Call) → cs ≡ before ++ rest → Agreement k n before (runFrom k n ws before)
+  -- what the plain list means
+  pub plainList : (ops : List Op) → PlainFacts (plainEntries ops [])
+  -- ""No room" changes nothing and comes exactly when a new key needs more pages than are free."
+  pub room : Room k n (runFrom k n ws cs .state) (runFrom k n ws cs .words)
+  -- "While any operation is open, some open one can be granted its step"
+  pub someGoes : (s : ℕ) → s < slotCount → openAt (runFrom k n ws cs .state) s ≡ true → SomeGoes (runFrom k n ws cs .state) (runFrom k n ws cs .words)
+  -- "and if none is begun, 304 rounds that each step every open slot end them all"
+  pub rounds : RoundsClose (runFrom k n ws cs .state) (runFrom k n ws cs .words)
+  -- 01: "Granted steps, with h the level of page 0 when it is granted: search and insertion take h, deletion h to 2h-1. So at
+  -- most 19 a slot, and 16 × 19 = 304.", of whatever operation begins here, in whatever calls follow
+  pub grantCounts : CountsFrom (runFrom k n ws cs .state) (runFrom k n ws cs .words)
+  pub roundsOfSlots : roundsEnough ≡ slotCount * slotGrants
+
+abbrev pub Demand3Holds : Type 0
+Demand3Holds = (k n : ℕ) (ws : List ℕ) (cs : List Call) → Run k n ws cs → Demand3 k n ws cs

@@ -1,0 +1,244 @@
+-- The ended operations of a run are answered as the plain sorted list answers them, and its entries are the tree's.
+use Prim.Native.Nat.{ℕ, _<_}
+use mathlib.Core.Bool.{true, false}
+use mathlib.Core.Logic.{⊎-elim, _≢_}
+use mathlib.Core.List.{List, [], _∷_, _++_}
+use mathlib.Core.Path.{_≡_, refl, sym, ap, ap₂, subst, _∙_}
+use borrow.Author.Tests.{eq-eqb, ne-eqb}
+use Rattle.ground.specs.Limits.{slotCount}
+use Rattle.ground.specs.Tests.{member}
+use Rattle.ground.proofs.Choice.{cond-ind, cond-true, cond-false}
+use Rattle.page.specs.Words.{Entry}
+use Rattle.page.specs.Place.{has}
+use Rattle.pool.specs.Pool.{Write, applied, fresh}
+use Rattle.slots.specs.declared.Op.{Op}
+use Rattle.slots.specs.declared.Op.the-variants.{Search, Insert, Delete}
+use Rattle.slots.specs.declared.Task.the-variants.{Open}
+use Rattle.slots.specs.declared.Slot.{Slot}
+use Rattle.slots.specs.declared.State.{State}
+use Rattle.slots.specs.declared.Outcome.{Outcome}
+use Rattle.slots.specs.declared.Answer.{Answer}
+use Rattle.slots.specs.declared.Answer.the-variants.{Waiting, Moved, Begun, BadSlot, SlotBusy, SlotIdle}
+use Rattle.slots.specs.Parts.{slotAt, pathOf, siblingsOf, wantAt, openSlot, closedSlot, idleState}
+use Rattle.slots.specs.Book.{rewritten, begins, goesOn, closes}
+use Rattle.slots.proofs.OrderLaws.{same-or-not}
+use Rattle.slots.proofs.Keeping.{slot-here, slot-other}
+use Rattle.index.specs.Step.{Left, left, stepped}
+use Rattle.tree.specs.Tree.{Tr, entriesOf, PoolForms}
+use Rattle.tree.specs.Facts.{AnyTree, emptyTree}
+use Rattle.tree.proofs.Determined.{pool-determined}
+use Rattle.tree.proofs.Words.{pool-leads, fresh-forms}
+use Rattle.runs.specs.Run.{Call, begin, step, report, called, run, runFrom, InWords, Run}
+use Rattle.runs.specs.Plain.{Reply, plain}
+use Rattle.runs.specs.Done.{Done, ended, counted, isOneOf, nobody, asks, done, plainAnswers, plainEntries, opsOf, answersIn}
+use Rattle.runs.specs.Step.{Ended, AsPlain, NoRoomLeft}
+use Rattle.runs.proofs.Invariant.{Runs, Invariant}
+use Rattle.runs.proofs.Calls.{StepOf, noSlot, idle, waits, onward, over, step-of, same-op, closed-open}
+use Rattle.runs.proofs.Runs.{BeginOf, noSuch, busy, begins-so, begin-of, call-keeps, call-numbers, made-told, idle-shut, fresh-keeps}
+
+-- the entries of the tree that the words form
+abbrev pub entriesIn : (st : State) (ws : List ℕ) → Invariant st ws → List Entry
+entriesIn st ws inv = entriesOf (inv .height) (inv .tree)
+
+abbrev entriesAny : AnyTree → List Entry
+entriesAny t = entriesOf (t .0) (t .1)
+
+-- the words determine them
+pub same-entries : (k n : ℕ) (ws : List ℕ) (l : ℕ) (t : Tr l) (l′ : ℕ) (t′ : Tr l′) → PoolForms k n ws l t → PoolForms k n ws l′ t′ → entriesOf l t ≡ entriesOf l′ t′
+same-entries k n ws l t l′ t′ f f′ = ap entriesAny (pool-determined k n ws l t l′ t′ f f′)
+
+-- what was asked in a slot is what runs there
+abbrev pub Knows : State → (ℕ → Op) → Type 0
+Knows st asked = (s : ℕ) (op : Op) → s < slotCount → Runs st s op → asked s ≡ op
+
+-- The plain list, worked through these operations from the entries es, gives their answers, and has then the entries of the
+-- tree that the words form.
+pub record Agrees (es : List Entry) (ds : List Done) (st : State) (ws : List ℕ) : Type 0 where
+  pub answers : answersIn ds ≡ plainAnswers (opsOf ds) es
+  pub entries : (l : ℕ) (t : Tr l) → PoolForms (st .k) (st .n) ws l t → entriesOf l t ≡ plainEntries (opsOf ds) es
+
+-- an operation of the plain list ends with an answer that counts
+pub plain-counted : (op : Op) (es : List Entry) → isOneOf (plain op es .answer) counted ≡ true
+unfolding plain member
+plain-counted (Search x) es = cond-ind (λ (a : Answer). isOneOf a counted ≡ true) (has x es) (λ _. refl) (λ _. refl)
+plain-counted (Insert x v) es = cond-ind (λ (r : Reply). isOneOf (r .answer) counted ≡ true) (has x es) (λ _. refl) (λ _. refl)
+plain-counted (Delete x) es = cond-ind (λ (r : Reply). isOneOf (r .answer) counted ≡ true) (has x es) (λ _. refl) (λ _. refl)
+
+-- ---- what was asked stays known
+
+module _ (st : State) (ws : List ℕ) (inv : Invariant st ws) (s : ℕ) (b : s < slotCount) (asked : ℕ → Op) (knows : Knows st asked) where
+  -- a slot written anew: what was asked of it, and of the others (the waiting order does not matter)
+  knows-anew : (slot : Slot) (asked′ : ℕ → Op)
+      → ((op : Op) → slot .task ≡ Open op → asked′ s ≡ op) → ((u : ℕ) → u ≢ s → asked′ u ≡ asked u) → Knows (rewritten st s slot [] 0) asked′
+  knows-anew slot asked′ here other u op c runs =
+      ⊎-elim
+      (λ e. ap asked′ e ∙ here op (sym (ap (λ (sl : Slot). sl .task) (ap (slotAt (rewritten st s slot [] 0)) e ∙ slot-here st (inv .shaped) s b slot [] 0)) ∙ runs))
+      (λ n. other u n ∙ knows u op c (sym (ap (λ (sl : Slot). sl .task) (slot-other st (inv .shaped) s b slot [] 0 u n)) ∙ runs))
+      (same-or-not u s)
+
+  knows-begun : (op : Op) → Knows (begins st s op) (asks s op asked)
+  unfolding begins
+  knows-begun op =
+      knows-anew (openSlot op 0 [] []) (asks s op asked)
+      (λ op′ e. cond-true op (asked s) (eq-eqb s s refl) ∙ same-op e)
+      (λ u n. cond-false op (asked u) (ne-eqb u s n))
+
+  knows-onward : (op : Op) (want : ℕ) (path siblings : List ℕ) → Runs st s op → Knows (goesOn st s op want path siblings) asked
+  unfolding goesOn
+  knows-onward op want path siblings runs = knows-anew (openSlot op want path siblings) asked (λ op′ e. knows s op b runs ∙ same-op e) (λ u n. refl)
+
+  knows-closed : Knows (closes st s) asked
+  unfolding closes
+  knows-closed = knows-anew closedSlot asked (λ op e. absurd (closed-open e)) (λ u n. refl)
+
+-- ---- one call
+
+-- What one call that answers a adds to the list: nothing, and the entries stay; or the operation that ended, as the plain list has it.
+pub record Adds (es : List Entry) (c : Call) (asked : ℕ → Op) (after : Left) (es′ : List Entry) : Type 0 where
+  pub asked′ : ℕ → Op
+  pub knows : Knows (after .state) asked′
+  pub adds : List Done
+  pub done-so : (cs : List Call) (heard : List Answer) → done (c ∷ cs) (after .answer ∷ heard) asked ≡ adds ++ done cs heard asked′
+  pub answers : (ds : List Done) → answersIn ds ≡ plainAnswers (opsOf ds) es′ → answersIn (adds ++ ds) ≡ plainAnswers (opsOf (adds ++ ds)) es
+  pub entries : (ds : List Done) → plainEntries (opsOf (adds ++ ds)) es ≡ plainEntries (opsOf ds) es′
+
+module _ (st : State) (ws : List ℕ) (inv : Invariant st ws) (asked : ℕ → Op) (knows : Knows st asked) where
+  -- nothing was added
+  same-so : (c : Call) (after : Left) (asked′ : ℕ → Op) → Knows (after .state) asked′
+      → ((cs : List Call) (heard : List Answer) → done (c ∷ cs) (after .answer ∷ heard) asked ≡ done cs heard asked′)
+      → Adds (entriesIn st ws inv) c asked after (entriesIn st ws inv)
+  same-so c after asked′ known so = record {
+    asked′ = asked′;
+    knows = known;
+    adds = [];
+    done-so = so;
+    answers = λ ds e. e;
+    entries = λ ds. refl;
+  }
+
+  begin-adds : (s : ℕ) (op : Op) → BeginOf st s op → Adds (entriesIn st ws inv) (begin s op) asked (called st ws (begin s op)) (entriesIn st ws inv)
+  unfolding called done member
+  begin-adds s op (noSuch b e) =
+      subst (λ (r : Outcome). Adds (entriesIn st ws inv) (begin s op) asked (left (r .answer) (r .state) ws) (entriesIn st ws inv)) (sym e)
+      (same-so (begin s op) (left BadSlot st ws) asked knows (λ cs heard. refl))
+  begin-adds s op (busy b o e) =
+      subst (λ (r : Outcome). Adds (entriesIn st ws inv) (begin s op) asked (left (r .answer) (r .state) ws) (entriesIn st ws inv)) (sym e)
+      (same-so (begin s op) (left SlotBusy st ws) asked knows (λ cs heard. refl))
+  begin-adds s op (begins-so b c e) =
+      subst (λ (r : Outcome). Adds (entriesIn st ws inv) (begin s op) asked (left (r .answer) (r .state) ws) (entriesIn st ws inv)) (sym e)
+      (same-so (begin s op) (left Begun (begins st s op) ws) (asks s op asked) (knows-begun st ws inv s b asked knows op) (λ cs heard. refl))
+
+  -- an operation that ends: as the plain list has it, or for want of room
+  ended-adds : (s : ℕ) (op : Op) (a : Answer) (writes : List Write) (b : s < slotCount) → Runs st s op
+      → (e : Ended op (st .k) (st .n) ws (inv .height) (inv .tree) (pathOf (slotAt st s)) (siblingsOf (slotAt st s)) (wantAt st s) a writes)
+      → Adds (entriesIn st ws inv) (step s) asked (left a (closes st s) (applied (st .k) writes ws)) (e .entries)
+  unfolding done plainAnswers plainEntries member
+  ended-adds s op a writes b runs e = ⊎-elim plainly (λ none. roomless (none .0) (none .1)) (e .how)
+    where
+      after : Left
+      after = left a (closes st s) (applied (st .k) writes ws)
+
+      known : op ≡ asked s
+      known = sym (knows s op b runs)
+
+      next : AsPlain op (st .k) (st .n) ws (inv .height) (inv .tree) a (e .entries) → e .entries ≡ plain (asked s) (entriesIn st ws inv) .entries
+      next p = p .entries ∙ ap (λ (o : Op). plain o (entriesIn st ws inv) .entries) known
+
+      plainly : AsPlain op (st .k) (st .n) ws (inv .height) (inv .tree) a (e .entries) → Adds (entriesIn st ws inv) (step s) asked after (e .entries)
+      plainly p = record {
+        asked′ = asked;
+        knows = knows-closed st ws inv s b asked knows;
+        adds = ended s (asked s) a ∷ [];
+        done-so = λ cs heard. cond-true (ended s (asked s) a ∷ done cs heard asked) (done cs heard asked)
+            (ap (λ (x : Answer). isOneOf x counted) (p .answer) ∙ plain-counted op (entriesIn st ws inv));
+        answers = λ ds h. ap₂ _∷_ (p .answer ∙ ap (λ (o : Op). plain o (entriesIn st ws inv) .answer) known) (h ∙ ap (plainAnswers (opsOf ds)) (next p));
+        entries = λ ds. ap (plainEntries (opsOf ds)) (sym (next p));
+      }
+
+      roomless : NoRoomLeft op (st .k) (st .n) ws (inv .height) (inv .tree) a writes → e .entries ≡ entriesIn st ws inv → Adds (entriesIn st ws inv) (step s) asked after (e .entries)
+      roomless r same =
+          subst (Adds (entriesIn st ws inv) (step s) asked after) (sym same)
+          (same-so (step s) after asked (knows-closed st ws inv s b asked knows)
+          (λ cs heard. cond-false (ended s (asked s) a ∷ done cs heard asked) (done cs heard asked) (ap (λ (x : Answer). isOneOf x counted) (r .answer))))
+
+  -- the tree after a step that ends an operation has the entries that the plain list has
+  abbrev After : ℕ → Type 0
+  After s = (es : List Entry) × Adds (entriesIn st ws inv) (step s) asked (stepped st ws s) es
+      × ((l : ℕ) (t : Tr l) → PoolForms (st .k) (st .n) (stepped st ws s .words) l t → entriesOf l t ≡ es)
+
+  still : (s : ℕ) (a : Answer) (next : State) → Knows next asked → isOneOf a counted ≡ false → stepped st ws s ≡ left a next ws → After s
+  unfolding done
+  still s a next known uncounted e =
+      subst (λ (r : Left). (es : List Entry) × Adds (entriesIn st ws inv) (step s) asked r es × ((l : ℕ) (t : Tr l) → PoolForms (st .k) (st .n) (r .words) l t → entriesOf l t ≡ es)) (sym e) (
+        entriesIn st ws inv,
+        same-so (step s) (left a next ws) asked known (λ cs heard. cond-false (ended s (asked s) a ∷ done cs heard asked) (done cs heard asked) uncounted),
+        λ l t f. same-entries (st .k) (st .n) ws l t (inv .height) (inv .tree) f (inv .forms),
+      )
+
+  step-adds : (s : ℕ) → StepOf st ws inv s → After s
+  unfolding member
+  step-adds s (noSlot b e) = still s BadSlot st knows refl e
+  step-adds s (idle b c e) = still s SlotIdle st knows refl e
+  step-adds s (waits op b runs g e) = still s Waiting st knows refl e
+  step-adds s (onward op path siblings want b runs g e stance takes) =
+      still s Moved (goesOn st s op want path siblings) (knows-onward st ws inv s b asked knows op want path siblings runs) refl e
+  step-adds s (over op a writes b runs g e ends) =
+      subst (λ (r : Left). (es : List Entry) × Adds (entriesIn st ws inv) (step s) asked r es × ((l : ℕ) (t : Tr l) → PoolForms (st .k) (st .n) (r .words) l t → entriesOf l t ≡ es)) (sym e) (
+        ends .entries,
+        ended-adds s op a writes b runs ends,
+        λ l t f. same-entries (st .k) (st .n) (applied (st .k) writes ws) l t (ends .leads .height) (ends .leads .tree) f
+            (pool-leads (st .k) (st .n) ws (inv .height) (inv .tree) writes (ends .entries) (inv .forms) (ends .leads)) ∙ ends .leads .entries,
+      )
+
+  -- every call
+  pub call-adds : (c : Call) → (es : List Entry) × Adds (entriesIn st ws inv) c asked (called st ws c) es
+      × ((l : ℕ) (t : Tr l) → PoolForms (st .k) (st .n) (called st ws c .words) l t → entriesOf l t ≡ es)
+  unfolding called done
+  call-adds (begin s op) =
+      (entriesIn st ws inv, begin-adds s op (begin-of st ws inv s op), λ l t f. same-entries (st .k) (st .n) ws l t (inv .height) (inv .tree) f (inv .forms))
+  call-adds (step s) = step-adds s (step-of st ws inv s)
+  call-adds (report p) =
+      (entriesIn st ws inv, same-so (report p) (called st ws (report p)) asked knows (λ cs heard. refl), λ l t f. same-entries (st .k) (st .n) ws l t (inv .height) (inv .tree) f (inv .forms))
+
+-- ---- all calls
+
+pub agrees : (cs : List Call) (st : State) (ws : List ℕ) (inv : Invariant st ws) (asked : ℕ → Op) → Knows st asked → InWords cs
+    → Agrees (entriesIn st ws inv) (done cs (run cs st ws .answers) asked) (run cs st ws .state) (run cs st ws .words)
+unfolding run done plainAnswers plainEntries
+agrees [] st ws inv asked knows h = record {
+  answers = refl;
+  entries = λ l t f. same-entries (st .k) (st .n) ws l t (inv .height) (inv .tree) f (inv .forms);
+}
+agrees (c ∷ cs) st ws inv asked knows h =
+    let (es, adds, told) = call-adds st ws inv asked knows c in
+    let one : Left = called st ws c in
+    let inv′ : Invariant (one .state) (one .words) = call-keeps st ws inv c (h .0) in
+    let numbers = call-numbers st ws inv c in
+    let same : entriesIn (one .state) (one .words) inv′ ≡ es = told (inv′ .height) (inv′ .tree)
+    (subst (λ (m : ℕ). PoolForms (st .k) m (one .words) (inv′ .height) (inv′ .tree)) (numbers .1)
+    (subst (λ (m : ℕ). PoolForms m (one .state .n) (one .words) (inv′ .height) (inv′ .tree)) (numbers .0) (inv′ .forms))) in
+    let rest = agrees cs (one .state) (one .words) inv′ (adds .asked′) (adds .knows) (h .1) in
+    let heard : List Answer = run cs (one .state) (one .words) .answers in
+    let ds : List Done = done cs heard (adds .asked′) in
+    subst (λ (list : List Done). Agrees (entriesIn st ws inv) list (run cs (one .state) (one .words) .state) (run cs (one .state) (one .words) .words)) (sym (adds .done-so cs heard))
+    (record {
+      answers = adds .answers ds (rest .answers ∙ ap (plainAnswers (opsOf ds)) same);
+      entries = λ l t f. rest .entries l t f ∙ ap (plainEntries (opsOf ds)) same ∙ sym (adds .entries ds);
+    })
+
+-- From a fresh pool, with an empty list.
+pub agreement : (k n : ℕ) (ws : List ℕ) (cs : List Call) → Run k n ws cs
+    → Agrees [] (done cs (runFrom k n ws cs .answers) nobody) (runFrom k n ws cs .state) (runFrom k n ws cs .words)
+unfolding runFrom
+agreement k n ws cs r =
+    subst (λ (m : Left). Agrees [] (done cs (run cs (m .state) (m .words) .answers) nobody) (run cs (m .state) (m .words) .state) (run cs (m .state) (m .words) .words))
+    (sym (made-told k n ws (r .numbers) (r .whole)))
+    (subst (λ (es : List Entry). Agrees es (done cs (run cs (idleState k n) (fresh k n) .answers) nobody) (run cs (idleState k n) (fresh k n) .state) (run cs (idleState k n) (fresh k n) .words))
+    empty
+    (agrees cs (idleState k n) (fresh k n) inv nobody (λ s op b runs. absurd (idle-shut k n s op runs)) (r .inWords)))
+  where
+    inv : Invariant (idleState k n) (fresh k n)
+    inv = fresh-keeps k n (r .numbers)
+
+    empty : entriesIn (idleState k n) (fresh k n) inv ≡ []
+    empty = same-entries k n (fresh k n) (inv .height) (inv .tree) 0 emptyTree (inv .forms) (fresh-forms k n (inv .sound .nLeast))

@@ -1,0 +1,290 @@
+-- Every call keeps what holds of a run: begin, step and report, one after the other.
+use Prim.Native.Nat.{ℕ, _≤_, _<_}
+use mathlib.Core.Bool.{true, false, cond, not, _||_, false≢true}
+use mathlib.Core.Logic.{_⊎_, inl, inr, ⊎-elim, _≢_}
+use mathlib.Core.List.{List, [], _∷_, _++_, append-nil}
+use mathlib.Core.Path.{_≡_, refl, sym, ap, ap₂, subst, _∙_}
+use native.Mathlib.Omega.{arith}
+use lib.Dec.{ltb, eqb}
+use lib.ListN.{length}
+use borrow.Author.Tests.{ltb-true, ltb-false, lt-ltb, eq-eqb}
+use Rattle.ground.specs.Limits.{slotCount, wordRange}
+use Rattle.ground.specs.Tests.{member, apart}
+use Rattle.ground.proofs.Bools.{true-or-false, not-both, false-if-not-true, or-cases, or-first, or-first-fails, or-second, not-of-true, not-of-false}
+use Rattle.ground.proofs.Choice.{cond-true, cond-false}
+use Rattle.ground.proofs.Tests.{member-none, member-append, apart-member}
+use Rattle.page.specs.Words.{Page}
+use Rattle.pool.specs.Pool.{Write, poolLength, pageAt, applied}
+use Rattle.slots.specs.declared.Op.{Op}
+use Rattle.slots.specs.declared.Op.the-variants.{Search, Insert, Delete}
+use Rattle.slots.specs.declared.Task.{Task}
+use Rattle.slots.specs.declared.Task.the-variants.{Closed, Open}
+use Rattle.slots.specs.declared.Slot.{Slot}
+use Rattle.slots.specs.declared.State.{State}
+use Rattle.slots.specs.declared.Answer.{Answer}
+use Rattle.slots.specs.declared.Answer.the-variants.{Waiting, Moved, BadState, BadPool, BadSlot, SlotIdle}
+use Rattle.slots.specs.Parts.{isOpen, isSearch, held, keyOf, slotAt, openAt, wantAt, holdsAt, pathOf, siblingsOf, openSlot, closedSlot}
+use Rattle.slots.specs.Locks.{lockOf, lockAt, isXi}
+use Rattle.slots.specs.Grant.{grants}
+use Rattle.slots.specs.Book.{rewritten, begins, goesOn, closes}
+use Rattle.slots.proofs.SoundFacts.{SoundState, facts-sound}
+use Rattle.slots.proofs.OrderLaws.{same-or-not, member-cases}
+use Rattle.slots.proofs.GrantLaws.{taking-alone}
+use Rattle.slots.proofs.Keeping.{Shaped, slot-here, slot-other, path-new, siblings-new, begins-sound, begins-shaped, closes-sound, closes-shaped, goes-on-sound, goes-on-shaped}
+use Rattle.grant.specs.Fitting.{verdict}
+use Rattle.index.specs.Step.{Left, left, acted, steppedTask, stepped}
+use Rattle.tree.specs.Tree.{Tr, PoolForms}
+use Rattle.tree.specs.Change.{memoryAfter, writtenPages}
+use Rattle.tree.proofs.Words.{fit-writes, applied-memory, pool-leads}
+use Rattle.runs.specs.Stance.{Starting, Stance, Takes}
+use Rattle.runs.specs.Step.{Ended, Comes, moves, stops}
+use Rattle.runs.proofs.Invariant.{Runs, Invariant, scene}
+use Rattle.runs.proofs.Placing.{WellHeld, well-held}
+use Rattle.runs.proofs.Others.{others-keep}
+use Rattle.runs.proofs.Stepping.{granted-comes}
+
+-- a slot stands in a pool
+abbrev StandsIn : ℕ → List ℕ → (l : ℕ) → Tr l → Op → Slot → Type 0
+StandsIn k ws l t op slot = Stance op k (pageAt k ws) l t (pathOf slot) (siblingsOf slot) (slot .want)
+
+-- an open task has one operation, and a closed one none
+abbrev opOf : Task → Op → Op
+opOf Closed op = op
+opOf (Open op) _ = op
+
+pub same-op : {op op′ : Op} → Open op ≡ Open op′ → op ≡ op′
+same-op {op = op} e = ap (λ (task : Task). opOf task op) e
+
+pub closed-open : {op : Op} → Closed ≡ Open op → ⊥
+closed-open e = false≢true (ap isOpen e)
+
+-- only a search has no ξ-lock
+reader-task : (op : Op) → isXi (lockOf (Open op)) ≡ false → isSearch op ≡ true
+reader-task (Search x) e = refl
+reader-task (Insert x v) e = not-both refl e
+reader-task (Delete x) e = not-both refl e
+
+member-later : (q p : ℕ) (ps : List ℕ) → member q ps ≡ true → member q (p ∷ ps) ≡ true
+unfolding member
+member-later q p ps m = or-second (eqb q p) m
+
+-- One slot is written anew, the words may change: what has to be shown of that slot, and of the others.
+module _ (st : State) (ws : List ℕ) (inv : Invariant st ws) (s : ℕ) (b : s < slotCount) where
+  pub slot-anew : (slot : Slot) (order : List ℕ) (waiting : ℕ) (after : List ℕ) (l : ℕ) (t : Tr l)
+      → Shaped (rewritten st s slot order waiting) → SoundState (rewritten st s slot order waiting)
+      → PoolForms (st .k) (st .n) after l t
+      → ((op : Op) → slot .task ≡ Open op → (keyOf op < wordRange) × StandsIn (st .k) after l t op slot)
+      → ((u : ℕ) (op : Op) → u < slotCount → u ≢ s → Runs st u op → StandsIn (st .k) after l t op (slotAt st u))
+      → Invariant (rewritten st s slot order waiting) after
+  slot-anew slot order waiting after l t shaped sound forms here other =
+      record {
+        shaped = shaped;
+        sound = sound;
+        height = l;
+        tree = t;
+        forms = forms;
+        keys = λ u op c runs. ⊎-elim
+            (λ e. here op (sym (ap (λ (sl : Slot). sl .task) (slot-at u e)) ∙ runs) .0)
+            (λ n. inv .keys u op c (sym (ap (λ (sl : Slot). sl .task) (slot-away u n)) ∙ runs))
+            (same-or-not u s);
+        stands = λ u op c runs. ⊎-elim
+            (λ e. subst (StandsIn (st .k) after l t op) (sym (slot-at u e)) (here op (sym (ap (λ (sl : Slot). sl .task) (slot-at u e)) ∙ runs) .1))
+            (λ n. subst (StandsIn (st .k) after l t op) (sym (slot-away u n)) (other u op c n (sym (ap (λ (sl : Slot). sl .task) (slot-away u n)) ∙ runs)))
+            (same-or-not u s);
+      }
+    where
+      next : State
+      next = rewritten st s slot order waiting
+
+      slot-at : (u : ℕ) → u ≡ s → slotAt next u ≡ slot
+      slot-at u e = ap (slotAt next) e ∙ slot-here st (inv .shaped) s b slot order waiting
+
+      slot-away : (u : ℕ) → u ≢ s → slotAt next u ≡ slotAt st u
+      slot-away u n = slot-other st (inv .shaped) s b slot order waiting u n
+
+  -- Beginning in a closed slot.
+  pub begin-keeps : (op : Op) → openAt st s ≡ false → keyOf op < wordRange → Invariant (begins st s op) ws
+  unfolding begins
+  begin-keeps op closed key =
+      slot-anew (openSlot op 0 [] []) _ _ ws (inv .height) (inv .tree)
+      (begins-shaped st (inv .shaped) (inv .sound) s b op)
+      (begins-sound st (inv .shaped) (inv .sound) s b op closed)
+      (inv .forms)
+      (λ op′ e. let same : op ≡ op′ = same-op e in
+      (subst (λ (o : Op). keyOf o < wordRange) same key, subst (λ (o : Op). StandsIn (st .k) ws (inv .height) (inv .tree) o (openSlot op 0 [] [])) same (inl starting)))
+      (λ u op′ c n runs. inv .stands u op′ c runs)
+    where
+      starting : Starting (pathOf (openSlot op 0 [] [])) (siblingsOf (openSlot op 0 [] [])) 0
+      starting = record { noPath = path-new op 0 [] []; noSiblings = siblings-new op 0 [] []; wantsRoot = refl }
+
+  -- Going on: the slot holds what it took and stands again.
+  pub move-keeps : (op : Op) (path siblings : List ℕ) (want : ℕ) → Runs st s op → grants st s ≡ true
+      → Stance op (st .k) (pageAt (st .k) ws) (inv .height) (inv .tree) path siblings want
+      → ((p : ℕ) → member p (path ++ siblings) ≡ true → (holdsAt st s p ≡ true) ⊎ (p ≡ wantAt st s))
+      → Invariant (goesOn st s op want path siblings) ws
+  unfolding goesOn
+  move-keeps op path siblings want runs granted stance from =
+      slot-anew (openSlot op want path siblings) _ _ ws (inv .height) (inv .tree)
+      (goes-on-shaped st (inv .shaped) (inv .sound) s b op want path siblings opened)
+      (goes-on-sound st (inv .shaped) (inv .sound) s b op want path siblings opened (well .limits) (well .below) (well .different)
+      (λ u c n x. taking-alone st (inv .sound) s b opened granted (path ++ siblings) from u c n
+      (subst (λ (task : Task). isXi (lockOf task) || isXi (lockAt st u) ≡ true) (sym runs) x)))
+      (inv .forms)
+      (λ op′ e. let same : op ≡ op′ = same-op e in
+      (subst (λ (o : Op). keyOf o < wordRange) same key, subst (λ (o : Op). StandsIn (st .k) ws (inv .height) (inv .tree) o slot) same here))
+      (λ u op′ c n rs. inv .stands u op′ c rs)
+    where
+      slot : Slot
+      slot = openSlot op want path siblings
+
+      opened : openAt st s ≡ true
+      opened = ap isOpen runs
+
+      key : keyOf op < wordRange
+      key = inv .keys s op b runs
+
+      well : WellHeld op (st .n) (inv .height) (inv .tree) path siblings want
+      well = well-held op (st .k) (st .n) ws (inv .height) (inv .tree) path siblings want
+          (record { kLeast = inv .sound .kLeast; kMost = inv .sound .kMost; nMost = inv .sound .nMost; key = key; forms = inv .forms; stance = stance })
+
+      here : StandsIn (st .k) ws (inv .height) (inv .tree) op slot
+      here = subst (λ (ss : List ℕ). Stance op (st .k) (pageAt (st .k) ws) (inv .height) (inv .tree) (pathOf slot) ss want) (sym (siblings-new op want path siblings))
+          (subst (λ (ps : List ℕ). Stance op (st .k) (pageAt (st .k) ws) (inv .height) (inv .tree) ps siblings want) (sym (path-new op want path siblings)) stance)
+
+  -- What an operation writes as it ends no other slot holds: where one of the two updates, they hold apart; where both search,
+  -- nothing is written.
+  pub others-unwritten : (op : Op) (a : Answer) (writes : List Write) → Runs st s op → grants st s ≡ true
+      → Ended op (st .k) (st .n) ws (inv .height) (inv .tree) (pathOf (slotAt st s)) (siblingsOf (slotAt st s)) (wantAt st s) a writes
+      → (u : ℕ) (op′ : Op) → u < slotCount → u ≢ s → Runs st u op′ → (q : ℕ) → holdsAt st u q ≡ true → member q (writtenPages writes) ≡ false
+  others-unwritten op a writes runs granted e u op′ c n rs q m =
+      false-if-not-true (member q (writtenPages writes)) (λ w. ⊎-elim
+      (λ x. ⊎-elim
+      (λ h. not-both m (apart-member (wantAt st s ∷ held (slotAt st s)) (held (slotAt st u)) (alone x) q h))
+      (λ o. let some = well .pages q (member-later q (wantAt st u) (held (slotAt st u)) m) in absurd (omega arith))
+      (e .only q w))
+      (λ x. not-both w (nothing-written (or-first-fails (isXi (lockAt st s)) (isXi (lockAt st u)) x)))
+      (true-or-false (isXi (lockAt st s) || isXi (lockAt st u))))
+    where
+      well : WellHeld op′ (st .n) (inv .height) (inv .tree) (pathOf (slotAt st u)) (siblingsOf (slotAt st u)) (wantAt st u)
+      well = well-held op′ (st .k) (st .n) ws (inv .height) (inv .tree) (pathOf (slotAt st u)) (siblingsOf (slotAt st u)) (wantAt st u) (scene st ws inv u op′ c rs)
+
+      alone : isXi (lockAt st s) || isXi (lockAt st u) ≡ true → apart (wantAt st s ∷ held (slotAt st s)) (held (slotAt st u)) ≡ true
+      alone x = taking-alone st (inv .sound) s b (ap isOpen runs) granted (wantAt st s ∷ held (slotAt st s))
+          (λ p h. ⊎-elim inr inl (member-cases p (wantAt st s) (held (slotAt st s)) h)) u c n x
+
+      nothing-written : isXi (lockAt st s) ≡ false → member q (writtenPages writes) ≡ false
+      nothing-written x = ap (λ (W : List Write). member q (writtenPages W)) (e .reads (reader-task op (sym (ap (λ (task : Task). isXi (lockOf task)) runs) ∙ x))) ∙ member-none q
+
+  -- Ending: the slot closes, and what it wrote no other slot holds.
+  pub end-keeps : (op : Op) (a : Answer) (writes : List Write) → Runs st s op → grants st s ≡ true
+      → Ended op (st .k) (st .n) ws (inv .height) (inv .tree) (pathOf (slotAt st s)) (siblingsOf (slotAt st s)) (wantAt st s) a writes
+      → Invariant (closes st s) (applied (st .k) writes ws)
+  unfolding closes
+  end-keeps op a writes runs granted e =
+      slot-anew closedSlot _ _ (applied (st .k) writes ws) (e .leads .height) (e .leads .tree)
+      (closes-shaped st (inv .shaped) (inv .sound) s b opened)
+      (closes-sound st (inv .shaped) (inv .sound) s b opened)
+      (pool-leads (st .k) (st .n) ws (inv .height) (inv .tree) writes (e .entries) (inv .forms) (e .leads))
+      (λ op′ c. absurd (closed-open c))
+      (λ u op′ c n rs. subst
+      (λ (m : ℕ → Page). Stance op′ (st .k) m (e .leads .height) (e .leads .tree) (pathOf (slotAt st u)) (siblingsOf (slotAt st u)) (wantAt st u))
+      (sym memory-after)
+      (others-keep op′ (st .k) (st .n) (pageAt (st .k) ws) (inv .height) (inv .tree) writes (e .entries) (pathOf (slotAt st u)) (siblingsOf (slotAt st u)) (wantAt st u)
+      (inv .sound .kLeast) (inv .keys u op′ c rs) (inv .forms .forms) (e .leads) (others-unwritten op a writes runs granted e u op′ c n rs) (inv .stands u op′ c rs)))
+    where
+      opened : openAt st s ≡ true
+      opened = ap isOpen runs
+
+      memory-after : pageAt (st .k) (applied (st .k) writes ws) ≡ memoryAfter (pageAt (st .k) ws) writes
+      memory-after = λ i q. applied-memory (st .k) (st .n) writes ws (fit-writes (st .k) (st .n) writes (e .leads .fitting) (e .leads .inside)) (inv .forms .whole) q i
+
+-- ---- a step
+
+-- What a step of slot s comes to in a run.
+pub data StepOf (st : State) (ws : List ℕ) (inv : Invariant st ws) (s : ℕ) : Type 0 where
+  noSlot : slotCount ≤ s → stepped st ws s ≡ left BadSlot st ws → StepOf st ws inv s
+  idle : s < slotCount → openAt st s ≡ false → stepped st ws s ≡ left SlotIdle st ws → StepOf st ws inv s
+  waits : (op : Op) → s < slotCount → Runs st s op → grants st s ≡ false → stepped st ws s ≡ left Waiting st ws → StepOf st ws inv s
+  -- the slot goes on: it stands again, and holds what the rules say
+  onward : (op : Op) (path siblings : List ℕ) (want : ℕ) → s < slotCount → Runs st s op → grants st s ≡ true
+      → stepped st ws s ≡ left Moved (goesOn st s op want path siblings) ws
+      → Stance op (st .k) (pageAt (st .k) ws) (inv .height) (inv .tree) path siblings want
+      → Takes op (st .k) (pageAt (st .k) ws) (pathOf (slotAt st s)) (siblingsOf (slotAt st s)) (wantAt st s) path siblings
+      → StepOf st ws inv s
+  -- the operation ends
+  over : (op : Op) (a : Answer) (writes : List Write) → s < slotCount → Runs st s op → grants st s ≡ true
+      → stepped st ws s ≡ left a (closes st s) (applied (st .k) writes ws)
+      → Ended op (st .k) (st .n) ws (inv .height) (inv .tree) (pathOf (slotAt st s)) (siblingsOf (slotAt st s)) (wantAt st s) a writes
+      → StepOf st ws inv s
+
+module _ (st : State) (ws : List ℕ) (inv : Invariant st ws) (s : ℕ) where
+  -- the refusals BadState and BadPool are not heard
+  past : stepped st ws s ≡ cond (not (ltb s slotCount)) (left BadSlot st ws) (steppedTask st ws s (slotAt st s) (slotAt st s .task))
+  unfolding stepped
+  past =
+      cond-false (left BadState st ws) _ (not-of-true (facts-sound st (inv .sound)))
+      ∙ cond-false (left BadPool st ws) _ (not-of-true (eq-eqb (length ws) (poolLength (st .k) (st .n)) (inv .forms .whole)))
+
+  within : s < slotCount → stepped st ws s ≡ steppedTask st ws s (slotAt st s) (slotAt st s .task)
+  within b = past ∙ cond-false (left BadSlot st ws) _ (not-of-true (lt-ltb s slotCount b))
+
+  comes-to : (op : Op) → (b : s < slotCount) → Runs st s op → grants st s ≡ true
+      → stepped st ws s ≡ acted st ws s op (verdict op (st .k) (st .n) ws (pathOf (slotAt st s)) (siblingsOf (slotAt st s)) (wantAt st s))
+      → Comes op (st .k) (st .n) ws (inv .height) (inv .tree) (pathOf (slotAt st s)) (siblingsOf (slotAt st s)) (wantAt st s)
+      → StepOf st ws inv s
+  comes-to op b runs g e (moves path siblings want v stance takes) = onward op path siblings want b runs g (e ∙ ap (acted st ws s op) v) stance takes
+  comes-to op b runs g e (stops a writes v ended) = over op a writes b runs g (e ∙ ap (acted st ws s op) v) ended
+
+  -- a granted step does what it comes to by the rule
+  pub granted-does : (op : Op) → s < slotCount → Runs st s op → grants st s ≡ true
+      → stepped st ws s ≡ acted st ws s op (verdict op (st .k) (st .n) ws (pathOf (slotAt st s)) (siblingsOf (slotAt st s)) (wantAt st s))
+  granted-does op b runs g = within b ∙ ap (steppedTask st ws s (slotAt st s)) runs ∙ cond-true _ (left Waiting st ws) g
+
+  by-task : (b : s < slotCount) (task : Task) → slotAt st s .task ≡ task → StepOf st ws inv s
+  by-task b Closed e = idle b (ap isOpen e) (within b ∙ ap (steppedTask st ws s (slotAt st s)) e)
+  by-task b (Open op) e =
+      let told : stepped st ws s ≡ steppedTask st ws s (slotAt st s) (Open op) = within b ∙ ap (steppedTask st ws s (slotAt st s)) e in
+      ⊎-elim
+      (λ g. comes-to op b e g (granted-does op b e g)
+      (granted-comes op (st .k) (st .n) ws (inv .height) (inv .tree) (pathOf (slotAt st s)) (siblingsOf (slotAt st s)) (wantAt st s) (scene st ws inv s op b e)))
+      (λ g. waits op b e g (told ∙ cond-false (acted st ws s op (verdict op (st .k) (st .n) ws (pathOf (slotAt st s)) (siblingsOf (slotAt st s)) (wantAt st s))) (left Waiting st ws) g))
+      (true-or-false (grants st s))
+
+  pub step-of : StepOf st ws inv s
+  step-of =
+      ⊎-elim
+      (λ y. by-task (ltb-true s slotCount y) (slotAt st s .task) refl)
+      (λ z. noSlot (ltb-false s slotCount z) (past ∙ cond-true (left BadSlot st ws) _ (not-of-false z)))
+      (true-or-false (ltb s slotCount))
+
+member-last : (p : ℕ) (xs : List ℕ) (w : ℕ) → member p (xs ++ w ∷ []) ≡ true → (member p xs ≡ true) ⊎ (p ≡ w)
+member-last p xs w m =
+    ⊎-elim inl (λ h. inr (⊎-elim (λ e. e) (λ none. not-both none (member-none p)) (member-cases p w [] h)))
+    (or-cases (member p xs) (member p (w ∷ [])) (sym (member-append p xs (w ∷ [])) ∙ m))
+
+-- what a slot that goes on holds, it held or wanted
+takes-from : (op : Op) (k : ℕ) (memory : ℕ → Page) (path siblings : List ℕ) (want : ℕ) (path′ siblings′ : List ℕ) → Takes op k memory path siblings want path′ siblings′
+    → (p : ℕ) → member p (path′ ++ siblings′) ≡ true → (member p (path ++ siblings) ≡ true) ⊎ (p ≡ want)
+takes-from op k memory path siblings want path′ siblings′ (inl g) p m =
+    ⊎-elim (λ h. not-both h (member-none p)) inr
+    (member-last p [] want (subst (λ (ps : List ℕ). member p ps ≡ true) (ap₂ _++_ (g .holds) (g .still)) m))
+takes-from op k memory path siblings want path′ siblings′ (inr (inl g)) p m =
+    ⊎-elim (λ h. inl (member-append p path siblings ∙ or-first (member p siblings) h)) inr
+    (member-last p path want (subst (λ (ps : List ℕ). member p ps ≡ true) (ap₂ _++_ (g .holds) (g .still) ∙ append-nil (path ++ want ∷ [])) m))
+takes-from op k memory path siblings want path′ siblings′ (inr (inr g)) p m =
+    ⊎-elim (λ h. inl (member-append p path siblings ∙ or-first (member p siblings) h))
+    (λ h. ⊎-elim (λ g. inl (member-append p path siblings ∙ or-second (member p path) g)) inr (member-last p siblings want h))
+    (or-cases (member p path) (member p (siblings ++ want ∷ []))
+    (sym (member-append p path (siblings ++ want ∷ [])) ∙ subst (λ (ps : List ℕ). member p ps ≡ true) (ap₂ _++_ (g .still) (g .holds)) m))
+
+-- A step keeps what holds of a run.
+pub step-keeps : (st : State) (ws : List ℕ) (inv : Invariant st ws) (s : ℕ) → StepOf st ws inv s → Invariant (stepped st ws s .state) (stepped st ws s .words)
+step-keeps st ws inv s (noSlot b e) = subst (λ (r : Left). Invariant (r .state) (r .words)) (sym e) inv
+step-keeps st ws inv s (idle b c e) = subst (λ (r : Left). Invariant (r .state) (r .words)) (sym e) inv
+step-keeps st ws inv s (waits op b runs g e) = subst (λ (r : Left). Invariant (r .state) (r .words)) (sym e) inv
+step-keeps st ws inv s (onward op path siblings want b runs g e stance takes) =
+    subst (λ (r : Left). Invariant (r .state) (r .words)) (sym e)
+    (move-keeps st ws inv s b op path siblings want runs g stance
+    (takes-from op (st .k) (pageAt (st .k) ws) (pathOf (slotAt st s)) (siblingsOf (slotAt st s)) (wantAt st s) path siblings takes))
+step-keeps st ws inv s (over op a writes b runs g e ended) =
+    subst (λ (r : Left). Invariant (r .state) (r .words)) (sym e) (end-keeps st ws inv s b op a writes runs g ended)

@@ -1,0 +1,401 @@
+-- How many grants an operation takes: its way down takes one a level, and then a deletion one for each sibling.
+use Prim.Native.Nat.{ℕ, _+_, _-_, _*_, _≤_, _<_}
+use mathlib.Core.Bool.{true, false, not}
+use mathlib.Core.List.{List, [], _∷_, reverse}
+use mathlib.Core.Logic.{_⊎_, _≢_, inl, inr, ⊎-elim}
+use mathlib.Core.Path.{_≡_, refl, sym, ap, ap₂, _∙_, subst}
+use native.Mathlib.Omega.{arith}
+use borrow.Author.Tests.{eq-eqb, ne-eqb, eqb-true}
+use lib.Dec.{eqb}
+use lib.ListN.{length}
+use Rattle.ground.specs.Limits.{slotCount}
+use Rattle.ground.proofs.Bools.{true-or-false, not-both, and-both, and-first-fails, and-second-fails, not-of-false, false-if-not-true}
+use Rattle.ground.proofs.Limits.{range-rises}
+use Rattle.ground.proofs.Choice.{cond-true, cond-false}
+use Rattle.page.specs.Words.{Page}
+use Rattle.pool.specs.Pool.{pageAt}
+use Rattle.slots.specs.declared.Op.{Op}
+use Rattle.slots.specs.declared.Slot.{Slot}
+use Rattle.slots.specs.declared.State.{State}
+use Rattle.slots.specs.declared.Outcome.{Outcome}
+use Rattle.slots.specs.Heard.{numberOf, changesNothing}
+use Rattle.slots.specs.Parts.{isOpen, isDelete, openSlot, pathOf, siblingsOf, slotAt, openAt, wantAt}
+use Rattle.slots.specs.Book.{begins, goesOn}
+use Rattle.slots.specs.Begin.{begun}
+use Rattle.slots.proofs.Keeping.{Shaped, slot-here, slot-other, path-new}
+use Rattle.slots.proofs.OrderLaws.{same-or-not}
+use Rattle.grant.specs.Granted.{kept, atItsLeaf}
+use Rattle.index.specs.Step.{Left, stepped}
+use Rattle.index.proofs.Refusals.{step-refused}
+use Rattle.tree.proofs.Search.{way-facts}
+use Rattle.runs.specs.Run.{Call, begin, step, report, called, InWords}
+use Rattle.runs.specs.Step.{Comes, moves, stops}
+use Rattle.runs.specs.Counts.{grantedTo, grantsOf, endsWithin, heightGranted, GrantCounts, CountsFrom}
+use Rattle.runs.proofs.Invariant.{Runs, Invariant}
+use Rattle.runs.proofs.Calls.{same-op}
+use Rattle.runs.proofs.Runs.{BeginOf, noSuch, busy, begins-so, begin-of, call-keeps}
+use Rattle.runs.proofs.Measure.{lowestOf, leftOpen, grantsLeft, Where, atStart, onTheWay, atTheLeaf}
+use Rattle.runs.proofs.MeasureLaws.{Undisturbed, nothing-disturbed, undisturbed-measure, step-undisturbed, measure-falls, measure-bound, kept-path, goes-on-here, goes-on-k, closes-here, comes, moved, ended-so, after-moving, kept-left, where-slot, low-above, start-above}
+use Rattle.runs.proofs.Steps.{Goes, step-cases}
+use Rattle.runs.proofs.Verdicts.{coming-goes, coming-ends}
+
+-- ---- the counts, call by call
+
+module _ (s : ℕ) (c : Call) (cs : List Call) (st : State) (ws : List ℕ) where
+  -- a grant, and the slot goes on
+  grants-on : grantedTo s st ws c ≡ true → openAt (called st ws c .state) s ≡ true
+      → grantsOf s (c ∷ cs) st ws ≡ 1 + grantsOf s cs (called st ws c .state) (called st ws c .words)
+  unfolding grantsOf
+  grants-on g o = ap₂ (λ (a b : ℕ). a + b) (cond-true 1 0 g) (cond-true (grantsOf s cs (called st ws c .state) (called st ws c .words)) 0 o)
+
+  -- a grant, and its operation ends
+  grants-last : grantedTo s st ws c ≡ true → openAt (called st ws c .state) s ≡ false → grantsOf s (c ∷ cs) st ws ≡ 1
+  unfolding grantsOf
+  grants-last g o = ap₂ (λ (a b : ℕ). a + b) (cond-true 1 0 g) (cond-false (grantsOf s cs (called st ws c .state) (called st ws c .words)) 0 o)
+
+  -- any other call
+  grants-other : grantedTo s st ws c ≡ false → openAt (called st ws c .state) s ≡ true
+      → grantsOf s (c ∷ cs) st ws ≡ grantsOf s cs (called st ws c .state) (called st ws c .words)
+  unfolding grantsOf
+  grants-other g o =
+      ap₂ (λ (a b : ℕ). a + b) (cond-false 1 0 g) (cond-true (grantsOf s cs (called st ws c .state) (called st ws c .words)) 0 o) ∙ omega arith
+
+  ends-later : openAt (called st ws c .state) s ≡ true → endsWithin s (c ∷ cs) st ws ≡ endsWithin s cs (called st ws c .state) (called st ws c .words)
+  unfolding endsWithin
+  ends-later o = cond-true (endsWithin s cs (called st ws c .state) (called st ws c .words)) true o
+
+  height-now : grantedTo s st ws c ≡ true → heightGranted s (c ∷ cs) st ws ≡ pageAt (st .k) ws 0 .level
+  unfolding heightGranted
+  height-now g = cond-true (pageAt (st .k) ws 0 .level) (heightGranted s cs (called st ws c .state) (called st ws c .words)) g
+
+  height-later : grantedTo s st ws c ≡ false → heightGranted s (c ∷ cs) st ws ≡ heightGranted s cs (called st ws c .state) (called st ws c .words)
+  unfolding heightGranted
+  height-later g = cond-false (pageAt (st .k) ws 0 .level) (heightGranted s cs (called st ws c .state) (called st ws c .words)) g
+
+-- before any call
+none-ends : (s : ℕ) (st : State) (ws : List ℕ) → endsWithin s [] st ws ≡ false
+unfolding endsWithin
+none-ends s st ws = refl
+
+none-granted : (s : ℕ) (st : State) (ws : List ℕ) → grantsOf s [] st ws ≡ 0
+unfolding grantsOf
+none-granted s st ws = refl
+
+-- ---- a call is a grant of the slot or leaves it undisturbed
+
+begins-other : (st : State) → Shaped st → (u : ℕ) → u < slotCount → (op : Op) (s : ℕ) → s ≢ u → slotAt (begins st u op) s ≡ slotAt st s
+unfolding begins
+begins-other st shaped u b op s n = slot-other st shaped u b (openSlot op 0 [] []) (st .order) (st .waiting) s n
+
+begins-here : (st : State) → Shaped st → (s : ℕ) → s < slotCount → (op : Op) → slotAt (begins st s op) s ≡ openSlot op 0 [] []
+unfolding begins
+begins-here st shaped s b op = slot-here st shaped s b (openSlot op 0 [] []) (st .order) (st .waiting)
+
+begins-k : (st : State) (u : ℕ) (op : Op) → begins st u op .k ≡ st .k
+unfolding begins
+begins-k st u op = refl
+
+begin-undisturbed : (st : State) (ws : List ℕ) → Invariant st ws → (u : ℕ) (op : Op) (s : ℕ) → openAt st s ≡ true → BeginOf st u op
+    → Undisturbed st ws (begun st u op .state) ws s
+begin-undisturbed st ws inv u op s opened (noSuch b e) = subst (λ (o : Outcome). Undisturbed st ws (o .state) ws s) (sym e) (nothing-disturbed st ws s)
+begin-undisturbed st ws inv u op s opened (busy b o e) = subst (λ (o : Outcome). Undisturbed st ws (o .state) ws s) (sym e) (nothing-disturbed st ws s)
+begin-undisturbed st ws inv u op s opened (begins-so b closed e) =
+    subst (λ (o : Outcome). Undisturbed st ws (o .state) ws s) (sym e)
+    (record {
+      slot = begins-other st (inv .shaped) u b op s (λ same. not-both opened (ap (openAt st) same ∙ closed));
+      level = λ _ _. ap (λ (k : ℕ). pageAt k ws (lowestOf (pathOf (slotAt st s))) .level) (begins-k st u op);
+    })
+
+-- The call is a granted step of slot s.
+pub record GrantCall (st : State) (ws : List ℕ) (s : ℕ) (c : Call) : Type 0 where
+  pub does : called st ws c ≡ stepped st ws s
+  pub goes : Goes st s
+  pub granted : grantedTo s st ws c ≡ true
+
+-- Another call: slot s is undisturbed.
+pub record OtherCall (st : State) (ws : List ℕ) (s : ℕ) (c : Call) : Type 0 where
+  pub other : grantedTo s st ws c ≡ false
+  pub keeps : Undisturbed st ws (called st ws c .state) (called st ws c .words) s
+
+-- a granted step is heard as one: it is neither refused nor answered Waiting
+pub granted-heard : (st : State) (ws : List ℕ) → Invariant st ws → (s : ℕ) → Goes st s → changesNothing (stepped st ws s .answer) ≡ false
+granted-heard st ws inv s g =
+    false-if-not-true (changesNothing (stepped st ws s .answer)) (λ h.
+    let same = step-refused st ws s h in
+    let falls = measure-falls st ws inv s g in
+    let stays : grantsLeft (stepped st ws s .state) (stepped st ws s .words) s ≡ grantsLeft st ws s
+    = ap₂ (λ (x : State) (y : List ℕ). grantsLeft x y s) (same .state) (same .words) in
+    omega (arith, falls, stays))
+
+module _ (st : State) (ws : List ℕ) (inv : Invariant st ws) (s : ℕ) (b : s < slotCount) (opened : openAt st s ≡ true) where
+  pub call-cases : (c : Call) → GrantCall st ws s c ⊎ OtherCall st ws s c
+  unfolding called
+  call-cases (begin u op) = inr (record { other = refl; keeps = begin-undisturbed st ws inv u op s opened (begin-of st ws inv u op) })
+  call-cases (report p) = inr (record { other = refl; keeps = nothing-disturbed st ws s })
+  call-cases (step u) =
+      ⊎-elim
+      (λ r. inr (record {
+        other = and-second-fails (eqb u s) (ap not (ap (λ (l : Left). changesNothing (l .answer)) (r .does) ∙ r .nothing));
+        keeps = subst (λ (l : Left). Undisturbed st ws (l .state) (l .words) s) (sym (r .does)) (nothing-disturbed st ws s);
+      }))
+      (λ g. ⊎-elim
+      (λ e. inl (record {
+        does = ap (stepped st ws) e;
+        goes = subst (Goes st) e g;
+        granted = and-both (eq-eqb u s e) (subst (λ (i : ℕ). not (changesNothing (stepped st ws i .answer)) ≡ true) (sym e) (not-of-false (granted-heard st ws inv s (subst (Goes st) e g))));
+      }))
+      (λ n. inr (record {
+        other = and-first-fails (not (changesNothing (stepped st ws u .answer))) (ne-eqb u s n);
+        keeps = step-undisturbed st ws inv u g s b (λ e. n (sym e));
+      }))
+      (same-or-not u s))
+      (step-cases st ws inv u)
+
+-- ---- what a grant does on the way down
+
+-- the level of the slot's lowest page
+abbrev lowLevel : State → List ℕ → ℕ → ℕ
+lowLevel st ws s = pageAt (st .k) ws (lowestOf (pathOf (slotAt st s))) .level
+
+-- Slot s is open with this operation and holds something; its lowest page is on this level.
+pub record Under (st : State) (ws : List ℕ) (s : ℕ) (op : Op) (level : ℕ) : Type 0 where
+  pub runs : Runs st s op
+  pub some : 1 ≤ length (pathOf (slotAt st s))
+  pub lowest : lowLevel st ws s ≡ level
+
+-- Its operation ended where m is 0; or it goes on, with the page granted on level m + 1 the lowest.
+abbrev WentDown : State → List ℕ → ℕ → Op → ℕ → ℕ → Type 0
+WentDown st ws s op m depth = ((openAt st s ≡ false) × (m ≡ 0)) ⊎ (Under st ws s op (m + 1) × (grantsLeft st ws s ≤ 2 * m + depth))
+
+module _ (st : State) (ws : List ℕ) (inv : Invariant st ws) (s : ℕ) (g : Goes st s) where
+  abbrev path : List ℕ
+  path = pathOf (slotAt st s)
+
+  -- The want of a slot that is not at its leaf is on level m + 1, and is granted.
+  grant-down : (m : ℕ) → atItsLeaf (pageAt (st .k) ws) (reverse path) ≡ false → pageAt (st .k) ws (wantAt st s) .level ≡ m + 1
+      → WentDown (stepped st ws s .state) (stepped st ws s .words) s (g .op) m (length path)
+  grant-down m above wanted = by-comes (comes st ws inv s g)
+    where
+      by-comes : Comes (g .op) (st .k) (st .n) ws (inv .height) (inv .tree) path (siblingsOf (slotAt st s)) (wantAt st s)
+          → WentDown (stepped st ws s .state) (stepped st ws s .words) s (g .op) m (length path)
+      by-comes (moves path′ siblings′ want′ e stance takes) =
+          let memory : ℕ → Page = pageAt (st .k) ws in
+          let went = coming-goes (g .op) (st .k) (st .n) ws path (siblingsOf (slotAt st s)) (wantAt st s) above path′ siblings′ want′ e in
+          let how = kept-path (g .op) (st .k) memory path (wantAt st s) in
+          let here = goes-on-here st (inv .shaped) s (g .inside) (g .op) want′ path′ siblings′ in
+          let holds : pathOf (slotAt (goesOn st s (g .op) want′ path′ siblings′) s) ≡ kept (g .op) (st .k) memory path (wantAt st s)
+          = ap pathOf here ∙ path-new (g .op) want′ path′ siblings′ ∙ went .0 in
+          let left-over : grantsLeft (goesOn st s (g .op) want′ path′ siblings′) ws s ≡ 2 * (m + 1) + (length (kept (g .op) (st .k) memory path (wantAt st s)) - 1) - 2
+          = after-moving st ws inv s g path′ siblings′ want′ ∙ ap₂ (leftOpen memory) (went .0) (went .1) ∙ kept-left (g .op) (st .k) memory path (wantAt st s) (m + 1) wanted in
+          inr (subst (λ (r : Left). Under (r .state) (r .words) s (g .op) (m + 1) × (grantsLeft (r .state) (r .words) s ≤ 2 * m + length path))
+          (sym (moved st ws inv s g path′ siblings′ want′ e)) (
+            record {
+              runs = ap (λ (slot : Slot). slot .task) here;
+              some = subst (λ (p : List ℕ). 1 ≤ length p) (sym holds) (how .some);
+              lowest =
+                  ap (λ (k : ℕ). pageAt k ws (lowestOf (pathOf (slotAt (goesOn st s (g .op) want′ path′ siblings′) s))) .level) (goes-on-k st s (g .op) want′ path′ siblings′)
+                  ∙ ap (λ (p : ℕ). memory p .level) (ap lowestOf holds ∙ how .lowest)
+                  ∙ wanted;
+            },
+            omega (arith, left-over, how .most, how .some),
+          ))
+      by-comes (stops a writes e ended) =
+          let leaf = coming-ends (g .op) (st .k) (st .n) ws path (siblingsOf (slotAt st s)) (wantAt st s) above a writes e in
+          inl (
+            subst (λ (r : Left). openAt (r .state) s ≡ false) (sym (ended-so st ws inv s g a writes e))
+                (ap (λ (slot : Slot). isOpen (slot .task)) (closes-here st (inv .shaped) s (g .inside))),
+            omega (arith, wanted, eqb-true (pageAt (st .k) ws (wantAt st s) .level) 1 leaf),
+          )
+
+-- ---- what other calls leave
+
+undisturbed-open : (st : State) (ws : List ℕ) (next : State) (after : List ℕ) (s : ℕ) → Undisturbed st ws next after s → openAt st s ≡ true → openAt next s ≡ true
+undisturbed-open st ws next after s h opened = ap (λ (slot : Slot). isOpen (slot .task)) (h .slot) ∙ opened
+
+undisturbed-under : (st : State) (ws : List ℕ) (next : State) (after : List ℕ) (s : ℕ) (op : Op) (level : ℕ) → Undisturbed st ws next after s
+    → Under st ws s op level → Under next after s op level
+undisturbed-under st ws next after s op level h u = record {
+  runs = ap (λ (slot : Slot). slot .task) (h .slot) ∙ u .runs;
+  some = subst (λ (slot : Slot). 1 ≤ length (pathOf slot)) (sym (h .slot)) (u .some);
+  lowest =
+      ap (λ (slot : Slot). pageAt (next .k) after (lowestOf (pathOf slot)) .level) (h .slot)
+      ∙ h .level (ap isOpen (u .runs)) (u .some)
+      ∙ u .lowest;
+}
+
+-- "with h the level of page 0"
+root-level : (st : State) (ws : List ℕ) (inv : Invariant st ws) → pageAt (st .k) ws 0 .level ≡ inv .height + 1
+root-level st ws inv =
+    let facts = way-facts (st .k) (st .n) (pageAt (st .k) ws) (inv .height) (inv .tree) (inv .forms .forms) 0 range-rises in
+    ap (λ (p : ℕ). pageAt (st .k) ws p .level) (sym (facts .root)) ∙ facts .level (inv .height) (omega arith)
+
+-- So many grants were needed: at least m, and for a search or an insertion just m.
+abbrev Needs : Op → ℕ → ℕ → Type 0
+Needs op m grants = (m ≤ grants) × (isDelete op ≡ false → grants ≡ m)
+
+module _ (s : ℕ) (b : s < slotCount) where
+  -- an open slot is granted at most what its measure says
+  at-most : (cs : List Call) → InWords cs → (st : State) (ws : List ℕ) → Invariant st ws → openAt st s ≡ true → grantsOf s cs st ws ≤ grantsLeft st ws s
+  at-most [] words st ws inv opened = omega (arith, none-granted s st ws)
+  at-most (c ∷ cs) words st ws inv opened =
+      let next : State = called st ws c .state in
+      let after : List ℕ = called st ws c .words in
+      let kept-inv : Invariant next after = call-keeps st ws inv c (words .0) in
+      ⊎-elim
+      (λ g.
+      let falls : grantsLeft next after s < grantsLeft st ws s
+      = subst (λ (l : Left). grantsLeft (l .state) (l .words) s < grantsLeft st ws s) (sym (g .does)) (measure-falls st ws inv s (g .goes)) in
+      ⊎-elim
+      (λ o. let rest = at-most cs (words .1) next after kept-inv o in omega (arith, grants-on s c cs st ws (g .granted) o, rest, falls))
+      (λ o. omega (arith, grants-last s c cs st ws (g .granted) o, measure-bound st ws inv s b opened .0))
+      (true-or-false (openAt next s)))
+      (λ o.
+      let still = undisturbed-open st ws next after s (o .keeps) opened in
+      let rest = at-most cs (words .1) next after kept-inv still in
+      omega (arith, grants-other s c cs st ws (o .other) still, rest, undisturbed-measure st ws next after s (o .keeps)))
+      (call-cases st ws inv s b opened c)
+
+  -- the same of a call that is granted
+  called-down : (c : Call) (st : State) (ws : List ℕ) → Invariant st ws → (op : Op) → Runs st s op → GrantCall st ws s c → (m : ℕ)
+      → atItsLeaf (pageAt (st .k) ws) (reverse (pathOf (slotAt st s))) ≡ false → pageAt (st .k) ws (wantAt st s) .level ≡ m + 1
+      → WentDown (called st ws c .state) (called st ws c .words) s op m (length (pathOf (slotAt st s)))
+  called-down c st ws inv op runs g m above wanted =
+      subst (λ (l : Left). WentDown (l .state) (l .words) s op m (length (pathOf (slotAt st s)))) (sym (g .does))
+      (subst (λ (o : Op). WentDown (stepped st ws s .state) (stepped st ws s .words) s o m (length (pathOf (slotAt st s))))
+      (same-op (sym (g .goes .runs) ∙ runs))
+      (grant-down st ws inv s (g .goes) m above wanted))
+
+  -- one grant more, where the rest needs m
+  one-more : (c : Call) (cs : List Call) (st : State) (ws : List ℕ) (op : Op) (m : ℕ) → grantedTo s st ws c ≡ true → openAt (called st ws c .state) s ≡ true
+      → Needs op m (grantsOf s cs (called st ws c .state) (called st ws c .words)) → Needs op (m + 1) (grantsOf s (c ∷ cs) st ws)
+  one-more c cs st ws op m g o rest =
+      let is = grants-on s c cs st ws g o in
+      (omega (arith, is, rest .0), λ no. is ∙ omega (arith, rest .1 no))
+
+  -- the last grant
+  last-one : (c : Call) (cs : List Call) (st : State) (ws : List ℕ) (op : Op) (m : ℕ) → grantedTo s st ws c ≡ true → openAt (called st ws c .state) s ≡ false
+      → m ≡ 0 → Needs op (m + 1) (grantsOf s (c ∷ cs) st ws)
+  last-one c cs st ws op m g o e =
+      let is = grants-last s c cs st ws g o in
+      (omega (arith, is, e), λ no. omega (arith, is, e))
+
+  -- on the way down it is granted one page a level
+  on-the-way : (cs : List Call) → InWords cs → (st : State) (ws : List ℕ) → Invariant st ws → (op : Op) (level : ℕ) → Under st ws s op level
+      → endsWithin s cs st ws ≡ true → Needs op (level - 1) (grantsOf s cs st ws)
+  on-the-way [] words st ws inv op level u ends-so = not-both ends-so (none-ends s st ws)
+  on-the-way (c ∷ cs) words st ws inv op level u ends-so =
+      ⊎-elim
+      (λ g. granted-now (on-the-way cs (words .1) next after kept-inv op) g (where-slot st ws inv s op b (u .runs)))
+      (λ o.
+      let still = undisturbed-open st ws next after s (o .keeps) (ap isOpen (u .runs)) in
+      let rest = on-the-way cs (words .1) next after kept-inv op level (undisturbed-under st ws next after s op level (o .keeps) u)
+      (sym (ends-later s c cs st ws still) ∙ ends-so) in
+      subst (Needs op (level - 1)) (sym (grants-other s c cs st ws (o .other) still)) rest)
+      (call-cases st ws inv s b (ap isOpen (u .runs)) c)
+    where
+      next : State
+      next = called st ws c .state
+
+      after : List ℕ
+      after = called st ws c .words
+
+      kept-inv : Invariant next after
+      kept-inv = call-keeps st ws inv c (words .0)
+
+      granted-now : ((lower : ℕ) → Under next after s op lower → endsWithin s cs next after ≡ true → Needs op (lower - 1) (grantsOf s cs next after))
+          → GrantCall st ws s c
+          → Where op (pageAt (st .k) ws) (inv .height) (inv .tree) (pathOf (slotAt st s)) (siblingsOf (slotAt st s)) (wantAt st s)
+          → Needs op (level - 1) (grantsOf s (c ∷ cs) st ws)
+      granted-now rest g (atStart e f h) = absurd (omega (arith, u .some, ap length e))
+      granted-now rest g (atTheLeaf w f d) = (omega (arith, u .lowest, w .level), λ no. not-both d no)
+      granted-now rest g (onTheWay low w e h) =
+          subst (λ (m : ℕ). Needs op m (grantsOf s (c ∷ cs) st ws)) (omega (arith, u .lowest, w .level))
+          (⊎-elim
+          (λ ended. last-one c cs st ws op low (g .granted) (ended .0) (ended .1))
+          (λ on.
+          let still : openAt next s ≡ true = ap isOpen (on .0 .runs) in
+          let less : low + 1 - 1 ≡ low = omega arith in
+          one-more c cs st ws op low (g .granted) still
+          (subst (λ (m : ℕ). Needs op m (grantsOf s cs next after)) less (rest (low + 1) (on .0) (sym (ends-later s c cs st ws still) ∙ ends-so))))
+          (called-down c st ws inv op (u .runs) g low (low-above (pageAt (st .k) ws) (inv .height) (inv .tree) (pathOf (slotAt st s)) low w) h))
+
+  -- from where it has just begun it is granted h pages on its way down, and at most 2h - 1 in all
+  from-start : (cs : List Call) → InWords cs → (st : State) (ws : List ℕ) → Invariant st ws → (op : Op) → Runs st s op → pathOf (slotAt st s) ≡ []
+      → (endsWithin s cs st ws ≡ true → Needs op (heightGranted s cs st ws) (grantsOf s cs st ws))
+      × (grantsOf s cs st ws ≤ 2 * heightGranted s cs st ws - 1)
+  from-start [] words st ws inv op runs none = (λ ends-so. not-both ends-so (none-ends s st ws), omega (arith, none-granted s st ws))
+  from-start (c ∷ cs) words st ws inv op runs none =
+      ⊎-elim
+      (λ g. granted-now g (where-slot st ws inv s op b runs))
+      (λ o.
+      let still = undisturbed-open st ws next after s (o .keeps) (ap isOpen runs) in
+      let rest = from-start cs (words .1) next after kept-inv op (ap (λ (slot : Slot). slot .task) (o .keeps .slot) ∙ runs) (ap pathOf (o .keeps .slot) ∙ none) in
+      let is = grants-other s c cs st ws (o .other) still in
+      let height = height-later s c cs st ws (o .other) in (
+        λ ends-so.
+            subst (λ (h : ℕ). Needs op h (grantsOf s (c ∷ cs) st ws)) (sym height)
+            (subst (Needs op (heightGranted s cs next after)) (sym is) (rest .0 (sym (ends-later s c cs st ws still) ∙ ends-so))),
+        omega (arith, is, height, rest .1),
+      ))
+      (call-cases st ws inv s b (ap isOpen runs) c)
+    where
+      next : State
+      next = called st ws c .state
+
+      after : List ℕ
+      after = called st ws c .words
+
+      kept-inv : Invariant next after
+      kept-inv = call-keeps st ws inv c (words .0)
+
+      granted-now : GrantCall st ws s c
+          → Where op (pageAt (st .k) ws) (inv .height) (inv .tree) (pathOf (slotAt st s)) (siblingsOf (slotAt st s)) (wantAt st s)
+          → (endsWithin s (c ∷ cs) st ws ≡ true → Needs op (heightGranted s (c ∷ cs) st ws) (grantsOf s (c ∷ cs) st ws))
+          × (grantsOf s (c ∷ cs) st ws ≤ 2 * heightGranted s (c ∷ cs) st ws - 1)
+      granted-now g (onTheWay low w e h) = absurd (omega (arith, w .some, ap length none))
+      granted-now g (atTheLeaf w f d) = absurd (omega (arith, w .some, ap length none))
+      granted-now g (atStart e f h) =
+          let l : ℕ = inv .height in
+          let height : heightGranted s (c ∷ cs) st ws ≡ l + 1 = height-now s c cs st ws (g .granted) ∙ root-level st ws inv in
+          ⊎-elim
+          (λ ended. (
+            λ _. subst (λ (m : ℕ). Needs op m (grantsOf s (c ∷ cs) st ws)) (sym height) (last-one c cs st ws op l (g .granted) (ended .0) (ended .1)),
+            omega (arith, height, grants-last s c cs st ws (g .granted) (ended .0)),
+          ))
+          (λ on.
+          let still : openAt next s ≡ true = ap isOpen (on .0 .runs) in
+          let less : l + 1 - 1 ≡ l = omega arith in (
+            λ ends-so. subst (λ (m : ℕ). Needs op m (grantsOf s (c ∷ cs) st ws)) (sym height)
+                (one-more c cs st ws op l (g .granted) still
+                (subst (λ (m : ℕ). Needs op m (grantsOf s cs next after)) less
+                (on-the-way cs (words .1) next after kept-inv op (l + 1) (on .0) (sym (ends-later s c cs st ws still) ∙ ends-so)))),
+            omega (arith, height, grants-on s c cs st ws (g .granted) still, at-most cs (words .1) next after kept-inv still, on .1, ap length none),
+          ))
+          (called-down c st ws inv op runs g l (start-above (pageAt (st .k) ws) l (inv .tree) (pathOf (slotAt st s)) none) h)
+
+  -- The grants of an operation that has just begun in a state of a run.
+  pub grant-counts : (op : Op) (cs : List Call) (st : State) (ws : List ℕ) → Invariant st ws → InWords cs → Runs st s op → pathOf (slotAt st s) ≡ []
+      → GrantCounts s op cs st ws
+  grant-counts op cs st ws inv words runs none =
+      let counted = from-start cs words st ws inv op runs none in
+      let opened : openAt st s ≡ true = ap isOpen runs in
+      record {
+        exactly = λ no ends-so. counted .0 ends-so .1 no;
+        least = λ ends-so. counted .0 ends-so .0;
+        most = counted .1;
+        inAll = omega (arith, at-most cs words st ws inv opened, measure-bound st ws inv s b opened .1);
+      }
+
+-- In a state of a run: whatever operation is begun, and whatever is called then.
+pub counts-from : (st : State) (ws : List ℕ) → Invariant st ws → CountsFrom st ws
+unfolding called
+counts-from st ws inv s op cs words heard-begun = by-begin (begin-of st ws inv s op)
+  where
+    by-begin : BeginOf st s op → GrantCounts s op cs (begun st s op .state) ws
+    by-begin (noSuch b e) = absurd (omega (arith, ap numberOf (sym (ap (λ (o : Outcome). o .answer) e) ∙ heard-begun)))
+    by-begin (busy b o e) = absurd (omega (arith, ap numberOf (sym (ap (λ (o : Outcome). o .answer) e) ∙ heard-begun)))
+    by-begin (begins-so b c e) =
+        let here : slotAt (begun st s op .state) s ≡ openSlot op 0 [] [] = ap (λ (o : Outcome). slotAt (o .state) s) e ∙ begins-here st (inv .shaped) s b op in
+        grant-counts s b op cs (begun st s op .state) ws (call-keeps st ws inv (begin s op) (words .0)) (words .1)
+        (ap (λ (slot : Slot). slot .task) here)
+        (ap pathOf here ∙ path-new op 0 [] [])

@@ -1,0 +1,320 @@
+-- Fathers of the pages that a slot holds and wants: it holds the father of each of them, but for the top page of its path and
+-- for page 0, and what it wants lies inside the range of the top page, on a lower level.
+use Prim.Native.Nat.{ℕ, zero, suc, _+_, _≤_, _<_}
+use mathlib.Core.Bool.{true}
+use mathlib.Core.List.{List, [], _∷_, _++_, reverse, append-assoc}
+use mathlib.Core.Logic.{_⊎_, inl, inr, ⊎-elim}
+use mathlib.Core.Path.{_≡_, refl, sym, ap, _∙_, subst}
+use native.Mathlib.Nat.{eq-or-lt-of-le}
+use native.Mathlib.Omega.{arith}
+use lib.ListN.{length, getD, length-append, length-reverse, List·getD-append}
+use lib.Seq.{getD-append-seam, getD-append-add}
+use Rattle.ground.specs.Limits.{wordRange}
+use Rattle.ground.specs.Tests.{member}
+use Rattle.ground.proofs.Bools.{not-both, or-cases, or-first}
+use Rattle.ground.proofs.Tests.{member-none, member-append, member-from, member-at}
+use Rattle.page.specs.Words.{Page, μ}
+use Rattle.page.specs.Place.{place, pointer}
+use Rattle.page.specs.Short.{neighbour}
+use Rattle.page.proofs.PlaceLaws.{place-most}
+use Rattle.slots.specs.declared.Op.{Op}
+use Rattle.slots.specs.Parts.{keyOf}
+use Rattle.tree.specs.Tree.{Tr, Stands, way, Forms}
+use Rattle.tree.specs.Facts.{Placed, WayFacts, PlaceFacts}
+use Rattle.tree.proofs.Search.{way-facts}
+use Rattle.tree.proofs.Ways.{stands-root, neighbour-pointer, place-facts}
+use Rattle.runs.specs.Stance.{Stance, Coming, WantsSibling}
+use Rattle.runs.proofs.Paths.{member-reverse}
+
+-- ---- a path read upward
+
+-- what stands in a path read upward is held
+pub upward-held : (path siblings : List ℕ) (j : ℕ) → j < length path → member (getD (reverse path) j 0) (path ++ siblings) ≡ true
+upward-held path siblings j h =
+    let q : ℕ = getD (reverse path) j 0 in
+    member-append q path siblings
+    ∙ or-first (member q siblings)
+    (sym (member-reverse q path) ∙ member-from q (reverse path) j 0 (omega (arith, length-reverse path)) refl)
+
+-- A page that is held stands in the path read upward, or among the siblings.
+held-at : (p : ℕ) (path siblings : List ℕ) → member p (path ++ siblings) ≡ true
+    → ((j : ℕ) × (j < length path) × (getD (reverse path) j 0 ≡ p)) ⊎ ((j : ℕ) × (j < length siblings) × (getD siblings j 0 ≡ p))
+held-at p path siblings m =
+    ⊎-elim
+    (λ h. let found = member-at p (reverse path) 0 (member-reverse p path ∙ h) in
+    inl (found .0, omega (arith, length-reverse path, found .1), found .2))
+    (λ h. inr (member-at p siblings 0 h))
+    (or-cases (member p path) (member p siblings) (sym (member-append p path siblings) ∙ m))
+
+-- ---- fathers
+
+-- Page p of the tree points to page q.
+pub record Father (memory : ℕ → Page) (l : ℕ) (t : Tr l) (p q : ℕ) : Type 0 where
+  pub under : ℕ
+  pub from : ℕ
+  pub to : ℕ
+  pub stands : Stands l t 0 wordRange p (under + 2) from to
+  pub index : ℕ
+  pub most : index ≤ μ (memory p)
+  pub points : pointer index (memory p) ≡ q
+
+-- Page q stands lower than this level, with a range that begins at this key or behind it.
+pub record Inside (l : ℕ) (t : Tr l) (level low q : ℕ) : Type 0 where
+  pub newLevel : ℕ
+  pub from : ℕ
+  pub to : ℕ
+  pub stands : Stands l t 0 wordRange q newLevel from to
+  pub lower : newLevel < level
+  pub later : low ≤ from
+
+-- The top page of a path.
+pub record Top (path : List ℕ) (p : ℕ) : Type 0 where
+  pub index : ℕ
+  pub last : suc index ≡ length path
+  pub here : getD (reverse path) index 0 ≡ p
+
+-- The father of page q is in the path.
+pub record UnderPath (memory : ℕ → Page) (l : ℕ) (t : Tr l) (path : List ℕ) (q : ℕ) : Type 0 where
+  pub index : ℕ
+  pub held : index < length path
+  pub father : Father memory l t (getD (reverse path) index 0) q
+
+module _ (k n : ℕ) (memory : ℕ → Page) (l : ℕ) (t : Tr l) (forms : Forms k n memory l t) where
+  facts : PlaceFacts memory l t
+  facts = place-facts k n memory l t forms
+
+  ways : (x : ℕ) → x < wordRange → WayFacts memory x l t
+  ways x key = way-facts k n memory l t forms x key
+
+  -- a page has one father
+  pub one-father : (p p′ q : ℕ) → Father memory l t p q → Father memory l t p′ q → p ≡ p′
+  one-father p p′ q f f′ =
+      facts .oneFather p (f .under) (f .from) (f .to) (f .index) p′ (f′ .under) (f′ .from) (f′ .to) (f′ .index)
+      (f .stands) (f .most) (f′ .stands) (f′ .most) (f .points ∙ sym (f′ .points))
+
+  -- "Page 0 is always the root"
+  root-place : Stands l t 0 wordRange 0 (l + 1) 0 wordRange
+  root-place = subst (λ (q : ℕ). Stands l t 0 wordRange q (l + 1) 0 wordRange) (forms .root) (stands-root l t 0 wordRange)
+
+  pub root-fatherless : (p : ℕ) → Father memory l t p 0 → ⊥
+  root-fatherless p f =
+      let c = facts .pointed p (f .under) (f .from) (f .to) (f .index) (f .stands) (f .most) in
+      let same = facts .only 0 (f .under + 1) (c .from) (c .to) (l + 1) 0 wordRange
+      (subst (λ (q : ℕ). Stands l t 0 wordRange q (f .under + 1) (c .from) (c .to)) (f .points) (c .stands)) root-place in
+      let inside = facts .inside p (f .under + 2) (f .from) (f .to) (f .stands) in
+      omega (arith, same .sameLevel, inside .highest)
+
+  -- each page of a way but the top one has the next one for its father
+  father-on-way : (x i : ℕ) → x < wordRange → i < l → Father memory l t (getD (way x l t) (suc i) 0) (getD (way x l t) i 0)
+  father-on-way x i key h =
+      let p : ℕ = getD (way x l t) (suc i) 0 in
+      let place-here = facts .onWay x (suc i) key h in
+      let e : suc i + 1 ≡ i + 2 = omega arith in
+      record {
+        under = i;
+        from = place-here .from;
+        to = place-here .to;
+        stands = subst (λ (v : ℕ). Stands l t 0 wordRange p v (place-here .from) (place-here .to)) e (place-here .stands);
+        index = place x (memory p .entries);
+        most = place-most x (memory p .entries);
+        points = ways x key .leads i h;
+      }
+
+  -- the neighbour of the page to which a page of a way routes a key has that page for its father
+  father-of-neighbour : (x i y : ℕ) → x < wordRange → i < l
+      → Father memory l t (getD (way x l t) (suc i) 0) (neighbour y (memory (getD (way x l t) (suc i) 0)))
+  father-of-neighbour x i y key h =
+      let p : ℕ = getD (way x l t) (suc i) 0 in
+      let f = father-on-way x i key h in
+      let (j, most, e) = neighbour-pointer y (memory p) in
+      record { under = f .under; from = f .from; to = f .to; stands = f .stands; index = j; most = most; points = sym e }
+
+  -- what a page points to lies inside it, and lower
+  child-inside : (p q level a b : ℕ) → Stands l t 0 wordRange p level a b → Father memory l t p q → Inside l t level a q
+  child-inside p q level a b s f =
+      let c = facts .pointed p (f .under) (f .from) (f .to) (f .index) (f .stands) (f .most) in
+      let same = facts .only p level a b (f .under + 2) (f .from) (f .to) s (f .stands) in
+      record {
+        newLevel = f .under + 1;
+        from = c .from;
+        to = c .to;
+        stands = subst (λ (v : ℕ). Stands l t 0 wordRange v (f .under + 1) (c .from) (c .to)) (f .points) (c .stands);
+        lower = omega (arith, same .sameLevel);
+        later = omega (arith, same .sameFrom, c .low);
+      }
+
+  -- and so does what lies inside that
+  inside-inside : (q r level a : ℕ) (i : Inside l t level a q) → Inside l t (i .newLevel) (i .from) r → Inside l t level a r
+  inside-inside q r level a i j =
+      record {
+        newLevel = j .newLevel;
+        from = j .from;
+        to = j .to;
+        stands = j .stands;
+        lower = omega (arith, i .lower, j .lower);
+        later = omega (arith, i .later, j .later);
+      }
+
+  -- a page of a way lies inside every page above it
+  way-inside : (x u c level a b : ℕ) → x < wordRange → c < u → u ≤ l → Stands l t 0 wordRange (getD (way x l t) u 0) level a b
+      → Inside l t level a (getD (way x l t) c 0)
+  way-inside x zero c level a b key h most s = absurd (omega arith)
+  way-inside x (suc v) c level a b key h most s =
+      let w = way x l t in
+      let next = child-inside (getD w (suc v) 0) (getD w v 0) level a b s (father-on-way x v key most) in
+      ⊎-elim
+      (λ e. subst (λ (i : ℕ). Inside l t level a (getD w i 0)) (sym e) next)
+      (λ below. inside-inside (getD w v 0) (getD w c 0) level a next
+      (way-inside x v c (next .newLevel) (next .from) (next .to) key below (omega arith) (next .stands)))
+      (eq-or-lt-of-le {n = c} {m = v} (omega arith))
+
+  -- ---- a slot that holds a stretch of its key's way
+
+  -- Read upward, the path stands in the way from an index on.
+  record Climbs (x : ℕ) (path : List ℕ) (base : ℕ) : Type 0 where
+    inside : base + length path ≤ l + 1
+    at : (j : ℕ) → j < length path → getD (reverse path) j 0 ≡ getD (way x l t) (base + j) 0
+
+  climbs : (x : ℕ) (lower path upper : List ℕ) → x < wordRange → way x l t ≡ lower ++ (reverse path ++ upper)
+      → Climbs x path (length lower)
+  climbs x lower path upper key e =
+      let long = ap length e ∙ length-append lower (reverse path ++ upper) in
+      record {
+        inside = omega (arith, long, ways x key .pages, length-append (reverse path) upper, length-reverse path);
+        at = λ j h. sym (ap (λ (w : List ℕ). getD w (length lower + j) 0) e
+            ∙ getD-append-add lower (reverse path ++ upper) j 0
+            ∙ List·getD-append (reverse path) upper 0 j (omega (arith, length-reverse path)));
+      }
+
+  module _ (x : ℕ) (key : x < wordRange) (path : List ℕ) (base : ℕ) (up : Climbs x path base) where
+    -- a page of the path is on the way
+    path-at : (j i : ℕ) → j < length path → i ≡ base + j → getD (way x l t) i 0 ≡ getD (reverse path) j 0
+    path-at j i h e = ap (λ (v : ℕ). getD (way x l t) v 0) e ∙ sym (up .at j h)
+
+    -- each page of the path but the top one is under the path
+    path-under : (j : ℕ) → suc j < length path → UnderPath memory l t path (getD (reverse path) j 0)
+    path-under j h =
+        let f = father-on-way x (base + j) key (omega (arith, up .inside)) in
+        record {
+          index = suc j;
+          held = h;
+          father = subst (Father memory l t (getD (reverse path) (suc j) 0)) (path-at j (base + j) (omega arith) refl)
+              (subst (λ (p : ℕ). Father memory l t p (getD (way x l t) (base + j) 0)) (path-at (suc j) (suc (base + j)) h (omega arith)) f);
+        }
+
+    -- and so is the neighbour of each
+    neighbour-under : (j q : ℕ) → suc j < length path → q ≡ neighbour x (memory (getD (reverse path) (suc j) 0)) → UnderPath memory l t path q
+    neighbour-under j q h e =
+        record {
+          index = suc j;
+          held = h;
+          father = subst (Father memory l t (getD (reverse path) (suc j) 0)) (sym e)
+              (subst (λ (p : ℕ). Father memory l t p (neighbour x (memory p))) (path-at (suc j) (suc (base + j)) h (omega arith))
+              (father-of-neighbour x (base + j) x key (omega (arith, up .inside))));
+        }
+
+    -- what is under the path lies inside its top page, and lower
+    under-inside : (p q level a b : ℕ) → Top path p → Stands l t 0 wordRange p level a b → UnderPath memory l t path q → Inside l t level a q
+    under-inside p q level a b top s u =
+        let i : ℕ = u .index in
+        let j : ℕ = top .index in
+        let there = path-at j (base + j) (omega (arith, top .last)) refl ∙ top .here in
+        ⊎-elim
+        (λ e. child-inside p q level a b s (subst (λ (r : ℕ). Father memory l t r q) (ap (λ (v : ℕ). getD (reverse path) v 0) e ∙ top .here) (u .father)))
+        (λ below.
+        let f = way-inside x (base + j) (base + i) level a b key (omega arith) (omega (arith, up .inside, top .last))
+        (subst (λ (r : ℕ). Stands l t 0 wordRange r level a b) (sym there) s) in
+        inside-inside (getD (way x l t) (base + i) 0) q level a f
+        (child-inside (getD (way x l t) (base + i) 0) q (f .newLevel) (f .from) (f .to) (f .stands)
+        (subst (λ (r : ℕ). Father memory l t r q) (sym (path-at i (base + i) (u .held) refl)) (u .father))))
+        (eq-or-lt-of-le {n = i} {m = j} (omega (arith, u .held, top .last)))
+
+  -- ---- what an open slot holds and wants
+
+  module _ (op : Op) (key : keyOf op < wordRange) (path siblings : List ℕ) (want : ℕ) where
+    -- coming down, it wants the page under the lowest one of its path
+    module _ (c : Coming op k memory l t path siblings want) where
+      base : ℕ
+      base = length (c .lower ++ want ∷ [])
+
+      base-is : base ≡ suc (length (c .lower))
+      unfolding base
+      base-is = omega (arith, length-append (c .lower) (want ∷ []))
+
+      coming-climbs : Climbs (keyOf op) path base
+      unfolding base
+      coming-climbs =
+          climbs (keyOf op) (c .lower ++ want ∷ []) path (c .upper) key (c .whole ∙ sym (append-assoc (c .lower) (want ∷ []) (reverse path ++ c .upper)))
+
+      coming-under : UnderPath memory l t path want
+      coming-under =
+          let i : ℕ = length (c .lower) in
+          let some = c .rightly .some in
+          let wanted : getD (way (keyOf op) l t) i 0 ≡ want
+          = ap (λ (w : List ℕ). getD w i 0) (c .whole) ∙ getD-append-seam (c .lower) want (reverse path ++ c .upper) 0 in
+          record {
+            index = 0;
+            held = some;
+            father = subst (Father memory l t (getD (reverse path) 0 0)) wanted
+                (subst (λ (p : ℕ). Father memory l t p (getD (way (keyOf op) l t) i 0))
+                (path-at (keyOf op) key path base coming-climbs 0 (suc i) some (omega (arith, base-is)))
+                (father-on-way (keyOf op) i key (omega (arith, coming-climbs .inside, base-is))));
+          }
+
+    -- at its leaf, it wants a neighbour
+    module _ (b : WantsSibling op k memory l t path siblings want) where
+      beside-climbs : Climbs (keyOf op) path 0
+      beside-climbs = climbs (keyOf op) [] path (b .upper) key (b .whole)
+
+      beside-under : UnderPath memory l t path want
+      beside-under = neighbour-under (keyOf op) key path 0 beside-climbs (length siblings) want (b .fewer) (b .wantsNext)
+
+    -- An open slot wants page 0, or a page whose father it holds.
+    pub wants-under : Stance op k memory l t path siblings want → (want ≡ 0) ⊎ UnderPath memory l t path want
+    wants-under (inl s) = inl (s .wantsRoot)
+    wants-under (inr (inl c)) = inr (coming-under c)
+    wants-under (inr (inr b)) = inr (beside-under b)
+
+    -- A page that it holds is the top one of its path, or it holds the page's father.
+    path-cases : (base p : ℕ) → Climbs (keyOf op) path base → (j : ℕ) → j < length path → getD (reverse path) j 0 ≡ p
+        → Top path p ⊎ UnderPath memory l t path p
+    path-cases base p up j h e =
+        ⊎-elim
+        (λ top. inl (record { index = j; last = top; here = e }))
+        (λ more. inr (subst (UnderPath memory l t path) e (path-under (keyOf op) key path base up j more)))
+        (eq-or-lt-of-le h)
+
+    pub held-under : Stance op k memory l t path siblings want → (p : ℕ) → member p (path ++ siblings) ≡ true
+        → Top path p ⊎ UnderPath memory l t path p
+    held-under (inl s) p m =
+        not-both (subst (λ (xs : List ℕ). member p (xs ++ siblings) ≡ true) (s .noPath) m) (ap (member p) (s .noSiblings) ∙ member-none p)
+    held-under (inr (inl c)) p m =
+        ⊎-elim
+        (λ found. path-cases (base c) p (coming-climbs c) (found .0) (found .1) (found .2))
+        (λ found. absurd (omega (arith, ap length (c .noSiblings), found .1)))
+        (held-at p path siblings m)
+    held-under (inr (inr b)) p m =
+        ⊎-elim
+        (λ found. path-cases 0 p (beside-climbs b) (found .0) (found .1) (found .2))
+        (λ found. inr (neighbour-under (keyOf op) key path 0 (beside-climbs b) (found .0) p
+        (omega (arith, b .fewer, found .1)) (sym (found .2) ∙ b .neighbours (found .0) (found .1))))
+        (held-at p path siblings m)
+
+    -- What it wants lies inside the top page of its path, and lower.
+    pub wants-inside : Stance op k memory l t path siblings want → (p level a b : ℕ) → Top path p → Stands l t 0 wordRange p level a b
+        → Inside l t level a want
+    wants-inside (inl s) p level a b top st = absurd (omega (arith, ap length (s .noPath), top .last))
+    wants-inside (inr (inl c)) p level a b top st =
+        under-inside (keyOf op) key path (base c) (coming-climbs c) p want level a b top st (coming-under c)
+    wants-inside (inr (inr d)) p level a b top st =
+        under-inside (keyOf op) key path 0 (beside-climbs d) p want level a b top st (beside-under d)
+
+    -- The wanted page stands in the tree.
+    pub wants-placed : Stance op k memory l t path siblings want → Placed l t 0 wordRange want
+    wants-placed st =
+        ⊎-elim
+        (λ e. record { level = l + 1; from = 0; to = wordRange; stands = subst (λ (q : ℕ). Stands l t 0 wordRange q (l + 1) 0 wordRange) (sym e) root-place })
+        (λ u. let f = u .father in
+        let c = child-inside (getD (reverse path) (u .index) 0) want (f .under + 2) (f .from) (f .to) (f .stands) f in
+        record { level = c .newLevel; from = c .from; to = c .to; stands = c .stands })
+        (wants-under st)

@@ -1,0 +1,271 @@
+-- At its leaf: a search answers, an insertion answers, lacks room or is made, a deletion answers, wants a sibling or is made.
+use Prim.Native.Nat.{ℕ, suc, _+_, _*_, _≤_, _<_}
+use mathlib.Core.Bool.{Bool, true, false, cond, _&&_, true≢false, false≢true}
+use mathlib.Core.List.{List, [], _∷_, _++_, reverse, reverse-cons}
+use mathlib.Core.Logic.{_⊎_, inl, inr, ⊎-elim}
+use mathlib.Core.Path.{_≡_, refl, sym, ap, ap₂, _∙_, subst}
+use native.Mathlib.Omega.{arith}
+use borrow.Author.Tests.{ltb-true, ltb-false}
+use lib.Dec.{ltb}
+use lib.ListN.{length, getD, take, drop, take-append-drop}
+use Rattle.ground.specs.Limits.{wordRange}
+use Rattle.ground.specs.Tests.{count, member}
+use Rattle.ground.proofs.Tests.{count-append, member-none, member-append, distinct-none}
+use Rattle.ground.proofs.Bools.{not-both, or-first}
+use Rattle.ground.proofs.Choice.{cond-ind, cond-true, cond-false}
+use Rattle.page.specs.Words.{Entry, Page, page, μ, isLeaf}
+use Rattle.page.specs.Place.{has, information, without}
+use Rattle.pool.specs.Pool.{Write, pageAt, freePages}
+use Rattle.change.specs.Insertion.{isFull, room, insertion}
+use Rattle.change.specs.Deletion.{Need, nothing, sibling, astray, needs, deletion}
+use Rattle.slots.specs.declared.Op.{Op}
+use Rattle.slots.specs.declared.Op.the-variants.{Search, Insert, Delete}
+use Rattle.slots.specs.declared.Answer.{Answer}
+use Rattle.slots.specs.declared.Answer.the-variants.{Found, NotFound, Inserted, AlreadyThere, Deleted, NoSuchKey, NoRoom}
+use Rattle.slots.specs.Parts.{keyOf, isSearch, isDelete}
+use Rattle.grant.specs.Granted.{Verdict, goes, ends, byNeed, deletes, atLeaf}
+use Rattle.tree.specs.Tree.{Tr, entriesOf, way, leafOn, Forms, PoolForms}
+use Rattle.tree.specs.Sorted.{inserted}
+use Rattle.tree.specs.Change.{Leads}
+use Rattle.tree.specs.Insertion.{treeRoom, Inserts}
+use Rattle.tree.specs.Facts.{WayFacts}
+use Rattle.tree.proofs.Insertion.{insertionLeads, roomOfTree}
+use Rattle.tree.proofs.Words.{free-facts}
+use Rattle.runs.specs.Stance.{Rightly, Stance, Takes}
+use Rattle.runs.specs.Plain.{Reply, reply, plain}
+use Rattle.runs.specs.Step.{NoRoomLeft, AsPlain, Ended}
+use Rattle.runs.proofs.Paths.{member-reverse}
+use Rattle.runs.proofs.HeldPath.{held-way}
+use Rattle.runs.proofs.Needing.{AtLeaf, leaf-goes, leaf-ends, leaf-on-course}
+
+-- What a slot with this operation, path, siblings and want comes to by this verdict: it goes on and stands as it should, or
+-- its operation ends.
+pub data Does (op : Op) (k n : ℕ) (ws : List ℕ) (l : ℕ) (t : Tr l) (path siblings : List ℕ) (want : ℕ) (v : Verdict) : Type 0 where
+  on : (path′ siblings′ : List ℕ) (want′ : ℕ) → v ≡ goes path′ siblings′ want′ → Stance op k (pageAt k ws) l t path′ siblings′ want′
+      → Takes op k (pageAt k ws) path siblings want path′ siblings′
+      → Does op k n ws l t path siblings want v
+  done : (a : Answer) (writes : List Write) → v ≡ ends a writes → Ended op k n ws l t path siblings want a writes
+      → Does op k n ws l t path siblings want v
+
+-- ---- nothing is written
+
+-- no write leads from a tree to itself
+pub leads-nothing : (k n : ℕ) (memory : ℕ → Page) (l : ℕ) (t : Tr l) → Forms k n memory l t → Leads k n memory l t [] (entriesOf l t)
+leads-nothing k n memory l t forms = record {
+  height = l;
+  tree = t;
+  forms = forms;
+  entries = refl;
+  different = distinct-none;
+  inside = λ q m. not-both m (member-none q);
+  fitting = tt;
+  keeps = λ q level a b m s. s;
+}
+
+-- ---- room, counted on a path or on the path turned round
+
+count-reverse : {A : Type 0} (p : A → Bool) (xs : List A) → count p (reverse xs) ≡ count p xs
+unfolding count
+count-reverse p [] = refl
+count-reverse p (x ∷ xs) =
+    ap (count p) (reverse-cons x xs)
+    ∙ count-append p (reverse xs) (x ∷ [])
+    ∙ one-more (p x) (count-reverse p xs)
+  where
+    one-more : {c d : ℕ} (b : Bool) → c ≡ d → c + cond b 1 0 ≡ cond b (suc d) d
+    one-more true e = omega arith
+    one-more false e = omega arith
+
+room-reverse : (k : ℕ) (memory : ℕ → Page) (leaf : ℕ) (path : List ℕ) → room k memory leaf path ≡ room k memory leaf (reverse path)
+unfolding room
+room-reverse k memory leaf path =
+    ap₂ (λ (c : ℕ) (b : Bool). cond (ltb (μ (memory leaf)) (2 * k)) 0 (c + cond (b && isFull k memory 0) 1 0))
+    (sym (count-reverse (isFull k memory) path))
+    (sym (member-reverse 0 path))
+
+-- what stands among the first of a list stands in it
+member-take : (q i : ℕ) (xs : List ℕ) → member q (take i xs) ≡ true → member q xs ≡ true
+member-take q i xs m =
+    sym (ap (member q) (take-append-drop i xs)) ∙ member-append q (take i xs) (drop i xs) ∙ or-first (member q (drop i xs)) m
+
+-- ---- what the leaf tells
+
+module _ (memory : ℕ → Page) (x l : ℕ) (t : Tr l) (facts : WayFacts memory x l t) (leaf : ℕ) (rest : List ℕ) (whole : way x l t ≡ leaf ∷ rest) where
+  leaf-page : memory leaf ≡ page 1 0 (leafOn x l t)
+  leaf-page = ap memory (sym (ap (λ (w : List ℕ). getD w 0 0) whole)) ∙ facts .leaf
+
+  pub leaf-is : isLeaf (memory leaf) ≡ true
+  leaf-is = ap isLeaf leaf-page
+
+  pub leaf-has : has x (memory leaf .entries) ≡ has x (entriesOf l t)
+  leaf-has = ap (λ (P : Page). has x (P .entries)) leaf-page ∙ facts .decides
+
+  leaf-tells : information x (memory leaf .entries) ≡ information x (entriesOf l t)
+  leaf-tells = ap (λ (P : Page). information x (P .entries)) leaf-page ∙ facts .tells
+
+module _ (k n : ℕ) (ws : List ℕ) (l : ℕ) (t : Tr l) (pool : PoolForms k n ws l t) (path₀ siblings₀ : List ℕ) (want : ℕ) where
+  abbrev memory : ℕ → Page
+  memory = pageAt k ws
+
+  abbrev free : List ℕ
+  free = freePages k n ws
+
+  abbrev es : List Entry
+  es = entriesOf l t
+
+  -- an operation that writes nothing ends so
+  nothing-ends : (op : Op) (a : Answer) → AsPlain op k n ws l t a es ⊎ (NoRoomLeft op k n ws l t a [] × (es ≡ es))
+      → Ended op k n ws l t path₀ siblings₀ want a []
+  nothing-ends op a how = record {
+    entries = es;
+    leads = leads-nothing k n memory l t (pool .forms);
+    how = how;
+    only = λ q m. not-both m (member-none q);
+    reads = λ y. refl;
+    writers = λ y. refl;
+  }
+
+  module _ (x : ℕ) (facts : WayFacts memory x l t) (leaf : ℕ) (rest : List ℕ) (whole : way x l t ≡ leaf ∷ rest) where
+    there-is : has x (memory leaf .entries) ≡ has x es
+    there-is = leaf-has memory x l t facts leaf rest whole
+
+    told-is : information x (memory leaf .entries) ≡ information x es
+    told-is = leaf-tells memory x l t facts leaf rest whole
+
+    -- ---- a search
+
+    pub search-does : (path fathers : List ℕ) → Does (Search x) k n ws l t path₀ siblings₀ want (atLeaf (Search x) k memory free path leaf fathers)
+    unfolding atLeaf plain
+    search-does path fathers =
+        done (cond (has x es) (Found (information x es)) NotFound) []
+        (ap₂ (λ (b : Bool) (v : ℕ). ends (cond b (Found v) NotFound) []) there-is told-is)
+        (nothing-ends (Search x) (cond (has x es) (Found (information x es)) NotFound)
+        (inl (record { answer = refl; entries = refl; room = λ y v e m. absurd (true≢false (ap isSearch e)) })))
+
+    -- ---- an insertion
+
+    module _ (key : x < wordRange) (v : ℕ) (path fathers upper : List ℕ) (upward : reverse path ≡ leaf ∷ fathers)
+        (onWay : way x l t ≡ reverse path ++ upper) (rightly : Rightly (Insert x v) k memory path) (one : 1 ≤ k)
+        (inside : (q : ℕ) → member q path ≡ true → member q (want ∷ (path₀ ++ siblings₀)) ≡ true) where
+      -- the room that is counted is what the tree needs
+      room-is : room k memory leaf path ≡ treeRoom k x l t
+      room-is =
+          room-reverse k memory leaf path
+          ∙ ap (room k memory leaf) upward
+          ∙ roomOfTree k n memory l t x leaf fathers (pool .forms) key
+          (held-way (Insert x v) k n memory l t path leaf fathers upper (pool .forms) key rightly upward onWay)
+
+      changes : has x es ≡ false → treeRoom k x l t ≤ length free → Inserts k n memory l t x v free leaf fathers
+      changes new enough =
+          insertionLeads k n memory l t x v free leaf fathers one (pool .forms) key new
+          (held-way (Insert x v) k n memory l t path leaf fathers upper (pool .forms) key rightly upward onWay)
+          (free-facts k n ws l t pool .free)
+          (omega (arith, sym (ap (room k memory leaf) upward) ∙ sym (room-reverse k memory leaf path) ∙ room-is))
+
+      -- a key that is there
+      already : has x es ≡ true → Ended (Insert x v) k n ws l t path₀ siblings₀ want AlreadyThere []
+      unfolding plain
+      already there =
+          let same : plain (Insert x v) es ≡ reply AlreadyThere es = cond-true (reply AlreadyThere es) (reply Inserted (inserted x v es)) there in
+          nothing-ends (Insert x v) AlreadyThere
+          (inl (record {
+            answer = ap (λ (r : Reply). r .answer) (sym same);
+            entries = ap (λ (r : Reply). r .entries) (sym same);
+            room = λ y u e new. not-both there (ap (λ (z : ℕ). has z es) (ap keyOf e) ∙ new);
+          }))
+
+      -- a new key without room
+      no-room : has x es ≡ false → length free < treeRoom k x l t → Ended (Insert x v) k n ws l t path₀ siblings₀ want NoRoom []
+      no-room new lacks =
+          nothing-ends (Insert x v) NoRoom
+          (inr (record { key = x; lot = v; inserts = refl; missing = new; needsMore = lacks; answer = refl; nothing = refl }, refl))
+
+      -- a new key with room
+      insertion-ends : has x es ≡ false → treeRoom k x l t ≤ length free
+          → Ended (Insert x v) k n ws l t path₀ siblings₀ want Inserted (insertion k memory x v free leaf fathers)
+      unfolding plain member
+      insertion-ends new enough =
+          let same : plain (Insert x v) es ≡ reply Inserted (inserted x v es) = cond-false (reply AlreadyThere es) (reply Inserted (inserted x v es)) new in
+          let change = changes new enough in
+          record {
+            entries = inserted x v es;
+            leads = change .leads;
+            how = inl (record {
+              answer = ap (λ (r : Reply). r .answer) (sym same);
+              entries = ap (λ (r : Reply). r .entries) (sym same);
+              room = λ y u e m. subst (λ (z : ℕ). treeRoom k z l t ≤ length free) (ap keyOf e) enough;
+            });
+            only = λ q m.
+                ⊎-elim
+                (λ h. inl (inside q (sym (member-reverse q path) ∙ ap (member q) upward ∙ h)))
+                (λ f. inr (free-facts k n ws l t pool .free .outside q (member-take q (room k memory leaf (leaf ∷ fathers)) free f)))
+                (change .writes q m);
+            reads = λ y. absurd (false≢true y);
+            writers = λ y. absurd (true≢false y);
+          }
+
+      pub insert-does : Does (Insert x v) k n ws l t path₀ siblings₀ want (atLeaf (Insert x v) k memory free path leaf fathers)
+      unfolding atLeaf
+      insert-does =
+          cond-ind (Does (Insert x v) k n ws l t path₀ siblings₀ want) (has x (memory leaf .entries))
+          (λ y. done AlreadyThere [] refl (already (sym there-is ∙ y)))
+          (λ z.
+          cond-ind (Does (Insert x v) k n ws l t path₀ siblings₀ want) (ltb (length free) (room k memory leaf path))
+          (λ y.
+          let lacks = ltb-true (length free) (room k memory leaf path) y in
+          done NoRoom [] refl (no-room (sym there-is ∙ z) (omega (arith, room-is))))
+          (λ f.
+          let enough = ltb-false (length free) (room k memory leaf path) f in
+          done Inserted (insertion k memory x v free leaf fathers) refl (insertion-ends (sym there-is ∙ z) (omega (arith, room-is)))))
+
+    -- ---- a deletion
+
+    -- a missing key
+    pub missing-ends : has x es ≡ false → Ended (Delete x) k n ws l t path₀ siblings₀ want NoSuchKey []
+    unfolding plain
+    missing-ends missing =
+        let same : plain (Delete x) es ≡ reply NoSuchKey es
+        = cond-false (reply (Deleted (information x es)) (without x es)) (reply NoSuchKey es) missing in
+        nothing-ends (Delete x) NoSuchKey
+        (inl (record {
+          answer = ap (λ (r : Reply). r .answer) (sym same);
+          entries = ap (λ (r : Reply). r .entries) (sym same);
+          room = λ y u e m. absurd (true≢false (ap isDelete e));
+        }))
+
+    -- a key that is there, with these pages held
+    module _ (path fathers siblings : List ℕ) (at : AtLeaf k n memory l t x path leaf fathers siblings)
+        (takes : Takes (Delete x) k memory path₀ siblings₀ want path siblings)
+        (inside : (q : ℕ) → member q (leaf ∷ fathers ++ siblings) ≡ true → member q (want ∷ (path₀ ++ siblings₀)) ≡ true) where
+      abbrev change : Verdict
+      change = ends (Deleted (information x (memory leaf .entries))) (deletion k memory x leaf fathers siblings)
+
+      deletion-ends : needs k memory x leaf fathers siblings ≡ nothing
+          → Ended (Delete x) k n ws l t path₀ siblings₀ want (Deleted (information x (memory leaf .entries))) (deletion k memory x leaf fathers siblings)
+      unfolding plain member
+      deletion-ends enough =
+          let same : plain (Delete x) es ≡ reply (Deleted (information x es)) (without x es)
+          = cond-true (reply (Deleted (information x es)) (without x es)) (reply NoSuchKey es) (at .there) in
+          let made = leaf-ends at enough in
+          record {
+            entries = without x es;
+            leads = made .leads;
+            how = inl (record {
+              answer = ap Deleted told-is ∙ ap (λ (r : Reply). r .answer) (sym same);
+              entries = ap (λ (r : Reply). r .entries) (sym same);
+              room = λ y u e m. absurd (true≢false (ap isDelete e));
+            });
+            only = λ q m. inl (inside q (made .writes q m));
+            reads = λ y. absurd (false≢true y);
+            writers = λ y. absurd (true≢false y);
+          }
+
+      by-need : (d : Need) → needs k memory x leaf fathers siblings ≡ d
+          → Does (Delete x) k n ws l t path₀ siblings₀ want (byNeed path siblings change d)
+      by-need nothing e = done (Deleted (information x (memory leaf .entries))) (deletion k memory x leaf fathers siblings) refl (deletion-ends e)
+      by-need (sibling s) e = on path siblings s refl (inr (inr (leaf-goes at s e))) takes
+      by-need astray e = absurd (leaf-on-course at e)
+
+      pub delete-does : Does (Delete x) k n ws l t path₀ siblings₀ want (deletes k memory x path leaf fathers siblings)
+      unfolding deletes
+      delete-does = by-need (needs k memory x leaf fathers siblings) refl

@@ -1,0 +1,134 @@
+-- The measure of a slot: at most so many grants are still to come before its operation ends. It falls at each grant of the slot,
+-- stays at every other call, is at least 1 while the slot is open and at most what document 01 allows a slot.
+use Prim.Native.Nat.{ℕ, suc, _+_, _-_, _*_, _≤_, _<_}
+use mathlib.Core.Bool.{true}
+use mathlib.Core.List.{List, [], _∷_, _++_, reverse, append-assoc}
+use mathlib.Core.Logic.{inl, inr}
+use mathlib.Core.Path.{_≡_, sym, ap, _∙_, subst}
+use native.Mathlib.Omega.{arith}
+use lib.ListN.{length, getD, length-append, length-reverse, List·getD-append}
+use lib.Seq.{getD-append-seam, getD-append-add}
+use Rattle.ground.specs.Limits.{tallest, wordRange, slotGrants}
+use Rattle.ground.proofs.Limits.{grants-of-height}
+use Rattle.page.specs.Words.{Page}
+use Rattle.pool.specs.Pool.{pageAt}
+use Rattle.slots.specs.declared.Op.{Op}
+use Rattle.slots.specs.declared.Task.{Task}
+use Rattle.slots.specs.declared.Task.the-variants.{Closed, Open}
+use Rattle.slots.specs.declared.Slot.{Slot}
+use Rattle.slots.specs.declared.State.{State}
+use Rattle.slots.specs.Parts.{keyOf, isDelete, pathOf, siblingsOf, slotAt}
+use Rattle.tree.specs.Tree.{Tr, way, Forms}
+use Rattle.tree.proofs.Search.{way-facts}
+use Rattle.runs.specs.Stance.{Stance}
+
+-- the lowest page of a path
+abbrev pub lowestOf : List ℕ → ℕ
+lowestOf path = getD (reverse path) 0 0
+
+-- How many grants are left at most to an open slot with this path and these siblings. From its lowest page it may go down to
+-- the leaf, and then take a sibling for each page of the path but the top.
+abbrev pub leftOpen : (ℕ → Page) → List ℕ → List ℕ → ℕ
+leftOpen memory [] siblings = slotGrants
+leftOpen memory (p ∷ ps) siblings = 2 * memory (lowestOf (p ∷ ps)) .level + length ps - 2 - length siblings
+
+abbrev pub leftTask : (ℕ → Page) → Task → List ℕ → List ℕ → ℕ
+leftTask memory Closed path siblings = 0
+leftTask memory (Open op) path siblings = leftOpen memory path siblings
+
+abbrev pub leftSlot : (ℕ → Page) → Slot → ℕ
+leftSlot memory slot = leftTask memory (slot .task) (pathOf slot) (siblingsOf slot)
+
+-- the measure of slot s
+abbrev pub grantsLeft : State → List ℕ → ℕ → ℕ
+grantsLeft st ws s = leftSlot (pageAt (st .k) ws) (slotAt st s)
+
+-- ---- where the lowest page stands
+
+-- The lowest page of the path is on this level, and the path goes up from it inside the tree.
+pub record Low (memory : ℕ → Page) (l : ℕ) (t : Tr l) (path : List ℕ) (height : ℕ) : Type 0 where
+  pub some : 1 ≤ length path
+  pub level : memory (lowestOf path) .level ≡ height
+  pub inside : height + length path ≤ l + 2
+
+-- Where an open slot stands, in levels.
+pub data Where (op : Op) (memory : ℕ → Page) (l : ℕ) (t : Tr l) (path siblings : List ℕ) (want : ℕ) : Type 0 where
+  atStart : path ≡ [] → siblings ≡ [] → memory want .level ≡ l + 1 → Where op memory l t path siblings want
+  onTheWay : (low : ℕ) → Low memory l t path (low + 2) → siblings ≡ [] → memory want .level ≡ low + 1 → Where op memory l t path siblings want
+  atTheLeaf : Low memory l t path 1 → suc (length siblings) < length path → isDelete op ≡ true → Where op memory l t path siblings want
+
+module _ (op : Op) (k n : ℕ) (memory : ℕ → Page) (l : ℕ) (t : Tr l) (forms : Forms k n memory l t) (key : keyOf op < wordRange) where
+  -- a page of the way is on the level of its index
+  way-level : (i q : ℕ) → i ≤ l → getD (way (keyOf op) l t) i 0 ≡ q → memory q .level ≡ i + 1
+  way-level i q h e = ap (λ (p : ℕ). memory p .level) (sym e) ∙ way-facts k n memory l t forms (keyOf op) key .level i h
+
+  low-at : (path lower upper : List ℕ) → 1 ≤ length path → way (keyOf op) l t ≡ lower ++ (reverse path ++ upper) → Low memory l t path (length lower + 1)
+  low-at path lower upper some e =
+      let turned : length (reverse path) ≡ length path = length-reverse path in
+      let len : length (way (keyOf op) l t) ≡ l + 1 = way-facts k n memory l t forms (keyOf op) key .pages in
+      let outer : length (way (keyOf op) l t) ≡ length lower + length (reverse path ++ upper) = ap length e ∙ length-append lower (reverse path ++ upper) in
+      let inner : length (reverse path ++ upper) ≡ length (reverse path) + length upper = length-append (reverse path) upper in
+      let spot : getD (way (keyOf op) l t) (length lower) 0 ≡ lowestOf path
+      = ap (λ (w : List ℕ). getD w (length lower) 0) e
+      ∙ ap (λ (i : ℕ). getD (lower ++ (reverse path ++ upper)) i 0) (omega arith)
+      ∙ getD-append-add lower (reverse path ++ upper) 0 0
+      ∙ List·getD-append (reverse path) upper 0 0 (omega arith) in
+      record { some = some; level = way-level (length lower) (lowestOf path) (omega arith) spot; inside = omega arith }
+
+  pub where-it-stands : (path siblings : List ℕ) (want : ℕ) → Stance op k memory l t path siblings want → Where op memory l t path siblings want
+  where-it-stands path siblings want (inl s) =
+      let facts = way-facts k n memory l t forms (keyOf op) key in
+      atStart (s .noPath) (s .noSiblings) (ap (λ (p : ℕ). memory p .level) (s .wantsRoot ∙ sym (facts .root)) ∙ facts .level l (omega arith))
+  where-it-stands path siblings want (inr (inl c)) =
+      let lower : List ℕ = c .lower in
+      let rest : List ℕ = reverse path ++ c .upper in
+      let longer : length (lower ++ want ∷ []) + 1 ≡ length lower + 2 = omega (arith, length-append lower (want ∷ [])) in
+      let low : Low memory l t path (length (lower ++ want ∷ []) + 1)
+      = low-at path (lower ++ want ∷ []) (c .upper) (c .rightly .some) (c .whole ∙ sym (append-assoc lower (want ∷ []) rest)) in
+      let len : length (way (keyOf op) l t) ≡ l + 1 = way-facts k n memory l t forms (keyOf op) key .pages in
+      let wanted = way-level (length lower) want (omega (arith, len, ap length (c .whole), length-append lower (want ∷ rest)))
+      (ap (λ (w : List ℕ). getD w (length lower) 0) (c .whole) ∙ getD-append-seam lower want rest 0) in
+      onTheWay (length lower) (subst (Low memory l t path) longer low) (c .noSiblings) wanted
+  where-it-stands path siblings want (inr (inr b)) =
+      atTheLeaf (subst (Low memory l t path) (omega arith) (low-at path [] (b .upper) (b .rightly .some) (b .whole))) (b .fewer) (b .deletes)
+
+-- ---- the measure of an open slot, by where it stands
+
+pub left-some : (memory : ℕ → Page) (path siblings : List ℕ) → 1 ≤ length path
+    → leftOpen memory path siblings ≡ 2 * memory (lowestOf path) .level + (length path - 1) - 2 - length siblings
+left-some memory [] siblings h = absurd (omega arith)
+left-some memory (p ∷ ps) siblings h = omega arith
+
+module _ (memory : ℕ → Page) (l : ℕ) (t : Tr l) where
+  -- holding nothing
+  pub left-start : (path siblings : List ℕ) → path ≡ [] → leftOpen memory path siblings ≡ slotGrants
+  left-start path siblings e = ap (λ (p : List ℕ). leftOpen memory p siblings) e
+
+  -- coming down
+  pub left-coming : (path siblings : List ℕ) (low : ℕ) → Low memory l t path (low + 2) → siblings ≡ [] → leftOpen memory path siblings ≡ 2 * low + length path + 1
+  left-coming path siblings low w e =
+      let some : 1 ≤ length path = w .some in
+      let level : memory (lowestOf path) .level ≡ low + 2 = w .level in
+      let none : length siblings ≡ 0 = ap length e in
+      left-some memory path siblings some ∙ omega arith
+
+  -- at the leaf
+  pub left-leaf : (path siblings : List ℕ) → Low memory l t path 1 → suc (length siblings) < length path
+      → leftOpen memory path siblings ≡ length path - 1 - length siblings
+  left-leaf path siblings w h =
+      let level : memory (lowestOf path) .level ≡ 1 = w .level in
+      left-some memory path siblings (w .some) ∙ omega arith
+
+  -- "So at most 19 a slot", and at least one while it is open
+  pub left-bounds : (op : Op) (path siblings : List ℕ) (want : ℕ) → l + 1 ≤ tallest → Where op memory l t path siblings want
+      → (1 ≤ leftOpen memory path siblings) × (leftOpen memory path siblings ≤ slotGrants)
+  left-bounds op path siblings want h (atStart e f g) =
+      let is = left-start path siblings e in (omega (arith, is, grants-of-height), omega (arith, is, grants-of-height))
+  left-bounds op path siblings want h (onTheWay low w e g) =
+      let is = left-coming path siblings low w e in
+      let inside : low + 2 + length path ≤ l + 2 = w .inside in
+      (omega (arith, is), omega (arith, is, grants-of-height, w .some))
+  left-bounds op path siblings want h (atTheLeaf w f d) =
+      let is = left-leaf path siblings w f in
+      let inside : 1 + length path ≤ l + 2 = w .inside in
+      (omega (arith, is), omega (arith, is, grants-of-height))

@@ -1,0 +1,288 @@
+-- The measure's laws: it falls at a grant of the slot (`measure-falls`), stays at other slots' steps (`measure-stays`), and is
+-- from 1 to `slotGrants` while the slot is open (`measure-bound`).
+use Prim.Native.Nat.{ℕ, _+_, _-_, _*_, _≤_, _<_}
+use mathlib.Core.Bool.{true, false}
+use mathlib.Core.List.{List, [], _∷_, _++_, reverse, reverse-append}
+use mathlib.Core.Logic.{_≢_}
+use mathlib.Core.Path.{_≡_, refl, sym, ap, ap₂, _∙_, subst}
+use native.Mathlib.Omega.{arith}
+use borrow.Author.Tests.{eq-eqb, ne-eqb}
+use lib.ListN.{length, getD, length-append, length-reverse}
+use Rattle.ground.specs.Limits.{slotCount, tallest, slotGrants}
+use Rattle.ground.specs.Tests.{member}
+use Rattle.ground.proofs.Bools.{not-both}
+use Rattle.ground.proofs.Choice.{cond-ind}
+use Rattle.ground.proofs.Limits.{grants-of-height}
+use Rattle.page.specs.Words.{Page, μ, isLeaf}
+use Rattle.pool.specs.Pool.{Write, pageAt, applied}
+use Rattle.slots.specs.declared.Op.{Op}
+use Rattle.slots.specs.declared.Task.{Task}
+use Rattle.slots.specs.declared.Task.the-variants.{Closed, Open}
+use Rattle.slots.specs.declared.Slot.{Slot}
+use Rattle.slots.specs.declared.State.{State}
+use Rattle.slots.specs.declared.Answer.{Answer}
+use Rattle.slots.specs.declared.Answer.the-variants.{Moved}
+use Rattle.slots.specs.Parts.{isOpen, openSlot, closedSlot, pathOf, siblingsOf, slotAt, openAt, wantAt, holdsAt}
+use Rattle.slots.specs.Book.{goesOn, closes}
+use Rattle.slots.proofs.Keeping.{Shaped, slot-here, slot-other, path-new, siblings-new}
+use Rattle.grant.specs.Granted.{Verdict, goes, ends, isSafe, kept, atItsLeaf}
+use Rattle.grant.specs.Fitting.{verdict}
+use Rattle.index.specs.Step.{Left, left, acted, stepped}
+use Rattle.tree.specs.Tree.{Tr}
+use Rattle.tree.specs.Change.{writtenPages}
+use Rattle.tree.proofs.Height.{height-facts}
+use Rattle.tree.proofs.Memory.{absent-times, unwritten}
+use Rattle.tree.proofs.Words.{fit-writes, applied-memory}
+use Rattle.runs.specs.Step.{Comes, moves, stops}
+use Rattle.runs.proofs.Invariant.{Runs, Invariant, scene}
+use Rattle.runs.proofs.Stepping.{granted-comes}
+use Rattle.runs.proofs.Fathers.{upward-held}
+use Rattle.runs.proofs.Progress.{opened as open-task}
+use Rattle.runs.proofs.Calls.{granted-does, others-unwritten}
+use Rattle.runs.proofs.Measure.{lowestOf, leftOpen, leftTask, leftSlot, grantsLeft, Low, Where, atStart, onTheWay, atTheLeaf, where-it-stands, left-some, left-start, left-coming, left-leaf, left-bounds}
+use Rattle.runs.proofs.Steps.{Goes}
+use Rattle.runs.proofs.Verdicts.{beside-goes, coming-goes}
+
+-- ---- the lowest page
+
+-- the lowest page tells whether the slot stands at its leaf
+leaf-by-low : (memory : ℕ → Page) (up : List ℕ) → 1 ≤ length up → atItsLeaf memory up ≡ isLeaf (memory (getD up 0 0))
+leaf-by-low memory [] h = absurd (omega arith)
+leaf-by-low memory (p ∷ up) h = refl
+
+pub at-its-leaf : (memory : ℕ → Page) (path : List ℕ) → 1 ≤ length path → atItsLeaf memory (reverse path) ≡ isLeaf (memory (lowestOf path))
+at-its-leaf memory path h = leaf-by-low memory (reverse path) (omega (arith, length-reverse path))
+
+-- the lowest page of what is kept once a page is granted is that page
+pub record KeptPath (path path′ : List ℕ) (want : ℕ) : Type 0 where
+  pub lowest : lowestOf path′ ≡ want
+  pub some : 1 ≤ length path′
+  pub most : length path′ ≤ length path + 1
+
+pub kept-path : (op : Op) (k : ℕ) (memory : ℕ → Page) (path : List ℕ) (want : ℕ) → KeptPath path (kept op k memory path want) want
+kept-path op k memory path want =
+    cond-ind (λ (p : List ℕ). KeptPath path p want) (isSafe op k (μ (memory want)))
+    (λ _. record { lowest = refl; some = omega arith; most = omega arith })
+    (λ _. let long = length-append path (want ∷ []) in
+    record { lowest = ap (λ (p : List ℕ). getD p 0 0) (reverse-append path (want ∷ [])); some = omega arith; most = omega arith })
+
+-- ---- a slot that goes on
+
+module _ (memory : ℕ → Page) (l : ℕ) (t : Tr l) (path : List ℕ) where
+  -- by its levels a slot is at its leaf or above
+  pub start-above : path ≡ [] → atItsLeaf memory (reverse path) ≡ false
+  start-above e = ap (λ (p : List ℕ). atItsLeaf memory (reverse p)) e
+
+  pub low-above : (low : ℕ) → Low memory l t path (low + 2) → atItsLeaf memory (reverse path) ≡ false
+  low-above low w = at-its-leaf memory path (w .some) ∙ ne-eqb (memory (lowestOf path) .level) 1 (λ e. omega (arith, e, w .level))
+
+  pub low-at-leaf : Low memory l t path 1 → atItsLeaf memory (reverse path) ≡ true
+  low-at-leaf w = at-its-leaf memory path (w .some) ∙ eq-eqb (memory (lowestOf path) .level) 1 (w .level)
+
+-- the measure of what is held once a page is granted on the way down
+pub kept-left : (op : Op) (k : ℕ) (memory : ℕ → Page) (path : List ℕ) (want level : ℕ) → memory want .level ≡ level
+    → leftOpen memory (kept op k memory path want) [] ≡ 2 * level + (length (kept op k memory path want) - 1) - 2
+kept-left op k memory path want level e =
+    let path′ : List ℕ = kept op k memory path want in
+    let how : KeptPath path path′ want = kept-path op k memory path want in
+    let there : memory (lowestOf path′) .level ≡ level = ap (λ (p : ℕ). memory p .level) (how .lowest) ∙ e in
+    left-some memory path′ [] (how .some) ∙ ap (λ (n : ℕ). 2 * n + (length path′ - 1) - 2 - 0) there ∙ omega arith
+
+module _ (op : Op) (k : ℕ) (memory : ℕ → Page) (l : ℕ) (t : Tr l) (path siblings : List ℕ) (want : ℕ) where
+  -- A slot that goes on has fewer grants left.
+  moved-falls : (path′ siblings′ : List ℕ) → l + 1 ≤ tallest → Where op memory l t path siblings want
+      → (atItsLeaf memory (reverse path) ≡ true → (path′ ≡ path) × (siblings′ ≡ siblings ++ want ∷ []))
+      → (atItsLeaf memory (reverse path) ≡ false → (path′ ≡ kept op k memory path want) × (siblings′ ≡ []))
+      → leftOpen memory path′ siblings′ < leftOpen memory path siblings
+  moved-falls path′ siblings′ h (atStart e f g) beside coming =
+      let went = coming (start-above memory l t path e) in
+      let is : leftOpen memory path′ siblings′ ≡ 2 * (l + 1) + (length (kept op k memory path want) - 1) - 2
+      = ap₂ (leftOpen memory) (went .0) (went .1) ∙ kept-left op k memory path want (l + 1) g in
+      let was : leftOpen memory path siblings ≡ slotGrants = left-start memory l t path siblings e in
+      omega (arith, is, was, kept-path op k memory path want .most, ap length e, grants-of-height)
+  moved-falls path′ siblings′ h (onTheWay low w e g) beside coming =
+      let went = coming (low-above memory l t path low w) in
+      let is : leftOpen memory path′ siblings′ ≡ 2 * (low + 1) + (length (kept op k memory path want) - 1) - 2
+      = ap₂ (leftOpen memory) (went .0) (went .1) ∙ kept-left op k memory path want (low + 1) g in
+      let was : leftOpen memory path siblings ≡ 2 * low + length path + 1 = left-coming memory l t path siblings low w e in
+      let kept-most = kept-path op k memory path want .most in
+      let kept-some = kept-path op k memory path want .some in
+      omega (arith, is, was, kept-most, kept-some)
+  moved-falls path′ siblings′ h (atTheLeaf w f d) beside coming =
+      let went = beside (low-at-leaf memory l t path w) in
+      let one : memory (lowestOf path) .level ≡ 1 = w .level in
+      let longer : length (siblings ++ want ∷ []) ≡ length siblings + 1 = length-append siblings (want ∷ []) in
+      let is : leftOpen memory path′ siblings′ ≡ 2 * memory (lowestOf path) .level + (length path - 1) - 2 - length (siblings ++ want ∷ [])
+      = ap₂ (leftOpen memory) (went .0) (went .1) ∙ left-some memory path (siblings ++ want ∷ []) (w .some) in
+      let was : leftOpen memory path siblings ≡ length path - 1 - length siblings = left-leaf memory l t path siblings w f in
+      omega (arith, is, was, one, longer)
+
+-- ---- one slot written
+
+module _ (st : State) (shaped : Shaped st) (s : ℕ) (b : s < slotCount) where
+  pub goes-on-here : (op : Op) (want : ℕ) (path siblings : List ℕ) → slotAt (goesOn st s op want path siblings) s ≡ openSlot op want path siblings
+  unfolding goesOn
+  goes-on-here op want path siblings = slot-here st shaped s b (openSlot op want path siblings) (st .order) (st .waiting)
+
+  pub goes-on-other : (op : Op) (want : ℕ) (path siblings : List ℕ) (u : ℕ) → u ≢ s → slotAt (goesOn st s op want path siblings) u ≡ slotAt st u
+  unfolding goesOn
+  goes-on-other op want path siblings u n = slot-other st shaped s b (openSlot op want path siblings) (st .order) (st .waiting) u n
+
+  pub closes-here : slotAt (closes st s) s ≡ closedSlot
+  unfolding closes
+  closes-here = slot-here st shaped s b closedSlot (st .order) (st .waiting)
+
+  pub closes-other : (u : ℕ) → u ≢ s → slotAt (closes st s) u ≡ slotAt st u
+  unfolding closes
+  closes-other u n = slot-other st shaped s b closedSlot (st .order) (st .waiting) u n
+
+pub goes-on-k : (st : State) (s : ℕ) (op : Op) (want : ℕ) (path siblings : List ℕ) → goesOn st s op want path siblings .k ≡ st .k
+unfolding goesOn
+goes-on-k st s op want path siblings = refl
+
+pub closes-k : (st : State) (s : ℕ) → closes st s .k ≡ st .k
+unfolding closes
+closes-k st s = refl
+
+-- the operation of an open slot
+pub open-runs : (st : State) (s : ℕ) → openAt st s ≡ true → (op : Op) × Runs st s op
+open-runs st s o = open-task (slotAt st s .task) o
+
+-- ---- where a slot of a run stands, and its measure's bounds
+
+module _ (st : State) (ws : List ℕ) (inv : Invariant st ws) where
+  pub where-slot : (s : ℕ) (op : Op) → s < slotCount → Runs st s op
+      → Where op (pageAt (st .k) ws) (inv .height) (inv .tree) (pathOf (slotAt st s)) (siblingsOf (slotAt st s)) (wantAt st s)
+  where-slot s op b runs =
+      where-it-stands op (st .k) (st .n) (pageAt (st .k) ws) (inv .height) (inv .tree) (inv .forms .forms) (inv .keys s op b runs)
+      (pathOf (slotAt st s)) (siblingsOf (slotAt st s)) (wantAt st s) (inv .stands s op b runs)
+
+  -- "h is at most 10"
+  pub not-too-tall : inv .height + 1 ≤ tallest
+  not-too-tall = height-facts (st .k) (st .n) (pageAt (st .k) ws) (inv .height) (inv .tree) (inv .sound .kLeast) (inv .sound .nMost) (inv .forms .forms) .height
+
+  pub left-of-open : (s : ℕ) (op : Op) → Runs st s op → grantsLeft st ws s ≡ leftOpen (pageAt (st .k) ws) (pathOf (slotAt st s)) (siblingsOf (slotAt st s))
+  left-of-open s op runs = ap (λ (task : Task). leftTask (pageAt (st .k) ws) task (pathOf (slotAt st s)) (siblingsOf (slotAt st s))) runs
+
+  -- An open slot has at least one grant left, and at most so many as document 01 allows a slot.
+  pub measure-bound : (s : ℕ) → s < slotCount → openAt st s ≡ true → (1 ≤ grantsLeft st ws s) × (grantsLeft st ws s ≤ slotGrants)
+  measure-bound s b opened =
+      let found = open-runs st s opened in
+      let is = left-of-open s (found .0) (found .1) in
+      let bounds = left-bounds (pageAt (st .k) ws) (inv .height) (inv .tree) (found .0) (pathOf (slotAt st s)) (siblingsOf (slotAt st s)) (wantAt st s)
+      not-too-tall (where-slot s (found .0) b (found .1)) in
+      (omega (arith, is, bounds .0), omega (arith, is, bounds .1))
+
+-- a closed slot has none
+pub measure-closed : (st : State) (ws : List ℕ) (s : ℕ) → openAt st s ≡ false → grantsLeft st ws s ≡ 0
+measure-closed st ws s = by-task (slotAt st s .task)
+  where
+    by-task : (task : Task) → isOpen task ≡ false → leftTask (pageAt (st .k) ws) task (pathOf (slotAt st s)) (siblingsOf (slotAt st s)) ≡ 0
+    by-task Closed h = refl
+    by-task (Open op) h = not-both refl h
+
+-- ---- a slot that another's step leaves alone
+
+-- Slot u is as it was, and its lowest page is on the same level.
+pub record Undisturbed (st : State) (ws : List ℕ) (next : State) (after : List ℕ) (u : ℕ) : Type 0 where
+  pub slot : slotAt next u ≡ slotAt st u
+  pub level : openAt st u ≡ true → 1 ≤ length (pathOf (slotAt st u))
+      → pageAt (next .k) after (lowestOf (pathOf (slotAt st u))) .level ≡ pageAt (st .k) ws (lowestOf (pathOf (slotAt st u))) .level
+
+-- its measure is as it was
+left-same : (memory memory′ : ℕ → Page) (task : Task) (path siblings : List ℕ)
+    → (isOpen task ≡ true → 1 ≤ length path → memory′ (lowestOf path) .level ≡ memory (lowestOf path) .level) → leftTask memory′ task path siblings ≡ leftTask memory task path siblings
+left-same memory memory′ Closed path siblings h = refl
+left-same memory memory′ (Open op) [] siblings h = refl
+left-same memory memory′ (Open op) (p ∷ ps) siblings h = ap (λ (n : ℕ). 2 * n + length ps - 2 - length siblings) (h refl (omega arith))
+
+pub undisturbed-measure : (st : State) (ws : List ℕ) (next : State) (after : List ℕ) (u : ℕ) → Undisturbed st ws next after u → grantsLeft next after u ≡ grantsLeft st ws u
+undisturbed-measure st ws next after u h =
+    ap (leftSlot (pageAt (next .k) after)) (h .slot)
+    ∙ left-same (pageAt (st .k) ws) (pageAt (next .k) after) (slotAt st u .task) (pathOf (slotAt st u)) (siblingsOf (slotAt st u)) (h .level)
+
+pub nothing-disturbed : (st : State) (ws : List ℕ) (u : ℕ) → Undisturbed st ws st ws u
+nothing-disturbed st ws u = record { slot = refl; level = λ _ _. refl }
+
+-- ---- a granted step
+
+-- what it comes to
+abbrev verdictOf : State → List ℕ → ℕ → Op → Verdict
+verdictOf st ws s op = verdict op (st .k) (st .n) ws (pathOf (slotAt st s)) (siblingsOf (slotAt st s)) (wantAt st s)
+
+module _ (st : State) (ws : List ℕ) (inv : Invariant st ws) (s : ℕ) (g : Goes st s) where
+  abbrev op : Op
+  op = g .op
+
+  pub comes : Comes op (st .k) (st .n) ws (inv .height) (inv .tree) (pathOf (slotAt st s)) (siblingsOf (slotAt st s)) (wantAt st s)
+  comes = granted-comes op (st .k) (st .n) ws (inv .height) (inv .tree) (pathOf (slotAt st s)) (siblingsOf (slotAt st s)) (wantAt st s)
+      (scene st ws inv s op (g .inside) (g .runs))
+
+  -- the measure once it has moved
+  pub after-moving : (path′ siblings′ : List ℕ) (want′ : ℕ) → grantsLeft (goesOn st s op want′ path′ siblings′) ws s ≡ leftOpen (pageAt (st .k) ws) path′ siblings′
+  after-moving path′ siblings′ want′ =
+      ap₂ (λ (k : ℕ) (slot : Slot). leftSlot (pageAt k ws) slot) (goes-on-k st s op want′ path′ siblings′) (goes-on-here st (inv .shaped) s (g .inside) op want′ path′ siblings′)
+      ∙ ap₂ (leftOpen (pageAt (st .k) ws)) (path-new op want′ path′ siblings′) (siblings-new op want′ path′ siblings′)
+
+  pub moved : (path′ siblings′ : List ℕ) (want′ : ℕ) → verdictOf st ws s op ≡ goes path′ siblings′ want′
+      → stepped st ws s ≡ left Moved (goesOn st s op want′ path′ siblings′) ws
+  moved path′ siblings′ want′ e = granted-does st ws inv s op (g .inside) (g .runs) (g .granted) ∙ ap (acted st ws s op) e
+
+  pub ended-so : (a : Answer) (writes : List Write) → verdictOf st ws s op ≡ ends a writes
+      → stepped st ws s ≡ left a (closes st s) (applied (st .k) writes ws)
+  ended-so a writes e = granted-does st ws inv s op (g .inside) (g .runs) (g .granted) ∙ ap (acted st ws s op) e
+
+  -- Another slot is undisturbed by the step.
+  pub step-undisturbed : (u : ℕ) → u < slotCount → u ≢ s → Undisturbed st ws (stepped st ws s .state) (stepped st ws s .words) u
+  step-undisturbed u c n = by-comes comes
+    where
+      by-comes : Comes op (st .k) (st .n) ws (inv .height) (inv .tree) (pathOf (slotAt st s)) (siblingsOf (slotAt st s)) (wantAt st s)
+          → Undisturbed st ws (stepped st ws s .state) (stepped st ws s .words) u
+      by-comes (moves path′ siblings′ want′ e stance takes) =
+          subst (λ (r : Left). Undisturbed st ws (r .state) (r .words) u) (sym (moved path′ siblings′ want′ e))
+          (record {
+            slot = goes-on-other st (inv .shaped) s (g .inside) op want′ path′ siblings′ u n;
+            level = λ _ _. ap (λ (k : ℕ). pageAt k ws (lowestOf (pathOf (slotAt st u))) .level) (goes-on-k st s op want′ path′ siblings′);
+          })
+      by-comes (stops a writes e ended) =
+          let low : ℕ = lowestOf (pathOf (slotAt st u)) in
+          subst (λ (r : Left). Undisturbed st ws (r .state) (r .words) u) (sym (ended-so a writes e))
+          (record {
+            slot = closes-other st (inv .shaped) s (g .inside) u n;
+            level = λ opened some.
+                let found = open-runs st u opened in
+                let holds : holdsAt st u low ≡ true = upward-held (pathOf (slotAt st u)) (siblingsOf (slotAt st u)) 0 some in
+                let none : member low (writtenPages writes) ≡ false
+                = others-unwritten st ws inv s (g .inside) op a writes (g .runs) (g .granted) ended u (found .0) c n (found .1) low holds in
+                let fit = fit-writes (st .k) (st .n) writes (ended .leads .fitting) (ended .leads .inside) in
+                ap (λ (k : ℕ). pageAt k (applied (st .k) writes ws) low .level) (closes-k st s)
+                ∙ ap (λ (P : Page). P .level)
+                (applied-memory (st .k) (st .n) writes ws fit (inv .forms .whole) low
+                ∙ unwritten (pageAt (st .k) ws) writes low (absent-times low (writtenPages writes) none));
+          })
+
+  -- The measure stays at another slot's step.
+  pub measure-stays : (u : ℕ) → u < slotCount → u ≢ s → grantsLeft (stepped st ws s .state) (stepped st ws s .words) u ≡ grantsLeft st ws u
+  measure-stays u c n = undisturbed-measure st ws (stepped st ws s .state) (stepped st ws s .words) u (step-undisturbed u c n)
+
+  -- The measure falls at a grant of the slot.
+  pub measure-falls : grantsLeft (stepped st ws s .state) (stepped st ws s .words) s < grantsLeft st ws s
+  measure-falls = by-comes comes
+    where
+      by-comes : Comes op (st .k) (st .n) ws (inv .height) (inv .tree) (pathOf (slotAt st s)) (siblingsOf (slotAt st s)) (wantAt st s)
+          → grantsLeft (stepped st ws s .state) (stepped st ws s .words) s < grantsLeft st ws s
+      by-comes (moves path′ siblings′ want′ e stance takes) =
+          let M : ℕ → Page = pageAt (st .k) ws in
+          let path : List ℕ = pathOf (slotAt st s) in
+          let siblings : List ℕ = siblingsOf (slotAt st s) in
+          let was = left-of-open st ws inv s op (g .runs) in
+          let falls = moved-falls op (st .k) M (inv .height) (inv .tree) path siblings (wantAt st s) path′ siblings′ (not-too-tall st ws inv)
+          (where-slot st ws inv s op (g .inside) (g .runs))
+          (λ h. beside-goes op (st .k) (st .n) ws path siblings (wantAt st s) h path′ siblings′ want′ e)
+          (λ h. coming-goes op (st .k) (st .n) ws path siblings (wantAt st s) h path′ siblings′ want′ e) in
+          let is = after-moving path′ siblings′ want′ in
+          subst (λ (r : Left). grantsLeft (r .state) (r .words) s < grantsLeft st ws s) (sym (moved path′ siblings′ want′ e)) (omega (arith, was, falls, is))
+      by-comes (stops a writes e ended) =
+          let some = measure-bound st ws inv s (g .inside) (ap isOpen (g .runs)) .0 in
+          let is : grantsLeft (closes st s) (applied (st .k) writes ws) s ≡ 0 = ap (leftSlot (pageAt (closes st s .k) (applied (st .k) writes ws))) (closes-here st (inv .shaped) s (g .inside)) in
+          subst (λ (r : Left). grantsLeft (r .state) (r .words) s < grantsLeft st ws s) (sym (ended-so a writes e)) (omega (arith, some, is))

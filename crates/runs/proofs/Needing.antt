@@ -1,0 +1,241 @@
+-- A deletion that stands at its leaf: which sibling it needs next, against where the slot stands. It goes on to the next
+-- sibling, or the change is made; it never goes astray.
+use Prim.Native.Nat.{ℕ, suc, _≤_, _<_}
+use native.Mathlib.Omega.{arith}
+use mathlib.Core.Bool.{Bool, true, false, cond, _||_}
+use mathlib.Core.List.{List, [], _∷_, _++_, reverse}
+use mathlib.Core.Logic.{_≢_}
+use mathlib.Core.Path.{_≡_, refl, sym, ap, _∙_}
+use borrow.Author.Tests.{ltb-false, le-ltb, eqb-true, eqb-false}
+use lib.Dec.{eqb, ltb}
+use lib.ListN.{length, getD, length-reverse}
+use Rattle.ground.specs.Limits.{wordRange}
+use Rattle.ground.proofs.Bools.{or-first-fails, or-second-fails}
+use Rattle.ground.proofs.Choice.{cond-false}
+use Rattle.ground.proofs.Tests.{member-from}
+use Rattle.page.specs.Words.{Page, μ}
+use Rattle.page.specs.Place.{has}
+use Rattle.page.specs.Short.{neighbour}
+use Rattle.change.specs.Deletion.{Need, nothing, sibling, astray, satisfied, needs}
+use Rattle.slots.specs.declared.Op.the-variants.{Delete}
+use Rattle.tree.specs.Tree.{Tr, entriesOf, way, Forms}
+use Rattle.tree.specs.Change.{HeldWay}
+use Rattle.tree.specs.Deletion.{canSpare, Deletes, Asked, Needed}
+use Rattle.tree.proofs.Memory.{times-append, member-times, distinct-times}
+use Rattle.tree.proofs.Search.{way-facts}
+use Rattle.tree.proofs.DeletionRule.{sibling≢nothing, astray≢sibling, sibling-same, needs-ask, needs-next, needs-length, asked-more, course-asked}
+use Rattle.tree.proofs.Deletion.{deletionLeads}
+use Rattle.tree.proofs.DeletionNeeds.{siblingsThere}
+use Rattle.runs.specs.Stance.{Rightly, WantsSibling}
+use Rattle.runs.proofs.Paths.{first-alone, first-up-to, first-below}
+use Rattle.runs.proofs.HeldPath.{page-least, held-way, way-pages}
+
+-- ---- what is needed, sibling by sibling
+
+-- The page p, with its fathers upward, has these siblings, and needs one more: each page that a sibling was taken for is short
+-- and not page 0, each sibling is its page's neighbour and joins with it, and the next page wants its neighbour.
+record Course (k : ℕ) (memory : ℕ → Page) (x p : ℕ) (fathers siblings : List ℕ) (want : ℕ) : Type 0 where
+  short : (j : ℕ) → j ≤ length siblings → μ (memory (getD (p ∷ fathers) j 0)) ≤ k
+  notRoot : (j : ℕ) → j ≤ length siblings → getD (p ∷ fathers) j 0 ≢ 0
+  neighbours : (j : ℕ) → j < length siblings → getD siblings j 0 ≡ neighbour x (memory (getD fathers j 0))
+  joining : (j : ℕ) → j < length siblings → μ (memory (getD siblings j 0)) ≤ k
+  wantsNext : want ≡ neighbour x (memory (getD fathers (length siblings) 0))
+
+-- choices that end in a sibling
+satisfied-asks : {X : Type 0} (ss : List ℕ) {s : ℕ} → satisfied ss ≡ sibling s → X
+satisfied-asks [] e = sibling≢nothing (sym e)
+satisfied-asks (r ∷ ss) e = astray≢sibling e
+
+asks-here : (b : Bool) (r : ℕ) {s : ℕ} → cond b nothing (sibling r) ≡ sibling s → (b ≡ false) × (r ≡ s)
+asks-here true r e = sibling≢nothing (sym e)
+asks-here false r e = (refl, sibling-same e)
+
+asks-unless : (b : Bool) (n : Need) {s : ℕ} → cond b astray n ≡ sibling s → (b ≡ false) × (n ≡ sibling s)
+asks-unless true n e = astray≢sibling e
+asks-unless false n e = (refl, e)
+
+asks-if : (b : Bool) (n : Need) {s : ℕ} → cond b n astray ≡ sibling s → (b ≡ true) × (n ≡ sibling s)
+asks-if true n e = (refl, e)
+asks-if false n e = astray≢sibling e
+
+asks-further : (b : Bool) (ss : List ℕ) (n : Need) {s : ℕ} → cond b (satisfied ss) n ≡ sibling s → (b ≡ false) × (n ≡ sibling s)
+asks-further true ss n e = satisfied-asks ss e
+asks-further false ss n e = (refl, e)
+
+module _ (k : ℕ) (memory : ℕ → Page) (x : ℕ) where
+  -- from the facts to the rule,
+  course-needs : (p : ℕ) (fathers siblings : List ℕ) (want : ℕ) → length siblings < length fathers
+      → Course k memory x p fathers siblings want → needs k memory x p fathers siblings ≡ sibling want
+  course-needs p [] siblings want h c = absurd (omega arith)
+  course-needs p (f ∷ up) [] want h c =
+      needs-ask k memory x p f up (c .notRoot 0 (omega arith)) (c .short 0 (omega arith)) ∙ ap sibling (sym (c .wantsNext))
+  course-needs p (f ∷ up) (s ∷ ss) want h c =
+      needs-next k memory x p f up s ss (c .notRoot 0 (omega arith)) (c .short 0 (omega arith)) (c .neighbours 0 (omega arith))
+      ∙ cond-false (satisfied ss) (needs k memory x f up ss) (le-ltb k (μ (memory s)) (c .joining 0 (omega arith)))
+      ∙ course-needs f up ss want (omega arith)
+      (record {
+        short = λ j b. c .short (suc j) (omega arith);
+        notRoot = λ j b. c .notRoot (suc j) (omega arith);
+        neighbours = λ j b. c .neighbours (suc j) (omega arith);
+        joining = λ j b. c .joining (suc j) (omega arith);
+        wantsNext = c .wantsNext;
+      })
+
+  -- and back
+  needs-course : (p : ℕ) (fathers siblings : List ℕ) (want : ℕ) → needs k memory x p fathers siblings ≡ sibling want
+      → Course k memory x p fathers siblings want
+  unfolding needs
+  needs-course p [] siblings want e = let short = needs-length k memory x p [] siblings want e in absurd (omega arith)
+  needs-course p (f ∷ up) [] want e =
+      let a = asks-here (eqb p 0 || ltb k (μ (memory p))) (neighbour x (memory f)) e in
+      record {
+        short = first-alone (λ (j : ℕ). μ (memory (getD (p ∷ f ∷ up) j 0)) ≤ k)
+            (ltb-false k (μ (memory p)) (or-second-fails (eqb p 0) (ltb k (μ (memory p))) (a .0)));
+        notRoot = first-alone (λ (j : ℕ). getD (p ∷ f ∷ up) j 0 ≢ 0)
+            (eqb-false p 0 (or-first-fails (eqb p 0) (ltb k (μ (memory p))) (a .0)));
+        neighbours = λ j b. absurd (omega arith);
+        joining = λ j b. absurd (omega arith);
+        wantsNext = sym (a .1);
+      }
+  needs-course p (f ∷ up) (s ∷ ss) want e =
+      let further : Need = needs k memory x f up ss in
+      let inner : Need = cond (ltb k (μ (memory s))) (satisfied ss) further in
+      let a = asks-unless (eqb p 0 || ltb k (μ (memory p))) (cond (eqb s (neighbour x (memory f))) inner astray) e in
+      let b = asks-if (eqb s (neighbour x (memory f))) inner (a .1) in
+      let c = asks-further (ltb k (μ (memory s))) ss further (b .1) in
+      let rest = needs-course f up ss want (c .1) in
+      record {
+        short = first-up-to (length ss) (λ (j : ℕ). μ (memory (getD (p ∷ f ∷ up) j 0)) ≤ k)
+            (ltb-false k (μ (memory p)) (or-second-fails (eqb p 0) (ltb k (μ (memory p))) (a .0))) (rest .short);
+        notRoot = first-up-to (length ss) (λ (j : ℕ). getD (p ∷ f ∷ up) j 0 ≢ 0)
+            (eqb-false p 0 (or-first-fails (eqb p 0) (ltb k (μ (memory p))) (a .0))) (rest .notRoot);
+        neighbours = first-below (length ss) (λ (j : ℕ). getD (s ∷ ss) j 0 ≡ neighbour x (memory (getD (f ∷ up) j 0)))
+            (eqb-true s (neighbour x (memory f)) (b .0)) (rest .neighbours);
+        joining = first-below (length ss) (λ (j : ℕ). μ (memory (getD (s ∷ ss) j 0)) ≤ k)
+            (ltb-false k (μ (memory s)) (c .0)) (rest .joining);
+        wantsNext = rest .wantsNext;
+      }
+
+-- ---- a deletion at its leaf
+
+-- A deletion of x at its leaf, with the siblings that it took so far, each when asked.
+pub record AtLeaf (k n : ℕ) (memory : ℕ → Page) (l : ℕ) (t : Tr l) (x : ℕ) (path : List ℕ) (leaf : ℕ) (fathers siblings : List ℕ) : Type 0 where
+  pub forms : Forms k n memory l t
+  pub kLeast : 1 ≤ k
+  pub key : x < wordRange
+  pub there : has x (entriesOf l t) ≡ true
+  pub upward : reverse path ≡ leaf ∷ fathers
+  pub upper : List ℕ
+  pub whole : way x l t ≡ reverse path ++ upper
+  pub rightly : Rightly (Delete x) k memory path
+  pub asked : Asked k memory x leaf fathers siblings
+
+module _ {k n : ℕ} {memory : ℕ → Page} {l : ℕ} {t : Tr l} {x : ℕ} {path : List ℕ} {leaf : ℕ} {fathers siblings : List ℕ}
+    (a : AtLeaf k n memory l t x path leaf fathers siblings) where
+  leaf-held : HeldWay (canSpare k memory) x l t leaf fathers
+  leaf-held = held-way (Delete x) k n memory l t path leaf fathers (a .upper) (a .forms) (a .key) (a .rightly) (a .upward) (a .whole)
+
+  -- what it holds and wants is there to be had
+  pub leaf-needed : Needed k memory l t x leaf fathers siblings
+  leaf-needed = siblingsThere k n memory l t x leaf fathers siblings (a .kLeast) (a .forms) (a .key) (a .there) leaf-held (a .asked)
+
+  -- it needs nothing: the change is made
+  pub leaf-ends : needs k memory x leaf fathers siblings ≡ nothing → Deletes k n memory l t x leaf fathers siblings
+  leaf-ends e = deletionLeads k n memory l t x leaf fathers siblings (a .kLeast) (a .forms) (a .key) (a .there) leaf-held e
+
+  -- it holds the pages that the rules would have it hold
+  pub leaf-on-course : needs k memory x leaf fathers siblings ≡ astray → ⊥
+  leaf-on-course = leaf-needed .onCourse
+
+  -- no sibling is page 0, which is on every way
+  sibling-other : (j : ℕ) → j < length siblings → getD siblings j 0 ≢ 0
+  sibling-other j h e =
+      let facts = way-facts k n memory l t (a .forms) x (a .key) in
+      let root = member-times 0 (way x l t) (member-from 0 (way x l t) l 0 (omega (arith, facts .pages)) (facts .root)) in
+      let here = member-times 0 siblings (member-from 0 siblings j 0 h e) in
+      omega (arith, times-append 0 (way x l t) siblings, distinct-times (way x l t ++ siblings) (leaf-needed .different) 0)
+
+  -- it needs a sibling: it stands as a slot that wants it
+  pub leaf-goes : (s : ℕ) → needs k memory x leaf fathers siblings ≡ sibling s → WantsSibling (Delete x) k memory l t path siblings s
+  leaf-goes s e =
+      let course = needs-course k memory x leaf fathers siblings s e in
+      let fewer = needs-length k memory x leaf fathers siblings s e in
+      let size : length path ≡ suc (length fathers) = sym (length-reverse path) ∙ ap length (a .upward) in
+      let at : (j : ℕ) → getD (reverse path) j 0 ≡ getD (leaf ∷ fathers) j 0 = λ j. ap (λ (up : List ℕ). getD up j 0) (a .upward) in
+      record {
+        deletes = refl;
+        there = a .there;
+        upper = a .upper;
+        whole = a .whole;
+        rightly = a .rightly;
+        fewer = omega arith;
+        short = λ j h.
+            let other = course .notRoot j h in
+            let least = page-least k memory n l t (a .forms) (getD (leaf ∷ fathers) j 0)
+            (way-pages k n memory l t (a .forms) x (a .key) (leaf ∷ fathers) (a .upper) (a .whole ∙ ap (λ (up : List ℕ). up ++ a .upper) (a .upward))
+            (getD (leaf ∷ fathers) j 0) (member-from (getD (leaf ∷ fathers) j 0) (leaf ∷ fathers) j 0 (omega arith) refl)) other in
+            let most = course .short j h in
+            ap (λ (p : ℕ). μ (memory p)) (at j) ∙ omega arith;
+        notRoot = λ j h z. course .notRoot j h (sym (at j) ∙ z);
+        neighbours = λ j h. course .neighbours j h ∙ ap (λ (p : ℕ). neighbour x (memory p)) (sym (at (suc j)));
+        joining = λ j h.
+            let least = page-least k memory n l t (a .forms) (getD siblings j 0)
+            (leaf-needed .pages (getD siblings j 0) (member-from (getD siblings j 0) siblings j 0 h refl)) (sibling-other j h) in
+            let most = course .joining j h in
+            omega arith;
+        wantsNext = course .wantsNext ∙ ap (λ (p : ℕ). neighbour x (memory p)) (sym (at (suc (length siblings))));
+      }
+
+  -- the sibling that was wanted is granted
+  pub beside-asked : {want : ℕ} → needs k memory x leaf fathers siblings ≡ sibling want
+      → AtLeaf k n memory l t x path leaf fathers (siblings ++ want ∷ [])
+  beside-asked {want} e = record {
+    forms = a .forms;
+    kLeast = a .kLeast;
+    key = a .key;
+    there = a .there;
+    upward = a .upward;
+    upper = a .upper;
+    whole = a .whole;
+    rightly = a .rightly;
+    asked = asked-more k memory x leaf fathers siblings want (a .asked) e;
+  }
+
+-- a path that is not empty, upward: its leaf and the fathers
+leaf-first : (up : List ℕ) → 1 ≤ length up → (leaf : ℕ) × (fathers : List ℕ) × (up ≡ leaf ∷ fathers)
+leaf-first [] h = absurd (omega arith)
+leaf-first (p ∷ up) h = (p, up, refl)
+
+-- a slot that wants a sibling stands at its leaf, and that sibling is the one it needs
+pub beside-leaf : {k n : ℕ} {memory : ℕ → Page} {l : ℕ} {t : Tr l} {x : ℕ} {path siblings : List ℕ} {want : ℕ}
+    → Forms k n memory l t → 1 ≤ k → x < wordRange → WantsSibling (Delete x) k memory l t path siblings want
+    → (leaf : ℕ) × (fathers : List ℕ) × AtLeaf k n memory l t x path leaf fathers siblings
+    × (needs k memory x leaf fathers siblings ≡ sibling want)
+beside-leaf {k} {n} {memory} {l} {t} {x} {path} {siblings} {want} forms one key b =
+    let (leaf, fathers, upward) = leaf-first (reverse path) (omega (arith, b .rightly .some, length-reverse path)) in
+    let size : length path ≡ suc (length fathers) = sym (length-reverse path) ∙ ap length upward in
+    let at : (j : ℕ) → getD (reverse path) j 0 ≡ getD (leaf ∷ fathers) j 0 = λ j. ap (λ (up : List ℕ). getD up j 0) upward in
+    let need : needs k memory x leaf fathers siblings ≡ sibling want
+    = course-needs k memory x leaf fathers siblings want (omega (arith, b .fewer))
+    (record {
+      short = λ j h. let same = ap (λ (p : ℕ). μ (memory p)) (at j) in omega (arith, b .short j h);
+      notRoot = λ j h z. b .notRoot j h (at j ∙ z);
+      neighbours = λ j h. b .neighbours j h ∙ ap (λ (p : ℕ). neighbour x (memory p)) (at (suc j));
+      joining = λ j h. omega (arith, b .joining j h);
+      wantsNext = b .wantsNext ∙ ap (λ (p : ℕ). neighbour x (memory p)) (at (suc (length siblings)));
+    }) in (
+      leaf,
+      fathers,
+      record {
+        forms = forms;
+        kLeast = one;
+        key = key;
+        there = b .there;
+        upward = upward;
+        upper = b .upper;
+        whole = b .whole;
+        rightly = b .rightly;
+        asked = course-asked k memory x leaf fathers siblings (λ h. astray≢sibling (sym h ∙ need));
+      },
+      need,
+    )

@@ -1,0 +1,219 @@
+-- Kept for the others: a change that writes none of the pages that a slot holds leaves it standing as it stood. Each held page
+-- keeps its level and its range, so it is still on the key's way; the wanted page is found again from the held one above it.
+use Prim.Native.Nat.{ℕ, suc, _+_, _-_, _≤_, _<_}
+use native.Mathlib.Nat.{add-zero}
+use native.Mathlib.Omega.{arith}
+use mathlib.Core.Bool.{true, false}
+use mathlib.Core.List.{List, [], _∷_, _++_, reverse}
+use mathlib.Core.Logic.{inl, inr, ⊎-elim}
+use mathlib.Core.Path.{_≡_, refl, sym, ap, _∙_, subst}
+use lib.ListN.{length, getD, take, drop, length-append, length-reverse, List·getD-append}
+use lib.Seq.{append-snoc, getD-append-seam, getD-append-add}
+use Rattle.ground.specs.Limits.{wordRange}
+use Rattle.ground.specs.Tests.{member}
+use Rattle.ground.proofs.Bools.{or-first, or-second}
+use Rattle.ground.proofs.Tests.{member-append, member-from}
+use Rattle.page.specs.Words.{Page, Entry, μ}
+use Rattle.page.specs.Place.{route, has}
+use Rattle.page.specs.Short.{neighbour}
+use Rattle.pool.specs.Pool.{Write}
+use Rattle.slots.specs.declared.Op.{Op}
+use Rattle.slots.specs.Parts.{keyOf}
+use Rattle.grant.specs.Granted.{isSafe}
+use Rattle.tree.specs.Tree.{Tr, way, leafOn, Forms}
+use Rattle.tree.specs.Facts.{WayFacts}
+use Rattle.tree.specs.Change.{memoryAfter, writtenPages, Leads}
+use Rattle.tree.proofs.Memory.{absent-times, unwritten}
+use Rattle.tree.proofs.Search.{way-facts}
+use Rattle.tree.proofs.Ways.{place-facts}
+use Rattle.runs.specs.Stance.{Rightly, Coming, WantsSibling, Stance}
+use Rattle.runs.proofs.Paths.{first-below, member-reverse, stretch}
+
+-- ---- the way of a key, before and after
+
+-- a page of a part of the way
+part-at : (x l : ℕ) (t : Tr l) (lower part upper : List ℕ) → way x l t ≡ lower ++ (part ++ upper) → (j : ℕ) → j < length part
+    → getD (way x l t) (length lower + j) 0 ≡ getD part j 0
+part-at x l t lower part upper whole j h =
+    ap (λ (w : List ℕ). getD w (length lower + j) 0) whole
+    ∙ getD-append-add lower (part ++ upper) j 0
+    ∙ List·getD-append part upper 0 j h
+
+module _ (k n : ℕ) (memory : ℕ → Page) (l : ℕ) (t : Tr l) (writes : List Write) (es : List Entry) (forms : Forms k n memory l t)
+    (leads : Leads k n memory l t writes es) (x : ℕ) (key : x < wordRange) where
+  abbrev after : ℕ → Page
+  after = memoryAfter memory writes
+
+  abbrev height : ℕ
+  height = leads .height
+
+  abbrev wayAfter : List ℕ
+  wayAfter = way x height (leads .tree)
+
+  facts : WayFacts memory x l t
+  facts = way-facts k n memory l t forms x key
+
+  factsAfter : WayFacts after x height (leads .tree)
+  factsAfter = way-facts k n after height (leads .tree) (leads .forms) x key
+
+  -- a page of the way that is not written is on the way again, as far from the leaf
+  stays : (i : ℕ) → i ≤ l → member (getD (way x l t) i 0) (writtenPages writes) ≡ false
+      → (i ≤ height) × (getD wayAfter i 0 ≡ getD (way x l t) i 0)
+  stays i h not-written =
+      let q : ℕ = getD (way x l t) i 0 in
+      let p = place-facts k n memory l t forms .onWay x i key h in
+      let places = place-facts k n after height (leads .tree) (leads .forms) in
+      let stands = leads .keeps q (i + 1) (p .from) (p .to) not-written (p .stands) in
+      (omega (arith, places .inside q (i + 1) (p .from) (p .to) stands .highest), places .wayHas x i q (p .from) (p .to) stands (p .low) (p .high))
+
+  -- a part of the way of which no page is written
+  module _ (lower part upper : List ℕ) (whole : way x l t ≡ lower ++ (part ++ upper))
+      (free : (q : ℕ) → member q part ≡ true → member q (writtenPages writes) ≡ false) where
+    part-stays : (j : ℕ) → j < length part → (length lower + j ≤ height) × (getD wayAfter (length lower + j) 0 ≡ getD part j 0)
+    part-stays j h =
+        let here = part-at x l t lower part upper whole j h in
+        let size : l + 1 ≡ length lower + (length part + length upper)
+        = sym (facts .pages) ∙ ap length whole ∙ length-append lower (part ++ upper) ∙ ap (λ (m : ℕ). length lower + m) (length-append part upper) in
+        let kept = stays (length lower + j) (omega arith)
+        (subst (λ (p : ℕ). member p (writtenPages writes) ≡ false) (sym here) (free (getD part j 0) (member-from (getD part j 0) part j 0 h refl))) in
+        (kept .0, kept .1 ∙ here)
+
+-- ---- the pages of a slot
+
+module _ (op : Op) (k n : ℕ) (memory : ℕ → Page) (l : ℕ) (t : Tr l) (writes : List Write) (es : List Entry) (path siblings : List ℕ)
+    (key : keyOf op < wordRange) (forms : Forms k n memory l t) (leads : Leads k n memory l t writes es)
+    (apart : (q : ℕ) → member q (path ++ siblings) ≡ true → member q (writtenPages writes) ≡ false) where
+  abbrev x : ℕ
+  x = keyOf op
+
+  abbrev before : WayFacts memory x l t
+  before = facts k n memory l t writes es forms leads x key
+
+  abbrev now : WayFacts (memoryAfter memory writes) x (leads .height) (leads .tree)
+  now = factsAfter k n memory l t writes es forms leads x key
+
+  abbrev onWay : List ℕ
+  onWay = way x (leads .height) (leads .tree)
+
+  -- a held page is as it was
+  same : (q : ℕ) → member q (path ++ siblings) ≡ true → memoryAfter memory writes q ≡ memory q
+  same q m = unwritten memory writes q (absent-times q (writtenPages writes) (apart q m))
+
+  of-path : (q : ℕ) → member q path ≡ true → member q (path ++ siblings) ≡ true
+  of-path q m = member-append q path siblings ∙ or-first (member q siblings) m
+
+  of-upward : (q : ℕ) → member q (reverse path) ≡ true → member q (path ++ siblings) ≡ true
+  of-upward q m = of-path q (sym (member-reverse q path) ∙ m)
+
+  path-same : (i : ℕ) → i < length path → memoryAfter memory writes (getD path i 0) ≡ memory (getD path i 0)
+  path-same i h = same (getD path i 0) (of-path (getD path i 0) (member-from (getD path i 0) path i 0 h refl))
+
+  upward-same : (j : ℕ) → j < length path → memoryAfter memory writes (getD (reverse path) j 0) ≡ memory (getD (reverse path) j 0)
+  upward-same j h =
+      let q : ℕ = getD (reverse path) j 0 in
+      same q (of-upward q (member-from q (reverse path) j 0 (omega (arith, length-reverse path)) refl))
+
+  sibling-same : (j : ℕ) → j < length siblings → memoryAfter memory writes (getD siblings j 0) ≡ memory (getD siblings j 0)
+  sibling-same j h =
+      let q : ℕ = getD siblings j 0 in
+      same q (member-append q path siblings ∙ or-second (member q path) (member-from q siblings j 0 h refl))
+
+  -- its pages are as safe as they were
+  rightly-keeps : Rightly op k memory path → Rightly op k (memoryAfter memory writes) path
+  rightly-keeps r = record {
+    some = r .some;
+    top =
+        ⊎-elim inl
+        (λ s. inr (ap (λ (P : Page). isSafe op k (μ P)) (path-same 0 (r .some)) ∙ s))
+        (r .top);
+    unsafe = λ i h. ap (λ (P : Page). isSafe op k (μ P)) (path-same (suc i) h) ∙ r .unsafe i h;
+  }
+
+  -- and its path is a stretch of the way, as far from the leaf as it was
+  module _ (lower upper : List ℕ) (whole : way x l t ≡ lower ++ (reverse path ++ upper)) (i j : ℕ) (at : i ≡ length lower + j) (h : j < length path) where
+    path-was : getD (way x l t) i 0 ≡ getD (reverse path) j 0
+    path-was =
+        ap (λ (c : ℕ). getD (way x l t) c 0) at ∙ part-at x l t lower (reverse path) upper whole j (omega (arith, length-reverse path))
+
+    path-stays : (i ≤ leads .height) × (getD onWay i 0 ≡ getD (reverse path) j 0)
+    path-stays =
+        subst (λ (c : ℕ). (c ≤ leads .height) × (getD onWay c 0 ≡ getD (reverse path) j 0)) (sym at)
+        (part-stays k n memory l t writes es forms leads x key lower (reverse path) upper whole (λ q m. apart q (of-upward q m)) j
+        (omega (arith, length-reverse path)))
+
+  -- the page that it wants is again the next one of the way
+  coming-keeps : (want : ℕ) → Coming op k memory l t path siblings want
+      → Coming op k (memoryAfter memory writes) (leads .height) (leads .tree) path siblings want
+  coming-keeps want c =
+      let m : ℕ = length (c .lower) in
+      let some = c .rightly .some in
+      let rest : List ℕ = reverse path ++ c .upper in
+      let lower : List ℕ = c .lower ++ want ∷ [] in
+      let size : length lower ≡ m + 1 = length-append (c .lower) (want ∷ []) in
+      let cut : way x l t ≡ lower ++ rest = c .whole ∙ sym (append-snoc (c .lower) want rest) in
+      let inside : m < l
+      = omega (arith, before .pages, ap length (c .whole), length-append (c .lower) (want ∷ rest), length-append (reverse path) (c .upper), length-reverse path) in
+      let first = path-stays lower (c .upper) cut (suc m) 0 (omega arith) some in
+      let last = path-stays lower (c .upper) cut (m + length path) (length path - 1) (omega arith) (omega arith) in
+      let wanted : getD onWay m 0 ≡ want
+      = sym (now .leads m (first .0))
+      ∙ ap (λ (p : ℕ). route x (memoryAfter memory writes p)) (first .1)
+      ∙ ap (route x) (upward-same 0 some)
+      ∙ ap (λ (p : ℕ). route x (memory p)) (sym (path-was lower (c .upper) cut (suc m) 0 (omega arith) some))
+      ∙ before .leads m inside
+      ∙ ap (λ (w : List ℕ). getD w m 0) (c .whole)
+      ∙ getD-append-seam (c .lower) want rest 0 in
+      record {
+        lower = take m onWay;
+        upper = drop (m + length (want ∷ reverse path)) onWay;
+        whole =
+            stretch onWay (want ∷ reverse path) m
+            (omega (arith, last .0, now .pages, length-reverse path))
+            (first-below (length (reverse path)) (λ (j : ℕ). getD onWay (m + j) 0 ≡ getD (want ∷ reverse path) j 0)
+            (ap (λ (i : ℕ). getD onWay i 0) (add-zero m) ∙ wanted)
+            (λ j h. path-stays lower (c .upper) cut (m + suc j) j (omega arith) (omega (arith, length-reverse path)) .1));
+        rightly = rightly-keeps (c .rightly);
+        noSiblings = c .noSiblings;
+      }
+
+  -- it still stands at its leaf, which decides that the key is there
+  beside-keeps : (want : ℕ) → WantsSibling op k memory l t path siblings want
+      → WantsSibling op k (memoryAfter memory writes) (leads .height) (leads .tree) path siblings want
+  beside-keeps want b =
+      let some = b .rightly .some in
+      let first = path-stays [] (b .upper) (b .whole) 0 0 (omega arith) some in
+      let last = path-stays [] (b .upper) (b .whole) (length path - 1) (length path - 1) (omega arith) (omega arith) in
+      let leaf : leafOn x (leads .height) (leads .tree) ≡ leafOn x l t
+      = ap (λ (P : Page). P .entries)
+      (sym (now .leaf)
+      ∙ ap (memoryAfter memory writes) (first .1)
+      ∙ upward-same 0 some
+      ∙ ap memory (sym (path-was [] (b .upper) (b .whole) 0 0 (omega arith) some))
+      ∙ before .leaf) in
+      record {
+        deletes = b .deletes;
+        there = sym (now .decides) ∙ ap (has x) leaf ∙ before .decides ∙ b .there;
+        upper = drop (0 + length (reverse path)) onWay;
+        whole =
+            stretch onWay (reverse path) 0
+            (omega (arith, last .0, now .pages, length-reverse path))
+            (λ j h. path-stays [] (b .upper) (b .whole) (0 + j) j (omega arith) (omega (arith, length-reverse path)) .1);
+        rightly = rightly-keeps (b .rightly);
+        fewer = b .fewer;
+        short = λ j h. ap μ (upward-same j (omega (arith, b .fewer))) ∙ b .short j h;
+        notRoot = b .notRoot;
+        neighbours = λ j h. b .neighbours j h ∙ ap (neighbour x) (sym (upward-same (suc j) (omega (arith, b .fewer))));
+        joining = λ j h. ap μ (sibling-same j h) ∙ b .joining j h;
+        wantsNext = b .wantsNext ∙ ap (neighbour x) (sym (upward-same (suc (length siblings)) (omega (arith, b .fewer))));
+      }
+
+pub others-keep : (op : Op) (k n : ℕ) (memory : ℕ → Page) (l : ℕ) (t : Tr l) (writes : List Write) (es : List Entry) (path siblings : List ℕ) (want : ℕ)
+    → 1 ≤ k → keyOf op < wordRange → Forms k n memory l t → (leads : Leads k n memory l t writes es)
+    → ((q : ℕ) → member q (path ++ siblings) ≡ true → member q (writtenPages writes) ≡ false)
+    → Stance op k memory l t path siblings want
+    → Stance op k (memoryAfter memory writes) (leads .height) (leads .tree) path siblings want
+others-keep op k n memory l t writes es path siblings want one key forms leads apart (inl s) = inl s
+others-keep op k n memory l t writes es path siblings want one key forms leads apart (inr (inl c)) =
+    inr (inl (coming-keeps op k n memory l t writes es path siblings key forms leads apart want c))
+others-keep op k n memory l t writes es path siblings want one key forms leads apart (inr (inr b)) =
+    inr (inr (beside-keeps op k n memory l t writes es path siblings key forms leads apart want b))

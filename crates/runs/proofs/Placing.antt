@@ -1,0 +1,175 @@
+-- The pages that an open slot of a run holds and wants: as many as the rules allow, all of the tree, none twice.
+use Prim.Native.Nat.{ℕ, suc, _+_, _≤_, _<_}
+use native.Mathlib.Omega.{arith}
+use mathlib.Core.Bool.{true, true≢false, false≢true}
+use mathlib.Core.List.{List, _∷_, _++_, reverse}
+use mathlib.Core.Logic.{⊎-elim}
+use mathlib.Core.Path.{_≡_, refl, sym, ap, _∙_, subst}
+use borrow.Author.Tests.{leb-true, leb-false, le-leb, lt-ltb, eqb-true, eq-eqb}
+use lib.Dec.{leb, ltb, eqb}
+use lib.ListN.{length, length-append, length-reverse}
+use Rattle.ground.specs.Limits.{largestN, searchHolds, pathHolds, siblingHolds, wordRange}
+use Rattle.ground.specs.Tests.{member, distinct}
+use Rattle.ground.proofs.Bools.{and-both, or-first, or-second}
+use Rattle.ground.proofs.Choice.{cond-false}
+use Rattle.ground.proofs.Limits.{path-is-way, siblings-below-top}
+use Rattle.page.specs.Words.{Page}
+use Rattle.pool.specs.Pool.{pageAt}
+use Rattle.slots.specs.declared.Op.{Op}
+use Rattle.slots.specs.declared.Op.the-variants.{Search, Insert, Delete}
+use Rattle.slots.specs.declared.Task.the-variants.{Open}
+use Rattle.slots.specs.Parts.{keyOf, isSearch}
+use Rattle.slots.specs.Sound.{withinLimits}
+use Rattle.tree.specs.Tree.{Tr, pageNumber, once, occurs, way, Forms}
+use Rattle.ground.proofs.Choice.{by-test}
+use Rattle.tree.proofs.Memory.{once-same, times, times-append, member-times, absent-times, distinct-times, times-distinct, root-occurs, way-occurs, stands-occurs}
+use Rattle.tree.proofs.Search.{way-facts}
+use Rattle.tree.proofs.Height.{height-facts}
+use Rattle.runs.specs.Stance.{Rightly, Starting, Coming, WantsSibling}
+use Rattle.runs.specs.Step.{Scene}
+use Rattle.runs.proofs.Paths.{times-reverse}
+use Rattle.runs.proofs.Needing.{leaf-needed, beside-leaf}
+
+-- What an open slot holds and wants: "all pages named are below N; no slot holds a page twice or wants one it holds".
+pub record WellHeld (op : Op) (n l : ℕ) (t : Tr l) (path siblings : List ℕ) (want : ℕ) : Type 0 where
+  pub limits : withinLimits (Open op) (length path) (length siblings) ≡ true
+  pub below : (p : ℕ) → member p (want ∷ (path ++ siblings)) ≡ true → p < n
+  pub different : distinct (want ∷ (path ++ siblings)) ≡ true
+  -- they are pages of the tree
+  pub pages : (p : ℕ) → member p (want ∷ (path ++ siblings)) ≡ true → 1 ≤ occurs p l t
+
+-- ---- as many as the rules allow
+
+-- "a search holds at most 1 page, an insertion at most 10, a deletion at most 10 on its path": with no siblings
+limits-alone : (op : Op) (depth : ℕ) → (isSearch op ≡ true → depth ≤ searchHolds) → depth ≤ pathHolds → withinLimits (Open op) depth 0 ≡ true
+limits-alone (Search x) depth few deep = and-both (le-leb depth searchHolds (few refl)) (eq-eqb 0 0 refl)
+limits-alone (Insert x v) depth few deep = and-both (le-leb depth pathHolds deep) (eq-eqb 0 0 refl)
+limits-alone (Delete x) depth few deep =
+    and-both (and-both (le-leb depth pathHolds deep) (le-leb 0 siblingHolds (omega arith))) (or-first (ltb 0 depth) (eq-eqb 0 0 refl))
+
+-- for a search every page is safe, so it holds one
+search-holds : (op : Op) (k : ℕ) (memory : ℕ → Page) (path : List ℕ) → Rightly op k memory path → isSearch op ≡ true
+    → length path ≤ searchHolds
+unfolding searchHolds
+search-holds (Search x) k memory path rightly e =
+    by-test (leb (length path) searchHolds)
+    (λ t. leb-true (length path) searchHolds t)
+    (λ f. absurd (true≢false (rightly .unsafe 0 (leb-false (length path) searchHolds f))))
+search-holds (Insert x v) k memory path rightly e = absurd (false≢true e)
+search-holds (Delete x) k memory path rightly e = absurd (false≢true e)
+
+-- ---- all of the tree, none twice
+
+-- pages of which each is counted as a page of the tree
+counted : (op : Op) (k n : ℕ) (memory : ℕ → Page) (l : ℕ) (t : Tr l) (path siblings : List ℕ) (want : ℕ) → Forms k n memory l t
+    → withinLimits (Open op) (length path) (length siblings) ≡ true
+    → ((q : ℕ) → times q (want ∷ (path ++ siblings)) ≤ occurs q l t)
+    → WellHeld op n l t path siblings want
+counted op k n memory l t path siblings want forms limits count =
+    let held : List ℕ = want ∷ (path ++ siblings) in
+    let pages : (p : ℕ) → member p held ≡ true → 1 ≤ occurs p l t = λ p m. let some = member-times p held m in omega (arith, count p) in
+    record {
+      limits = limits;
+      below = λ p m. forms .within p (pages p m);
+      different = times-distinct held (λ q. omega (arith, count q, forms .different q));
+      pages = pages;
+    }
+
+module _ (op : Op) (k n : ℕ) (memory : ℕ → Page) (l : ℕ) (t : Tr l) (path siblings : List ℕ) (want : ℕ)
+    (one : 1 ≤ k) (most : n ≤ largestN) (key : keyOf op < wordRange) (forms : Forms k n memory l t) where
+  -- it holds nothing yet
+  well-starting : Starting path siblings want → WellHeld op n l t path siblings want
+  well-starting s =
+      let noPath = ap length (s .noPath) in
+      let noSiblings : length siblings ≡ 0 = ap length (s .noSiblings) in
+      counted op k n memory l t path siblings want forms
+      (subst (λ (b : ℕ). withinLimits (Open op) (length path) b ≡ true) (sym noSiblings)
+      (limits-alone op (length path) (λ e. omega arith) (omega arith)))
+      (λ q.
+      let first = ap (times q) (s .noPath) in
+      let second = ap (times q) (s .noSiblings) in
+      let root : once q want ≡ once q (pageNumber l t) = ap (once q) (s .wantsRoot ∙ sym (forms .root)) in
+      omega (arith, times-append q path siblings, root-occurs q l t))
+
+  -- it holds a stretch of its key's way, and wants the next page of it
+  well-coming : Coming op k memory l t path siblings want → WellHeld op n l t path siblings want
+  well-coming c =
+      let x : ℕ = keyOf op in
+      let part : List ℕ = want ∷ (reverse path ++ c .upper) in
+      let noSiblings : length siblings ≡ 0 = ap length (c .noSiblings) in
+      let size : l + 1 ≡ length (c .lower) + length part
+      = sym (way-facts k n memory l t forms x key .pages) ∙ ap length (c .whole) ∙ length-append (c .lower) part in
+      let height = height-facts k n memory l t one most forms .height in
+      counted op k n memory l t path siblings want forms
+      (subst (λ (b : ℕ). withinLimits (Open op) (length path) b ≡ true) (sym noSiblings)
+      (limits-alone op (length path) (search-holds op k memory path (c .rightly))
+      (omega (arith, length-append (reverse path) (c .upper), length-reverse path, path-is-way))))
+      (λ q.
+      let second = ap (times q) (c .noSiblings) in
+      let cut : times q (way x l t) ≡ times q (c .lower) + times q part = ap (times q) (c .whole) ∙ times-append q (c .lower) part in
+      omega (arith, times-append q path siblings, times-append q (reverse path) (c .upper), times-reverse q path, way-occurs q x l t))
+
+-- a deletion at its leaf holds the lower part of its way, and siblings beside it
+module _ (x k n : ℕ) (memory : ℕ → Page) (l : ℕ) (t : Tr l) (path siblings : List ℕ) (want : ℕ)
+    (one : 1 ≤ k) (most : n ≤ largestN) (key : x < wordRange) (forms : Forms k n memory l t) where
+  well-beside : WantsSibling (Delete x) k memory l t path siblings want → WellHeld (Delete x) n l t path siblings want
+  well-beside b =
+      let (leaf, fathers, a, need) = beside-leaf forms one key b in
+      let needed = leaf-needed a in
+      let wanted = needed .wanted want need in
+      let height = height-facts k n memory l t one most forms .height in
+      let size : l + 1 ≡ length (reverse path) + length (b .upper)
+      = sym (way-facts k n memory l t forms x key .pages) ∙ ap length (b .whole) ∙ length-append (reverse path) (b .upper) in
+      counted (Delete x) k n memory l t path siblings want forms
+      (and-both
+      (and-both
+      (le-leb (length path) pathHolds (omega (arith, length-reverse path, path-is-way)))
+      (le-leb (length siblings) siblingHolds (omega (arith, length-reverse path, siblings-below-top, b .fewer))))
+      (or-second (eqb (length siblings) 0) (lt-ltb (length siblings) (length path) (omega (arith, b .fewer)))))
+      (λ q.
+      let lower : times q (way x l t) ≡ times q (reverse path) + times q (b .upper)
+      = ap (times q) (b .whole) ∙ times-append q (reverse path) (b .upper) in
+      let once-each = distinct-times (way x l t ++ siblings) (needed .different) q in
+      let both = times-append q (way x l t) siblings in
+      let held = times-append q path siblings in
+      let turned = times-reverse q path in
+      by-test (eqb q want)
+      (λ y.
+      let same : q ≡ want = eqb-true q want y in
+      let here = once-same q want same in
+      let offWay : times q (way x l t) ≡ 0 = ap (λ (p : ℕ). times p (way x l t)) same ∙ absent-times want (way x l t) (wanted .offWay) in
+      let notHeld : times q siblings ≡ 0 = ap (λ (p : ℕ). times p siblings) same ∙ absent-times want siblings (wanted .notHeld) in
+      let place = wanted .place in
+      let page : 1 ≤ occurs q l t
+      = subst (λ (p : ℕ). 1 ≤ occurs p l t) (sym same)
+      (stands-occurs l t 0 wordRange want (suc (length siblings)) (place .low) (place .high) (place .stands)) in
+      omega arith)
+      (λ z.
+      let other : once q want ≡ 0 = cond-false 1 0 z in
+      by-test (member q siblings)
+      (λ m. omega (arith, needed .pages q m))
+      (λ m. omega (arith, absent-times q siblings m, way-occurs q x l t))))
+
+-- only a deletion stands beside its leaf
+well-beside-any : (op : Op) (k n : ℕ) (memory : ℕ → Page) (l : ℕ) (t : Tr l) (path siblings : List ℕ) (want : ℕ) → 1 ≤ k → n ≤ largestN
+    → keyOf op < wordRange → Forms k n memory l t → WantsSibling op k memory l t path siblings want → WellHeld op n l t path siblings want
+well-beside-any (Search x) k n memory l t path siblings want one most key forms b = absurd (false≢true (b .deletes))
+well-beside-any (Insert x v) k n memory l t path siblings want one most key forms b = absurd (false≢true (b .deletes))
+well-beside-any (Delete x) k n memory l t path siblings want one most key forms b =
+    well-beside x k n memory l t path siblings want one most key forms b
+
+pub well-held : (op : Op) (k n : ℕ) (ws : List ℕ) (l : ℕ) (t : Tr l) (path siblings : List ℕ) (want : ℕ)
+    → Scene op k n ws l t path siblings want → WellHeld op n l t path siblings want
+well-held op k n ws l t path siblings want scene =
+    let memory = pageAt k ws in
+    let one = scene .kLeast in
+    let most = scene .nMost in
+    let key = scene .key in
+    let forms = scene .forms .forms in
+    ⊎-elim
+    (well-starting op k n memory l t path siblings want one most key forms)
+    (λ h. ⊎-elim
+    (well-coming op k n memory l t path siblings want one most key forms)
+    (well-beside-any op k n memory l t path siblings want one most key forms)
+    h)
+    (scene .stance)

@@ -1,0 +1,285 @@
+-- The laws of the plain sorted list.
+use Prim.Native.Nat.{ℕ, suc, _+_, _*_}
+use mathlib.Core.Bool.{Bool, true, false, cond, _||_, false≢true}
+use mathlib.Core.List.{List, [], _∷_, _++_}
+use mathlib.Core.Logic.{_≢_, ⊎-elim}
+use mathlib.Core.Path.{_≡_, refl, sym, ap, ap₂, _∙_, subst}
+use native.Mathlib.Omega.{arith}
+use borrow.Author.Tests.{eqb-true, eq-eqb, ne-eqb}
+use lib.Dec.{eqb}
+use lib.ListN.{length, getD, take, drop, length-append, take-append-drop}
+use lib.Seq.{getD-append-seam}
+use Rattle.ground.specs.Limits.{wordRange}
+use Rattle.ground.proofs.Bools.{true-or-false, not-both, false-if-not-true, or-first-fails, or-cases}
+use Rattle.ground.proofs.Choice.{cond-ind, cond-true, cond-false}
+use Rattle.page.specs.Words.{Entry, Page, entry, keyOf, valueOf, page}
+use Rattle.page.specs.Place.{place, has, information, without}
+use Rattle.page.specs.Sound.{rises}
+use Rattle.page.proofs.PlaceLaws.{has-from, has-at, has-append, information-at, rises-without}
+use Rattle.page.proofs.RiseLaws.{rises-at, rises-drop}
+use Rattle.page.proofs.PutLaws.{put-entries, put-place-rises}
+use Rattle.slots.specs.declared.Op.{Op}
+use Rattle.slots.specs.declared.Op.the-variants.{Search, Insert, Delete}
+use Rattle.slots.specs.declared.Answer.{Answer}
+use Rattle.slots.specs.declared.Answer.the-variants.{Found, NotFound, Inserted, AlreadyThere, Deleted, NoSuchKey}
+use Rattle.slots.specs.Heard.{heard, numberOf}
+use Rattle.slots.specs.Parts.{keyOf as keyOfOp}
+use Rattle.tree.specs.Sorted.{inserted}
+use Rattle.tree.specs.Tree.{Tr, entriesOf, rootLeast, Forms}
+use Rattle.tree.proofs.Sorted.{has-inserted, rises-within}
+use Rattle.tree.proofs.Search.{within-entries}
+use Rattle.runs.specs.Plain.{Reply, reply, plain}
+use Rattle.runs.specs.PlainFacts.{Among, Missing, PlainFacts}
+
+-- ---- an entry stands where `has` and `information` say so
+
+-- one entry further on
+among-later : (x v : ℕ) (e : Entry) (es : List Entry) → Among x v es → Among x v (e ∷ es)
+among-later x v e es a = record { before = e ∷ a .before; after = a .after; whole = ap (λ (l : List Entry). e ∷ l) (a .whole) }
+
+-- a key that stands does so with its information
+pub has-among : (x : ℕ) (es : List Entry) → has x es ≡ true → Among x (information x es) es
+unfolding has information
+has-among x [] h = absurd (false≢true h)
+has-among x (e ∷ es) h =
+    ⊎-elim
+    (λ here. record {
+      before = [];
+      after = es;
+      whole = ap₂ (λ (k v : ℕ). entry k v ∷ es) (eqb-true (e .key) x here) (sym (cond-true (e .value) (information x es) here));
+    })
+    (λ other.
+    let later : has x es ≡ true = ⊎-elim (λ t. not-both t other) (λ t. t) (or-cases (eqb (e .key) x) (has x es) h) in
+    subst (λ (v : ℕ). Among x v (e ∷ es)) (sym (cond-false (e .value) (information x es) other)) (among-later x (information x es) e es (has-among x es later)))
+    (true-or-false (eqb (e .key) x))
+
+module _ (x v : ℕ) (es : List Entry) (a : Among x v es) where
+  at-seam : getD es (length (a .before)) (entry 0 0) ≡ entry x v
+  at-seam = ap (λ (l : List Entry). getD l (length (a .before)) (entry 0 0)) (a .whole) ∙ getD-append-seam (a .before) (entry x v) (a .after) (entry 0 0)
+
+  -- a key with an entry stands,
+  pub among-has : has x es ≡ true
+  among-has =
+      let long : length es ≡ length (a .before) + length (entry x v ∷ a .after) = ap length (a .whole) ∙ length-append (a .before) (entry x v ∷ a .after) in
+      has-from x es (length (a .before)) (omega arith) (ap keyOf at-seam)
+
+  -- and where keys rise, with that information
+  pub among-information : rises es ≡ true → information x es ≡ v
+  among-information r =
+      let long : length es ≡ length (a .before) + length (entry x v ∷ a .after) = ap length (a .whole) ∙ length-append (a .before) (entry x v ∷ a .after) in
+      information-at x es r (length (a .before)) (omega arith) (ap keyOf at-seam) ∙ ap valueOf at-seam
+
+-- a key without an entry does not stand
+missing-has : (x : ℕ) (es : List Entry) → Missing x es → has x es ≡ false
+missing-has x es m = ⊎-elim (λ t. absurd (m (information x es) (has-among x es t))) (λ f. f) (true-or-false (has x es))
+
+-- ---- inserted
+
+-- the information of a new key is the one that was put in
+information-middle : (x v : ℕ) (l r : List Entry) → has x l ≡ false → information x (l ++ entry x v ∷ r) ≡ v
+unfolding has information
+information-middle x v [] r h = cond-true v (information x r) (eq-eqb x x refl)
+information-middle x v (e ∷ l) r h =
+    ⊎-elim
+    (λ t. not-both (ap (λ (b : Bool). b || has x l) t) h)
+    (λ f. cond-false (e .value) (information x (l ++ entry x v ∷ r)) f ∙ information-middle x v l r (sym (ap (λ (b : Bool). b || has x l) f) ∙ h))
+    (true-or-false (eqb (e .key) x))
+
+-- another key stands, and with the same information, whether an entry is in the middle or not
+has-beside : (x v y : ℕ) (l r : List Entry) → y ≢ x → has y (l ++ entry x v ∷ r) ≡ has y (l ++ r)
+unfolding has
+has-beside x v y [] r n = ap (λ (b : Bool). b || has y r) (ne-eqb x y (λ e. n (sym e)))
+has-beside x v y (e ∷ l) r n = ap (λ (b : Bool). eqb (e .key) y || b) (has-beside x v y l r n)
+
+information-beside : (x v y : ℕ) (l r : List Entry) → y ≢ x → information y (l ++ entry x v ∷ r) ≡ information y (l ++ r)
+unfolding information
+information-beside x v y [] r n = cond-false v (information y r) (ne-eqb x y (λ e. n (sym e)))
+information-beside x v y (e ∷ l) r n = ap (cond (eqb (e .key) y) (e .value)) (information-beside x v y l r n)
+
+module _ (x v : ℕ) (es : List Entry) where
+  -- keys still rise
+  pub rises-inserted : rises es ≡ true → has x es ≡ false → rises (inserted x v es) ≡ true
+  unfolding inserted
+  rises-inserted r new =
+      subst (λ (l : List Entry). rises l ≡ true) (put-entries (place x es) (entry x v) (page 1 0 es)) (put-place-rises (entry x v) (page 1 0 es) r new)
+
+  pub information-inserted : has x es ≡ false → information x (inserted x v es) ≡ v
+  unfolding inserted
+  information-inserted new =
+      let n : ℕ = place x es in
+      let parts : has x (take n es) || has x (drop n es) ≡ false
+      = sym (has-append x (take n es) (drop n es)) ∙ ap (has x) (take-append-drop n es) ∙ new in
+      information-middle x v (take n es) (drop n es) (or-first-fails (has x (take n es)) (has x (drop n es)) parts)
+
+  pub has-inserted-other : (y : ℕ) → y ≢ x → has y (inserted x v es) ≡ has y es
+  unfolding inserted
+  has-inserted-other y n = has-beside x v y (take (place x es) es) (drop (place x es) es) n ∙ ap (has y) (take-append-drop (place x es) es)
+
+  pub information-inserted-other : (y : ℕ) → y ≢ x → information y (inserted x v es) ≡ information y es
+  unfolding inserted
+  information-inserted-other y n =
+      information-beside x v y (take (place x es) es) (drop (place x es) es) n ∙ ap (information y) (take-append-drop (place x es) es)
+
+-- ---- without
+
+pub has-without-other : (x y : ℕ) (es : List Entry) → y ≢ x → has y (without x es) ≡ has y es
+unfolding has without
+has-without-other x y [] n = refl
+has-without-other x y (e ∷ es) n =
+    cond-ind (λ (l : List Entry). has y l ≡ eqb (e .key) y || has y es) (eqb (e .key) x)
+    (λ t. sym (ap (λ (b : Bool). b || has y es) (ne-eqb (e .key) y (λ q. n (sym q ∙ eqb-true (e .key) x t)))))
+    (λ f. ap (λ (b : Bool). eqb (e .key) y || b) (has-without-other x y es n))
+
+pub information-without-other : (x y : ℕ) (es : List Entry) → y ≢ x → information y (without x es) ≡ information y es
+unfolding information without
+information-without-other x y [] n = refl
+information-without-other x y (e ∷ es) n =
+    cond-ind (λ (l : List Entry). information y l ≡ cond (eqb (e .key) y) (e .value) (information y es)) (eqb (e .key) x)
+    (λ t. sym (cond-false (e .value) (information y es) (ne-eqb (e .key) y (λ q. n (sym q ∙ eqb-true (e .key) x t)))))
+    (λ f. ap (cond (eqb (e .key) y) (e .value)) (information-without-other x y es n))
+
+-- on rising keys the first key stands nowhere behind it
+first-once : (e : Entry) (es : List Entry) → rises (e ∷ es) ≡ true → has (e .key) es ≡ false
+first-once e es r =
+    false-if-not-true (has (e .key) es)
+    (λ t. let found = has-at (e .key) es t in
+    let up = rises-at (e ∷ es) r 0 (suc (found .0)) (omega arith) (omega (arith, found .1)) in
+    omega (arith, up, found .2))
+
+-- a key that was taken out of rising keys does not stand there any more
+pub has-without-rising : (x : ℕ) (es : List Entry) → rises es ≡ true → has x (without x es) ≡ false
+unfolding has without
+has-without-rising x [] r = refl
+has-without-rising x (e ∷ es) r =
+    cond-ind (λ (l : List Entry). has x l ≡ false) (eqb (e .key) x)
+    (λ t. subst (λ (k : ℕ). has k es ≡ false) (eqb-true (e .key) x t) (first-once e es r))
+    (λ f. ap (λ (b : Bool). b || has x (without x es)) f ∙ has-without-rising x es (rises-drop 1 (e ∷ es) r))
+
+-- ---- the answers
+
+-- a search by whether the key stands
+search-there : (x : ℕ) (es : List Entry) → has x es ≡ true → plain (Search x) es .answer ≡ Found (information x es)
+unfolding plain
+search-there x es h = cond-true (Found (information x es)) NotFound h
+
+search-missing : (x : ℕ) (es : List Entry) → has x es ≡ false → plain (Search x) es .answer ≡ NotFound
+unfolding plain
+search-missing x es h = cond-false (Found (information x es)) NotFound h
+
+-- searches of lists that agree on the key are answered alike
+search-same : (x : ℕ) (es fs : List Entry) → has x es ≡ has x fs → information x es ≡ information x fs → plain (Search x) es .answer ≡ plain (Search x) fs .answer
+unfolding plain
+search-same x es fs h i = ap₂ (λ (b : Bool) (v : ℕ). cond b (Found v) NotFound) h i
+
+-- an insertion and a deletion by whether the key stands
+insert-there : (x v : ℕ) (es : List Entry) → has x es ≡ true → plain (Insert x v) es ≡ reply AlreadyThere es
+unfolding plain
+insert-there x v es h = cond-true (reply AlreadyThere es) (reply Inserted (inserted x v es)) h
+
+insert-missing : (x v : ℕ) (es : List Entry) → has x es ≡ false → plain (Insert x v) es ≡ reply Inserted (inserted x v es)
+unfolding plain
+insert-missing x v es h = cond-false (reply AlreadyThere es) (reply Inserted (inserted x v es)) h
+
+delete-there : (x : ℕ) (es : List Entry) → has x es ≡ true → plain (Delete x) es ≡ reply (Deleted (information x es)) (without x es)
+unfolding plain
+delete-there x es h = cond-true (reply (Deleted (information x es)) (without x es)) (reply NoSuchKey es) h
+
+delete-missing : (x : ℕ) (es : List Entry) → has x es ≡ false → plain (Delete x) es ≡ reply NoSuchKey es
+unfolding plain
+delete-missing x es h = cond-false (reply (Deleted (information x es)) (without x es)) (reply NoSuchKey es) h
+
+pub search-keeps : (x : ℕ) (es : List Entry) → plain (Search x) es .entries ≡ es
+unfolding plain
+search-keeps x es = refl
+
+-- the information in an answer
+abbrev told : Answer → ℕ
+told a = getD (heard a) 1 0
+
+-- two answers with different numbers are different
+clashes : {a b : Answer} {X : Type 0} → a ≡ b → (numberOf a ≡ numberOf b → ⊥) → X
+clashes e n = absurd (n (ap numberOf e))
+
+module _ (es : List Entry) (r : rises es ≡ true) where
+  rising : (op : Op) → rises (plain op es .entries) ≡ true
+  rising (Search x) = ap rises (search-keeps x es) ∙ r
+  rising (Insert x v) =
+      ⊎-elim
+      (λ t. ap (λ (p : Reply). rises (p .entries)) (insert-there x v es t) ∙ r)
+      (λ f. ap (λ (p : Reply). rises (p .entries)) (insert-missing x v es f) ∙ rises-inserted x v es r f)
+      (true-or-false (has x es))
+  rising (Delete x) =
+      ⊎-elim
+      (λ t. ap (λ (p : Reply). rises (p .entries)) (delete-there x es t) ∙ rises-without x es r)
+      (λ f. ap (λ (p : Reply). rises (p .entries)) (delete-missing x es f) ∙ r)
+      (true-or-false (has x es))
+
+  found : (x v : ℕ) → plain (Search x) es .answer ≡ Found v → Among x v es
+  found x v e =
+      ⊎-elim
+      (λ t. subst (λ (w : ℕ). Among x w es) (ap told (sym (search-there x es t) ∙ e)) (has-among x es t))
+      (λ f. clashes (sym (search-missing x es f) ∙ e) (λ q. omega (arith, q)))
+      (true-or-false (has x es))
+
+  inserted-found : (x v : ℕ) → plain (Insert x v) es .answer ≡ Inserted → plain (Search x) (plain (Insert x v) es .entries) .answer ≡ Found v
+  inserted-found x v e =
+      ⊎-elim
+      (λ t. clashes (sym (ap (λ (p : Reply). p .answer) (insert-there x v es t)) ∙ e) (λ q. omega (arith, q)))
+      (λ f. ap (λ (p : Reply). plain (Search x) (p .entries) .answer) (insert-missing x v es f)
+      ∙ search-there x (inserted x v es) (has-inserted x v es)
+      ∙ ap (λ (w : ℕ). Found w) (information-inserted x v es f))
+      (true-or-false (has x es))
+
+  deleted : (x v : ℕ) → plain (Delete x) es .answer ≡ Deleted v → Among x v es
+  deleted x v e =
+      ⊎-elim
+      (λ t. subst (λ (w : ℕ). Among x w es) (ap told (sym (ap (λ (p : Reply). p .answer) (delete-there x es t)) ∙ e)) (has-among x es t))
+      (λ f. clashes (sym (ap (λ (p : Reply). p .answer) (delete-missing x es f)) ∙ e) (λ q. omega (arith, q)))
+      (true-or-false (has x es))
+
+  deleted-gone : (x v : ℕ) → plain (Delete x) es .answer ≡ Deleted v → plain (Search x) (plain (Delete x) es .entries) .answer ≡ NotFound
+  deleted-gone x v e =
+      let t : has x es ≡ true = among-has x v es (deleted x v e) in
+      ap (λ (p : Reply). plain (Search x) (p .entries) .answer) (delete-there x es t)
+      ∙ search-missing x (without x es) (has-without-rising x es r)
+
+  others : (op : Op) (y : ℕ) → y ≢ keyOfOp op → plain (Search y) (plain op es .entries) .answer ≡ plain (Search y) es .answer
+  others (Search x) y n = ap (λ (l : List Entry). plain (Search y) l .answer) (search-keeps x es)
+  others (Insert x v) y n =
+      ⊎-elim
+      (λ t. ap (λ (p : Reply). plain (Search y) (p .entries) .answer) (insert-there x v es t))
+      (λ f. ap (λ (p : Reply). plain (Search y) (p .entries) .answer) (insert-missing x v es f)
+      ∙ search-same y (inserted x v es) es (has-inserted-other x v es y n) (information-inserted-other x v es y n))
+      (true-or-false (has x es))
+  others (Delete x) y n =
+      ⊎-elim
+      (λ t. ap (λ (p : Reply). plain (Search y) (p .entries) .answer) (delete-there x es t)
+      ∙ search-same y (without x es) es (has-without-other x y es n) (information-without-other x y es n))
+      (λ f. ap (λ (p : Reply). plain (Search y) (p .entries) .answer) (delete-missing x es f))
+      (true-or-false (has x es))
+
+  -- The plain list's laws hold of every list whose keys rise.
+  pub plain-facts : PlainFacts es
+  plain-facts = record {
+    rising = rising;
+    finds = λ x v a. search-there x es (among-has x v es a) ∙ ap (λ (w : ℕ). Found w) (among-information x v es a r);
+    found = found;
+    notFound = λ x m. search-missing x es (missing-has x es m);
+    searchKeeps = λ x. search-keeps x es;
+    inserts = λ x v m. ap (λ (p : Reply). p .answer) (insert-missing x v es (missing-has x es m));
+    insertedFound = inserted-found;
+    already = λ x v w a. ap (λ (p : Reply). p .answer) (insert-there x v es (among-has x w es a));
+    alreadyKeeps = λ x v w a. ap (λ (p : Reply). p .entries) (insert-there x v es (among-has x w es a));
+    deletes = λ x v a.
+        ap (λ (p : Reply). p .answer) (delete-there x es (among-has x v es a)) ∙ ap (λ (w : ℕ). Deleted w) (among-information x v es a r);
+    deleted = deleted;
+    deletedGone = deleted-gone;
+    noSuchKey = λ x m. ap (λ (p : Reply). p .answer) (delete-missing x es (missing-has x es m));
+    noSuchKeyKeeps = λ x m. ap (λ (p : Reply). p .entries) (delete-missing x es (missing-has x es m));
+    others = others;
+  }
+
+-- So they hold of the entries of a pool's tree.
+pub tree-plain : (k n : ℕ) (memory : ℕ → Page) (l : ℕ) (t : Tr l) → Forms k n memory l t → PlainFacts (entriesOf l t)
+tree-plain k n memory l t f =
+    plain-facts (entriesOf l t) (rises-within 0 wordRange (entriesOf l t) (within-entries k (rootLeast l) (2 * k) l t 0 wordRange (f .inRange)))

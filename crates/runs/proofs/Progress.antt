@@ -1,0 +1,270 @@
+-- "While any operation is open, some open one can be granted its step" (demand 3).
+-- The wants are ranked: first the one whose page's range begins latest, then the one on the lowest level, then the oldest.
+-- Whoever is barred is barred by a slot whose own want ranks before, so the first of them is granted.
+use Prim.Native.Nat.{ℕ, zero, suc, _+_, _-_, _*_, _≤_, _<_}
+use mathlib.Core.Bool.{Bool, true, false, not, _&&_, _||_, true≢false}
+use mathlib.Core.List.{List, [], _∷_, reverse}
+use mathlib.Core.Logic.{_⊎_, inl, inr, ⊎-elim, _≢_}
+use mathlib.Core.Path.{_≡_, refl, sym, ap, _∙_, subst}
+use native.Mathlib.Nat.{mul-le-mul-right, suc-mul}
+use native.Mathlib.Omega.{arith}
+use borrow.Author.Tests.{eqb-true, eqb-false, eq-eqb, ne-eqb, not-true, not-false}
+use lib.Dec.{eqb}
+use lib.ListN.{length, getD}
+use Rattle.ground.specs.Limits.{slotCount, wordRange}
+use Rattle.ground.specs.Tests.{all, member}
+use Rattle.ground.proofs.Bools.{true-or-false, not-both, false-if-not-true, and-first, and-second, and-fails, or-first-fails, or-second-fails, or-second}
+use Rattle.ground.proofs.Choice.{cond-true, cond-false}
+use Rattle.ground.proofs.Tests.{member-none, all-member, allBelow-false-at}
+use Rattle.page.specs.Words.{Page}
+use Rattle.pool.specs.Pool.{pageAt}
+use Rattle.slots.specs.declared.Op.{Op}
+use Rattle.slots.specs.declared.Task.{Task}
+use Rattle.slots.specs.declared.Task.the-variants.{Closed, Open}
+use Rattle.slots.specs.declared.State.{State}
+use Rattle.slots.specs.Parts.{keyOf, isOpen, pathOf, siblingsOf, slotAt, openAt, wantAt, holdsAt, waitingOrder}
+use Rattle.slots.specs.Locks.{lockAt, clash}
+use Rattle.slots.specs.Grant.{olderThan, noClash, noOlder, grants}
+use Rattle.slots.proofs.Clashes.{no-two-locks-clash}
+use Rattle.slots.proofs.GrantLaws.{granted-no-clash, holder-open}
+use Rattle.slots.proofs.OrderLaws.{same-or-not, member-here, member-cases}
+use Rattle.tree.specs.Tree.{Tr, Stands, Forms}
+use Rattle.tree.specs.Facts.{Placed}
+use Rattle.runs.specs.Stance.{Stance}
+use Rattle.runs.specs.Waits.{Holder, Older, Barred}
+use Rattle.runs.proofs.Invariant.{Invariant}
+use Rattle.runs.proofs.Fathers.{Father, Top, upward-held, one-father, root-fatherless, wants-under, held-under, wants-inside, wants-placed}
+
+-- ---- what bars a want
+
+clash-found : (st : State) (s : ℕ) → noClash st s ≡ false → Holder st s
+unfolding noClash
+clash-found st s f =
+    let (t, below, fails) = allBelow-false-at (λ (u : ℕ). eqb u s || not (holdsAt st u (wantAt st s) && clash (lockAt st u) (lockAt st s))) slotCount f in
+    let holds = holdsAt st t (wantAt st s) in
+    let clashes = clash (lockAt st t) (lockAt st s) in
+    let both = not-false (holds && clashes) (or-second-fails (eqb t s) (not (holds && clashes)) fails) in
+    record {
+      slot = t;
+      below = below;
+      other = eqb-false t s (or-first-fails (eqb t s) (not (holds && clashes)) fails);
+      holds = and-first holds clashes both;
+      clashes = and-second holds clashes both;
+    }
+
+-- a number of the list fails where not every one passes
+all-fails-at : (p : ℕ → Bool) (xs : List ℕ) → all p xs ≡ false → (x : ℕ) × (member x xs ≡ true) × (p x ≡ false)
+unfolding all member
+all-fails-at p [] f = absurd (true≢false f)
+all-fails-at p (y ∷ ys) f =
+    ⊎-elim
+    (λ e. (y, member-here y ys, e))
+    (λ e. let (x, m, q) = all-fails-at p ys e in (x, or-second (eqb x y) m, q))
+    (and-fails (p y) (all p ys) f)
+
+older-found : (st : State) (s : ℕ) → noOlder st s ≡ false → Older st s
+unfolding noOlder
+older-found st s f =
+    let (t, m, fails) = all-fails-at (λ (u : ℕ). not (eqb (wantAt st u) (wantAt st s))) (olderThan s (waitingOrder st)) f in
+    record { slot = t; older = m; same = eqb-true (wantAt st t) (wantAt st s) (not-false (eqb (wantAt st t) (wantAt st s)) fails) }
+
+-- A want that is not granted is barred by a held clash or by an older want for the same page.
+pub barred : (st : State) (s : ℕ) → grants st s ≡ false → Barred st s
+barred st s f = ⊎-elim (λ e. inl (clash-found st s e)) (λ e. inr (older-found st s e)) (and-fails (noClash st s) (noOlder st s) f)
+
+-- And what is so barred is not granted.
+pub barred-waits : (st : State) (s : ℕ) → Barred st s → grants st s ≡ false
+unfolding noOlder
+barred-waits st s (inl h) =
+    false-if-not-true (grants st s) (λ g. not-both (h .clashes) (granted-no-clash st s g (h .slot) (h .below) (h .other) (h .holds)))
+barred-waits st s (inr o) =
+    false-if-not-true (grants st s) (λ g. not-both (eq-eqb (wantAt st (o .slot)) (wantAt st s) (o .same))
+    (not-true (eqb (wantAt st (o .slot)) (wantAt st s))
+    (all-member (λ (u : ℕ). not (eqb (wantAt st u) (wantAt st s))) (olderThan s (waitingOrder st)) (and-second (noClash st s) (noOlder st s) g) (o .slot) (o .older))))
+
+-- ---- older wants
+
+older-here : (s t : ℕ) (ts : List ℕ) → t ≡ s → olderThan s (t ∷ ts) ≡ []
+unfolding olderThan
+older-here s t ts e = cond-true [] (t ∷ olderThan s ts) (eq-eqb t s e)
+
+older-there : (s t : ℕ) (ts : List ℕ) → t ≢ s → olderThan s (t ∷ ts) ≡ t ∷ olderThan s ts
+unfolding olderThan
+older-there s t ts n = cond-false [] (t ∷ olderThan s ts) (ne-eqb t s n)
+
+-- the wants older than one are some of the order's
+older-most : (s : ℕ) (xs : List ℕ) → length (olderThan s xs) ≤ length xs
+unfolding olderThan
+older-most s [] = omega arith
+older-most s (t ∷ ts) =
+    ⊎-elim
+    (λ e. omega (arith, ap length (older-here s t ts e)))
+    (λ n. omega (arith, ap length (older-there s t ts n), older-most s ts))
+    (same-or-not t s)
+
+-- an older want is the first of the order, or older behind the first
+older-cases : (s t y : ℕ) (ys : List ℕ) → member t (olderThan s (y ∷ ys)) ≡ true → (y ≢ s) × ((t ≡ y) ⊎ (member t (olderThan s ys) ≡ true))
+older-cases s t y ys m =
+    ⊎-elim
+    (λ e. not-both m (ap (member t) (older-here s y ys e) ∙ member-none t))
+    (λ n. (n, member-cases t y (olderThan s ys) (sym (ap (member t) (older-there s y ys n)) ∙ m)))
+    (same-or-not y s)
+
+-- it is one of the order's
+older-waits : (s t : ℕ) (xs : List ℕ) → member t (olderThan s xs) ≡ true → member t xs ≡ true
+unfolding olderThan member
+older-waits s t [] m = m
+older-waits s t (y ∷ ys) m =
+    ⊎-elim
+    (λ e. subst (λ (q : ℕ). member q (y ∷ ys) ≡ true) (sym e) (member-here y ys))
+    (λ h. or-second (eqb t y) (older-waits s t ys h))
+    (older-cases s t y ys m .1)
+
+-- and fewer are older than it
+older-fewer : (s t : ℕ) (xs : List ℕ) → member t (olderThan s xs) ≡ true → length (olderThan t xs) < length (olderThan s xs)
+unfolding olderThan
+older-fewer s t [] m = not-both m (member-none t)
+older-fewer s t (y ∷ ys) m =
+    let (n, how) = older-cases s t y ys m in
+    ⊎-elim
+    (λ e. omega (arith, ap length (older-here t y ys (sym e)), ap length (older-there s y ys n)))
+    (λ h. ⊎-elim
+    (λ e. omega (arith, ap length (older-here t y ys e), ap length (older-there s y ys n)))
+    (λ o. omega (arith, ap length (older-there t y ys o), ap length (older-there s y ys n), older-fewer s t ys h))
+    (same-or-not y t))
+    how
+
+-- ---- the order of the wants
+
+-- The rank of a page of this level whose range begins at low, in a tree of l + 1 levels. Low ranks come first.
+abbrev placeRank : (l level low : ℕ) → ℕ
+placeRank l level low = (wordRange - low) * (l + 2) + level
+
+-- the rank of slot s's want for such a page
+abbrev rank : (st : State) (l s level low : ℕ) → ℕ
+rank st l s level low = placeRank l level low * suc (length (waitingOrder st)) + length (olderThan s (waitingOrder st))
+
+-- a page inside another, and lower, comes before it, whatever wants are older
+inside-first : (st : State) (l s s′ level low level′ low′ : ℕ) → low ≤ low′ → level′ < level → rank st l s′ level′ low′ < rank st l s level low
+inside-first st l s s′ level low level′ low′ later lower =
+    let m : ℕ = length (waitingOrder st) in
+    let a : ℕ = placeRank l level low in
+    let a′ : ℕ = placeRank l level′ low′ in
+    let parts : (wordRange - low′) * (l + 2) ≤ (wordRange - low) * (l + 2) = mul-le-mul-right (l + 2) (omega arith) in
+    let less : a′ < a = omega arith in
+    let more : suc a′ * suc m ≤ a * suc m = mul-le-mul-right (suc m) less in
+    let few : length (olderThan s′ (waitingOrder st)) ≤ m = older-most s′ (waitingOrder st) in
+    omega (arith, suc-mul a′ (suc m))
+
+-- of two wants for one page the older comes first
+older-first : (st : State) (l s s′ level low : ℕ) → member s′ (olderThan s (waitingOrder st)) ≡ true → rank st l s′ level low < rank st l s level low
+older-first st l s s′ level low m = omega (arith, older-fewer s s′ (waitingOrder st) m)
+
+-- ---- some want is granted
+
+pub opened : (task : Task) → isOpen task ≡ true → (op : Op) × (task ≡ Open op)
+opened Closed e = not-both e refl
+opened (Open op) e = (op, refl)
+
+-- An open slot whose want ranks before a rank.
+record Before (st : State) (l : ℕ) (t : Tr l) (bound : ℕ) : Type 0 where
+  slot : ℕ
+  below : slot < slotCount
+  runs : openAt st slot ≡ true
+  place : Placed l t 0 wordRange (wantAt st slot)
+  less : rank st l slot (place .level) (place .from) < bound
+
+-- An open slot that is granted its step.
+abbrev pub CanGo : State → Type 0
+CanGo st = (u : ℕ) × (u < slotCount) × (openAt st u ≡ true) × (grants st u ≡ true)
+
+module _ (st : State) (ws : List ℕ) (inv : Invariant st ws) where
+  -- an open slot's operation, and where it stands
+  record Standing (s : ℕ) : Type 0 where
+    op : Op
+    key : keyOf op < wordRange
+    stance : Stance op (st .k) (pageAt (st .k) ws) (inv .height) (inv .tree) (pathOf (slotAt st s)) (siblingsOf (slotAt st s)) (wantAt st s)
+
+  standing : (s : ℕ) → s < slotCount → openAt st s ≡ true → Standing s
+  standing s b o =
+      let (op, runs) = opened (slotAt st s .task) o in
+      record { op = op; key = inv .keys s op b runs; stance = inv .stands s op b runs }
+
+  holder-opens : (s : ℕ) (h : Holder st s) → openAt st (h .slot) ≡ true
+  holder-opens s h = holder-open (st .n) (slotAt st (h .slot)) (wantAt st s) (inv .sound .slot (h .slot) (h .below)) (h .holds)
+
+  -- Who holds the wanted page with a clashing lock holds it as the top page of its path: otherwise it held the page's father
+  -- too, and so does the slot that wants the page.
+  holder-at-top : (s : ℕ) → s < slotCount → openAt st s ≡ true → (h : Holder st s) → Top (pathOf (slotAt st (h .slot))) (wantAt st s)
+  holder-at-top s b o h =
+      let memory : ℕ → Page = pageAt (st .k) ws in
+      let forms : Forms (st .k) (st .n) memory (inv .height) (inv .tree) = inv .forms .forms in
+      let v : ℕ = h .slot in
+      let p : ℕ = wantAt st s in
+      let me = standing s b o in
+      let it = standing v (h .below) (holder-opens s h) in
+      let mine : List ℕ = pathOf (slotAt st s) in
+      let its : List ℕ = pathOf (slotAt st v) in
+      ⊎-elim
+      (λ top. top)
+      (λ u. ⊎-elim
+      (λ root. absurd (root-fatherless (st .k) (st .n) memory (inv .height) (inv .tree) forms (getD (reverse its) (u .index) 0)
+      (subst (Father memory (inv .height) (inv .tree) (getD (reverse its) (u .index) 0)) root (u .father))))
+      (λ w.
+      let same = one-father (st .k) (st .n) memory (inv .height) (inv .tree) forms (getD (reverse mine) (w .index) 0) (getD (reverse its) (u .index) 0) p (w .father) (u .father) in
+      not-both (h .clashes)
+      (no-two-locks-clash st (inv .sound) v s (getD (reverse its) (u .index) 0) (h .below) b (h .other)
+      (upward-held its (siblingsOf (slotAt st v)) (u .index) (u .held))
+      (subst (λ (q : ℕ). holdsAt st s q ≡ true) same (upward-held mine (siblingsOf (slotAt st s)) (w .index) (w .held)))))
+      (wants-under (st .k) (st .n) memory (inv .height) (inv .tree) forms (me .op) (me .key) mine (siblingsOf (slotAt st s)) p (me .stance)))
+      (held-under (st .k) (st .n) memory (inv .height) (inv .tree) forms (it .op) (it .key) its (siblingsOf (slotAt st v)) (wantAt st v) (it .stance) p (h .holds))
+
+  -- Whoever is barred is barred by a slot whose own want ranks before.
+  better : (s : ℕ) → s < slotCount → openAt st s ≡ true → (w : Placed (inv .height) (inv .tree) 0 wordRange (wantAt st s)) → Holder st s ⊎ Older st s
+      → Before st (inv .height) (inv .tree) (rank st (inv .height) s (w .level) (w .from))
+  better s b o w (inl h) =
+      let v : ℕ = h .slot in
+      let it = standing v (h .below) (holder-opens s h) in
+      let i = wants-inside (st .k) (st .n) (pageAt (st .k) ws) (inv .height) (inv .tree) (inv .forms .forms) (it .op) (it .key)
+      (pathOf (slotAt st v)) (siblingsOf (slotAt st v)) (wantAt st v) (it .stance)
+      (wantAt st s) (w .level) (w .from) (w .to) (holder-at-top s b o h) (w .stands) in
+      record {
+        slot = v;
+        below = h .below;
+        runs = holder-opens s h;
+        place = record { level = i .newLevel; from = i .from; to = i .to; stands = i .stands };
+        less = inside-first st (inv .height) s v (w .level) (w .from) (i .newLevel) (i .from) (i .later) (i .lower);
+      }
+  better s b o w (inr e) =
+      let waits = older-waits s (e .slot) (waitingOrder st) (e .older) in
+      record {
+        slot = e .slot;
+        below = inv .sound .orderBelow (e .slot) waits;
+        runs = inv .sound .orderOpen (e .slot) waits;
+        place = record {
+          level = w .level;
+          from = w .from;
+          to = w .to;
+          stands = subst (λ (q : ℕ). Stands (inv .height) (inv .tree) 0 wordRange q (w .level) (w .from) (w .to)) (sym (e .same)) (w .stands);
+        };
+        less = older-first st (inv .height) s (e .slot) (w .level) (w .from) (e .older);
+      }
+
+  -- so, from one slot to a better one, some slot is granted: ranks end at 0
+  best : (bound : ℕ) → Before st (inv .height) (inv .tree) bound → CanGo st
+  best zero c = absurd (omega (arith, c .less))
+  best (suc bound) c =
+      ⊎-elim
+      (λ g. (c .slot, c .below, c .runs, g))
+      (λ f.
+      let d = better (c .slot) (c .below) (c .runs) (c .place) (barred st (c .slot) f) in
+      best bound (record { slot = d .slot; below = d .below; runs = d .runs; place = d .place; less = omega (arith, c .less, d .less) }))
+      (true-or-false (grants st (c .slot)))
+
+  -- While any operation is open, some open one can be granted its step.
+  pub some-can-go : (s : ℕ) → s < slotCount → openAt st s ≡ true → CanGo st
+  some-can-go s b o =
+      let me = standing s b o in
+      let w = wants-placed (st .k) (st .n) (pageAt (st .k) ws) (inv .height) (inv .tree) (inv .forms .forms) (me .op) (me .key)
+      (pathOf (slotAt st s)) (siblingsOf (slotAt st s)) (wantAt st s) (me .stance) in
+      best (suc (rank st (inv .height) s (w .level) (w .from))) (record { slot = s; below = b; runs = o; place = w; less = omega arith })

@@ -1,0 +1,180 @@
+-- What holds of a run holds from its start on: a pool made, then call after call.
+use Prim.Native.Nat.{ℕ, _≤_, _<_}
+use mathlib.Core.Bool.{true, false, cond, not, _&&_, false≢true}
+use mathlib.Core.Logic.{⊎-elim}
+use mathlib.Core.List.{List, [], _∷_}
+use mathlib.Core.Path.{_≡_, refl, sym, ap, subst, _∙_}
+use lib.Dec.{ltb, leb}
+use lib.ListN.{length}
+use borrow.Author.Tests.{leb-true, ltb-true, ltb-false, eq-eqb}
+use Rattle.ground.specs.Limits.{largestK, largestN, slotCount, wordRange}
+use Rattle.ground.proofs.Bools.{true-or-false, and-first, and-second, and-both, not-of-true, not-of-false}
+use Rattle.ground.proofs.Choice.{cond-true, cond-false}
+use Rattle.pool.specs.Pool.{kInRange, nInRange, poolLength, fresh}
+use Rattle.slots.specs.declared.Op.{Op}
+use Rattle.slots.specs.declared.Op.the-variants.{Search, Insert, Delete}
+use Rattle.slots.specs.declared.Slot.{Slot}
+use Rattle.slots.specs.declared.State.{State}
+use Rattle.slots.specs.declared.Outcome.{Outcome}
+use Rattle.slots.specs.declared.Answer.the-variants.{Begun, Made, Reported, BadState, BadPool, BadSlot, SlotBusy, BadPage}
+use Rattle.slots.specs.Parts.{keyOf, isOpen, openAt, closedSlot, idleState}
+use Rattle.slots.specs.Sound.{sound}
+use Rattle.slots.specs.Book.{begins, goesOn, closes}
+use Rattle.slots.specs.Begin.{outcome, begun}
+use Rattle.slots.specs.Report.{holders, lowestHolder, lockKind, reported}
+use Rattle.slots.proofs.SoundFacts.{facts-sound}
+use Rattle.slots.proofs.Keeping.{same-everywhere, idle-sound, idle-shaped}
+use Rattle.index.specs.Step.{Left, left, stepped}
+use Rattle.index.specs.Make.{made}
+use Rattle.tree.specs.Tree.{Tr, PoolForms}
+use Rattle.tree.specs.Facts.{emptyTree}
+use Rattle.tree.proofs.Words.{fresh-forms}
+use Rattle.runs.specs.Run.{Call, begin, step, report, called, run, runFrom, OpInWords, CallInWords, InWords, Run}
+use Rattle.runs.proofs.Invariant.{Runs, Invariant}
+use Rattle.runs.proofs.Calls.{StepOf, noSlot, idle, waits, onward, over, step-of, step-keeps, begin-keeps}
+
+pub key-in-words : (op : Op) → OpInWords op → keyOf op < wordRange
+key-in-words (Search x) h = h
+key-in-words (Insert x v) h = h .0
+key-in-words (Delete x) h = h
+
+-- What a begin comes to in a run.
+pub data BeginOf (st : State) (s : ℕ) (op : Op) : Type 0 where
+  noSuch : slotCount ≤ s → begun st s op ≡ outcome BadSlot st → BeginOf st s op
+  busy : s < slotCount → openAt st s ≡ true → begun st s op ≡ outcome SlotBusy st → BeginOf st s op
+  begins-so : s < slotCount → openAt st s ≡ false → begun st s op ≡ outcome Begun (begins st s op) → BeginOf st s op
+
+-- What a report comes to in a run.
+pub data ReportOf (st : State) (p : ℕ) : Type 0 where
+  noPage : st .n ≤ p → reported st p ≡ BadPage → ReportOf st p
+  tells : p < st .n → reported st p ≡ Reported (lockKind st p) (holders st p) (lowestHolder st p) → ReportOf st p
+
+module _ (st : State) (ws : List ℕ) (inv : Invariant st ws) where
+  pub begin-of : (s : ℕ) (op : Op) → BeginOf st s op
+  unfolding begun
+  begin-of s op =
+      let past : begun st s op ≡ cond (not (ltb s slotCount)) (outcome BadSlot st) (cond (openAt st s) (outcome SlotBusy st) (outcome Begun (begins st s op)))
+      = cond-false (outcome BadState st) _ (not-of-true (facts-sound st (inv .sound))) in
+      ⊎-elim
+      (λ y.
+      let within : begun st s op ≡ cond (openAt st s) (outcome SlotBusy st) (outcome Begun (begins st s op)) = past ∙ cond-false (outcome BadSlot st) _ (not-of-true y) in
+      ⊎-elim
+      (λ o. busy (ltb-true s slotCount y) o (within ∙ cond-true (outcome SlotBusy st) _ o))
+      (λ c. begins-so (ltb-true s slotCount y) c (within ∙ cond-false (outcome SlotBusy st) _ c))
+      (true-or-false (openAt st s)))
+      (λ z. noSuch (ltb-false s slotCount z) (past ∙ cond-true (outcome BadSlot st) _ (not-of-false z)))
+      (true-or-false (ltb s slotCount))
+
+  pub report-of : (p : ℕ) → ReportOf st p
+  unfolding reported
+  report-of p =
+      let past : reported st p ≡ cond (not (ltb p (st .n))) BadPage (Reported (lockKind st p) (holders st p) (lowestHolder st p))
+      = cond-false BadState _ (not-of-true (facts-sound st (inv .sound))) in
+      ⊎-elim
+      (λ y. tells (ltb-true p (st .n) y) (past ∙ cond-false BadPage _ (not-of-true y)))
+      (λ z. noPage (ltb-false p (st .n) z) (past ∙ cond-true BadPage _ (not-of-false z)))
+      (true-or-false (ltb p (st .n)))
+
+  begun-keeps : (s : ℕ) (op : Op) → keyOf op < wordRange → BeginOf st s op → Invariant (begun st s op .state) ws
+  begun-keeps s op key (noSuch b e) = subst (λ (r : Outcome). Invariant (r .state) ws) (sym e) inv
+  begun-keeps s op key (busy b o e) = subst (λ (r : Outcome). Invariant (r .state) ws) (sym e) inv
+  begun-keeps s op key (begins-so b c e) = subst (λ (r : Outcome). Invariant (r .state) ws) (sym e) (begin-keeps st ws inv s b op c key)
+
+  -- Every call keeps what holds of a run.
+  pub call-keeps : (c : Call) → CallInWords c → Invariant (called st ws c .state) (called st ws c .words)
+  unfolding called
+  call-keeps (begin s op) h = begun-keeps s op (key-in-words op h) (begin-of s op)
+  call-keeps (step s) h = step-keeps st ws inv s (step-of st ws inv s)
+  call-keeps (report p) h = inv
+
+-- No call changes k or N.
+abbrev pub Numbers : State → State → Type 0
+Numbers st after = (after .k ≡ st .k) × (after .n ≡ st .n)
+
+begun-numbers : (st : State) (s : ℕ) (op : Op) → BeginOf st s op → Numbers st (begun st s op .state)
+unfolding begins
+begun-numbers st s op (noSuch b e) = subst (λ (r : Outcome). Numbers st (r .state)) (sym e) (refl, refl)
+begun-numbers st s op (busy b o e) = subst (λ (r : Outcome). Numbers st (r .state)) (sym e) (refl, refl)
+begun-numbers st s op (begins-so b c e) = subst (λ (r : Outcome). Numbers st (r .state)) (sym e) (refl, refl)
+
+stepped-numbers : (st : State) (ws : List ℕ) (inv : Invariant st ws) (s : ℕ) → StepOf st ws inv s → Numbers st (stepped st ws s .state)
+unfolding goesOn closes
+stepped-numbers st ws inv s (noSlot b e) = subst (λ (r : Left). Numbers st (r .state)) (sym e) (refl, refl)
+stepped-numbers st ws inv s (idle b c e) = subst (λ (r : Left). Numbers st (r .state)) (sym e) (refl, refl)
+stepped-numbers st ws inv s (waits op b runs g e) = subst (λ (r : Left). Numbers st (r .state)) (sym e) (refl, refl)
+stepped-numbers st ws inv s (onward op path siblings want b runs g e stance takes) = subst (λ (r : Left). Numbers st (r .state)) (sym e) (refl, refl)
+stepped-numbers st ws inv s (over op a writes b runs g e ended) = subst (λ (r : Left). Numbers st (r .state)) (sym e) (refl, refl)
+
+pub call-numbers : (st : State) (ws : List ℕ) → Invariant st ws → (c : Call) → Numbers st (called st ws c .state)
+unfolding called
+call-numbers st ws inv (begin s op) = begun-numbers st s op (begin-of st ws inv s op)
+call-numbers st ws inv (step s) = stepped-numbers st ws inv s (step-of st ws inv s)
+call-numbers st ws inv (report p) = (refl, refl)
+
+-- What every call keeps, every list of calls keeps.
+pub run-keeps : (cs : List Call) (st : State) (ws : List ℕ) → Invariant st ws → InWords cs → Invariant (run cs st ws .state) (run cs st ws .words)
+unfolding run
+run-keeps [] st ws inv h = inv
+run-keeps (c ∷ cs) st ws inv h = run-keeps cs (called st ws c .state) (called st ws c .words) (call-keeps st ws inv c (h .0)) (h .1)
+
+pub run-numbers : (cs : List Call) (st : State) (ws : List ℕ) → Invariant st ws → InWords cs → Numbers st (run cs st ws .state)
+unfolding run
+run-numbers [] st ws inv h = (refl, refl)
+run-numbers (c ∷ cs) st ws inv h =
+    let one = call-numbers st ws inv c in
+    let rest = run-numbers cs (called st ws c .state) (called st ws c .words) (call-keeps st ws inv c (h .0)) (h .1) in
+    (rest .0 ∙ one .0, rest .1 ∙ one .1)
+
+-- ---- the start
+
+-- no slot of an idle state is open
+pub idle-shut : (k n s : ℕ) (op : Op) → Runs (idleState k n) s op → ⊥
+idle-shut k n s op runs = false≢true (sym (ap (λ (sl : Slot). isOpen (sl .task)) (same-everywhere slotCount s closedSlot)) ∙ ap isOpen runs)
+
+-- Every slot closed, over words that form a tree: a run can start there.
+pub idle-keeps : (k n : ℕ) (ws : List ℕ) (l : ℕ) (t : Tr l) → kInRange k && nInRange n ≡ true → PoolForms k n ws l t → Invariant (idleState k n) ws
+idle-keeps k n ws l t h forms =
+    record {
+      shaped = idle-shaped k n;
+      sound = idle-sound k n
+          (leb-true 1 k (and-first (leb 1 k) (leb k largestK) ks))
+          (leb-true k largestK (and-second (leb 1 k) (leb k largestK) ks))
+          (leb-true 1 n (and-first (leb 1 n) (leb n largestN) ns))
+          (leb-true n largestN (and-second (leb 1 n) (leb n largestN) ns));
+      height = l;
+      tree = t;
+      forms = forms;
+      keys = λ s op b runs. absurd (idle-shut k n s op runs);
+      stands = λ s op b runs. absurd (idle-shut k n s op runs);
+    }
+  where
+    ks : kInRange k ≡ true
+    ks = and-first (kInRange k) (nInRange n) h
+
+    ns : nInRange n ≡ true
+    ns = and-second (kInRange k) (nInRange n) h
+
+-- "From a fresh pool"
+pub fresh-keeps : (k n : ℕ) → kInRange k && nInRange n ≡ true → Invariant (idleState k n) (fresh k n)
+fresh-keeps k n h =
+    idle-keeps k n (fresh k n) 0 emptyTree h
+    (fresh-forms k n (leb-true 1 n (and-first (leb 1 n) (leb n largestN) (and-second (kInRange k) (nInRange n) h))))
+
+pub made-told : (k n : ℕ) (ws : List ℕ) → kInRange k && nInRange n ≡ true → length ws ≡ poolLength k n → made k n ws ≡ left Made (idleState k n) (fresh k n)
+unfolding made
+made-told k n ws h w = cond-true _ (left BadPool (idleState 0 0) ws) (and-both h (eq-eqb (length ws) (poolLength k n) w))
+
+-- After every run, whatever was called.
+pub holds-after : (k n : ℕ) (ws : List ℕ) (cs : List Call) → Run k n ws cs → Invariant (runFrom k n ws cs .state) (runFrom k n ws cs .words)
+unfolding runFrom
+holds-after k n ws cs r =
+    run-keeps cs (made k n ws .state) (made k n ws .words)
+    (subst (λ (m : Left). Invariant (m .state) (m .words)) (sym (made-told k n ws (r .numbers) (r .whole))) (fresh-keeps k n (r .numbers)))
+    (r .inWords)
+
+-- k and N are those of the making.
+pub numbers-after : (k n : ℕ) (ws : List ℕ) (cs : List Call) → Run k n ws cs → (runFrom k n ws cs .state .k ≡ k) × (runFrom k n ws cs .state .n ≡ n)
+unfolding runFrom
+numbers-after k n ws cs r =
+    subst (λ (m : Left). (run cs (m .state) (m .words) .state .k ≡ k) × (run cs (m .state) (m .words) .state .n ≡ n)) (sym (made-told k n ws (r .numbers) (r .whole)))
+    (run-numbers cs (idleState k n) (fresh k n) (fresh-keeps k n (r .numbers)) (r .inWords))

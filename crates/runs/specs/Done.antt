@@ -1,0 +1,65 @@
+-- "list the ended operations, save those answered "no room", in the order of their answers": read off a run's own calls and
+-- answers. And the plain list worked through them.
+use Prim.Native.Nat.{ℕ}
+use mathlib.Core.Bool.{Bool, cond}
+use mathlib.Core.List.{List, [], _∷_, map}
+use lib.Dec.{eqb}
+use Rattle.ground.specs.Tests.{member}
+use Rattle.page.specs.Words.{Entry}
+use Rattle.slots.specs.declared.Op.{Op}
+use Rattle.slots.specs.declared.Op.the-variants.{Search}
+use Rattle.slots.specs.declared.Answer.{Answer}
+use Rattle.slots.specs.declared.Answer.the-variants.{Found, NotFound, Inserted, AlreadyThere, Deleted, NoSuchKey, Begun}
+use Rattle.slots.specs.Heard.{numberOf}
+use Rattle.runs.specs.Run.{Call, begin, step, report}
+use Rattle.runs.specs.Plain.{plain}
+
+-- An operation that has ended: in which slot, which one, and its answer.
+pub record Done : Type 0 where
+  pub slot : ℕ
+  pub op : Op
+  pub answer : Answer
+
+abbrev pub ended : ℕ → Op → Answer → Done
+ended s op a = record { slot = s; op = op; answer = a }
+
+-- the answers that end an operation, save NoRoom; whatever their values
+abbrev pub counted : List Answer
+counted = Found 0 ∷ NotFound ∷ Inserted ∷ AlreadyThere ∷ Deleted 0 ∷ NoSuchKey ∷ []
+
+-- the answers of which pages are written
+abbrev pub writing : List Answer
+writing = Inserted ∷ Deleted 0 ∷ []
+
+abbrev pub isOneOf : Answer → List Answer → Bool
+isOneOf a list = member (numberOf a) (map numberOf list)
+
+-- what was asked last in each slot, and nothing yet
+abbrev pub nobody : ℕ → Op
+nobody s = Search 0
+
+abbrev pub asks : ℕ → Op → (ℕ → Op) → ℕ → Op
+asks s op asked u = cond (eqb u s) op (asked u)
+
+-- A begin answered Begun asks its operation in its slot; a step answered by one of `counted` ends what was asked there.
+unfoldable pub done : List Call → List Answer → (ℕ → Op) → List Done
+done [] heard asked = []
+done (c ∷ cs) [] asked = []
+done (begin s op ∷ cs) (a ∷ heard) asked = done cs heard (cond (isOneOf a (Begun ∷ [])) (asks s op asked) asked)
+done (step s ∷ cs) (a ∷ heard) asked = cond (isOneOf a counted) (ended s (asked s) a ∷ done cs heard asked) (done cs heard asked)
+done (report p ∷ cs) (a ∷ heard) asked = done cs heard asked
+
+-- "A plain sorted list, worked through one operation after another": its answers, and its entries at the end
+unfoldable pub plainAnswers : List Op → List Entry → List Answer
+plainAnswers [] es = []
+plainAnswers (op ∷ ops) es = plain op es .answer ∷ plainAnswers ops (plain op es .entries)
+
+unfoldable pub plainEntries : List Op → List Entry → List Entry
+plainEntries [] es = es
+plainEntries (op ∷ ops) es = plainEntries ops (plain op es .entries)
+
+abbrev pub opsOf : List Done → List Op
+opsOf ds = map (λ (d : Done). d .op) ds
+
+abbrev pub answersIn : List Done → List Answer
+answersIn ds = map (λ (d : Done). d .answer) ds

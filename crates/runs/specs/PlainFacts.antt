@@ -1,0 +1,51 @@
+-- What the plain sorted list means, pinned by laws: what was inserted is found, what was deleted is not, other keys are
+-- untouched, and keys rise. `plain` knows no pages, and neither do these.
+use Prim.Native.Nat.{ℕ}
+use mathlib.Core.Bool.{true}
+use mathlib.Core.List.{List, _∷_, _++_}
+use mathlib.Core.Logic.{_≢_}
+use mathlib.Core.Path.{_≡_}
+use Rattle.page.specs.Words.{Entry, entry}
+use Rattle.page.specs.Sound.{rises}
+use Rattle.slots.specs.declared.Op.{Op}
+use Rattle.slots.specs.declared.Op.the-variants.{Search, Insert, Delete}
+use Rattle.slots.specs.declared.Answer.the-variants.{Found, NotFound, Inserted, AlreadyThere, Deleted, NoSuchKey}
+use Rattle.slots.specs.Parts.{keyOf}
+use Rattle.runs.specs.Plain.{plain}
+
+-- the entry of key x and information v stands in the list
+pub record Among (x v : ℕ) (es : List Entry) : Type 0 where
+  pub before : List Entry
+  pub after : List Entry
+  pub whole : es ≡ before ++ entry x v ∷ after
+
+-- no entry of the key stands in the list
+abbrev pub Missing : ℕ → List Entry → Type 0
+Missing x es = (v : ℕ) → Among x v es → ⊥
+
+-- The laws, for a list whose keys rise.
+pub record PlainFacts (es : List Entry) : Type 0 where
+  -- whatever is asked, the keys rise afterwards
+  pub rising : (op : Op) → rises (plain op es .entries) ≡ true
+  -- Search answers Found just if an entry of the key stands there, with its information; otherwise NotFound. It changes nothing.
+  pub finds : (x v : ℕ) → Among x v es → plain (Search x) es .answer ≡ Found v
+  pub found : (x v : ℕ) → plain (Search x) es .answer ≡ Found v → Among x v es
+  pub notFound : (x : ℕ) → Missing x es → plain (Search x) es .answer ≡ NotFound
+  pub searchKeeps : (x : ℕ) → plain (Search x) es .entries ≡ es
+  -- Insert is answered Inserted just if the key is missing, and then the key is found with its information
+  pub inserts : (x v : ℕ) → Missing x es → plain (Insert x v) es .answer ≡ Inserted
+  pub insertedFound : (x v : ℕ) → plain (Insert x v) es .answer ≡ Inserted
+      → plain (Search x) (plain (Insert x v) es .entries) .answer ≡ Found v
+  -- otherwise it is answered AlreadyThere, and changes nothing
+  pub already : (x v w : ℕ) → Among x w es → plain (Insert x v) es .answer ≡ AlreadyThere
+  pub alreadyKeeps : (x v w : ℕ) → Among x w es → plain (Insert x v) es .entries ≡ es
+  -- Delete is answered Deleted, with the information that stood there, just if the key stands, and then it is not found
+  pub deletes : (x v : ℕ) → Among x v es → plain (Delete x) es .answer ≡ Deleted v
+  pub deleted : (x v : ℕ) → plain (Delete x) es .answer ≡ Deleted v → Among x v es
+  pub deletedGone : (x v : ℕ) → plain (Delete x) es .answer ≡ Deleted v
+      → plain (Search x) (plain (Delete x) es .entries) .answer ≡ NotFound
+  -- otherwise it is answered NoSuchKey, and changes nothing
+  pub noSuchKey : (x : ℕ) → Missing x es → plain (Delete x) es .answer ≡ NoSuchKey
+  pub noSuchKeyKeeps : (x : ℕ) → Missing x es → plain (Delete x) es .entries ≡ es
+  -- other keys are untouched: a search of another key is answered as before
+  pub others : (op : Op) (y : ℕ) → y ≢ keyOf op → plain (Search y) (plain op es .entries) .answer ≡ plain (Search y) es .answer

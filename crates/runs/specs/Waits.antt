@@ -1,0 +1,29 @@
+-- What bars a want: "A step grants the want when no other slot holds a clashing lock on that page and no older want is for the same
+-- page. Otherwise it is answered Waiting".
+use Prim.Native.Nat.{ℕ, _<_}
+use mathlib.Core.Bool.{true}
+use mathlib.Core.Logic.{_⊎_, _≢_}
+use mathlib.Core.Path.{_≡_}
+use Rattle.ground.specs.Limits.{slotCount}
+use Rattle.ground.specs.Tests.{member}
+use Rattle.slots.specs.declared.State.{State}
+use Rattle.slots.specs.Parts.{wantAt, holdsAt, waitingOrder}
+use Rattle.slots.specs.Locks.{lockAt, clash}
+use Rattle.slots.specs.Grant.{olderThan}
+
+-- another slot holds the page that slot s wants, with a lock that clashes with its own
+pub record Holder (st : State) (s : ℕ) : Type 0 where
+  pub slot : ℕ
+  pub below : slot < slotCount
+  pub other : slot ≢ s
+  pub holds : holdsAt st slot (wantAt st s) ≡ true
+  pub clashes : clash (lockAt st slot) (lockAt st s) ≡ true
+
+-- an older want is for the same page
+pub record Older (st : State) (s : ℕ) : Type 0 where
+  pub slot : ℕ
+  pub older : member slot (olderThan s (waitingOrder st)) ≡ true
+  pub same : wantAt st slot ≡ wantAt st s
+
+abbrev pub Barred : State → ℕ → Type 0
+Barred st s = Holder st s ⊎ Older st s

@@ -1,0 +1,4 @@
+pub mod Script
+pub mod Heard
+pub mod Reading
+pub mod Promises

@@ -1,0 +1,58 @@
+-- Demands 2 and 3 for the little program.
+use Prim.Native.Nat.{ℕ}
+use mathlib.Core.Bool.{true}
+use mathlib.Core.List.{List, []}
+use mathlib.Core.Logic.{⊎-elim}
+use mathlib.Core.Path.{_≡_, refl, sym, ap, _∙_}
+use borrow.Author.Tests.{ltb-false}
+use lib.Dec.{ltb}
+use lib.ListN.{length}
+use Rattle.ground.specs.Tests.{all}
+use Rattle.ground.proofs.Bools.{true-or-false}
+use Rattle.ground.proofs.Choice.{cond-true}
+use Rattle.lines.specs.Text.{begins}
+use Rattle.lines.specs.Names.{tooLong}
+use Rattle.talk.specs.Split.{linesOf}
+use Rattle.talk.specs.Talk.{programK, programPages, blank, opening, mostBytes, programWrites}
+use Rattle.runs.specs.Run.{run, runFrom}
+use Rattle.runs.proofs.Invariant.{Invariant}
+use Rattle.runs.proofs.Runs.{holds-after}
+use Rattle.runs.proofs.Agreement.{agreement}
+use Rattle.script.specs.Script.{commandsIn, callsBy, scriptCalls, scriptRun}
+use Rattle.script.specs.Promises.{quiet, NeverSaid, ScriptAgrees}
+use Rattle.script.proofs.Script.{program-is-run, script-in-words, script-runs}
+use Rattle.script.proofs.Heard.{isSpoken, script-hears, said-quiet}
+use Rattle.script.proofs.Reading.{answers-once, each-answered}
+
+-- what holds of a run holds at its start: of the empty input's run
+opening-holds : Invariant (opening .state) (opening .words)
+unfolding linesOf callsBy run runFrom
+opening-holds = holds-after programK programPages blank (scriptCalls []) (script-runs [])
+
+pub script-heard : (input : List ℕ) → all isSpoken (scriptRun input .answers) ≡ true
+unfolding runFrom
+script-heard input = script-hears (commandsIn (linesOf input)) (opening .state) (opening .words) opening-holds (script-in-words (linesOf input))
+
+too-long-quiet : all quiet (linesOf tooLong) ≡ true
+unfolding all begins linesOf
+too-long-quiet = refl
+
+pub never-said : NeverSaid
+unfolding programWrites
+never-said input =
+    ⊎-elim
+    (λ t. ap (λ (bs : List ℕ). all quiet (linesOf bs)) (cond-true tooLong _ t) ∙ too-long-quiet)
+    (λ f. ap (λ (bs : List ℕ). all quiet (linesOf bs)) (program-is-run input (ltb-false mostBytes (length input) f))
+    ∙ said-quiet (commandsIn (linesOf input)) (scriptRun input .answers) (script-heard input))
+    (true-or-false (ltb mostBytes (length input)))
+
+pub script-agrees : ScriptAgrees
+unfolding runFrom
+script-agrees input h = record {
+  heard = scriptRun input .answers;
+  read = record { each = each-answered (scriptCalls input) (opening .state) (opening .words); whole = program-is-run input h };
+  once = λ other r. answers-once (commandsIn (linesOf input)) other (scriptRun input .answers) (r .each)
+      (each-answered (scriptCalls input) (opening .state) (opening .words)) (script-heard input)
+      (ap linesOf (sym (r .whole) ∙ program-is-run input h));
+  same = agreement programK programPages blank (scriptCalls input) (script-runs input) .answers;
+}

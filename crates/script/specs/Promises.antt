@@ -1,0 +1,51 @@
+-- What demands 2 and 3 come to for the little program: of the bytes that it reads and writes.
+use Prim.Native.Nat.{ℕ, _≤_}
+use mathlib.Core.Bool.{Bool, true, not, _||_}
+use mathlib.Core.List.{List, [], flatten}
+use mathlib.Core.Path.{_≡_}
+use lib.ListN.{length}
+use Rattle.ground.specs.Tests.{all}
+use Rattle.slots.specs.declared.Answer.{Answer}
+use Rattle.lines.specs.Text.{bytes, begins}
+use Rattle.talk.specs.Split.{Line, ended, unended, linesOf}
+use Rattle.talk.specs.Talk.{mostBytes, programWrites}
+use Rattle.runs.specs.Done.{Done, nobody, done, plainAnswers, opsOf, answersIn}
+use Rattle.script.specs.Script.{saidBy, scriptCalls}
+
+-- ---- demand 2: BadState, BadPool and Damaged are never said
+
+-- the bytes of a line
+abbrev pub textOf : Line → List ℕ
+textOf (ended line) = line
+textOf (unended line) = line
+
+-- the line is none of the three, nor begins with one
+abbrev pub quiet : Line → Bool
+quiet line = not (begins (bytes "BadState") (textOf line) || begins (bytes "BadPool") (textOf line) || begins (bytes "Damaged") (textOf line))
+
+-- no line of what is written, whatever was read
+abbrev pub NeverSaid : Type 0
+NeverSaid = (input : List ℕ) → all quiet (linesOf (programWrites input)) ≡ true
+
+-- ---- demand 3: "list the ended operations, save those answered "no room", in the order of their answers. A plain sorted list,
+-- worked through one operation after another, gives the same answers"
+
+-- These answers can be read off an output: one for each good line of the input, and written out they are the output, with
+-- BadLine for every other line.
+pub record Reads (input output : List ℕ) (heard : List Answer) : Type 0 where
+  pub each : length heard ≡ length (scriptCalls input)
+  pub whole : output ≡ flatten (saidBy (linesOf input) heard)
+
+-- the operations that ended by these answers
+abbrev pub scriptDone : List ℕ → List Answer → List Done
+scriptDone input heard = done (scriptCalls input) heard nobody
+
+pub record SortedListSays (input : List ℕ) : Type 0 where
+  pub heard : List Answer
+  pub read : Reads input (programWrites input) heard
+  -- no other answers can be read off it
+  pub once : (other : List Answer) → Reads input (programWrites input) other → other ≡ heard
+  pub same : answersIn (scriptDone input heard) ≡ plainAnswers (opsOf (scriptDone input heard)) []
+
+abbrev pub ScriptAgrees : Type 0
+ScriptAgrees = (input : List ℕ) → length input ≤ mostBytes → SortedListSays input
