@@ -74,7 +74,7 @@ verdict-answers op k n ws path siblings want =
     cond-ind Answers (soundForStep op k n ws path siblings want) (λ _. granted-answers op k (pageAt k ws) (freePages k n ws) path siblings want) (λ _. tt)
 
 -- an answer of a granted step is none that leaves all as given
-changes : (a : Answer) → ofGranted a ≡ true → changesNothing a ≡ false
+pub changes : (a : Answer) → ofGranted a ≡ true → changesNothing a ≡ false
 changes a h = lt-leb (numberOf a) (numberOf Waiting) (leb-true (numberOf Moved) (numberOf a) (and-first (leb (numberOf Moved) (numberOf a)) (leb (numberOf a) (numberOf NoRoom)) h))
 
 -- state and words are as they were given

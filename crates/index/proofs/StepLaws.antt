@@ -38,7 +38,7 @@ use Rattle.index.specs.Step.{Left, left, acted, steppedTask, stepped}
 use Rattle.index.specs.Statements.{StepSays}
 use Rattle.index.specs.Acting.{actedCells, Leaves, Waits, Acts}
 use Rattle.index.proofs.MakeLaws.{isPool}
-use Rattle.index.proofs.Refusals.{Answers, verdict-answers}
+use Rattle.index.proofs.Refusals.{Answers, verdict-answers, changes}
 
 -- ---- a granted step
 
@@ -148,7 +148,7 @@ acted-cells : (cells ws : List ℕ) (s : ℕ) (op : Op) (v : Verdict) → Answer
 unfolding lentAfter
 acted-cells cells ws s op broken h = refl
 acted-cells cells ws s op (goes path siblings want) h = refl
-acted-cells cells ws s op (ends answer writes) h = sym (cond-false cells _ h)
+acted-cells cells ws s op (ends answer writes) h = sym (cond-false cells _ (changes answer h))
 
 -- The state is sound, the words are a pool's, and there is such a slot.
 pub record Passed (st : State) (ws : List ℕ) (s : ℕ) : Type 0 where
