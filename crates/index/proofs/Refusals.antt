@@ -8,7 +8,7 @@ use lib.ListN.{length}
 use borrow.Author.Tests.{leb-true, lt-leb, eqb-true}
 use Rattle.ground.specs.Limits.{slotCount}
 use Rattle.ground.proofs.Bools.{not-both, and-first, and-second}
-use Rattle.ground.proofs.Choice.{cond-ind}
+use Rattle.ground.proofs.Choice.{cond-ind, cond-true}
 use Rattle.pool.proofs.WriteLaws.{length-applied}
 use Rattle.pool.proofs.FreshLaws.{length-fresh}
 use Rattle.page.specs.Words.{Page, isLeaf}
@@ -25,13 +25,17 @@ use Rattle.slots.specs.declared.State.{State}
 use Rattle.slots.specs.declared.Answer.{Answer}
 use Rattle.slots.specs.declared.Answer.the-variants.{Waiting, Moved, NoRoom}
 use Rattle.slots.specs.Heard.{numberOf, refuses, changesNothing}
+use Rattle.slots.specs.Begin.{begun}
 use Rattle.slots.specs.Parts.{keyOf, slotAt, idleState, pathOf, siblingsOf}
 use Rattle.slots.specs.Sound.{sound}
 use Rattle.slots.specs.Grant.{grants}
+use Rattle.lent.specs.Words.{stateOf, lentAfter}
+use Rattle.lent.specs.Statements.{BeginSays}
 use Rattle.grant.specs.Granted.{Verdict, broken, goes, ends, kept, byNeed, deletes, atLeaf, fromLeaf, comesDown, besides, atItsLeaf, granted}
 use Rattle.grant.specs.Fitting.{soundForStep, verdict}
 use Rattle.index.specs.Step.{Left, left, ofGranted, acted, steppedTask, stepped}
 use Rattle.index.specs.Make.{made}
+use Rattle.index.specs.Statements.{StepSays}
 
 -- an operation ends with an answer of a granted step: with no refusal, and not with Waiting
 abbrev pub Answers : Verdict → Type 0
@@ -153,3 +157,14 @@ make-length k n ws =
     cond-ind (SameLength ws) (kInRange k && nInRange n && eqb (length ws) (poolLength k n))
     (λ e. length-fresh k n ∙ sym (eqb-true (length ws) (poolLength k n) (and-second (kInRange k && nInRange n) (eqb (length ws) (poolLength k n)) e)))
     (λ _. refl)
+
+-- A beginning that is refused, and a step that is refused or answered Waiting, leaves every word of the state as given.
+pub begin-kept : {cells : List ℕ} {s : ℕ} {op : Op} {r : Answer} {after : List ℕ} → BeginSays cells s op r after → changesNothing (begun (stateOf cells) s op .answer) ≡ true
+    → after ≡ cells
+unfolding lentAfter
+begin-kept {cells} h q = h .all ∙ cond-true cells _ q
+
+pub step-kept : {cells ws : List ℕ} {s : ℕ} {r : Answer} {cells′ after : List ℕ} → StepSays cells ws s r cells′ after → changesNothing (stepped (stateOf cells) ws s .answer) ≡ true
+    → cells′ ≡ cells
+unfolding lentAfter
+step-kept {cells} h q = h .all ∙ cond-true cells _ q

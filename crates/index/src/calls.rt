@@ -57,7 +57,8 @@ pub fn step(state: &mut [u32; STATE], words: &mut [u32], s: usize) -> Answer
     }
     let k = state[WIDTH] as usize;
     let n = state[PAGES] as usize;
-    if !is_pool(words, k, n) {
+    let whole = is_pool(words, k, n);
+    if !whole {
         return Answer::BadPool;
     }
     if SLOTS <= s {

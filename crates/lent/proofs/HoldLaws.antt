@@ -1,21 +1,18 @@
 -- Laws of looking for a page in the other slots: tops first, then the slots that hold more; and that this is the rule's test of
 -- clashing locks.
 use Prim.Native.Nat.{ℕ, zero, suc, _+_, _≤_, _<_}
-use mathlib.Core.Bool.{Bool, true, false, cond, not, _&&_, _||_, false≢true}
+use mathlib.Core.Bool.{Bool, true, false, not, _&&_, _||_, false≢true}
 use mathlib.Core.Path.{_≡_, refl, sym, ap, ap₂, _∙_, subst}
 use mathlib.Core.List.{List, [], _∷_, _++_}
-use mathlib.Core.Logic.{⊎-elim}
 use native.Mathlib.Omega.{arith}
-use native.Mathlib.Nat.{not-suc-le-zero, le-of-suc-le-suc}
 use native.Mathlib.Numerals.{add-one}
 use lib.Dec.{eqb, leb, ltb}
 use lib.ListN.{length, getD, take}
 use borrow.Author.Tests.{ltb-false, ltb-true, lt-leb, eq-eqb, le-leb}
 use Rattle.ground.specs.Limits.{slotCount}
 use Rattle.ground.specs.Tests.{allBelow, anyBelow, member}
-use Rattle.ground.proofs.Bools.{and-first, and-second, and-first-fails, and-second-fails, or-first, or-first-fails, or-second-fails, not-of-true}
-use Rattle.ground.proofs.Tests.{anyBelow-none, anyBelow-more, anyBelow-same, allBelow-same, allBelow-none, allBelow-more, member-none, allBelow-at}
-use Rattle.slots.specs.declared.Lock.{Lock}
+use Rattle.ground.proofs.Bools.{and-second, and-first-fails, and-second-fails, or-first, or-first-fails, or-second-fails, not-of-true}
+use Rattle.ground.proofs.Tests.{anyBelow-more, anyBelow-same, allBelow-same, allBelow-more, allBelow-at}
 use Rattle.slots.specs.declared.Slot.{Slot}
 use Rattle.slots.specs.Parts.{held, pathOf, siblingsOf, slotAt, wantAt, holdsAt, waitingOrder}
 use Rattle.slots.specs.Locks.{lockOf, lockAt, clash}

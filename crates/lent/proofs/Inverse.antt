@@ -1,23 +1,29 @@
 -- Words and state give each other back: the words of a state read as that state, and words in which no unused cell is filled are
 -- the words of the state that they read as.
-use Prim.Native.Nat.{ℕ, zero, suc, _+_, _*_, _/_, _%_, _≤_, _<_}
+use Prim.Native.Nat.{ℕ, zero, suc, _+_, _*_, _-_, _/_, _%_, _≤_, _<_}
 use mathlib.Core.Bool.{true}
 use mathlib.Core.Path.{_≡_, refl, sym, ap, ap₂, _∙_, subst}
-use mathlib.Core.List.{List, [], _∷_, _++_}
+use mathlib.Core.List.{List, _∷_, _++_}
+use mathlib.Core.Logic.{_≢_, _⊎_, inl, inr, ⊎-elim}
 use native.Mathlib.Omega.{arith}
 use lib.Dec.{ltb}
-use lib.ListN.{length, getD, take, drop, set, replicate, length-append, getD-replicate}
-use lib.Seq.{ext-getD, getD-append-add, take-at}
-use borrow.Author.Tests.{lt-ltb}
+use lib.ListN.{length, getD, take, drop, set, replicate, length-append, length-drop, getD-replicate, take-append-drop, List·getD-append}
+use lib.Seq.{ext-getD, getD-append-add, getD-drop, take-at}
+use borrow.Author.Tests.{lt-ltb, ltb-true, ltb-false}
 use Rattle.ground.specs.Limits.{slotCount, pathHolds}
-use Rattle.ground.specs.Tests.{allBelow, padded}
+use Rattle.ground.specs.Tests.{padded}
+use Rattle.ground.proofs.Bools.{true-or-false}
 use Rattle.ground.proofs.Tests.{allBelow-from}
 use Rattle.slots.specs.declared.Slot.{Slot}
 use Rattle.slots.specs.declared.State.{State}
 use Rattle.slots.specs.Parts.{closedSlot, slotAt, idleState}
-use Rattle.lent.specs.Words.{listOf, address, cell, slotIn, orderIn, asRead, known, stateOf, rowsOf, wordsOf}
+use Rattle.lent.specs.Words.{listOf, address, cell, column, taskFrom, slotIn, orderIn, asRead, known, stateOf, kindOf, keyIn, informationIn, rowsOf, wordsOf}
 use Rattle.lent.proofs.ListLaws.{length-listOf, getD-listOf, listOf-same, listOf-getD}
-use Rattle.lent.proofs.StateLaws.{state-known, rows-read, rows-kind}
+use Rattle.lent.proofs.StateLaws.{by-front, slot-read, state-known, rows-read, rows-kind, length-column, column-cell}
+use Rattle.lent.proofs.HoldLaws.{by-kind}
+
+less-or-not : (a b : ℕ) → (a < b) ⊎ (b ≤ a)
+less-or-not a b = ⊎-elim (λ e. inl (ltb-true a b e)) (λ e. inr (ltb-false a b e)) (true-or-false (ltb a b))
 
 -- Arrays have their lengths: what the form of a state says of every state in the program.
 pub record Sized (st : State) : Type 0 where
@@ -96,3 +102,84 @@ idle-sized k n = record {
   path = λ s h. ap (λ (x : Slot). length (x .path)) (getD-replicate 16 s closedSlot closedSlot h);
   siblings = λ s h. ap (λ (x : Slot). length (x .siblings)) (getD-replicate 16 s closedSlot closedSlot h);
 }
+
+-- ---- words that a state gives
+
+-- Clean words: as many as a state has, every kind exists, and no key or information stands where the task has none.
+pub record Clean (ws : List ℕ) : Type 0 where
+  pub long : length ws ≡ 435
+  pub exist : (s : ℕ) → s < 16 → cell ws 0 s < 4
+  pub key : (s : ℕ) → s < 16 → cell ws 0 s ≡ 0 → cell ws 1 s ≡ 0
+  pub information : (s : ℕ) → s < 16 → cell ws 0 s ≢ 2 → cell ws 2 s ≡ 0
+
+kind-back : (key information kind : ℕ) → kind < 4 → kindOf (taskFrom kind key information) ≡ kind
+kind-back key information = by-kind (λ (k : ℕ). kindOf (taskFrom k key information) ≡ k) refl refl refl refl
+
+key-back : (key information kind : ℕ) → kind < 4 → (kind ≡ 0 → key ≡ 0) → keyIn (taskFrom kind key information) ≡ key
+key-back key information =
+    by-kind (λ (k : ℕ). (k ≡ 0 → key ≡ 0) → keyIn (taskFrom k key information) ≡ key) (λ e. sym (e refl)) (λ _. refl) (λ _. refl) (λ _. refl)
+
+information-back : (key information kind : ℕ) → kind < 4 → (kind ≢ 2 → information ≡ 0) → informationIn (taskFrom kind key information) ≡ information
+information-back key information =
+    by-kind (λ (k : ℕ). (k ≢ 2 → information ≡ 0) → informationIn (taskFrom k key information) ≡ information)
+    (λ e. sym (e (λ q. absurd (omega arith)))) (λ e. sym (e (λ q. absurd (omega arith)))) (λ _. refl) (λ e. sym (e (λ q. absurd (omega arith))))
+
+module _ (ws : List ℕ) (clean : Clean ws) (s : ℕ) (h : s < 16) where
+  -- behind the six numbers
+  page-back : (q : ℕ) → q < 20 → getD (column ws 6 s ++ column ws 16 s) q 0 ≡ cell ws (6 + q) s
+  page-back q b =
+      ⊎-elim
+      (λ few.
+      List·getD-append (column ws 6 s) (column ws 16 s) 0 q (omega (arith, length-column ws 6 s)) ∙ column-cell ws 6 s q few)
+      (λ many.
+      let p : ℕ = q - 10 in
+      let same : q ≡ length (column ws 6 s) + p = omega (arith, length-column ws 6 s) in
+      let there : 16 + p ≡ 6 + q = omega arith in
+      ap (λ (i : ℕ). getD (column ws 6 s ++ column ws 16 s) i 0) same
+      ∙ getD-append-add (column ws 6 s) (column ws 16 s) p 0
+      ∙ column-cell ws 16 s p (omega arith)
+      ∙ ap (λ (r : ℕ). cell ws r s) there)
+      (less-or-not q 10)
+
+  row-back : (r : ℕ) → r < 26 → getD (rowsOf (slotIn ws s)) r 0 ≡ cell ws r s
+  row-back zero b = kind-back (cell ws 1 s) (cell ws 2 s) (cell ws 0 s) (clean .exist s h)
+  row-back (suc zero) b = key-back (cell ws 1 s) (cell ws 2 s) (cell ws 0 s) (clean .exist s h) (clean .key s h)
+  row-back (suc (suc zero)) b = information-back (cell ws 1 s) (cell ws 2 s) (cell ws 0 s) (clean .exist s h) (clean .information s h)
+  row-back (suc (suc (suc zero))) b = refl
+  row-back (suc (suc (suc (suc zero)))) b = refl
+  row-back (suc (suc (suc (suc (suc zero))))) b = refl
+  row-back (suc (suc (suc (suc (suc (suc q)))))) b =
+      let same : 6 + q ≡ suc (suc (suc (suc (suc (suc q))))) = omega arith in
+      page-back q (omega arith) ∙ ap (λ (r : ℕ). cell ws r s) same
+
+-- the rows of the state that clean words read as
+rows-back : (ws : List ℕ) → Clean ws → listOf 416 (λ (i : ℕ). getD (rowsOf (slotAt (asRead ws) (i % 16))) (i / 16) 0) ≡ drop 19 ws
+rows-back ws clean =
+    let f : ℕ → ℕ = λ (i : ℕ). getD (rowsOf (slotAt (asRead ws) (i % 16))) (i / 16) 0 in
+    let many : length (drop 19 ws) ≡ 416 = length-drop 19 ws ∙ omega (arith, clean .long) in
+    ext-getD 0 (listOf 416 f) (drop 19 ws) (length-listOf 416 f ∙ sym many)
+    (λ j b.
+    let c : j < 416 = omega (arith, length-listOf 416 f) in
+    let s : ℕ = j % 16 in
+    let inside : s < 16 = omega arith in
+    let same : address (j / 16) (j % 16) ≡ 19 + j = omega arith in
+    getD-listOf 416 f j 0 c
+    ∙ ap (λ (x : Slot). getD (rowsOf x) (j / 16) 0) (slot-read ws s inside)
+    ∙ row-back ws clean s inside (j / 16) (omega arith)
+    ∙ ap (λ (i : ℕ). getD ws i 0) same
+    ∙ sym (getD-drop 19 ws j 0))
+
+read-back : (ws : List ℕ) → Clean ws → wordsOf (asRead ws) ≡ ws
+unfolding wordsOf orderIn
+read-back ws clean =
+    by-front
+    (λ (l : List ℕ). listOf 416 (λ (i : ℕ). getD (rowsOf (slotAt (asRead l) (i % 16))) (i / 16) 0) ≡ drop 19 l → wordsOf (asRead l) ≡ l)
+    (λ a b x rest e. ap (λ (l : List ℕ). a ∷ b ∷ x ∷ (take 16 rest ++ l)) e ∙ ap (λ (l : List ℕ). a ∷ b ∷ x ∷ l) (take-append-drop 16 rest))
+    ws (omega (arith, clean .long)) (rows-back ws clean)
+
+-- clean words are the words of the state that they read as
+pub words-back : (ws : List ℕ) → Clean ws → wordsOf (stateOf ws) ≡ ws
+unfolding known slotCount
+words-back ws clean =
+    ap wordsOf (state-known ws (allBelow-from (λ (s : ℕ). ltb (cell ws 0 s) 4) 16 (λ s h. lt-ltb (cell ws 0 s) 4 (clean .exist s h))))
+    ∙ read-back ws clean

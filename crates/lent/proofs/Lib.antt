@@ -4,3 +4,4 @@ pub mod StateLaws
 pub mod WritingLaws
 pub mod HoldLaws
 pub mod Inverse
+pub mod Unique

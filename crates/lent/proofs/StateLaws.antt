@@ -1,24 +1,23 @@
 -- Laws of the state in words: a slot laid down reads back, the order too, and what a call writes is the rule's next state.
-use Prim.Native.Nat.{ℕ, zero, suc, _+_, _*_, _-_, _≤_, _<_}
-use mathlib.Core.Bool.{Bool, true, false, cond}
+use Prim.Native.Nat.{ℕ, suc, _+_, _*_, _-_, _≤_, _<_}
+use mathlib.Core.Bool.{true}
 use mathlib.Core.Path.{_≡_, refl, sym, ap, ap₂, _∙_, subst}
 use mathlib.Core.List.{List, [], _∷_, _++_, append-nil}
 use mathlib.Core.Logic.{_≢_, ⊎-elim}
 use native.Mathlib.Omega.{arith}
 use native.Mathlib.Nat.{not-suc-le-zero, le-of-suc-le-suc}
 use lib.Dec.{ltb}
-use lib.ListN.{length, getD, take, drop, set, length-append, length-drop, length-take, length-set, replicate, List·getD-append}
-use lib.Seq.{ext-getD, take-all, getD-take, getD-drop, getD-append-add, take-at, length-take-le, set-append-left, getD-set-same}
+use lib.ListN.{length, getD, take, drop, set, length-append, length-drop, replicate, List·getD-append}
+use lib.Seq.{ext-getD, take-all, getD-take, getD-drop, getD-append-add, take-at, length-take-le, getD-set-same}
 use borrow.Author.Tests.{lt-ltb}
 use Rattle.ground.specs.Limits.{slotCount, pathHolds}
-use Rattle.ground.specs.Tests.{allBelow, padded}
+use Rattle.ground.specs.Tests.{padded}
 use Rattle.ground.proofs.Choice.{cond-true}
 use Rattle.ground.proofs.Tests.{allBelow-at, allBelow-from}
 use Rattle.slots.specs.declared.Op.the-variants.{Search, Insert, Delete}
 use Rattle.slots.specs.declared.Task.{Task}
 use Rattle.slots.specs.declared.Task.the-variants.{Closed, Open}
 use Rattle.slots.specs.declared.Slot.{Slot}
-use Rattle.slots.specs.declared.State.{State}
 use Rattle.slots.specs.Parts.{closedSlot, slotAt}
 use Rattle.slots.specs.Book.{rewritten}
 use Rattle.slots.proofs.OrderLaws.{same-or-not}

@@ -1,13 +1,11 @@
 -- Laws of the waiting order written in place, and that what a call on a slot writes is the rule's next state in words.
-use Prim.Native.Nat.{ℕ, zero, suc, _+_, _-_, _≤_, _<_}
-use mathlib.Core.Bool.{true}
-use mathlib.Core.Path.{_≡_, refl, sym, ap, _∙_, subst}
+use Prim.Native.Nat.{ℕ, suc, _+_, _-_, _<_}
+use mathlib.Core.Path.{_≡_, refl, sym, ap, _∙_}
 use mathlib.Core.List.{List, [], _∷_, _++_}
 use native.Mathlib.Omega.{arith}
 use lib.ListN.{length, getD, take, drop, set, length-append, length-drop, take-append-drop}
 use borrow.Rule.Slice.PartMut.{putMid}
 use lib.Seq.{length-take-le, set-append-left, getD-append-add, getD-drop}
-use Rattle.ground.specs.Tests.{member}
 use Rattle.slots.specs.declared.Op.{Op}
 use Rattle.slots.specs.declared.Slot.{Slot}
 use Rattle.slots.specs.Parts.{openSlot, closedSlot, waitingOrder}

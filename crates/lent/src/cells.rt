@@ -26,8 +26,7 @@ pub fn wide(x: u32) -> usize
 pub fn sized(cells: &[u32])
     requires { ⌜ length (now cells) ≡ 435 ⌝ }
     ensures { λ _. ⌜ length (now (cells .entry)) ≡ 435 ⌝ }
-{
-}
+{}
 
 // The word in a row of slot s.
 pub fn word_at(cells: &[u32; STATE], row: usize, s: usize) -> u32

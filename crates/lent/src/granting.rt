@@ -1,6 +1,7 @@
 // Who holds a page, and when a step grants a want. Most slots hold one page: the tops are looked at first, in one row, and
 // below them only the slots that hold more.
 use crate::DELETES;
+use crate::INSERTS;
 use crate::PATH;
 use crate::SEARCHES;
 use crate::SIBLINGS;
@@ -17,7 +18,7 @@ use crate::cells::wide;
 use crate::cells::word_at;
 use ground::SLOTS;
 ghost use mathlib.Core.Path.{_≡_};
-ghost use mathlib.Core.Bool.{true, not, _&&_, _||_};
+ghost use mathlib.Core.Bool.{true, not, _&&_};
 ghost use Prim.Native.Nat.{ℕ, _≤_, _<_};
 ghost use lib.Dec.{leb, ltb, eqb};
 ghost use lib.ListN.{getD, take};
@@ -25,7 +26,7 @@ ghost use Rattle.ground.specs.Limits.{slotCount};
 ghost use Rattle.ground.specs.Tests.{anyBelow, member};
 ghost use Rattle.slots.specs.Parts.{held, waitingOrder};
 ghost use Rattle.slots.specs.Grant as rule;
-ghost use Rattle.lent.specs.Words.{cell, column, slotIn, asRead, known};
+ghost use Rattle.lent.specs.Words.{column, slotIn, asRead, known};
 ghost use Rattle.lent.specs.Holds.{Short, topHolds, deepHolds, isDeep, othersHold, leastClash};
 
 // Page p stands in one of the first `count` rows from `row` on, of slot s.
@@ -139,7 +140,7 @@ pub fn least_clash(kind: u32) -> u32
     ensures { λ r. ⌜ r ≡ leastClash kind ⌝ }
 {
     if kind == SEARCHES {
-        return 2;
+        return INSERTS;
     }
     if kind == 0 {
         return DELETES + 1;

@@ -28,7 +28,7 @@ use Rattle.slots.specs.declared.State.{State}
 use Rattle.slots.specs.declared.Outcome.{Outcome}
 use Rattle.slots.specs.declared.Answer.{Answer}
 use Rattle.slots.specs.declared.Answer.the-variants.{Waiting, Moved, NoRoom, BadSlot, SlotIdle}
-use Rattle.slots.specs.Parts.{isOpen, held, pathOf, siblingsOf, slotAt, openAt, wantAt, holdsAt, openSlot, closedSlot}
+use Rattle.slots.specs.Parts.{isSearch, isOpen, held, pathOf, siblingsOf, slotAt, openAt, wantAt, holdsAt, openSlot, closedSlot}
 use Rattle.slots.specs.Locks.{lockOf, clash}
 use Rattle.slots.specs.Sound.{withinLimits}
 use Rattle.slots.specs.Heard.{numberOf, changesNothing}
@@ -55,26 +55,35 @@ use Rattle.runs.proofs.Invariant.{Invariant}
 use Rattle.runs.proofs.Calls.{StepOf, noSlot, idle, waits, onward, over, step-of}
 use Rattle.runs.proofs.Runs.{call-keeps, call-numbers, BeginOf, noSuch, busy, begins-so, begin-of, ReportOf, noPage, tells, report-of, holds-after, numbers-after}
 use Rattle.runs.proofs.Progress.{barred, barred-waits}
+use Rattle.runs.proofs.Older.{older-before, before-older}
 use Rattle.runs.proofs.Agreement.{plain-counted}
 use Rattle.promises.specs.Demand1.{Exactly}
 use Rattle.promises.specs.Demand2.{Opened, AfterEveryCall, ending, StepLocks, CallLocks, answersOf, Words, Demand2Holds}
 
 -- ---- after every call
 
--- two open slots whose locks go together both search
+-- the locks of two open slots go together just if both search
+clashes-is : (op op′ : Op) → Exactly (clash (lockOf (Open op)) (lockOf (Open op′)) ≡ false) ((isSearch op ≡ true) × (isSearch op′ ≡ true))
+clashes-is (Search x) (Search y) = ((λ _. (refl, refl)), (λ _. refl))
+clashes-is (Search x) (Insert y v) = ((λ c. not-both refl c), (λ b. not-both (b .1) refl))
+clashes-is (Search x) (Delete y) = ((λ c. not-both refl c), (λ b. not-both (b .1) refl))
+clashes-is (Insert x w) (Search y) = ((λ c. not-both refl c), (λ b. not-both (b .0) refl))
+clashes-is (Insert x w) (Insert y v) = ((λ c. not-both refl c), (λ b. not-both (b .0) refl))
+clashes-is (Insert x w) (Delete y) = ((λ c. not-both refl c), (λ b. not-both (b .0) refl))
+clashes-is (Delete x) (Search y) = ((λ c. not-both refl c), (λ b. not-both (b .0) refl))
+clashes-is (Delete x) (Insert y v) = ((λ c. not-both refl c), (λ b. not-both (b .0) refl))
+clashes-is (Delete x) (Delete y) = ((λ c. not-both refl c), (λ b. not-both (b .0) refl))
+
+searching : (op : Op) → isSearch op ≡ true → (x : ℕ) × (Open op ≡ Open (Search x))
+searching (Search x) h = (x, refl)
+searching (Insert x v) h = not-both h refl
+searching (Delete x) h = not-both h refl
+
 both-search : (a b : Task) → isOpen a ≡ true → isOpen b ≡ true → clash (lockOf a) (lockOf b) ≡ false
     → ((x : ℕ) × (a ≡ Open (Search x))) × ((x : ℕ) × (b ≡ Open (Search x)))
 both-search Closed b o q c = not-both o refl
 both-search (Open op) Closed o q c = not-both q refl
-both-search (Open (Search x)) (Open (Search y)) o q c = ((x, refl), (y, refl))
-both-search (Open (Search x)) (Open (Insert y v)) o q c = not-both refl c
-both-search (Open (Search x)) (Open (Delete y)) o q c = not-both refl c
-both-search (Open (Insert x w)) (Open (Search y)) o q c = not-both refl c
-both-search (Open (Insert x w)) (Open (Insert y v)) o q c = not-both refl c
-both-search (Open (Insert x w)) (Open (Delete y)) o q c = not-both refl c
-both-search (Open (Delete x)) (Open (Search y)) o q c = not-both refl c
-both-search (Open (Delete x)) (Open (Insert y v)) o q c = not-both refl c
-both-search (Open (Delete x)) (Open (Delete y)) o q c = not-both refl c
+both-search (Open op) (Open op′) o q c = let (one, other) = clashes-is op op′ .0 c in (searching op one, searching op′ other)
 
 -- "a closed slot holds nothing"
 closed-empty : (task : Task) (depth beside : ℕ) (path siblings : List ℕ) → withinLimits task depth beside ≡ true → isOpen task ≡ false → take depth path ++ take beside siblings ≡ []
@@ -288,6 +297,8 @@ words-pinned k = record {
   safe = safe-is k;
   right = λ x F h. cond-true (pointer (suc (place x (F .entries))) F) (pointer (place x (F .entries) - 1) F) (lt-ltb (place x (F .entries)) (μ F) h);
   left = λ x F h. cond-false (pointer (suc (place x (F .entries))) F) (pointer (place x (F .entries) - 1) F) (le-ltb (place x (F .entries)) (μ F) h);
+  clashes = clashes-is;
+  older = λ s t order d w. ((λ m. older-before s t order w m), (λ b. before-older s t order d b));
 }
 
 -- ---- the demand

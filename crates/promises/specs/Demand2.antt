@@ -8,6 +8,7 @@ use mathlib.Core.Logic.{_⊎_, _≢_}
 use mathlib.Core.Path.{_≡_}
 use lib.ListN.{replicate}
 use Rattle.ground.specs.Limits.{slotCount}
+use Rattle.ground.specs.Tests.{member, distinct}
 use Rattle.page.specs.Words.{Page, μ, size}
 use Rattle.page.specs.Place.{place, pointer}
 use Rattle.page.specs.Short.{neighbour}
@@ -19,7 +20,9 @@ use Rattle.slots.specs.declared.State.{State}
 use Rattle.slots.specs.declared.Lock.the-variants.{None}
 use Rattle.slots.specs.declared.Answer.{Answer}
 use Rattle.slots.specs.declared.Answer.the-variants.{Waiting, Moved, NoRoom, Begun, Reported, BadSlot, SlotBusy, SlotIdle, BadPage}
-use Rattle.slots.specs.Parts.{held, pathOf, siblingsOf, slotAt, openAt, wantAt, holdsAt, waitingOrder}
+use Rattle.slots.specs.Parts.{isSearch, held, pathOf, siblingsOf, slotAt, openAt, wantAt, holdsAt, waitingOrder}
+use Rattle.slots.specs.Locks.{lockOf, clash}
+use Rattle.slots.specs.Grant.{olderThan}
 use Rattle.slots.specs.Sound.{sound}
 use Rattle.slots.specs.Heard.{changesNothing}
 use Rattle.slots.specs.Book.{leaving}
@@ -28,7 +31,7 @@ use Rattle.index.specs.Step.{Left}
 use Rattle.tree.specs.Tree.{Tr, occurs, PoolForms}
 use Rattle.runs.specs.Run.{Call, begin, step, report, called, runFrom, CallInWords, Run}
 use Rattle.runs.specs.Stance.{Safe, Stance, Takes}
-use Rattle.runs.specs.Waits.{Barred}
+use Rattle.runs.specs.Waits.{Barred, Before}
 use Rattle.runs.specs.Done.{counted, writing, isOneOf}
 use Rattle.promises.specs.Demand1.{Exactly}
 
@@ -140,6 +143,10 @@ pub record Words (k : ℕ) : Type 0 where
   -- "its right neighbour under the same father; if it has none, the left one": of the page to which F routes x
   pub right : (x : ℕ) (F : Page) → place x (F .entries) < μ F → neighbour x F ≡ pointer (suc (place x (F .entries))) F
   pub left : (x : ℕ) (F : Page) → μ F ≤ place x (F .entries) → neighbour x F ≡ pointer (place x (F .entries) - 1) F
+  -- "Two ρ on a page go together; ξ goes with nothing.": two open slots' locks go together just if both search
+  pub clashes : (op op′ : Op) → Exactly (clash (lockOf (Open op)) (lockOf (Open op′)) ≡ false) ((isSearch op ≡ true) × (isSearch op′ ≡ true))
+  -- "Wants stand in a waiting order, oldest first."
+  pub older : (s t : ℕ) (order : List ℕ) → distinct order ≡ true → member s order ≡ true → Exactly (member t (olderThan s order) ≡ true) (Before t s order)
 
 -- ---- the demand
 

@@ -10,6 +10,7 @@ pub mod Landing
 pub mod Stepping
 pub mod Fathers
 pub mod Progress
+pub mod Older
 pub mod Calls
 pub mod Runs
 pub mod Agreement

@@ -88,7 +88,7 @@ older-here : (s t : ℕ) (ts : List ℕ) → t ≡ s → olderThan s (t ∷ ts) 
 unfolding olderThan
 older-here s t ts e = cond-true [] (t ∷ olderThan s ts) (eq-eqb t s e)
 
-older-there : (s t : ℕ) (ts : List ℕ) → t ≢ s → olderThan s (t ∷ ts) ≡ t ∷ olderThan s ts
+pub older-there : (s t : ℕ) (ts : List ℕ) → t ≢ s → olderThan s (t ∷ ts) ≡ t ∷ olderThan s ts
 unfolding olderThan
 older-there s t ts n = cond-false [] (t ∷ olderThan s ts) (ne-eqb t s n)
 
@@ -103,7 +103,7 @@ older-most s (t ∷ ts) =
     (same-or-not t s)
 
 -- an older want is the first of the order, or older behind the first
-older-cases : (s t y : ℕ) (ys : List ℕ) → member t (olderThan s (y ∷ ys)) ≡ true → (y ≢ s) × ((t ≡ y) ⊎ (member t (olderThan s ys) ≡ true))
+pub older-cases : (s t y : ℕ) (ys : List ℕ) → member t (olderThan s (y ∷ ys)) ≡ true → (y ≢ s) × ((t ≡ y) ⊎ (member t (olderThan s ys) ≡ true))
 older-cases s t y ys m =
     ⊎-elim
     (λ e. not-both m (ap (member t) (older-here s y ys e) ∙ member-none t))

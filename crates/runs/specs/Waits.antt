@@ -2,6 +2,7 @@
 -- page. Otherwise it is answered Waiting".
 use Prim.Native.Nat.{ℕ, _<_}
 use mathlib.Core.Bool.{true}
+use mathlib.Core.List.{List, _∷_, _++_}
 use mathlib.Core.Logic.{_⊎_, _≢_}
 use mathlib.Core.Path.{_≡_}
 use Rattle.ground.specs.Limits.{slotCount}
@@ -27,3 +28,11 @@ pub record Older (st : State) (s : ℕ) : Type 0 where
 
 abbrev pub Barred : State → ℕ → Type 0
 Barred st s = Holder st s ⊎ Older st s
+
+-- "Wants stand in a waiting order, oldest first.": slot t stands before slot s in the order. For the slots of an order `olderThan`
+-- is proved to be this.
+pub record Before (t s : ℕ) (order : List ℕ) : Type 0 where
+  pub front : List ℕ
+  pub between : List ℕ
+  pub behind : List ℕ
+  pub whole : order ≡ front ++ t ∷ (between ++ s ∷ behind)

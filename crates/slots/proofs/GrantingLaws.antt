@@ -1,35 +1,24 @@
--- Laws of the tests behind a grant: a page looked for in some cells, the slots one by one, and the walk over older wants.
-use Prim.Native.Nat.{ℕ, zero, suc, _+_, _≤_, _<_}
+-- Laws of the tests behind a grant: a page looked for in some cells, and the walk over older wants.
+use Prim.Native.Nat.{ℕ, suc, _+_, _≤_, _<_}
 use mathlib.Core.Bool.{Bool, true, false, not, _&&_, _||_}
-use mathlib.Core.Path.{_≡_, refl, sym, ap, subst, _∙_}
-use mathlib.Core.List.{List, [], _∷_, map}
+use mathlib.Core.Path.{_≡_, refl, sym, ap, _∙_}
+use mathlib.Core.List.{List, [], _∷_}
 use native.Mathlib.Omega.{arith}
-use native.Mathlib.Nat.{not-suc-le-zero, le-of-suc-le-suc}
 use native.Mathlib.Numerals.{add-one}
 use lib.Dec.{eqb}
-use lib.ListN.{length, getD, take, drop, length-take, length-map, drop-of-length-le}
+use lib.ListN.{length, getD, take, drop, length-take, drop-of-length-le}
 use lib.Seq.{drop-cons, take-all, getD-take}
 use borrow.Author.Tests.{eq-eqb, ne-eqb}
 use Rattle.ground.specs.Limits.{slotCount}
-use Rattle.ground.specs.Tests.{all, allBelow, member}
-use Rattle.ground.proofs.Bools.{and-both, and-first-fails, or-first, or-none, not-of-true, not-of-false}
+use Rattle.ground.specs.Tests.{all, member}
+use Rattle.ground.proofs.Bools.{and-first-fails, or-none, not-of-true, not-of-false}
 use Rattle.ground.proofs.Choice.{cond-true, cond-false}
-use Rattle.ground.proofs.Tests.{member-more, member-from, member-append, allBelow-more, allBelow-stops}
+use Rattle.ground.proofs.Tests.{member-more, member-from, member-append}
 use Rattle.slots.specs.declared.Slot.{Slot}
 use Rattle.slots.specs.declared.State.{State}
-use Rattle.slots.specs.declared.Task.the-variants.{Closed}
-use Rattle.slots.specs.declared.Lock.{Lock}
-use Rattle.slots.specs.declared.Lock.the-variants.{None, Rho, Xi}
-use Rattle.slots.specs.Parts.{slotAt, wantAt, holdsAt, held, pathOf, siblingsOf, waitingOrder}
-use Rattle.slots.specs.Locks.{lockOf, lockAt, clash}
-use Rattle.slots.specs.Grant.{olderThan, noClash, noOlder}
+use Rattle.slots.specs.Parts.{wantAt, held, pathOf, siblingsOf, waitingOrder}
+use Rattle.slots.specs.Grant.{olderThan, noOlder}
 use Rattle.slots.proofs.OrderLaws.{length-waiting}
-
--- the absent lock clashes with nothing
-pub none-clashes : (b : Lock) → false ≡ clash None b
-none-clashes None = refl
-none-clashes Rho = refl
-none-clashes Xi = refl
 
 -- ---- a page looked for in the first cells
 
@@ -52,59 +41,6 @@ pub among-all : (p : ℕ) (cells : List ℕ) (count i : ℕ) → length cells �
     → false ≡ member p (take count cells)
 among-all p cells count i h l none =
     sym (ap (member p) (take-all count cells l ∙ sym (take-all i cells h)) ∙ none)
-
--- ---- a slot read out of a state
-
--- the slots of a state that came in, counted as the logic has them
-pub counted : {A B : Type 0} (f : A → B) (l : List A) (n : ℕ) → length (map f l) ≡ n → length l ≡ n
-counted f l n e = sym (length-map l f) ∙ e
-
--- what is read where no slot stands
-abbrev pub blank : Slot
-blank = record { task = Closed; want = 0; path = []; depth = 0; siblings = []; beside = 0 }
-
-default-other : (slots : List Slot) (i : ℕ) (a b : Slot) → i < length slots → getD slots i a ≡ getD slots i b
-default-other [] i a b h = absurd (not-suc-le-zero h)
-default-other (x ∷ xs) zero a b h = refl
-default-other (x ∷ xs) (suc i) a b h = default-other xs i a b (le-of-suc-le-suc h)
-
-pub slot-read : (st : State) (i : ℕ) → length (st .slots) ≡ slotCount → i < slotCount → getD (st .slots) i blank ≡ slotAt st i
-slot-read st i e h = default-other (st .slots) i blank _ (omega arith)
-
-pub want-read : (st : State) (i : ℕ) → length (st .slots) ≡ slotCount → i < slotCount → getD (st .slots) i blank .want ≡ wantAt st i
-want-read st i e h = ap (λ (x : Slot). x .want) (slot-read st i e h)
-
--- ---- the slots one by one
-
--- slot t lets slot s have what it wants
-unfoldable pub letsPass : State → ℕ → ℕ → Bool
-letsPass st s t = eqb t s || not (holdsAt st t (wantAt st s) && clash (lockAt st t) (lockAt st s))
-
-pub slots-none : (st : State) (s : ℕ) → allBelow 0 (letsPass st s) ≡ true
-unfolding allBelow
-slots-none st s = refl
-
-pub slots-more : (st : State) (s t : ℕ) → allBelow t (letsPass st s) ≡ true → letsPass st s t ≡ true → allBelow (t + 1) (letsPass st s) ≡ true
-slots-more st s t before this =
-    ap (λ (n : ℕ). allBelow n (letsPass st s)) (add-one t) ∙ allBelow-more (letsPass st s) t ∙ and-both before this
-
-pub slots-done : (st : State) (s t : ℕ) → t ≡ slotCount → allBelow t (letsPass st s) ≡ true → true ≡ noClash st s
-unfolding noClash letsPass
-slots-done st s t e h = sym (subst (λ (n : ℕ). allBelow n (letsPass st s) ≡ true) e h)
-
-pub slots-stop : (st : State) (s t : ℕ) → t < slotCount → letsPass st s t ≡ false → false ≡ noClash st s
-unfolding noClash letsPass
-slots-stop st s t h f = sym (allBelow-stops (letsPass st s) slotCount t h f)
-
--- slot s lets itself have it
-pub own-passes : (st : State) (s t : ℕ) → t ≡ s → letsPass st s t ≡ true
-unfolding letsPass
-own-passes st s t e = or-first _ (eq-eqb t s e)
-
--- any other slot does so unless it holds the page under a clashing lock
-other-passes : (st : State) (s t : ℕ) → (t ≡ s → ⊥) → letsPass st s t ≡ not (holdsAt st t (wantAt st s) && clash (lockAt st t) (lockAt st s))
-unfolding letsPass
-other-passes st s t n = ap (λ (b : Bool). b || not (holdsAt st t (wantAt st s) && clash (lockAt st t) (lockAt st s))) (ne-eqb t s n)
 
 -- ---- the walk over older wants
 
@@ -183,18 +119,6 @@ module _ (st : State) (s i : ℕ) (long : length (st .order) ≡ slotCount) (fit
       -- an older want for another page
       pub older-more : (wantAt st (getD (st .order) i 0) ≡ wantAt st s → ⊥) → noOlderFrom st s i ≡ noOlderFrom st s (i + 1)
       older-more n = at-other ∙ ap (λ (b : Bool). b && noOlderFrom st s (i + 1)) (not-of-false (ne-eqb _ _ n))
-
--- what bars slot s from its want, as read off the slot that may bar it
-pub barred : (st : State) (s t : ℕ) (other : Slot) (want : ℕ) (kind : Lock) (b : Bool) → other ≡ slotAt st t → want ≡ wantAt st s → kind ≡ lockAt st s
-    → b ≡ member want (held other) && clash (lockOf (other .task)) kind → (t ≡ s → ⊥) → letsPass st s t ≡ not b
-barred st s t other want kind b o w k e n =
-    other-passes st s t n
-    ∙ ap not
-    (sym
-    (e
-    ∙ ap (λ (x : Slot). member want (held x) && clash (lockOf (x .task)) kind) o
-    ∙ ap (λ (p : ℕ). holdsAt st t p && clash (lockAt st t) kind) w
-    ∙ ap (λ (l : Lock). holdsAt st t (wantAt st s) && clash (lockAt st t) l) k))
 
 -- the pages of a slot are those of its path and its siblings
 pub holds-split : (slot : Slot) (p : ℕ) → member p (held slot) ≡ member p (take (slot .depth) (slot .path)) || member p (take (slot .beside) (slot .siblings))

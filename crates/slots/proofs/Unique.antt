@@ -1,19 +1,15 @@
--- No second outcome satisfies the statement of a call on slots: what is heard fixes the answer.
+-- What is heard fixes the answer: two answers that are heard alike are the same.
 use Prim.Native.Nat.{ℕ}
 use mathlib.Core.Bool.{cond}
 use mathlib.Core.Path.{_≡_, refl, sym, ap, _∙_}
 use mathlib.Core.List.{List, [], _∷_}
 use lib.Dec.{eqb}
 use lib.ListN.{getD}
-use Rattle.slots.specs.declared.Op.{Op}
-use Rattle.slots.specs.declared.State.{State}
-use Rattle.slots.specs.declared.Outcome.{Outcome}
 use Rattle.slots.specs.declared.Lock.{Lock}
 use Rattle.slots.specs.declared.Lock.the-variants.{None, Rho, Xi}
 use Rattle.slots.specs.declared.Answer.{Answer}
 use Rattle.slots.specs.declared.Answer.the-variants.{Waiting, Moved, Found, NotFound, Inserted, AlreadyThere, Deleted, NoSuchKey, NoRoom, Begun, Made, Reported, BadState, BadPool, BadSlot, SlotBusy, SlotIdle, Damaged, BadPage}
 use Rattle.slots.specs.Heard.{heard, lockNumber}
-use Rattle.slots.specs.Statements.{BeginSays, ReportSays}
 
 -- the lock kind of a number, and the answer of a number with its values
 abbrev lockNamed : ℕ → Lock
@@ -73,12 +69,3 @@ said-heard (Reported l n i) = ap (λ (m : Lock). Reported m n i) (lock-back l)
 -- two answers that are heard alike are the same
 pub heard-once : (a b : Answer) → heard a ≡ heard b → a ≡ b
 heard-once a b e = sym (said-heard a) ∙ ap said e ∙ said-heard b
-
-pub begin-once : (st : State) (s : ℕ) (op : Op) (r r′ : Outcome) → BeginSays st s op r → BeginSays st s op r′ → r ≡ r′
-begin-once st s op r r′ h h′ =
-    let a : r .answer ≡ r′ .answer = heard-once (r .answer) (r′ .answer) (h .answer ∙ sym (h′ .answer)) in
-    let s : r .state ≡ r′ .state = h .state ∙ sym (h′ .state) in
-    λ i. record { answer = a i; state = s i }
-
-pub report-once : (st : State) (p : ℕ) (r r′ : Answer) → ReportSays st p r → ReportSays st p r′ → r ≡ r′
-report-once st p r r′ h h′ = heard-once r r′ (h .answer ∙ sym (h′ .answer))

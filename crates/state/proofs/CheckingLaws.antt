@@ -1,18 +1,18 @@
 -- Laws for the test of a state, on lists: the first elements of a list pass a test or differ, and pages are named one by one.
-use Prim.Native.Nat.{ℕ, suc, _+_, _≤_, _<_}
+use Prim.Native.Nat.{ℕ, _+_, _≤_, _<_}
 use mathlib.Core.Bool.{Bool, true, false, not, _&&_, _||_}
 use mathlib.Core.List.{List, [], _++_}
 use mathlib.Core.Logic.{⊎-elim}
-use mathlib.Core.Path.{_≡_, refl, sym, ap, _∙_, subst}
+use mathlib.Core.Path.{_≡_, sym, ap, _∙_, subst}
 use native.Mathlib.Numerals.{add-one}
 use native.Mathlib.Nat.{le-antisymm}
 use native.Mathlib.Omega.{arith}
 use borrow.Author.Tests.{eq-eqb, ne-eqb, lt-ltb, le-ltb}
 use lib.Dec.{eqb, ltb}
-use lib.ListN.{length, getD, take, drop}
-use lib.Seq.{slice, slice-empty, slice-cons, paste, take-paste, drop-append-le, length-take-le, getD-take}
-use Rattle.ground.specs.Tests.{all, allBelow, member, distinct, apart}
-use Rattle.ground.proofs.Bools.{and-both, and-first, and-second, and-first-fails, and-second-fails, or-first, or-cases, or-first-fails, or-second-fails, not-of-true, not-of-false, false-if-not-true}
+use lib.ListN.{length, getD, take}
+use lib.Seq.{length-take-le, getD-take}
+use Rattle.ground.specs.Tests.{all, allBelow, member, distinct}
+use Rattle.ground.proofs.Bools.{and-both, and-first, and-second, and-first-fails, and-second-fails, or-cases, or-first-fails, or-second-fails, not-of-true, not-of-false, false-if-not-true}
 use Rattle.ground.proofs.Tests.{all-none, all-more, all-stops, member-append, member-at, distinct-none, distinct-more, distinct-at, allBelow-more}
 use Rattle.state.specs.Checking.{enters, mayEnter}
 

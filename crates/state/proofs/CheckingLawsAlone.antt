@@ -1,20 +1,20 @@
 -- No page held under ξ is held by another slot: pages looked for in the other slots one by one, and the rule of every two slots.
 use Prim.Native.Nat.{ℕ, _<_}
 use mathlib.Core.Bool.{Bool, true, false, not, _&&_, _||_}
-use mathlib.Core.List.{List, _++_}
+use mathlib.Core.List.{List}
 use mathlib.Core.Logic.{⊎-elim}
-use mathlib.Core.Path.{_≡_, refl, sym, ap, ap₂, _∙_, subst}
+use mathlib.Core.Path.{_≡_, refl, sym, ap, ap₂, _∙_}
 use native.Mathlib.Omega.{arith}
 use lib.Dec.{eqb, leb, ltb}
 use lib.ListN.{take}
 use borrow.Author.Tests.{eq-eqb, ne-eqb, le-leb, not-true}
 use Rattle.ground.specs.Limits.{slotCount}
 use Rattle.ground.specs.Tests.{all, allBelow, member, apart}
-use Rattle.ground.proofs.Bools.{and-both, and-first-fails, and-second-fails, or-first, or-second, or-cases, not-both, not-of-false, false-if-not-true, same-if-true-together, true-or-false}
+use Rattle.ground.proofs.Bools.{and-both, and-first-fails, and-second-fails, or-first, or-second, or-cases, not-both, not-of-false, false-if-not-true, same-if-true-together}
 use Rattle.ground.proofs.Tests.{all-append, all-member, all-from-members, apart-member, apart-from, allBelow-at, allBelow-from, allBelow-same, anyBelow-fails, anyBelow-false-at}
 use Rattle.slots.specs.declared.Slot.{Slot}
 use Rattle.slots.specs.Parts.{held, pathOf, siblingsOf, slotAt}
-use Rattle.slots.specs.Locks.{lockOf, lockAt, isXi}
+use Rattle.slots.specs.Locks.{lockOf, isXi}
 use Rattle.slots.specs.Sound.{noClashingHolds}
 use Rattle.slots.proofs.OrderLaws.{same-or-not}
 use Rattle.lent.specs.Words.{cell, column, taskFrom, slotIn, asRead, known}

@@ -4,20 +4,19 @@ use Prim.Native.Nat.{ℕ, zero, suc, _≤_, _<_}
 use mathlib.Core.Bool.{Bool, true, false, not, _&&_, _||_, true≢false}
 use mathlib.Core.List.{List, [], _∷_, _++_}
 use mathlib.Core.Logic.{⊎-elim}
-use mathlib.Core.Path.{_≡_, refl, sym, ap, ap₂, _∙_, subst}
+use mathlib.Core.Path.{_≡_, refl, sym, ap, ap₂, _∙_}
 use native.Mathlib.Omega.{arith}
-use borrow.Author.Tests.{eqb-true, leb-true, ltb-true, ltb-false, lt-ltb, not-true}
+use borrow.Author.Tests.{eqb-true, leb-true, ltb-false, not-true}
 use lib.Dec.{eqb, ltb, leb}
 use lib.ListN.{length, getD, take}
 use Rattle.ground.specs.Limits.{searchHolds, pathHolds, siblingHolds}
 use Rattle.ground.specs.Tests.{all, allBelow, member, distinct}
 use Rattle.ground.proofs.Bools.{and-first, and-second, and-both, or-cases, or-second, or-first-fails, or-second-fails, not-of-false}
-use Rattle.ground.proofs.Tests.{allBelow-at, allBelow-same}
-use Rattle.slots.specs.declared.Task.{Task}
+use Rattle.ground.proofs.Tests.{allBelow-at}
 use Rattle.slots.specs.Parts.{pathOf, siblingsOf}
 use Rattle.slots.specs.Sound.{withinLimits, pagesSound, ifOpen, slotSound}
 use Rattle.lent.specs.Words.{cell, column, taskFrom, slotIn}
-use Rattle.lent.specs.Holds.{Short, isDeep}
+use Rattle.lent.specs.Holds.{Short}
 use Rattle.lent.proofs.HoldLaws.{by-kind}
 use Rattle.lent.proofs.StateLaws.{length-column, column-cell}
 use Rattle.state.specs.Checking.{named, fineRow, rowFine, deepFine}

@@ -1,27 +1,23 @@
 -- Laws for the test of one slot: its path and its siblings are put into a list one after the other, and what its task
 -- allows it to hold.
-use Prim.Native.Nat.{ℕ, _+_, _≤_, _<_}
-use mathlib.Core.Bool.{Bool, true, false, not, _&&_, _||_, false≢true, true≢false}
-use mathlib.Core.List.{List, [], _∷_, _++_, append-assoc}
-use mathlib.Core.Logic.{⊎-elim}
+use Prim.Native.Nat.{ℕ, _≤_, _<_}
+use mathlib.Core.Bool.{Bool, true, false, not, _&&_, _||_}
+use mathlib.Core.List.{List, [], _∷_, _++_}
 use mathlib.Core.Path.{_≡_, refl, sym, ap, _∙_, subst}
-use native.Mathlib.Nat.{le-refl, add-assoc}
 use native.Mathlib.Omega.{arith}
 use borrow.Author.Tests.{lt-ltb, le-ltb, ne-eqb, eq-eqb, eqb-true, leb-true, not-true}
 use lib.Dec.{eqb, ltb, leb}
-use lib.ListN.{length, take}
-use lib.Seq.{slice, slice-empty, paste, take-paste}
+use lib.ListN.{take}
 use Rattle.ground.specs.Limits.{searchHolds, pathHolds, siblingHolds}
 use Rattle.ground.specs.Tests.{all, member, distinct, apart}
-use Rattle.ground.proofs.Bools.{and-both, and-first, and-second, and-first-fails, or-first-fails, or-second-fails, or-none, not-both, not-of-false, false-if-not-true, same-if-true-together, true-or-false}
+use Rattle.ground.proofs.Bools.{and-both, and-first, and-second, and-first-fails, or-first-fails, or-second-fails, or-none, not-both, not-of-false, false-if-not-true, same-if-true-together}
 use Rattle.ground.proofs.Tests.{all-append, all-member, all-from-members, member-none, member-append, distinct-front, distinct-back, distinct-apart, distinct-join, apart-member, apart-from, apart-swap}
 use Rattle.slots.specs.declared.Op.the-variants.{Search, Insert, Delete}
 use Rattle.slots.specs.declared.Task.{Task}
 use Rattle.slots.specs.declared.Task.the-variants.{Closed, Open}
 use Rattle.slots.specs.declared.Slot.{Slot}
-use Rattle.slots.specs.Parts.{isOpen, held, pathOf, siblingsOf}
-use Rattle.slots.specs.Locks.{lockOf, isXi}
-use Rattle.slots.specs.Sound.{withinLimits, pagesSound, ifOpen, slotSound}
+use Rattle.slots.specs.Parts.{held, pathOf, siblingsOf}
+use Rattle.slots.specs.Sound.{withinLimits, pagesSound}
 use Rattle.state.specs.Checking.{enters, mayEnter}
 
 -- ---- the pages of one slot

@@ -1,7 +1,6 @@
 // Whether a state is sound. The slots are tested row by row: kinds, numbers of pages held, wants and the tops of paths, with
 // no way out in between. Then the waiting order is held against the open slots; then the slots that hold more than one page
 // are looked at; then each page held under ξ is looked for in the other slots.
-use ground::HELD;
 use ground::LARGEST_K;
 use ground::LARGEST_N;
 use ground::SLOTS;
@@ -27,7 +26,7 @@ use lent::granting::column_has;
 use lent::granting::is_deep;
 use lent::granting::others_hold;
 ghost use Prim.Native.Nat.{ℕ, _≤_, _<_};
-ghost use mathlib.Core.Bool.{true, false, not, _&&_, _||_};
+ghost use mathlib.Core.Bool.{true, false, not, _&&_};
 ghost use mathlib.Core.Path.{_≡_};
 ghost use lib.Dec.{leb};
 ghost use lib.ListN.{length, getD, take};

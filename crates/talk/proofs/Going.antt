@@ -12,7 +12,6 @@ use Rattle.lines.specs.Meaning.{meaning}
 use Rattle.lines.specs.Names.{badLine}
 use Rattle.lines.specs.Ends.{lineEnd}
 use Rattle.lines.proofs.LaidLaws.{laid-two}
-use Rattle.talk.specs.declared.Said.{Said}
 use Rattle.talk.specs.Split.{Line, ended, linesOf}
 use Rattle.talk.specs.Talk.{commanded, replies}
 use Rattle.talk.specs.Leaves.{Leaves, Writes}
@@ -33,19 +32,19 @@ going-start st ws input out₀ =
 
 module _ (whole input out₀ : List ℕ) {st : State} {ws out : List ℕ} {at end : ℕ} (g : Going whole input out₀ st ws out at end) where
   -- one line more
-  pub going-on : {stop : ℕ} {command : Command} {said : Said} {ws′ out′ : List ℕ} → stop ≡ lineEnd input at → stop < length input
+  pub going-on : {stop : ℕ} {command : Command} {st′ : State} {end′ : ℕ} {ws′ out′ : List ℕ} → stop ≡ lineEnd input at → stop < length input
       → command ≡ meaning (take (stop - at) (drop at input))
-      → Leaves (commanded st ws command) out end said ws′ out′
-      → Going whole input out₀ (said .state) ws′ out′ (stop + 1) (said .end)
+      → Leaves (commanded st ws command) out end st′ end′ ws′ out′
+      → Going whole input out₀ st′ ws′ out′ (stop + 1) end′
   unfolding replies
-  going-on {stop} {command} {said} {ws′} {out′} e h m l =
+  going-on {stop} {command} {st′} {end′} {ws′} {out′} e h m l =
       let line : List ℕ = take (stop - at) (drop at input) in
       let left : List Line = linesOf (drop (stop + 1) input) in
       let word : List ℕ = commanded st ws command .said in
       let split : linesOf (drop at input) ≡ ended line ∷ left =
       subst (λ (n : ℕ). linesOf (drop at input) ≡ ended (take (n - at) (drop at input)) ∷ linesOf (drop (n + 1) input)) (sym e)
       (next-line input at (omega (arith, e, h))) in
-      let answers : word ++ replies (said .state) ws′ left ≡ replies st ws (linesOf (drop at input)) =
+      let answers : word ++ replies st′ ws′ left ≡ replies st ws (linesOf (drop at input)) =
       ap₂ (λ (s : State) (w : List ℕ). word ++ replies s w left) (l .state) (l .words)
       ∙ ap (λ (c : Command). commanded st ws c .said ++ replies (commanded st ws c .state) (commanded st ws c .words) left) m
       ∙ sym (ap (replies st ws) split) in
@@ -56,7 +55,7 @@ module _ (whole input out₀ : List ℕ) {st : State} {ws out : List ℕ} {at en
       let long : length line ≡ stop - at = length-take-le (stop - at) (drop at input) (omega (arith, h, length-drop at input)) in
       record {
         done = g .done ++ word;
-        makes = append-assoc (g .done) word (replies (said .state) ws′ left) ∙ ap (λ (w : List ℕ). g .done ++ w) answers ∙ g .makes;
+        makes = append-assoc (g .done) word (replies st′ ws′ left) ∙ ap (λ (w : List ℕ). g .done ++ w) answers ∙ g .makes;
         bytes = laid-two out₀ 0 (g .done) word (omega arith) (g .bytes) front (l .bytes);
         behind = omega (arith, l .behind, g .behind, length-append (g .done) word);
         within = omega (arith, h);

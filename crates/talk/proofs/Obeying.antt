@@ -7,9 +7,9 @@ use lib.ListN.{length}
 use Rattle.slots.specs.declared.Op.{Op}
 use Rattle.slots.specs.declared.State.{State}
 use Rattle.slots.specs.declared.Answer.{Answer}
-use Rattle.slots.specs.declared.Outcome.{Outcome}
 use Rattle.slots.specs.Begin.{begun}
-use Rattle.slots.specs.Statements.{BeginSays}
+use Rattle.lent.specs.Words.{stateOf}
+use Rattle.lent.specs.Statements.{BeginSays}
 use Rattle.slots.proofs.Unique.{heard-once}
 use Rattle.lines.specs.declared.Command.{Command}
 use Rattle.lines.specs.declared.Command.the-variants.{Begin, Step, Bad}
@@ -17,45 +17,43 @@ use Rattle.lines.specs.Text.{laid}
 use Rattle.lines.specs.Names.{written, badLine}
 use Rattle.index.specs.Step.{stepped}
 use Rattle.index.specs.Statements.{StepSays}
-use Rattle.talk.specs.declared.Said.{Said}
 use Rattle.talk.specs.Talk.{reply, commanded}
 use Rattle.talk.specs.Leaves.{Leaves}
-
-abbrev said : State → ℕ → Said
-said st end = record { state = st; end = end }
 
 -- the line of an answer is written over `out` at a position
 abbrev Stands : List ℕ → ℕ → List ℕ → ℕ → Answer → Type 0
 Stands out at after end a = (after ≡ laid out at (written a)) × (end ≡ at + length (written a)) × (length (written a) ≤ 32)
 
 module _ (out : List ℕ) (at : ℕ) {after : List ℕ} {end : ℕ} where
-  leaves : (a : Answer) (st : State) (ws : List ℕ) → Stands out at after end a → Leaves (reply (written a) st ws) out at (said st end) ws after
+  leaves : (a : Answer) (st : State) (ws : List ℕ) → Stands out at after end a → Leaves (reply (written a) st ws) out at st end ws after
   leaves a st ws w = record { state = refl; words = refl; bytes = w .0; behind = w .1; short = w .2 }
 
-  pub begin-leaves : (st : State) (ws : List ℕ) (s : ℕ) (op : Op) {command : Command} {r : Outcome} → command ≡ Begin s op
-      → BeginSays st s op r
-      → Stands out at after end (r .answer)
-      → Leaves (commanded st ws command) out at (said (r .state) end) ws after
-  begin-leaves st ws s op {command} {r} e says w =
-      let heard : r .answer ≡ begun st s op .answer = heard-once (r .answer) (begun st s op .answer) (says .answer) in
-      subst⁻¹ (λ (c : Command). Leaves (commanded st ws c) out at (said (r .state) end) ws after) e
-      (subst⁻¹ (λ (t : State). Leaves (commanded st ws (Begin s op)) out at (said t end) ws after) (says .state)
+  pub begin-leaves : (cells ws : List ℕ) (s : ℕ) (op : Op) {cells′ : List ℕ} {command : Command} {r : Answer} → command ≡ Begin s op
+      → BeginSays cells s op r cells′
+      → Stands out at after end r
+      → Leaves (commanded (stateOf cells) ws command) out at (stateOf cells′) end ws after
+  begin-leaves cells ws s op {cells′} {command} {r} e says w =
+      let st : State = stateOf cells in
+      let heard : r ≡ begun st s op .answer = heard-once r (begun st s op .answer) (says .answer) in
+      subst⁻¹ (λ (c : Command). Leaves (commanded st ws c) out at (stateOf cells′) end ws after) e
+      (subst⁻¹ (λ (t : State). Leaves (commanded st ws (Begin s op)) out at t end ws after) (says .state)
       (leaves (begun st s op .answer) (begun st s op .state) ws (subst (Stands out at after end) heard w)))
 
-  pub step-leaves : (st : State) (ws : List ℕ) (s : ℕ) {ws′ : List ℕ} {command : Command} {r : Outcome} → command ≡ Step s
-      → StepSays st ws s r ws′
-      → Stands out at after end (r .answer)
-      → Leaves (commanded st ws command) out at (said (r .state) end) ws′ after
-  step-leaves st ws s {ws′} {command} {r} e says w =
-      let heard : r .answer ≡ stepped st ws s .answer = heard-once (r .answer) (stepped st ws s .answer) (says .answer) in
-      subst⁻¹ (λ (c : Command). Leaves (commanded st ws c) out at (said (r .state) end) ws′ after) e
-      (subst⁻¹ (λ (t : State). Leaves (commanded st ws (Step s)) out at (said t end) ws′ after) (says .state)
-      (subst⁻¹ (λ (v : List ℕ). Leaves (commanded st ws (Step s)) out at (said (stepped st ws s .state) end) v after) (says .words)
+  pub step-leaves : (cells ws : List ℕ) (s : ℕ) {cells′ ws′ : List ℕ} {command : Command} {r : Answer} → command ≡ Step s
+      → StepSays cells ws s r cells′ ws′
+      → Stands out at after end r
+      → Leaves (commanded (stateOf cells) ws command) out at (stateOf cells′) end ws′ after
+  step-leaves cells ws s {cells′} {ws′} {command} {r} e says w =
+      let st : State = stateOf cells in
+      let heard : r ≡ stepped st ws s .answer = heard-once r (stepped st ws s .answer) (says .answer) in
+      subst⁻¹ (λ (c : Command). Leaves (commanded st ws c) out at (stateOf cells′) end ws′ after) e
+      (subst⁻¹ (λ (t : State). Leaves (commanded st ws (Step s)) out at t end ws′ after) (says .state)
+      (subst⁻¹ (λ (v : List ℕ). Leaves (commanded st ws (Step s)) out at (stepped st ws s .state) end v after) (says .words)
       (leaves (stepped st ws s .answer) (stepped st ws s .state) (stepped st ws s .words) (subst (Stands out at after end) heard w))))
 
   pub bad-leaves : (st : State) (ws : List ℕ) {command : Command} → command ≡ Bad
       → (after ≡ laid out at badLine) × (end ≡ at + length badLine)
-      → Leaves (commanded st ws command) out at (said st end) ws after
+      → Leaves (commanded st ws command) out at st end ws after
   bad-leaves st ws e w =
-      subst⁻¹ (λ (c : Command). Leaves (commanded st ws c) out at (said st end) ws after) e
+      subst⁻¹ (λ (c : Command). Leaves (commanded st ws c) out at st end ws after) e
       (record { state = refl; words = refl; bytes = w .0; behind = w .1; short = omega arith })

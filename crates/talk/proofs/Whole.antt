@@ -7,7 +7,8 @@ use borrow.Author.Tests.{lt-ltb, le-ltb}
 use lib.ListN.{length, take, drop, length-append}
 use lib.Seq.{length-take-le}
 use Rattle.slots.specs.declared.State.{State}
-use Rattle.slots.specs.declared.Outcome.{Outcome}
+use Rattle.slots.specs.declared.Answer.{Answer}
+use Rattle.lent.specs.Words.{stateOf}
 use Rattle.lines.specs.Text.{laid}
 use Rattle.lines.specs.Names.{tooLong}
 use Rattle.index.specs.Statements.{MakeSays}
@@ -20,12 +21,12 @@ module _ (input out : List ℕ) {end : ℕ} {after : List ℕ} where
   unfolding programWrites mostBytes
   too-long-writes h b e = rw (lt-ltb 65536 (length input) h) (record { bytes = b; behind = e })
 
-  pub lines-write : {words : List ℕ} {r : Outcome} → length input ≤ 65536 → MakeSays programK programPages blank r words
-      → Writes (replies (r .state) words (linesOf input)) out end after
+  pub lines-write : {cells words : List ℕ} {r : Answer} → length input ≤ 65536 → MakeSays programK programPages blank r cells words
+      → Writes (replies (stateOf cells) words (linesOf input)) out end after
       → Writes (programWrites input) out end after
   unfolding programWrites mostBytes
-  lines-write {words} {r} h made w =
-      let all : replies (r .state) words (linesOf input) ≡ replies (opening .state) (opening .words) (linesOf input) =
+  lines-write {cells} {words} h made w =
+      let all : replies (stateOf cells) words (linesOf input) ≡ replies (opening .state) (opening .words) (linesOf input) =
       ap₂ (λ (st : State) (ws : List ℕ). replies st ws (linesOf input)) (made .state) (made .words) in
       rw (le-ltb 65536 (length input) h) (subst (λ (whole : List ℕ). Writes whole out end after) all w)
 

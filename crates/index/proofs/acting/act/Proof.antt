@@ -6,13 +6,6 @@ use native.Mathlib.Omega.{arith}
 use borrow.Author.Needs.{needs}
 use Rattle.index.proofs.acting.act.Statement.{statement}
 use Rattle.index.proofs.acting.act.Tie as tie
-use Rattle.index.proofs.acting.act.Reads as reads
-use Rattle.index.proofs.acting.act.Lts as lts
-use Rattle.index.proofs.acting.delete_lot.Reads as delete-lot-reads
-use Rattle.index.proofs.acting.go_on.Reads as go-on-reads
-use Rattle.index.proofs.acting.insert_lot.Reads as insert-lot-reads
-use Rattle.lent.proofs.book.closes.Reads as closes-reads
-use Rattle.lent.proofs.cells.sized.Reads as sized-reads
 
 sized-requires : tie.Need-sized-requires
 sized-requires c κs = search needs

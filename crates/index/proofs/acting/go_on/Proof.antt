@@ -3,9 +3,6 @@ use Rattle.ground.specs.Limits.{slotCount}
 use borrow.Author.Needs.{needs}
 use Rattle.index.proofs.acting.go_on.Statement.{statement}
 use Rattle.index.proofs.acting.go_on.Tie as tie
-use Rattle.index.proofs.acting.go_on.Reads as reads
-use Rattle.index.proofs.acting.go_on.Lts as lts
-use Rattle.lent.proofs.book.requeues.Reads as requeues-reads
 
 requeues-requires : tie.Need-requeues-requires
 unfolding slotCount

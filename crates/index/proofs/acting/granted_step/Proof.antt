@@ -6,12 +6,6 @@ use native.Mathlib.Omega.{arith}
 use borrow.Author.Needs.{needs}
 use Rattle.index.proofs.acting.granted_step.Statement.{statement}
 use Rattle.index.proofs.acting.granted_step.Tie as tie
-use Rattle.index.proofs.acting.granted_step.Reads as reads
-use Rattle.index.proofs.acting.granted_step.Lts as lts
-use Rattle.course.proofs.judging.judge.Reads as judge-reads
-use Rattle.course.proofs.standing.stands.Reads as stands-reads
-use Rattle.grant.proofs.fitting.fits.Reads as fits-reads
-use Rattle.index.proofs.acting.act.Reads as act-reads
 
 element-copy-out-k : tie.Need-element-copy-out-k
 element-copy-out-k c = search needs

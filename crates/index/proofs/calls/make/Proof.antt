@@ -8,12 +8,6 @@ use Prim.Native.Nat.{_≤_}
 use borrow.Author.Needs.{needs}
 use Rattle.index.proofs.calls.make.Statement.{statement}
 use Rattle.index.proofs.calls.make.Tie as tie
-use Rattle.index.proofs.calls.make.Reads as reads
-use Rattle.index.proofs.calls.make.Lts as lts
-use Rattle.index.proofs.calls.is_pool.Reads as is-pool-reads
-use Rattle.lent.proofs.book.clear.Reads as clear-reads
-use Rattle.lent.proofs.cells.sized.Reads as sized-reads
-use Rattle.pool.proofs.lying.make_fresh.Reads as make-fresh-reads
 
 sized-requires : tie.Need-sized-requires
 sized-requires c κs = search needs

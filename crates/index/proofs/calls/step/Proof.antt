@@ -8,17 +8,9 @@ use Rattle.slots.specs.Parts.{slotAt}
 use borrow.Author.Tests.{not-true, not-false}
 use native.Mathlib.Omega.{arith}
 use mathlib.Core.Path.{_≡_, sym, _∙_}
-use mathlib.Core.Bool.{true}
 use borrow.Author.Needs.{needs}
 use Rattle.index.proofs.calls.step.Statement.{statement}
 use Rattle.index.proofs.calls.step.Tie as tie
-use Rattle.index.proofs.calls.step.Reads as reads
-use Rattle.index.proofs.calls.step.Lts as lts
-use Rattle.index.proofs.acting.granted_step.Reads as granted-step-reads
-use Rattle.index.proofs.calls.is_pool.Reads as is-pool-reads
-use Rattle.lent.proofs.granting.grants.Reads as grants-reads
-use Rattle.lent.proofs.lifting.slot_at.Reads as slot-at-reads
-use Rattle.state.proofs.checking.is_sound.Reads as is-sound-reads
 
 is-sound-requires : tie.Need-is-sound-requires
 is-sound-requires c κs = search needs

@@ -5,18 +5,11 @@ use Rattle.slots.specs.declared.Slot.{Slot}
 use lib.ListN.{set}
 use native.Mathlib.Omega.{arith}
 use mathlib.Core.List.{List}
-use mathlib.Core.Path.{_≡_, ap, ap₂, _∙_}
-use Prim.Native.Nat.{ℕ, _+_, _≤_}
+use mathlib.Core.Path.{ap, ap₂, _∙_}
+use Prim.Native.Nat.{ℕ, _+_}
 use borrow.Author.Needs.{needs}
 use Rattle.lent.proofs.book.begins.Statement.{statement}
 use Rattle.lent.proofs.book.begins.Tie as tie
-use Rattle.lent.proofs.book.begins.Reads as reads
-use Rattle.lent.proofs.book.begins.Lts as lts
-use Rattle.lent.proofs.book.join_order.Reads as join-order-reads
-use Rattle.lent.proofs.cells.sized.Reads as sized-reads
-use Rattle.lent.proofs.cells.waiting_of.Reads as waiting-of-reads
-use Rattle.lent.proofs.lifting.lay.Reads as lay-reads
-use Rattle.slots.proofs.book.fresh_slot.Reads as fresh-slot-reads
 
 sized-requires : tie.Need-sized-requires
 sized-requires c κs = search needs

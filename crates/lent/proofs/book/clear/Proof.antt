@@ -9,8 +9,6 @@ use Prim.Native.Nat.{ℕ, _-_, _≤_}
 use borrow.Author.Needs.{needs}
 use Rattle.lent.proofs.book.clear.Statement.{statement}
 use Rattle.lent.proofs.book.clear.Tie as tie
-use Rattle.lent.proofs.book.clear.Reads as reads
-use Rattle.lent.proofs.book.clear.Lts as lts
 
 abbrev Inv-loop : tie.InvT-loop
 Inv-loop cells₀ i₀ cells i = (i ≤ length cells₀) × (length cells ≡ length cells₀) × (cells ≡ replicate i 0 ++ drop i cells₀)

@@ -4,9 +4,6 @@ use denote.Ref.{now}
 use borrow.Author.Needs.{needs}
 use Rattle.lent.proofs.book.join_order.Statement.{statement}
 use Rattle.lent.proofs.book.join_order.Tie as tie
-use Rattle.lent.proofs.book.join_order.Reads as reads
-use Rattle.lent.proofs.book.join_order.Lts as lts
-use Rattle.lent.proofs.cells.sized.Reads as sized-reads
 
 sized-requires : tie.Need-sized-requires
 sized-requires c κs = search needs

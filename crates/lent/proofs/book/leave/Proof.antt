@@ -9,9 +9,6 @@ use Prim.Native.Nat.{ℕ, _-_, _≤_, _<_}
 use borrow.Author.Needs.{needs}
 use Rattle.lent.proofs.book.leave.Statement.{statement}
 use Rattle.lent.proofs.book.leave.Tie as tie
-use Rattle.lent.proofs.book.leave.Reads as reads
-use Rattle.lent.proofs.book.leave.Lts as lts
-use Rattle.lent.proofs.book.standing.Reads as standing-reads
 
 abbrev Inv-loop : tie.InvT-loop
 Inv-loop order₀ waiting s last at i₀ order i = (at < i) × (i ≤ waiting) × (order ≡ gapAt order₀ at (i - 1)) × (length order ≡ length order₀)

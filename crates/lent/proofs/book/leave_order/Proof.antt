@@ -3,17 +3,11 @@ use Rattle.lent.proofs.WritingLaws.{left-laid}
 use Rattle.lent.proofs.StateLaws.{length-order}
 use Rattle.lent.specs.Words.{orderIn}
 use borrow.Rule.Slice.PartMut.{putMid}
-use lib.ListN.{length}
 use native.Mathlib.Omega.{arith}
-use Prim.Native.Nat.{ℕ}
-use mathlib.Core.List.{List}
-use mathlib.Core.Path.{_≡_, ap, _∙_}
+use mathlib.Core.Path.{ap, _∙_}
 use borrow.Author.Needs.{needs}
 use Rattle.lent.proofs.book.leave_order.Statement.{statement}
 use Rattle.lent.proofs.book.leave_order.Tie as tie
-use Rattle.lent.proofs.book.leave_order.Reads as reads
-use Rattle.lent.proofs.book.leave_order.Lts as lts
-use Rattle.lent.proofs.book.leave.Reads as leave-reads
 
 sub-leave : tie.Need-sub-leave
 sub-leave c = search needs

@@ -7,8 +7,6 @@ use Prim.Native.Nat.{_<_, _-_}
 use borrow.Author.Needs.{needs}
 use Rattle.lent.proofs.book.standing.Statement.{statement}
 use Rattle.lent.proofs.book.standing.Tie as tie
-use Rattle.lent.proofs.book.standing.Reads as reads
-use Rattle.lent.proofs.book.standing.Lts as lts
 
 abbrev Inv-loop : tie.InvT-loop
 Inv-loop order waiting s i₀ i = (i < waiting) × Passed s (take waiting order) i

@@ -9,13 +9,10 @@ use lib.ListN.{take}
 use native.Mathlib.Omega.{arith}
 use mathlib.Core.Bool.{false}
 use mathlib.Core.Path.{_≡_, sym, ap, _∙_}
-use Prim.Native.Nat.{ℕ, _≤_, _-_, _+_}
+use Prim.Native.Nat.{ℕ, _≤_, _-_}
 use borrow.Author.Needs.{needs}
 use Rattle.lent.proofs.granting.column_has.Statement.{statement}
 use Rattle.lent.proofs.granting.column_has.Tie as tie
-use Rattle.lent.proofs.granting.column_has.Reads as reads
-use Rattle.lent.proofs.granting.column_has.Lts as lts
-use Rattle.lent.proofs.cells.word_at.Reads as word-at-reads
 
 abbrev Inv-loop : tie.InvT-loop
 Inv-loop cells row count s p j₀ j = (j ≤ count) × (member p (take j (column cells row s)) ≡ false)
@@ -50,10 +47,11 @@ loop-again : tie.Need-loop-again Inv-loop μ-loop
 loop-again c =
     let was = c .before .before .before .before .args in
     let j = c .before .before .before .loop .j in
-    let col = column (was .cells .now) (was .row) (was .s) in
-    (omega arith,
-     among-more (was .p) col j (omega (arith, length-column (was .cells .now) (was .row) (was .s))) (c .before .before .before .loop .inv .1)
-     (λ e. c .if1 .left (c .before .word-at .ensures ∙ sym (column-cell (was .cells .now) (was .row) (was .s) j (omega arith)) ∙ e)))
+    let col = column (was .cells .now) (was .row) (was .s) in (
+      omega arith,
+      among-more (was .p) col j (omega (arith, length-column (was .cells .now) (was .row) (was .s))) (c .before .before .before .loop .inv .1)
+          (λ e. c .if1 .left (c .before .word-at .ensures ∙ sym (column-cell (was .cells .now) (was .row) (was .s) j (omega arith)) ∙ e)),
+    )
 
 returns-2 : tie.Need-returns-2 Inv-loop μ-loop
 returns-2 c =

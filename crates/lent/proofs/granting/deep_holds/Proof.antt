@@ -2,16 +2,10 @@
 use Rattle.lent.proofs.HoldLaws.{deep-not, deep-own, deep-low, deep-is}
 use borrow.Author.Tests.{not-true, not-false, ne-eqb}
 use native.Mathlib.Omega.{arith}
-use mathlib.Core.Path.{sym, _∙_, subst}
-use Prim.Native.Nat.{ℕ, _<_}
+use mathlib.Core.Path.{sym, _∙_}
 use borrow.Author.Needs.{needs}
 use Rattle.lent.proofs.granting.deep_holds.Statement.{statement}
 use Rattle.lent.proofs.granting.deep_holds.Tie as tie
-use Rattle.lent.proofs.granting.deep_holds.Reads as reads
-use Rattle.lent.proofs.granting.deep_holds.Lts as lts
-use Rattle.lent.proofs.cells.kind_at.Reads as kind-at-reads
-use Rattle.lent.proofs.granting.holds_at.Reads as holds-at-reads
-use Rattle.lent.proofs.granting.is_deep.Reads as is-deep-reads
 
 is-deep-requires : tie.Need-is-deep-requires
 is-deep-requires c κs = search needs

@@ -8,10 +8,6 @@ use mathlib.Core.Bool.{Bool, _&&_}
 use borrow.Author.Needs.{needs}
 use Rattle.lent.proofs.granting.grants.Statement.{statement}
 use Rattle.lent.proofs.granting.grants.Tie as tie
-use Rattle.lent.proofs.granting.grants.Reads as reads
-use Rattle.lent.proofs.granting.grants.Lts as lts
-use Rattle.lent.proofs.granting.no_clash.Reads as no-clash-reads
-use Rattle.lent.proofs.granting.no_older.Reads as no-older-reads
 
 no-clash-requires : tie.Need-no-clash-requires
 no-clash-requires c κs = search needs

@@ -1,5 +1,5 @@
 -- A page is held where it stands on the path or among the siblings.
-use Rattle.lent.specs.Words.{column, slotIn, cell}
+use Rattle.lent.specs.Words.{slotIn}
 use Rattle.slots.proofs.GrantingLaws.{holds-split}
 use Rattle.ground.proofs.Bools.{or-first}
 use Rattle.ground.specs.Tests.{member}
@@ -11,12 +11,6 @@ use mathlib.Core.Path.{sym, ap, _∙_}
 use borrow.Author.Needs.{needs}
 use Rattle.lent.proofs.granting.holds_at.Statement.{statement}
 use Rattle.lent.proofs.granting.holds_at.Tie as tie
-use Rattle.lent.proofs.granting.holds_at.Reads as reads
-use Rattle.lent.proofs.granting.holds_at.Lts as lts
-use Rattle.lent.proofs.cells.beside_at.Reads as beside-at-reads
-use Rattle.lent.proofs.cells.depth_at.Reads as depth-at-reads
-use Rattle.lent.proofs.cells.wide.Reads as wide-reads
-use Rattle.lent.proofs.granting.column_has.Reads as column-has-reads
 
 depth-at-requires : tie.Need-depth-at-requires
 depth-at-requires c κs = search needs

@@ -2,14 +2,10 @@
 use lib.Dec.{ltb}
 use Prim.Native.Nat.{ℕ}
 use mathlib.Core.Path.{ap₂}
-use mathlib.Core.Bool.{Bool, _||_}
+use mathlib.Core.Bool.{_||_}
 use borrow.Author.Needs.{needs}
 use Rattle.lent.proofs.granting.is_deep.Statement.{statement}
 use Rattle.lent.proofs.granting.is_deep.Tie as tie
-use Rattle.lent.proofs.granting.is_deep.Reads as reads
-use Rattle.lent.proofs.granting.is_deep.Lts as lts
-use Rattle.lent.proofs.cells.beside_at.Reads as beside-at-reads
-use Rattle.lent.proofs.cells.depth_at.Reads as depth-at-reads
 
 depth-at-requires : tie.Need-depth-at-requires
 depth-at-requires c κs = search needs

@@ -3,8 +3,6 @@ use borrow.Author.Tests.{eq-eqb, ne-eqb}
 use borrow.Author.Needs.{needs}
 use Rattle.lent.proofs.granting.least_clash.Statement.{statement}
 use Rattle.lent.proofs.granting.least_clash.Tie as tie
-use Rattle.lent.proofs.granting.least_clash.Reads as reads
-use Rattle.lent.proofs.granting.least_clash.Lts as lts
 
 returns : tie.Need-returns
 returns c = rw (eq-eqb (c .before .args .kind) 1 (c .if1 .taken))

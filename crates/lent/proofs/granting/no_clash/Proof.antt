@@ -2,16 +2,9 @@
 use Rattle.lent.proofs.HoldLaws.{no-clash-words}
 use Rattle.lent.specs.Holds.{leastClash}
 use mathlib.Core.Path.{ap, _∙_}
-use Prim.Native.Nat.{ℕ}
 use borrow.Author.Needs.{needs}
 use Rattle.lent.proofs.granting.no_clash.Statement.{statement}
 use Rattle.lent.proofs.granting.no_clash.Tie as tie
-use Rattle.lent.proofs.granting.no_clash.Reads as reads
-use Rattle.lent.proofs.granting.no_clash.Lts as lts
-use Rattle.lent.proofs.cells.kind_at.Reads as kind-at-reads
-use Rattle.lent.proofs.cells.want_at.Reads as want-at-reads
-use Rattle.lent.proofs.granting.least_clash.Reads as least-clash-reads
-use Rattle.lent.proofs.granting.others_hold.Reads as others-hold-reads
 
 kind-at-requires : tie.Need-kind-at-requires
 kind-at-requires c κs = search needs

@@ -1,27 +1,16 @@
 -- The answer is that of the walk from place i on: at the end, at slot s and at an older want for the same page it is known.
 use Rattle.lent.proofs.HoldLaws.{walk-end, walk-slot, walk-own, walk-older, walk-on}
-use Rattle.slots.specs.declared.Slot.{Slot}
-use Rattle.lent.proofs.StateLaws.{length-order, order-cell, slot-read}
 use denote.Ref.{now}
-use Prim.Native.Nat.{_<_, _+_}
-use Rattle.lent.specs.Words.{asRead, orderIn, cell}
-use Rattle.slots.proofs.GrantingLaws.{noOlderFrom, older-none, older-end, older-here, older-stops, older-more, order-names}
+use Rattle.lent.specs.Words.{asRead}
+use Rattle.slots.proofs.GrantingLaws.{noOlderFrom, older-none}
 use Rattle.slots.specs.Grant.{noOlder}
-use Rattle.slots.specs.Parts.{wantAt}
-use Rattle.ground.specs.Limits.{slotCount}
-use lib.ListN.{length, getD}
+use lib.ListN.{getD}
 use native.Mathlib.Omega.{arith}
-use mathlib.Core.Path.{_≡_, sym, ap, _∙_}
+use mathlib.Core.Path.{_≡_, sym, _∙_}
 use Prim.Native.Nat.{_≤_, _-_}
 use borrow.Author.Needs.{needs}
 use Rattle.lent.proofs.granting.no_older.Statement.{statement}
 use Rattle.lent.proofs.granting.no_older.Tie as tie
-use Rattle.lent.proofs.granting.no_older.Reads as reads
-use Rattle.lent.proofs.granting.no_older.Lts as lts
-use Rattle.lent.proofs.cells.order_at.Reads as order-at-reads
-use Rattle.lent.proofs.cells.sized.Reads as sized-reads
-use Rattle.lent.proofs.cells.waiting_of.Reads as waiting-of-reads
-use Rattle.lent.proofs.cells.want_at.Reads as want-at-reads
 
 abbrev Inv-loop : tie.InvT-loop
 Inv-loop cells s want waiting i₀ i = (i ≤ waiting) × (noOlder (asRead cells) s ≡ noOlderFrom (asRead cells) s i)
@@ -44,7 +33,6 @@ loop-holds c = (omega arith, older-none (asRead (c .before .before .before .befo
 order-at-requires : tie.Need-order-at-requires Inv-loop μ-loop
 order-at-requires c κs = search needs
 
-
 want-at-requires-2 : tie.Need-want-at-requires-2 Inv-loop μ-loop
 want-at-requires-2 c κs =
     let was = c .before .before .before .before .before .before .before .before in
@@ -60,11 +48,12 @@ loop-less c = search needs
 loop-again : tie.Need-loop-again Inv-loop μ-loop
 loop-again c =
     let was = c .before .before .before .before .before .before .before .before .before .before in
-    let w : c .before .before .before .before .before .before .waiting-of .result ≡ getD (was .args .cells .now) 2 0 = c .before .before .before .before .before .before .waiting-of .ensures in
-    (omega arith,
-     walk-on (was .args .cells .now) (was .args .s) (c .before .before .before .before .before .before .before .before .sized .ensures) (was .pre .0) (was .pre .1) (was .pre .2) (c .before .before .before .before .before .loop .inv .1) (omega arith) (c .before .before .before .order-at .ensures)
-     (c .before .before .if2 .left)
-     (λ e. c .if3 .left (c .before .want-at2 .ensures ∙ e ∙ sym (c .before .before .before .before .before .before .before .want-at .ensures))))
+    let w : c .before .before .before .before .before .before .waiting-of .result ≡ getD (was .args .cells .now) 2 0 = c .before .before .before .before .before .before .waiting-of .ensures in (
+      omega arith,
+      walk-on (was .args .cells .now) (was .args .s) (c .before .before .before .before .before .before .before .before .sized .ensures) (was .pre .0) (was .pre .1) (was .pre .2) (c .before .before .before .before .before .loop .inv .1) (omega arith) (c .before .before .before .order-at .ensures)
+          (c .before .before .if2 .left)
+          (λ e. c .if3 .left (c .before .want-at2 .ensures ∙ e ∙ sym (c .before .before .before .before .before .before .before .want-at .ensures))),
+    )
 
 returns : tie.Need-returns Inv-loop μ-loop
 returns c =

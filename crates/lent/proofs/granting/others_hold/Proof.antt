@@ -1,13 +1,8 @@
 -- The tops, then the slots that hold more.
 use Rattle.lent.proofs.HoldLaws.{others-top, others-deep}
-use mathlib.Core.Path.{sym, _∙_}
 use borrow.Author.Needs.{needs}
 use Rattle.lent.proofs.granting.others_hold.Statement.{statement}
 use Rattle.lent.proofs.granting.others_hold.Tie as tie
-use Rattle.lent.proofs.granting.others_hold.Reads as reads
-use Rattle.lent.proofs.granting.others_hold.Lts as lts
-use Rattle.lent.proofs.granting.some_deep_holds.Reads as some-deep-holds-reads
-use Rattle.lent.proofs.granting.tops_hold.Reads as tops-hold-reads
 
 tops-hold-requires : tie.Need-tops-hold-requires
 tops-hold-requires c κs = search needs

@@ -7,14 +7,11 @@ use Rattle.ground.specs.Tests.{anyBelow}
 use denote.Ref.{now}
 use native.Mathlib.Omega.{arith}
 use mathlib.Core.Path.{_≡_, sym, ap, _∙_}
-use mathlib.Core.Bool.{Bool, false}
-use Prim.Native.Nat.{ℕ, _≤_, _-_, _+_}
+use mathlib.Core.Bool.{false}
+use Prim.Native.Nat.{ℕ, _≤_, _-_}
 use borrow.Author.Needs.{needs}
 use Rattle.lent.proofs.granting.some_deep_holds.Statement.{statement}
 use Rattle.lent.proofs.granting.some_deep_holds.Tie as tie
-use Rattle.lent.proofs.granting.some_deep_holds.Reads as reads
-use Rattle.lent.proofs.granting.some_deep_holds.Lts as lts
-use Rattle.lent.proofs.granting.deep_holds.Reads as deep-holds-reads
 
 abbrev Inv-loop : tie.InvT-loop
 Inv-loop cells s least p t₀ t = (t ≤ 16) × (anyBelow t (deepHolds cells s least p) ≡ false)
@@ -43,10 +40,11 @@ loop-less c = search needs
 loop-again : tie.Need-loop-again Inv-loop μ-loop
 loop-again c =
     let was = c .before .before .before .before .args in
-    let t : ℕ = c .before .before .before .loop .t in
-    (omega arith,
-     any-on (deepHolds (was .cells .now) (was .s) (was .least) (was .p)) t
-     ∙ or-none (c .before .before .before .loop .inv .1) (sym (c .before .deep-holds .ensures) ∙ c .if1 .left))
+    let t : ℕ = c .before .before .before .loop .t in (
+      omega arith,
+      any-on (deepHolds (was .cells .now) (was .s) (was .least) (was .p)) t
+          ∙ or-none (c .before .before .before .loop .inv .1) (sym (c .before .deep-holds .ensures) ∙ c .if1 .left),
+    )
 
 returns-2 : tie.Need-returns-2 Inv-loop μ-loop
 returns-2 c =

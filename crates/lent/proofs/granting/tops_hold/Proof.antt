@@ -6,7 +6,7 @@ use denote.Ref.{now}
 use lib.Dec.{eqb, leb, ltb}
 use mathlib.Core.Path.{sym, ap, ap₂, _∙_}
 use mathlib.Core.Bool.{Bool, not, _&&_, _||_}
-use Prim.Native.Nat.{ℕ, _+_}
+use Prim.Native.Nat.{ℕ}
 use Rattle.lent.specs.Holds.{topHolds}
 use Rattle.ground.specs.Tests.{anyBelow}
 use native.Mathlib.Omega.{arith}
@@ -15,12 +15,6 @@ use Prim.Native.Nat.{_≤_, _-_}
 use borrow.Author.Needs.{needs}
 use Rattle.lent.proofs.granting.tops_hold.Statement.{statement}
 use Rattle.lent.proofs.granting.tops_hold.Tie as tie
-use Rattle.lent.proofs.granting.tops_hold.Reads as reads
-use Rattle.lent.proofs.granting.tops_hold.Lts as lts
-use Rattle.lent.proofs.cells.depth_at.Reads as depth-at-reads
-use Rattle.lent.proofs.cells.kind_at.Reads as kind-at-reads
-use Rattle.lent.proofs.cells.top_at.Reads as top-at-reads
-use Rattle.lent.proofs.granting.is_top.Reads as is-top-reads
 
 abbrev Inv-loop : tie.InvT-loop
 Inv-loop cells s least p found₀ t₀ found t = (t ≤ 16) × (found ≡ anyBelow t (topHolds cells s least p))
@@ -56,10 +50,11 @@ loop-again c =
     let this : c .is-top .result ≡ topHolds (was .cells .now) (was .s) (was .least) (was .p) t =
     c .is-top .ensures
     ∙ ap (λ (k : ℕ). (not (eqb t (was .s)) && leb (was .least) k) && (ltb 0 (c .before .before .depth-at .result) && eqb (was .p) (c .before .top-at .result))) (c .before .before .before .kind-at .ensures)
-    ∙ ap₂ (λ (d x : ℕ). (not (eqb t (was .s)) && leb (was .least) (cell (was .cells .now) 0 t)) && (ltb 0 d && eqb (was .p) x)) (c .before .before .depth-at .ensures) (c .before .top-at .ensures) in
-    (omega arith,
-     ap₂ (λ (a b : Bool). a || b) (c .before .before .before .before .before .loop .inv .1) this
-     ∙ sym (any-on (topHolds (was .cells .now) (was .s) (was .least) (was .p)) t))
+    ∙ ap₂ (λ (d x : ℕ). (not (eqb t (was .s)) && leb (was .least) (cell (was .cells .now) 0 t)) && (ltb 0 d && eqb (was .p) x)) (c .before .before .depth-at .ensures) (c .before .top-at .ensures) in (
+      omega arith,
+      ap₂ (λ (a b : Bool). a || b) (c .before .before .before .before .before .loop .inv .1) this
+          ∙ sym (any-on (topHolds (was .cells .now) (was .s) (was .least) (was .p)) t),
+    )
 
 returns : tie.Need-returns Inv-loop μ-loop
 returns c =

@@ -1,8 +1,6 @@
 -- The rows passed stand in the array, and 0 behind them.
 use Rattle.lent.proofs.StateLaws.{length-column, column-cell, padded-whole}
-use lib.Seq.{take-all}
-use lib.ListN.{getD, length, replicate}
-use mathlib.Core.List.{_++_, append-nil}
+use lib.ListN.{getD, length}
 use mathlib.Core.Path.{sym}
 use Rattle.lent.specs.Words.{column}
 use Rattle.slots.proofs.BookLaws.{padded-more}
@@ -15,9 +13,6 @@ use Prim.Native.Nat.{ℕ, _≤_, _-_}
 use borrow.Author.Needs.{needs}
 use Rattle.lent.proofs.lifting.column_of.Statement.{statement}
 use Rattle.lent.proofs.lifting.column_of.Tie as tie
-use Rattle.lent.proofs.lifting.column_of.Reads as reads
-use Rattle.lent.proofs.lifting.column_of.Lts as lts
-use Rattle.lent.proofs.cells.word_at.Reads as word-at-reads
 
 abbrev Inv-loop : tie.InvT-loop
 Inv-loop cells row s pages₀ j₀ pages j = (j ≤ 10) × (pages ≡ padded 10 (take j (column cells row s)))
@@ -52,11 +47,12 @@ loop-again c =
     let was = c .before .before .before .args in
     let j : ℕ = c .before .before .loop .j in
     let col : List ℕ = column (was .cells .now) (was .row) (was .s) in
-    let long : length col ≡ 10 = length-column (was .cells .now) (was .row) (was .s) in
-    (omega arith,
-     ap (λ (x : ℕ). set (c .before .before .loop .pages) j x) (c .word-at .ensures ∙ sym (column-cell (was .cells .now) (was .row) (was .s) j (omega arith)))
-     ∙ ap (λ (l : List ℕ). set l j (getD col j 0)) (c .before .before .loop .inv .1)
-     ∙ padded-more 10 col j (omega arith) (omega arith))
+    let long : length col ≡ 10 = length-column (was .cells .now) (was .row) (was .s) in (
+      omega arith,
+      ap (λ (x : ℕ). set (c .before .before .loop .pages) j x) (c .word-at .ensures ∙ sym (column-cell (was .cells .now) (was .row) (was .s) j (omega arith)))
+          ∙ ap (λ (l : List ℕ). set l j (getD col j 0)) (c .before .before .loop .inv .1)
+          ∙ padded-more 10 col j (omega arith) (omega arith),
+    )
 
 returns : tie.Need-returns Inv-loop μ-loop
 returns c =

@@ -5,11 +5,6 @@ use mathlib.Core.Path.{_≡_}
 use borrow.Author.Needs.{needs}
 use Rattle.lent.proofs.lifting.lay.Statement.{statement}
 use Rattle.lent.proofs.lifting.lay.Tie as tie
-use Rattle.lent.proofs.lifting.lay.Reads as reads
-use Rattle.lent.proofs.lifting.lay.Lts as lts
-use Rattle.lent.proofs.cells.put.Reads as put-reads
-use Rattle.lent.proofs.lifting.lay_column.Reads as lay-column-reads
-use Rattle.lent.proofs.lifting.lay_task.Reads as lay-task-reads
 
 lay-task-requires : tie.Need-lay-task-requires
 lay-task-requires c κs = search needs

@@ -1,5 +1,4 @@
 -- The pages passed are written down the column.
-use mathlib.Core.Path.{sym}
 use Rattle.lent.proofs.SpreadLaws.{spread-none, spread-more}
 use Rattle.lent.specs.Words.{spread, address}
 use lib.Seq.{take-all}
@@ -11,9 +10,6 @@ use Prim.Native.Nat.{ℕ, _+_, _≤_, _-_}
 use borrow.Author.Needs.{needs}
 use Rattle.lent.proofs.lifting.lay_column.Statement.{statement}
 use Rattle.lent.proofs.lifting.lay_column.Tie as tie
-use Rattle.lent.proofs.lifting.lay_column.Reads as reads
-use Rattle.lent.proofs.lifting.lay_column.Lts as lts
-use Rattle.lent.proofs.cells.put.Reads as put-reads
 
 abbrev Inv-loop : tie.InvT-loop
 Inv-loop cells₀ row s pages j₀ cells j = (j ≤ 10) × (cells ≡ spread cells₀ row s (take j pages)) × (length pages ≡ 10)
@@ -46,12 +42,13 @@ loop-again : tie.Need-loop-again Inv-loop μ-loop
 loop-again c =
     let was = c .before .before .before .before .args in
     let j : ℕ = c .before .before .before .loop .j in
-    let inv = c .before .before .before .loop .inv in
-    (omega arith,
-     c .put .ensures
-     ∙ ap (λ (l : List ℕ). set l (address (was .row + j) (was .s)) (getD (was .t4) j 0)) (inv .1)
-     ∙ spread-more (was .cells .now) (was .row) (was .s) (was .t4) j (omega arith),
-     inv .2)
+    let inv = c .before .before .before .loop .inv in (
+      omega arith,
+      c .put .ensures
+          ∙ ap (λ (l : List ℕ). set l (address (was .row + j) (was .s)) (getD (was .t4) j 0)) (inv .1)
+          ∙ spread-more (was .cells .now) (was .row) (was .s) (was .t4) j (omega arith),
+      inv .2,
+    )
 
 returns : tie.Need-returns Inv-loop μ-loop
 returns c =

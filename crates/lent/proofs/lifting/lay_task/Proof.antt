@@ -5,11 +5,6 @@ use lib.ListN.{set}
 use borrow.Author.Needs.{needs}
 use Rattle.lent.proofs.lifting.lay_task.Statement.{statement}
 use Rattle.lent.proofs.lifting.lay_task.Tie as tie
-use Rattle.lent.proofs.lifting.lay_task.Reads as reads
-use Rattle.lent.proofs.lifting.lay_task.Lts as lts
-use Rattle.lent.proofs.lifting.information_of.Reads as information-of-reads
-use Rattle.lent.proofs.lifting.key_of.Reads as key-of-reads
-use Rattle.lent.proofs.lifting.kind_of.Reads as kind-of-reads
 
 kind-of-requires : tie.Need-kind-of-requires
 kind-of-requires c κs = search needs

@@ -3,14 +3,6 @@ use mathlib.Core.Path.{_∙_}
 use borrow.Author.Needs.{needs}
 use Rattle.lent.proofs.lifting.slot_at.Statement.{statement}
 use Rattle.lent.proofs.lifting.slot_at.Tie as tie
-use Rattle.lent.proofs.lifting.slot_at.Reads as reads
-use Rattle.lent.proofs.lifting.slot_at.Lts as lts
-use Rattle.lent.proofs.cells.beside_at.Reads as beside-at-reads
-use Rattle.lent.proofs.cells.depth_at.Reads as depth-at-reads
-use Rattle.lent.proofs.cells.want_at.Reads as want-at-reads
-use Rattle.lent.proofs.cells.wide.Reads as wide-reads
-use Rattle.lent.proofs.lifting.column_of.Reads as column-of-reads
-use Rattle.lent.proofs.lifting.task_at.Reads as task-at-reads
 
 task-at-requires : tie.Need-task-at-requires
 task-at-requires c κs = search needs
@@ -38,13 +30,13 @@ wide-requires-2 c κs = search needs
 
 returns : tie.Need-returns
 returns c = λ i. record {
-      task = c .before .before .before .before .before .before .before .task-at .ensures i;
-      want = c .before .before .before .before .want-at .ensures i;
-      path = c .before .before .before .before .before .before .column-of .ensures i;
-      depth = (c .before .before .wide .ensures ∙ c .before .before .before .depth-at .ensures) i;
-      siblings = c .before .before .before .before .before .column-of2 .ensures i;
-      beside = (c .wide2 .ensures ∙ c .before .beside-at .ensures) i;
-    }
+  task = c .before .before .before .before .before .before .before .task-at .ensures i;
+  want = c .before .before .before .before .want-at .ensures i;
+  path = c .before .before .before .before .before .before .column-of .ensures i;
+  depth = (c .before .before .wide .ensures ∙ c .before .before .before .depth-at .ensures) i;
+  siblings = c .before .before .before .before .before .column-of2 .ensures i;
+  beside = (c .wide2 .ensures ∙ c .before .beside-at .ensures) i;
+}
 
 pub slot-at-spec : {M : Type 1} → statement M
 slot-at-spec =

@@ -5,11 +5,6 @@ use Prim.Native.Nat.{ℕ}
 use borrow.Author.Needs.{needs}
 use Rattle.lent.proofs.lifting.task_at.Statement.{statement}
 use Rattle.lent.proofs.lifting.task_at.Tie as tie
-use Rattle.lent.proofs.lifting.task_at.Reads as reads
-use Rattle.lent.proofs.lifting.task_at.Lts as lts
-use Rattle.lent.proofs.cells.kind_at.Reads as kind-at-reads
-use Rattle.lent.proofs.cells.word_at.Reads as word-at-reads
-use Rattle.lent.proofs.lifting.task_of.Reads as task-of-reads
 
 kind-at-requires : tie.Need-kind-at-requires
 kind-at-requires c κs = search needs

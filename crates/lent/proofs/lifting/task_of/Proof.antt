@@ -1,10 +1,7 @@
 -- Each kind by its test.
 use borrow.Author.Tests.{eq-eqb, ne-eqb}
-use borrow.Author.Needs.{needs}
 use Rattle.lent.proofs.lifting.task_of.Statement.{statement}
 use Rattle.lent.proofs.lifting.task_of.Tie as tie
-use Rattle.lent.proofs.lifting.task_of.Reads as reads
-use Rattle.lent.proofs.lifting.task_of.Lts as lts
 
 returns : tie.Need-returns
 returns c = rw (eq-eqb (c .before .args .kind) 1 (c .if1 .taken))

@@ -1,6 +1,6 @@
 -- Each way out is a case of the rule; a closed slot of a sound state leaves room in the waiting order.
 use Rattle.state.proofs.CallLaws.{says-unsound, says-nowhere, says-busy, says-begun}
-use Rattle.state.proofs.CheckingLawsSound.{SoundWords, sound-words, kind-closed, kind-open}
+use Rattle.state.proofs.CheckingLawsSound.{sound-words, kind-closed, kind-open}
 use Rattle.lent.proofs.StateLaws.{length-order}
 use Rattle.lent.specs.Words.{asRead, stateOf}
 use Rattle.slots.proofs.OrderLaws.{order-has-room}
@@ -8,19 +8,11 @@ use Rattle.slots.specs.Sound.{sound}
 use Rattle.slots.specs.Parts.{openAt}
 use Rattle.ground.specs.Limits.{slotCount}
 use borrow.Author.Tests.{not-true, not-false}
-use lib.ListN.{length}
 use mathlib.Core.Path.{_≡_, sym, _∙_}
 use mathlib.Core.Bool.{true, false}
-use Prim.Native.Nat.{_<_}
 use borrow.Author.Needs.{needs}
 use Rattle.state.proofs.calls.begin.Statement.{statement}
 use Rattle.state.proofs.calls.begin.Tie as tie
-use Rattle.state.proofs.calls.begin.Reads as reads
-use Rattle.state.proofs.calls.begin.Lts as lts
-use Rattle.lent.proofs.book.begins.Reads as begins-reads
-use Rattle.lent.proofs.cells.kind_at.Reads as kind-at-reads
-use Rattle.lent.proofs.cells.sized.Reads as sized-reads
-use Rattle.state.proofs.checking.is_sound.Reads as is-sound-reads
 
 sized-requires : tie.Need-sized-requires
 sized-requires c κs = search needs
@@ -66,9 +58,10 @@ begins-requires : tie.Need-begins-requires
 unfolding slotCount
 begins-requires c κs =
     let was = c .before .before .before .before .before .before .before .before .before .before .before .args in
-    let known = sound-words (was .state .now) (kept (c .before .before .before .before .before)) in
-    (c .before .before .before .before .if2 .left,
-     order-has-room (asRead (was .state .now)) (length-order (was .state .now) (c .before .before .before .before .before .before .before .before .sized .ensures)) (known .facts) (was .s) (c .before .before .before .before .if2 .left) (shut (c .before)))
+    let known = sound-words (was .state .now) (kept (c .before .before .before .before .before)) in (
+      c .before .before .before .before .if2 .left,
+      order-has-room (asRead (was .state .now)) (length-order (was .state .now) (c .before .before .before .before .before .before .before .before .sized .ensures)) (known .facts) (was .s) (c .before .before .before .before .if2 .left) (shut (c .before)),
+    )
 
 returns-4 : tie.Need-returns-4
 unfolding slotCount

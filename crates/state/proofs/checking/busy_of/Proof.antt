@@ -5,14 +5,11 @@ use Rattle.lent.specs.Words.{cell}
 use lib.ListN.{length, getD, length-set}
 use native.Mathlib.Omega.{arith}
 use mathlib.Core.Path.{_≡_, ap, _∙_}
-use mathlib.Core.Bool.{Bool, false, not, _&&_}
+use mathlib.Core.Bool.{false}
 use Prim.Native.Nat.{ℕ, _≤_, _<_, _-_}
 use borrow.Author.Needs.{needs}
 use Rattle.state.proofs.checking.busy_of.Statement.{statement}
 use Rattle.state.proofs.checking.busy_of.Tie as tie
-use Rattle.state.proofs.checking.busy_of.Reads as reads
-use Rattle.state.proofs.checking.busy_of.Lts as lts
-use Rattle.lent.proofs.cells.kind_at.Reads as kind-at-reads
 
 abbrev Inv-loop : tie.InvT-loop
 Inv-loop cells busy₀ s₀ busy s = (s ≤ 16) × (length busy ≡ 16) × ((t : ℕ) → t < s → getD busy t false ≡ openKind (cell cells 0 t))
@@ -39,10 +36,11 @@ loop-again : tie.Need-loop-again Inv-loop μ-loop
 loop-again c =
     let ws = c .before .before .before .args .cells .now in
     let inv = c .before .before .loop .inv in
-    let s : ℕ = c .before .before .loop .s in
-    (omega arith,
-     length-set (c .before .before .loop .busy) s _ ∙ inv .1,
-     marks-on (λ (t : ℕ). openKind (cell ws 0 t)) (c .before .before .loop .busy) s _ (omega arith) (inv .2) (ap openKind (c .kind-at .ensures)))
+    let s : ℕ = c .before .before .loop .s in (
+      omega arith,
+      length-set (c .before .before .loop .busy) s _ ∙ inv .1,
+      marks-on (λ (t : ℕ). openKind (cell ws 0 t)) (c .before .before .loop .busy) s _ (omega arith) (inv .2) (ap openKind (c .kind-at .ensures)),
+    )
 
 returns : tie.Need-returns Inv-loop μ-loop
 returns c =

@@ -10,15 +10,11 @@ use lib.ListN.{length, getD, take}
 use native.Mathlib.Omega.{arith}
 use mathlib.Core.Path.{_≡_, sym, ap, _∙_}
 use mathlib.Core.List.{List}
-use mathlib.Core.Bool.{Bool, true, not}
-use Prim.Native.Nat.{ℕ, _≤_, _<_, _-_, _+_}
+use mathlib.Core.Bool.{true, not}
+use Prim.Native.Nat.{ℕ, _≤_, _-_}
 use borrow.Author.Needs.{needs}
 use Rattle.state.proofs.checking.column_alone.Statement.{statement}
 use Rattle.state.proofs.checking.column_alone.Tie as tie
-use Rattle.state.proofs.checking.column_alone.Reads as reads
-use Rattle.state.proofs.checking.column_alone.Lts as lts
-use Rattle.lent.proofs.cells.word_at.Reads as word-at-reads
-use Rattle.lent.proofs.granting.others_hold.Reads as others-hold-reads
 
 abbrev Inv-loop : tie.InvT-loop
 Inv-loop cells s row count i₀ i = (i ≤ count) × (all (λ (p : ℕ). not (othersHold cells s 0 p)) (take i (column cells row s)) ≡ true)
@@ -65,9 +61,10 @@ loop-again c =
     let was = c .before .before .before .before .before .args in
     let ws = was .cells .now in
     let col : List ℕ = column ws (was .row) (was .s) in
-    let long : length col ≡ 10 = length-column ws (was .row) (was .s) in
-    (omega arith,
-     all-on col (c .before .before .before .before .loop .i) (λ (p : ℕ). not (othersHold ws (was .s) 0 p)) (omega arith) (c .before .before .before .before .loop .inv .1) (not-of-false (next (c .before) ∙ c .if1 .left)))
+    let long : length col ≡ 10 = length-column ws (was .row) (was .s) in (
+      omega arith,
+      all-on col (c .before .before .before .before .loop .i) (λ (p : ℕ). not (othersHold ws (was .s) 0 p)) (omega arith) (c .before .before .before .before .loop .inv .1) (not-of-false (next (c .before) ∙ c .if1 .left)),
+    )
 
 returns-2 : tie.Need-returns-2 Inv-loop μ-loop
 returns-2 c =

@@ -11,15 +11,11 @@ use borrow.Author.Tests.{not-true, not-false}
 use native.Mathlib.Omega.{arith}
 use mathlib.Core.Path.{_≡_, sym, ap, _∙_}
 use mathlib.Core.Logic.{⊎-elim}
-use mathlib.Core.Bool.{Bool, true, not}
-use Prim.Native.Nat.{ℕ, _≤_, _-_, _+_}
+use mathlib.Core.Bool.{true, not}
+use Prim.Native.Nat.{ℕ, _≤_, _-_}
 use borrow.Author.Needs.{needs}
 use Rattle.state.proofs.checking.deep_fine.Statement.{statement}
 use Rattle.state.proofs.checking.deep_fine.Tie as tie
-use Rattle.state.proofs.checking.deep_fine.Reads as reads
-use Rattle.state.proofs.checking.deep_fine.Lts as lts
-use Rattle.lent.proofs.granting.is_deep.Reads as is-deep-reads
-use Rattle.state.proofs.checking.pages_fine.Reads as pages-fine-reads
 
 abbrev Inv-loop : tie.InvT-loop
 Inv-loop cells n s₀ s = (s ≤ 16) × (allBelow s (deepFine cells n) ≡ true)

@@ -13,12 +13,6 @@ use Prim.Native.Nat.{ℕ}
 use borrow.Author.Needs.{needs}
 use Rattle.state.proofs.checking.is_alone.Statement.{statement}
 use Rattle.state.proofs.checking.is_alone.Tie as tie
-use Rattle.state.proofs.checking.is_alone.Reads as reads
-use Rattle.state.proofs.checking.is_alone.Lts as lts
-use Rattle.lent.proofs.cells.beside_at.Reads as beside-at-reads
-use Rattle.lent.proofs.cells.depth_at.Reads as depth-at-reads
-use Rattle.lent.proofs.cells.wide.Reads as wide-reads
-use Rattle.state.proofs.checking.column_alone.Reads as column-alone-reads
 
 depth-at-requires : tie.Need-depth-at-requires
 depth-at-requires c κs = search needs

@@ -6,9 +6,6 @@ use Prim.Native.Nat.{ℕ}
 use borrow.Author.Needs.{needs}
 use Rattle.state.proofs.checking.is_fine.Statement.{statement}
 use Rattle.state.proofs.checking.is_fine.Tie as tie
-use Rattle.state.proofs.checking.is_fine.Reads as reads
-use Rattle.state.proofs.checking.is_fine.Lts as lts
-use Rattle.state.proofs.checking.is_named.Reads as is-named-reads
 
 is-named-requires : tie.Need-is-named-requires
 is-named-requires c κs = search needs

@@ -10,20 +10,11 @@ use lib.ListN.{getD}
 use lib.Dec.{leb}
 use native.Mathlib.Omega.{arith}
 use mathlib.Core.Path.{_≡_, sym, ap, ap₂, _∙_}
-use mathlib.Core.Bool.{Bool, true, _&&_}
+use mathlib.Core.Bool.{_&&_}
 use Prim.Native.Nat.{ℕ}
 use borrow.Author.Needs.{needs}
 use Rattle.state.proofs.checking.is_sound.Statement.{statement}
 use Rattle.state.proofs.checking.is_sound.Tie as tie
-use Rattle.state.proofs.checking.is_sound.Reads as reads
-use Rattle.state.proofs.checking.is_sound.Lts as lts
-use Rattle.lent.proofs.cells.k_of.Reads as k-of-reads
-use Rattle.lent.proofs.cells.n_of.Reads as n-of-reads
-use Rattle.state.proofs.checking.deep_fine.Reads as deep-fine-reads
-use Rattle.state.proofs.checking.no_clashes.Reads as no-clashes-reads
-use Rattle.state.proofs.checking.numbers_in_range.Reads as numbers-in-range-reads
-use Rattle.state.proofs.checking.rows_fine.Reads as rows-fine-reads
-use Rattle.state.proofs.checking.waits_sound.Reads as waits-sound-reads
 
 n-of-requires : tie.Need-n-of-requires
 n-of-requires c κs = search needs

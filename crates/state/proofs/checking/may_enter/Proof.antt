@@ -11,16 +11,11 @@ use lib.ListN.{length, getD, take}
 use native.Mathlib.Omega.{arith}
 use mathlib.Core.Path.{_≡_, sym, ap, _∙_, subst}
 use mathlib.Core.List.{List}
-use mathlib.Core.Bool.{true, false}
-use Prim.Native.Nat.{ℕ, _≤_, _<_, _-_, _+_}
+use mathlib.Core.Bool.{true}
+use Prim.Native.Nat.{ℕ, _≤_, _<_, _-_}
 use borrow.Author.Needs.{needs}
 use Rattle.state.proofs.checking.may_enter.Statement.{statement}
 use Rattle.state.proofs.checking.may_enter.Tie as tie
-use Rattle.state.proofs.checking.may_enter.Reads as reads
-use Rattle.state.proofs.checking.may_enter.Lts as lts
-use Rattle.lent.proofs.cells.want_at.Reads as want-at-reads
-use Rattle.lent.proofs.cells.word_at.Reads as word-at-reads
-use Rattle.lent.proofs.granting.column_has.Reads as column-has-reads
 
 abbrev Inv-loop : tie.InvT-loop
 Inv-loop cells s n row count own want i₀ i = (i ≤ count) × (mayEnter n (cell cells 3 s) (take own (column cells 6 s)) (take i (column cells row s)) ≡ true)
@@ -116,14 +111,15 @@ loop-again c =
     let own : List ℕ = take (was .own) (column ws 6 (was .s)) in
     let i : ℕ = c .before .before .before .before .before .before .before .before .loop .i in
     let long : length col ≡ 10 = length-column ws (was .row) (was .s) in
-    let read = next (c .before .before .before .before .before .before) in
-    (omega arith,
-     may-on (was .n) (cell ws 3 (was .s)) own col i (omega arith) (c .before .before .before .before .before .before .before .before .loop .inv .1)
-     (subst (λ (p : ℕ). p < was .n) (sym read) (c .before .before .before .before .before .if1 .left))
-     (λ e. c .before .before .before .before .if2 .left (sym read ∙ e ∙ sym (c .before .before .before .before .before .before .before .before .before .want-at .ensures)))
-     (ap (λ (p : ℕ). member p (own ++ take i col)) read
-     ∙ member-append (c .before .before .before .before .before .before .word-at .result) own (take i col)
-     ∙ or-none (sym (c .before .before .before .column-has .ensures) ∙ c .before .before .if3 .left) (sym (c .before .column-has2 .ensures) ∙ c .if4 .left)))
+    let read = next (c .before .before .before .before .before .before) in (
+      omega arith,
+      may-on (was .n) (cell ws 3 (was .s)) own col i (omega arith) (c .before .before .before .before .before .before .before .before .loop .inv .1)
+          (subst (λ (p : ℕ). p < was .n) (sym read) (c .before .before .before .before .before .if1 .left))
+          (λ e. c .before .before .before .before .if2 .left (sym read ∙ e ∙ sym (c .before .before .before .before .before .before .before .before .before .want-at .ensures)))
+          (ap (λ (p : ℕ). member p (own ++ take i col)) read
+          ∙ member-append (c .before .before .before .before .before .before .word-at .result) own (take i col)
+          ∙ or-none (sym (c .before .before .before .column-has .ensures) ∙ c .before .before .if3 .left) (sym (c .before .column-has2 .ensures) ∙ c .if4 .left)),
+    )
 
 returns-5 : tie.Need-returns-5 Inv-loop μ-loop
 returns-5 c =

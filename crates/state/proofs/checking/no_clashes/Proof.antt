@@ -10,15 +10,11 @@ use lib.Dec.{ltb}
 use native.Mathlib.Omega.{arith}
 use mathlib.Core.Path.{_≡_, sym, ap, _∙_}
 use mathlib.Core.Logic.{⊎-elim}
-use mathlib.Core.Bool.{Bool, true, not}
-use Prim.Native.Nat.{ℕ, _≤_, _-_, _+_}
+use mathlib.Core.Bool.{true, not}
+use Prim.Native.Nat.{ℕ, _≤_, _-_}
 use borrow.Author.Needs.{needs}
 use Rattle.state.proofs.checking.no_clashes.Statement.{statement}
 use Rattle.state.proofs.checking.no_clashes.Tie as tie
-use Rattle.state.proofs.checking.no_clashes.Reads as reads
-use Rattle.state.proofs.checking.no_clashes.Lts as lts
-use Rattle.lent.proofs.cells.kind_at.Reads as kind-at-reads
-use Rattle.state.proofs.checking.is_alone.Reads as is-alone-reads
 
 abbrev Inv-loop : tie.InvT-loop
 Inv-loop cells s₀ s = (s ≤ 16) × (allBelow s (xiAlone cells) ≡ true)

@@ -13,11 +13,6 @@ use Prim.Native.Nat.{ℕ, _+_, _≤_, _<_, _-_}
 use borrow.Author.Needs.{needs}
 use Rattle.state.proofs.checking.order_sound.Statement.{statement}
 use Rattle.state.proofs.checking.order_sound.Tie as tie
-use Rattle.state.proofs.checking.order_sound.Reads as reads
-use Rattle.state.proofs.checking.order_sound.Lts as lts
-use Rattle.lent.proofs.cells.order_at.Reads as order-at-reads
-use Rattle.lent.proofs.cells.sized.Reads as sized-reads
-use Rattle.state.proofs.checking.none_of.Reads as none-of-reads
 
 abbrev Inv-loop : tie.InvT-loop
 Inv-loop cells waiting unnamed₀ i₀ unnamed i = (i ≤ waiting) × (waiting ≤ 16) × (length unnamed ≡ 16) × Naming unnamed₀ unnamed (orderIn cells) i

@@ -11,13 +11,6 @@ use Prim.Native.Nat.{ℕ, _≤_, _<_}
 use borrow.Author.Needs.{needs}
 use Rattle.state.proofs.checking.pages_fine.Statement.{statement}
 use Rattle.state.proofs.checking.pages_fine.Tie as tie
-use Rattle.state.proofs.checking.pages_fine.Reads as reads
-use Rattle.state.proofs.checking.pages_fine.Lts as lts
-use Rattle.lent.proofs.cells.beside_at.Reads as beside-at-reads
-use Rattle.lent.proofs.cells.depth_at.Reads as depth-at-reads
-use Rattle.lent.proofs.cells.want_at.Reads as want-at-reads
-use Rattle.lent.proofs.cells.wide.Reads as wide-reads
-use Rattle.state.proofs.checking.may_enter.Reads as may-enter-reads
 
 want-at-requires : tie.Need-want-at-requires
 want-at-requires c κs = search needs

@@ -7,18 +7,10 @@ use Rattle.ground.specs.Tests.{allBelow}
 use native.Mathlib.Omega.{arith}
 use mathlib.Core.Path.{_≡_, sym, ap, ap₂, _∙_}
 use mathlib.Core.Bool.{Bool, _&&_}
-use Prim.Native.Nat.{ℕ, _≤_, _-_, _+_}
+use Prim.Native.Nat.{ℕ, _≤_, _-_}
 use borrow.Author.Needs.{needs}
 use Rattle.state.proofs.checking.rows_fine.Statement.{statement}
 use Rattle.state.proofs.checking.rows_fine.Tie as tie
-use Rattle.state.proofs.checking.rows_fine.Reads as reads
-use Rattle.state.proofs.checking.rows_fine.Lts as lts
-use Rattle.lent.proofs.cells.beside_at.Reads as beside-at-reads
-use Rattle.lent.proofs.cells.depth_at.Reads as depth-at-reads
-use Rattle.lent.proofs.cells.kind_at.Reads as kind-at-reads
-use Rattle.lent.proofs.cells.top_at.Reads as top-at-reads
-use Rattle.lent.proofs.cells.want_at.Reads as want-at-reads
-use Rattle.state.proofs.checking.is_fine.Reads as is-fine-reads
 
 abbrev Inv-loop : tie.InvT-loop
 Inv-loop cells n good₀ s₀ good s = (s ≤ 16) × (good ≡ allBelow s (rowFine cells n))

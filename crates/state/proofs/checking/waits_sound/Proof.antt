@@ -10,11 +10,6 @@ use Prim.Native.Nat.{ℕ}
 use borrow.Author.Needs.{needs}
 use Rattle.state.proofs.checking.waits_sound.Statement.{statement}
 use Rattle.state.proofs.checking.waits_sound.Tie as tie
-use Rattle.state.proofs.checking.waits_sound.Reads as reads
-use Rattle.state.proofs.checking.waits_sound.Lts as lts
-use Rattle.lent.proofs.cells.waiting_of.Reads as waiting-of-reads
-use Rattle.state.proofs.checking.busy_of.Reads as busy-of-reads
-use Rattle.state.proofs.checking.order_sound.Reads as order-sound-reads
 
 waiting-of-requires : tie.Need-waiting-of-requires
 waiting-of-requires c κs = search needs

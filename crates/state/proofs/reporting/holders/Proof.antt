@@ -16,9 +16,6 @@ use Prim.Native.Nat.{ℕ, _*_, _%_, _^_, _≤_, _-_}
 use borrow.Author.Needs.{needs}
 use Rattle.state.proofs.reporting.holders.Statement.{statement}
 use Rattle.state.proofs.reporting.holders.Tie as tie
-use Rattle.state.proofs.reporting.holders.Reads as reads
-use Rattle.state.proofs.reporting.holders.Lts as lts
-use Rattle.lent.proofs.granting.holds_at.Reads as holds-at-reads
 
 abbrev Inv-loop : tie.InvT-loop
 Inv-loop cells p mask₀ s₀ mask s = (s ≤ 16) × (mask ≡ maskBelow s (λ (t : ℕ). holdsAt (asRead cells) t p))

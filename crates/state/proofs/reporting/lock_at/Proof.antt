@@ -7,14 +7,10 @@ use Rattle.slots.specs.declared.Slot.{Slot}
 use Rattle.ground.proofs.Choice.{cond-true, cond-false}
 use Rattle.ground.specs.Limits.{slotCount}
 use borrow.Author.Tests.{lt-ltb, le-ltb}
-use mathlib.Core.Path.{_≡_, sym, ap, _∙_}
+use mathlib.Core.Path.{sym, ap, _∙_}
 use borrow.Author.Needs.{needs}
 use Rattle.state.proofs.reporting.lock_at.Statement.{statement}
 use Rattle.state.proofs.reporting.lock_at.Tie as tie
-use Rattle.state.proofs.reporting.lock_at.Reads as reads
-use Rattle.state.proofs.reporting.lock_at.Lts as lts
-use Rattle.lent.proofs.lifting.task_at.Reads as task-at-reads
-use Rattle.slots.proofs.granting.lock_of.Reads as lock-of-reads
 
 returns : tie.Need-returns
 unfolding slotCount

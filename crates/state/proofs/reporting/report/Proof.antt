@@ -1,6 +1,6 @@
 -- Each way out is a case of the rule; the mask has as many ones as there are holders, and below its lowest one as many zeros as slots that do not hold the page.
 use Rattle.state.proofs.ReportLaws.{kind-of-lowest}
-use Rattle.state.proofs.CheckingLawsSound.{SoundWords, sound-words}
+use Rattle.state.proofs.CheckingLawsSound.{sound-words}
 use Rattle.state.proofs.CallLaws.{report-unsound, report-nowhere, report-done}
 use Rattle.state.proofs.MaskLaws.{mask-ones, mask-lowest}
 use Rattle.lent.specs.Words.{asRead, stateOf}
@@ -20,12 +20,6 @@ use Prim.Native.Nat.{ℕ, _≤_, _<_}
 use borrow.Author.Needs.{needs}
 use Rattle.state.proofs.reporting.report.Statement.{statement}
 use Rattle.state.proofs.reporting.report.Tie as tie
-use Rattle.state.proofs.reporting.report.Reads as reads
-use Rattle.state.proofs.reporting.report.Lts as lts
-use Rattle.lent.proofs.cells.n_of.Reads as n-of-reads
-use Rattle.state.proofs.checking.is_sound.Reads as is-sound-reads
-use Rattle.state.proofs.reporting.holders.Reads as holders-reads
-use Rattle.state.proofs.reporting.lock_at.Reads as lock-at-reads
 
 is-sound-requires : tie.Need-is-sound-requires
 is-sound-requires c κs = search needs

@@ -28,8 +28,7 @@ answer-lines-requires c κs = search needs
 returns-2 : tie.Need-returns-2
 unfolding poolLength blank
 returns-2 c =
-    lines-write _ _ (c .before .before .before .before .before .before .before .before .if1 .left)
-    (c .before .before .before .before .before .before .make .ensures) (c .before .answer-lines .ensures)
+    lines-write _ _ (c .before .before .before .before .before .before .before .before .before .if1 .left) (c .before .before .before .before .before .before .make .ensures) (c .before .answer-lines .ensures)
 
 pub answer-spec : {M : Type 1} → statement M
 answer-spec =

@@ -1,5 +1,6 @@
 -- `answer_lines` meets its contract: what is written so far, with the answers to the lines that are left, is the whole.
 -- Each answer is at most 8 bytes for each byte of its line, so that there is room for the next.
+use Rattle.lent.specs.Words.{stateOf}
 use Prim.Native.Nat.{_-_}
 use mathlib.Core.Path.{_≡_, refl, sym, _∙_}
 use native.Mathlib.Omega.{arith}
@@ -12,13 +13,13 @@ use Rattle.talk.proofs.answering.answer_lines.Statement.{statement}
 use Rattle.talk.proofs.answering.answer_lines.Tie as tie
 
 abbrev Inv-loop : tie.InvT-loop
-Inv-loop words₀ input out₀ state₀ at₀ end₀ words out state at end =
-    Going (replies state₀ words₀ (linesOf input)) input out₀ state words out at end
+Inv-loop state₀ words₀ input out₀ at₀ end₀ state words out at end =
+    Going (replies (stateOf state₀) words₀ (linesOf input)) input out₀ (stateOf state) words out at end
     × (length words ≡ length words₀)
     × (length out ≡ length out₀)
 
 abbrev μ-loop : tie.MeasureT-loop
-μ-loop words₀ input out₀ state₀ at₀ end₀ words out state at end = length input - at
+μ-loop state₀ words₀ input out₀ at₀ end₀ state words out at end = length input - at
 
 loop-holds : tie.Need-loop-holds Inv-loop μ-loop
 loop-holds c = (going-start _ _ _ _, refl, refl)
@@ -63,8 +64,8 @@ obey-requires : tie.Need-obey-requires Inv-loop μ-loop
 obey-requires c κs =
     omega (
       arith,
-      c .before .before .before .before .before .before .before .loop .inv .0 .room,
-      c .before .before .before .before .before .before .before .loop .inv .2,
+      c .before .before .before .before .before .before .before .before .loop .inv .0 .room,
+      c .before .before .before .before .before .before .before .before .loop .inv .2,
     )
 
 add-at : tie.Need-add-at Inv-loop μ-loop
@@ -83,7 +84,7 @@ loop-again c = (
         c .before .before .before .before .before .before .before .before .before .before .before .line-end .ensures .2,
       ))
       (c .before .before .before .before .before .before .before .before .read-line .ensures)
-      (c .before .before .before .before .before .obey .ensures),
+      (c .before .before .before .before .obey .ensures),
   search needs,
   search needs,
 )

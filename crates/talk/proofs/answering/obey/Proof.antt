@@ -39,8 +39,7 @@ same-length c = search needs
 
 returns : tie.Need-returns
 returns c =
-    begin-leaves _ _ _ _ _ _ (c .before .before .before .before .before .before .before .command .given .1)
-    (c .before .before .before .before .before .begin .ensures) (c .before .before .write-answer .ensures)
+    begin-leaves _ _ _ _ _ _ (c .before .before .before .before .before .before .before .command .given .1) (c .before .before .before .before .begin .ensures) (c .before .before .write-answer .ensures)
 
 same-length-2 : tie.Need-same-length-2
 same-length-2 c = search needs
@@ -50,17 +49,14 @@ same-length-3 c = search needs
 
 returns-2 : tie.Need-returns-2
 returns-2 c =
-    step-leaves _ _ _ _ _ (c .before .before .before .before .before .before .before .before .before .before .command2 .given .1)
-    (c .before .before .before .before .before .before .before .step .ensures)
-    (c .before .before .write-answer2 .ensures)
+    step-leaves _ _ _ _ _ (c .before .before .before .before .before .before .before .before .before .before .command2 .given .1) (c .before .before .before .before .before .before .step .ensures) (c .before .before .write-answer2 .ensures)
 
 same-length-4 : tie.Need-same-length-4
 same-length-4 c = search needs
 
 returns-3 : tie.Need-returns-3
 returns-3 c =
-    bad-leaves _ _ _ _ (c .before .before .before .before .enum-told .given .1)
-    (c .before .before .write-bad-line .ensures)
+    bad-leaves _ _ _ _ (c .before .before .before .before .enum-told .given .1) (c .before .before .write-bad-line .ensures)
 
 pub obey-spec : {M : Type 1} → statement M
 obey-spec =
