@@ -35,7 +35,7 @@ fn digit_count(n: u32) -> usize
 }
 
 // Writes a number in decimal, from its last digit to its first.
-fn write_number(out: &mut [u8], at: usize, n: u32) -> usize
+pub fn write_number(out: &mut [u8], at: usize, n: u32) -> usize
     requires { ⌜ at + length (decimal n) ≤ length (now out) ⌝ }
     ensures { λ r. ⌜ (now (out .exit) ≡ laid (now (out .entry)) at (decimal n)) × (r ≡ at + length (decimal n)) ⌝ }
 {

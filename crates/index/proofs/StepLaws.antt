@@ -38,7 +38,7 @@ use Rattle.index.specs.Step.{Left, left, acted, steppedTask, stepped}
 use Rattle.index.specs.Statements.{StepSays}
 use Rattle.index.specs.Acting.{actedCells, Leaves, Waits, Acts}
 use Rattle.index.proofs.MakeLaws.{isPool}
-use Rattle.index.proofs.Refusals.{changes, Answers, verdict-answers}
+use Rattle.index.proofs.Refusals.{Answers, verdict-answers, changes}
 
 -- ---- a granted step
 

@@ -7,4 +7,5 @@ pub mod ExactLaws
 pub mod MoveLaws
 pub mod SmallRows
 pub mod ReadingLaws
+pub mod SofarLaws
 pub mod CheckingLaws

@@ -1,5 +1,6 @@
 // Whether a page is sound by itself, for any words of a page's length. Level and μ come first, since the words that the
-// other tests read follow from them; each test ends at its first failure.
+// other tests read follow from them. Keys and unused words are gone through to the end, with no way out in between, so that
+// several are looked at in one go.
 use crate::reading::count;
 use crate::reading::is_leaf;
 use crate::reading::level;
@@ -56,14 +57,13 @@ fn rising(w: &[u32]) -> bool
 {
     let from = pairs_from(w[0]);
     let m = count(w);
+    let mut good = true;
     let mut i = 0;
     while i + 1 < m {
-        if w[from + 2 * i + 2] <= w[from + 2 * i] {
-            return false;
-        }
+        good = good & (w[from + 2 * i] < w[from + 2 * i + 2]);
         i += 1;
     }
-    true
+    good
 }
 
 // A pointer is from 1 to n - 1.
@@ -136,14 +136,13 @@ fn pointers_sound(w: &[u32], n: usize) -> bool
 fn unused(w: &[u32], from: usize) -> bool
     ensures { λ r. ⌜ r ≡ all (λ (x : ℕ). eqb x 0) (drop from (now (w .entry))) ⌝ }
 {
+    let mut good = true;
     let mut i = from;
     while i < w.len() {
-        if w[i] != 0 {
-            return false;
-        }
+        good = good & (w[i] == 0);
         i += 1;
     }
-    true
+    good
 }
 
 // The words of page p of a pool of n pages are sound by themselves.

@@ -1,9 +1,7 @@
 //! Names for what a call did, to count how much the claims cover.
 
+use moments::{Call, Moment};
 use twin::{free_pages, page_words, Answer, Op, Slot};
-
-use crate::moment::Moment;
-use crate::text::Call;
 
 /// The name of what a call did from one moment to the next.
 pub fn kind(before: &Moment, call: Call, answer: Answer, after: &Moment) -> String {

@@ -2,20 +2,20 @@
 //! `fresh` also the calls of a schedule and of one claim. What the calls did is counted on
 //! standard error.
 
-mod built;
 mod fresh;
 mod kinds;
-mod limits;
 mod making;
-mod moment;
-mod spoiled;
 mod text;
+mod told;
 
 use std::collections::BTreeMap;
 use std::env::args;
 use std::str::FromStr;
 
 use draw::Random;
+use moments::{built, limits, spoiled_state, spoiled_words, Call, Moment};
+
+use crate::told::claim_from;
 
 fn main() {
     let words: Vec<String> = args().skip(1).collect();
@@ -45,6 +45,7 @@ fn number<T: FromStr>(text: &str) -> T {
 
 /// One claim of a kind, drawn until there is one.
 fn drawn(kind: &str, name: &str, random: &mut Random, more: &[String]) -> (Vec<String>, String) {
+    let told = |(mut moment, calls): (Moment, Vec<Call>)| claim_from(name, &mut moment, &calls);
     loop {
         let claim = match kind {
             "fresh" => Some(fresh::claims(
@@ -53,10 +54,10 @@ fn drawn(kind: &str, name: &str, random: &mut Random, more: &[String]) -> (Vec<S
                 number(&more[0]),
                 number(&more[1]),
             )),
-            "words" => spoiled::words_claim(name, random),
-            "state" => spoiled::state_claim(name, random),
-            "built" => built::claim(name, random),
-            "limits" => Some(limits::claim(name, random)),
+            "words" => spoiled_words(random).map(told),
+            "state" => Some(told(spoiled_state(random))),
+            "built" => built(random).map(told),
+            "limits" => Some(told(limits(random))),
             "making" => Some(making::claim(name, random)),
             _ => panic!("{kind} is no kind of claim"),
         };

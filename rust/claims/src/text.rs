@@ -1,14 +1,7 @@
 //! Calls, states and words as antt text.
 
+use moments::Call;
 use twin::{Op, Slot, State};
-
-/// One call of a run.
-#[derive(Clone, Copy, Debug)]
-pub enum Call {
-    Begin(usize, Op),
-    Step(usize),
-    Report(u32),
-}
 
 /// What stands at the head of every file of claims.
 pub const HEAD: &str = include_str!("head.txt");

@@ -18,12 +18,14 @@ mod answer;
 mod calls;
 mod change;
 mod grant;
+mod lent;
 mod locks;
 mod page;
 mod state;
 
 pub use answer::Answer;
 pub use calls::{begin, make, report, step};
+pub use lent::{begin_lent, make_lent, report_lent, state_of, step_lent, words_of, STATE};
 pub use locks::must_wait;
 pub use page::{free_pages, page_words, read_page, Page};
 pub use state::{is_sound, Op, Slot, State, PATH, SIBLINGS, SLOTS};

@@ -4,7 +4,10 @@ mod fill;
 mod input;
 mod random;
 mod spoil;
+mod started;
 
 pub use fill::fill_and_empty;
 pub use input::Input;
 pub use random::random_input;
+pub use spoil::spoiled;
+pub use started::written;

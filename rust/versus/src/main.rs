@@ -5,12 +5,12 @@
 use std::collections::BTreeMap;
 use std::env::args;
 use std::io::{stdout, Write};
-use std::process::{Command, ExitCode, Stdio};
+use std::process::ExitCode;
 use std::thread;
 
 use draw::Random;
 use lots_twin::{answers, MOST};
-use versus::{fill_and_empty, random_input};
+use versus::{fill_and_empty, random_input, written};
 
 /// How many short inputs, and how many that are as long as may be.
 const SHORT: u64 = 2000;
@@ -90,28 +90,6 @@ fn inputs() -> Vec<Vec<u8>> {
 /// A step of slot 0 in so many bytes.
 fn zeros(bytes: usize) -> Vec<u8> {
     format!("t {:0width$}\n", 0, width = bytes - 3).into_bytes()
-}
-
-/// What the program writes for an input.
-fn written(words: &[String], input: &[u8]) -> Vec<u8> {
-    let mut child = Command::new(&words[0])
-        .args(&words[1..])
-        .stdin(Stdio::piped())
-        .stdout(Stdio::piped())
-        .spawn()
-        .expect("the program starts");
-    let mut stdin = child.stdin.take().expect("a pipe");
-    thread::scope(|scope| {
-        // what is too long is not read to its end, and the pipe breaks
-        scope.spawn(move || stdin.write_all(input).ok());
-        let output = child.wait_with_output().expect("the program ends");
-        assert!(
-            output.status.success(),
-            "the program ended with {}",
-            output.status
-        );
-        output.stdout
-    })
 }
 
 /// How often each answer came.

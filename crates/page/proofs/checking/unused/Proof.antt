@@ -1,30 +1,32 @@
--- The loop's invariant: the words passed are 0. A word that is not ends the loop, and then not all are 0.
+-- The loop's invariant: the words passed are 0, or not all are.
 use Prim.Native.Nat.{ℕ, _-_, _≤_, _<_}
-use mathlib.Core.Path.{_≡_}
+use mathlib.Core.Logic.{inl}
+use mathlib.Core.Path.{_≡_, refl}
 use native.Mathlib.Omega.{arith}
 use borrow.Author.Count.{below-more}
-use lib.ListN.{length, getD}
+use borrow.Author.Tests.{eqb-true, eqb-false}
+use lib.Dec.{eqb}
+use lib.ListN.{length, getD, drop}
+use Rattle.ground.specs.Tests.{all}
+use Rattle.page.proofs.SofarLaws.{Sofar, sofar-on, sofar-done}
 use Rattle.page.proofs.CheckingLaws.{unused-stop, unused-done}
 use Rattle.page.proofs.checking.unused.Statement.{statement}
 use Rattle.page.proofs.checking.unused.Tie as tie
 
 abbrev Inv-loop : tie.InvT-loop
-Inv-loop w from i₀ i = (from ≤ i) × ((j : ℕ) → j < i → from ≤ j → getD w j 0 ≡ 0)
+Inv-loop w from good₀ i₀ good i = (from ≤ i) × Sofar (all (λ (x : ℕ). eqb x 0) (drop from w)) good ((j : ℕ) → j < i → from ≤ j → getD w j 0 ≡ 0)
 
 abbrev μ-loop : tie.MeasureT-loop
-μ-loop w from i₀ i = length w - i
+μ-loop w from good₀ i₀ good i = length w - i
 
 loop-holds : tie.Need-loop-holds Inv-loop μ-loop
-loop-holds c = (omega arith, λ j h l. absurd (omega arith))
+loop-holds c = (omega arith, inl (refl, λ j h l. absurd (omega arith)))
 
-mul-if1 : tie.Need-mul-if1 Inv-loop μ-loop
-mul-if1 c = omega arith
+mul-good : tie.Need-mul-good Inv-loop μ-loop
+mul-good c = omega arith
 
-shared-slice-read-if1 : tie.Need-shared-slice-read-if1 Inv-loop μ-loop
-shared-slice-read-if1 c = omega arith
-
-returns : tie.Need-returns Inv-loop μ-loop
-returns c = unused-stop (c .before .before .before .before .args .w .now) (c .before .before .before .before .args .from) (c .before .before .before .loop .i) (omega arith) (omega arith) (c .if1 .taken)
+shared-slice-read-good : tie.Need-shared-slice-read-good Inv-loop μ-loop
+shared-slice-read-good c = omega arith
 
 add-i : tie.Need-add-i Inv-loop μ-loop
 add-i c = omega arith
@@ -33,10 +35,14 @@ loop-less : tie.Need-loop-less Inv-loop μ-loop
 loop-less c = omega arith
 
 loop-again : tie.Need-loop-again Inv-loop μ-loop
-loop-again c = (omega arith, below-more _ _ (c .before .before .before .loop .inv .1) (λ l. c .if1 .left))
+loop-again c =
+    let w = c .before .before .before .args .w .now in
+    let from = c .before .before .before .args .from in
+    let i = c .before .before .loop .i in
+    (omega arith, sofar-on _ _ _ (c .before .before .loop .inv .1) (λ t p. below-more _ _ p (λ l. eqb-true _ _ t)) (λ f. unused-stop w from i (omega arith) (omega arith) (eqb-false _ _ f)))
 
-returns-2 : tie.Need-returns-2 Inv-loop μ-loop
-returns-2 c = unused-done (c .before .before .args .w .now) (c .before .before .args .from) (c .before .loop .i) (omega arith) (c .before .loop .inv .1)
+returns : tie.Need-returns Inv-loop μ-loop
+returns c = sofar-done _ _ (c .before .loop .inv .1) (unused-done (c .before .before .args .w .now) (c .before .before .args .from) (c .before .loop .i) (omega arith))
 
 pub unused-spec : {M : Type 1} → statement M
 unused-spec =
@@ -45,10 +51,9 @@ unused-spec =
     Inv-loop
     μ-loop
     loop-holds
-    mul-if1
-    shared-slice-read-if1
-    returns
+    mul-good
+    shared-slice-read-good
     add-i
     loop-less
     loop-again
-    returns-2)
+    returns)

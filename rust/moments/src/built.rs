@@ -1,11 +1,10 @@
-//! Claims about single steps on pools that no run reaches: every page that the slot holds or
+//! Single steps on pools that no run reaches: every page that the slot holds or
 //! wants is sound by itself and in its place, but keys, pointers and all other pages are drawn.
 
 use draw::Random;
 use twin::{page_words, Op, Slot, State};
 
-use crate::moment::{claim_from, Moment};
-use crate::text::Call;
+use crate::moment::{Call, Moment};
 
 /// A pool being built, and what its pages must be.
 struct Build {
@@ -15,8 +14,8 @@ struct Build {
     words: Vec<u32>,
 }
 
-/// A claim about one step on a built pool, now and then with one thing wrong.
-pub fn claim(name: &str, random: &mut Random) -> Option<(Vec<String>, String)> {
+/// One step on a built pool, now and then with one thing wrong.
+pub fn built(random: &mut Random) -> Option<(Moment, Vec<Call>)> {
     let mut build = rubbish(random);
     let op = operation(random, &build);
     let mut slot = place_slot(random, &mut build, op)?;
@@ -29,11 +28,11 @@ pub fn claim(name: &str, random: &mut Random) -> Option<(Vec<String>, String)> {
     state.order[0] = number;
     state.waiting = 1;
     add_others(random, &mut state, number);
-    let mut moment = Moment {
+    let moment = Moment {
         state,
         words: build.words,
     };
-    Some(claim_from(name, &mut moment, &[Call::Step(number)]))
+    Some((moment, vec![Call::Step(number)]))
 }
 
 /// Makes one thing wrong, and leaves the rest as right as can be.

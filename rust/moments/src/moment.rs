@@ -1,9 +1,14 @@
 //! A moment of the twin: state and words, and the calls made on it.
 
-use twin::{begin, must_wait, page_words, report, step, Answer, State};
+use twin::{begin, must_wait, page_words, report, step, Answer, Op, State};
 
-use crate::kinds::kind;
-use crate::text::{self, Call};
+/// One call of a run.
+#[derive(Clone, Copy, Debug)]
+pub enum Call {
+    Begin(usize, Op),
+    Step(usize),
+    Report(u32),
+}
 
 /// What a call is given beside its own arguments.
 #[derive(Clone)]
@@ -47,34 +52,4 @@ impl Moment {
             .filter(|&slot| self.state.slots[slot].op.is_some())
             .collect()
     }
-}
-
-/// Makes the calls, and gives what they did and the text of all that is told at the end.
-pub fn told(moment: &mut Moment, calls: &[Call]) -> (Vec<String>, String) {
-    let (mut kinds, mut heard) = (Vec::new(), Vec::new());
-    for &call in calls {
-        let before = moment.clone();
-        let answer = moment.call(call);
-        kinds.push(kind(&before, call, answer, moment));
-        heard.push(text::numbers(&answer.heard()));
-    }
-    let answers = text::list(heard);
-    let text = format!(
-        "told {answers} {} {}",
-        text::state(&moment.state),
-        text::numbers(&moment.words)
-    );
-    (kinds, text)
-}
-
-/// The claim that the calls from this moment on tell what the twin tells; the moment moves on.
-pub fn claim_from(name: &str, moment: &mut Moment, calls: &[Call]) -> (Vec<String>, String) {
-    let left = format!(
-        "run {} {} {}",
-        text::list(calls.iter().map(|&call| text::call(call))),
-        text::state(&moment.state),
-        text::numbers(&moment.words)
-    );
-    let (kinds, right) = told(moment, calls);
-    (kinds, text::claim(name, &left, &right))
 }

@@ -1,28 +1,21 @@
-//! Claims about states drawn near the limits of soundness; the calls read no page.
+//! States drawn near the limits of soundness; the calls read no page.
 
 use draw::Random;
 use twin::{Op, Slot, State};
 
-use crate::moment::{claim_from, Moment};
-use crate::text::Call;
+use crate::moment::{Call, Moment};
 
-/// A claim about a report, a beginning and a step on one drawn state, with no words at all.
-pub fn claim(name: &str, random: &mut Random) -> (Vec<String>, String) {
+/// A report, a beginning and a step on one drawn state, with no words at all.
+pub fn limits(random: &mut Random) -> (Moment, Vec<Call>) {
     let state = drawn_state(random);
     let page = random.below(u64::from(state.n.min(30)) + 2) as u32;
-    let calls = [
+    let calls = vec![
         Call::Report(page),
         Call::Begin(random.below(17) as usize, Op::Search(5)),
         Call::Step(random.below(17) as usize),
     ];
-    claim_from(
-        name,
-        &mut Moment {
-            state,
-            words: Vec::new(),
-        },
-        &calls,
-    )
+    let words = Vec::new();
+    (Moment { state, words }, calls)
 }
 
 /// A state that is sound or nearly so.

@@ -1,12 +1,11 @@
-//! Claims about single calls at moments of a run that were then spoiled: words of pages that a
+//! Single calls at moments of a run that were then spoiled: words of pages that a
 //! slot holds or wants, or cells of the state.
 
 use draw::Random;
 use twin::{page_words, Op, State};
 
 use crate::fresh::{draw, made, next_call, operation, Draw};
-use crate::moment::{claim_from, Moment};
-use crate::text::Call;
+use crate::moment::{Call, Moment};
 
 /// A moment in the middle of a random run, grown first and then mostly shrunk; best one where a
 /// deletion wants a sibling.
@@ -55,7 +54,7 @@ fn choose(random: &mut Random, moment: &Moment) -> Option<usize> {
 }
 
 /// A single step after some words of the slot's pages were changed.
-pub fn words_claim(name: &str, random: &mut Random) -> Option<(Vec<String>, String)> {
+pub fn spoiled_words(random: &mut Random) -> Option<(Moment, Vec<Call>)> {
     let (draw, mut moment) = middle(random);
     let slot = choose(random, &moment)?;
     let pages = [
@@ -70,7 +69,7 @@ pub fn words_claim(name: &str, random: &mut Random) -> Option<(Vec<String>, Stri
     if random.percent(3) {
         moment.words.pop();
     }
-    Some(claim_from(name, &mut moment, &[Call::Step(slot)]))
+    Some((moment, vec![Call::Step(slot)]))
 }
 
 /// Changes one thing in a page.
@@ -96,7 +95,7 @@ fn spoil_page(random: &mut Random, draw: &Draw, words: &mut [u32], page: u32) {
 }
 
 /// One call after one or more cells of the state were changed.
-pub fn state_claim(name: &str, random: &mut Random) -> Option<(Vec<String>, String)> {
+pub fn spoiled_state(random: &mut Random) -> (Moment, Vec<Call>) {
     let (draw, mut moment) = middle(random);
     let chosen = choose(random, &moment);
     for _ in 0..random.one(&[1, 1, 2, 3]) {
@@ -113,7 +112,7 @@ pub fn state_claim(name: &str, random: &mut Random) -> Option<(Vec<String>, Stri
         1 => Call::Report(random.below(u64::from(draw.n) + 2) as u32),
         _ => Call::Step(slot),
     };
-    Some(claim_from(name, &mut moment, &[call]))
+    (moment, vec![call])
 }
 
 /// Changes one cell of a state.

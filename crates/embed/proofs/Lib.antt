@@ -1,0 +1,4 @@
+pub mod Four
+pub mod Refusals
+pub mod TellLaws
+pub mod Unique

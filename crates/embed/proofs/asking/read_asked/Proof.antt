@@ -1,0 +1,19 @@
+-- `read_asked` meets its contract: the tests on the way are the rule's.
+use borrow.Author.Tests.{eq-eqb, ne-eqb}
+use Rattle.embed.proofs.asking.read_asked.Statement.{statement}
+use Rattle.embed.proofs.asking.read_asked.Tie as tie
+
+returns : tie.Need-returns
+returns c = rw (eq-eqb (c .before .args .kind) 1 (c .if1 .taken))
+
+returns-2 : tie.Need-returns-2
+returns-2 c = rw (ne-eqb (c .before .before .args .kind) 1 (c .before .if1 .left), eq-eqb (c .before .before .args .kind) 2 (c .if2 .taken))
+
+returns-3 : tie.Need-returns-3
+returns-3 c = rw (ne-eqb (c .before .before .before .args .kind) 1 (c .before .before .if1 .left), ne-eqb (c .before .before .before .args .kind) 2 (c .before .if2 .left), eq-eqb (c .before .before .before .args .kind) 3 (c .if3 .taken))
+
+returns-4 : tie.Need-returns-4
+returns-4 c = rw (ne-eqb (c .before .before .before .args .kind) 1 (c .before .before .if1 .left), ne-eqb (c .before .before .before .args .kind) 2 (c .before .if2 .left), ne-eqb (c .before .before .before .args .kind) 3 (c .if3 .left))
+
+pub read-asked-spec : {M : Type 1} → statement M
+read-asked-spec = tie.close (tie.spec returns returns-2 returns-3 returns-4)

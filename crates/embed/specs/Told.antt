@@ -1,0 +1,29 @@
+-- An answer as four numbers. "a definition gives this paper's number and values for each of its cases" (document 01).
+use Prim.Native.Nat.{ℕ}
+use mathlib.Core.Bool.{Bool}
+use mathlib.Core.List.{List, [], _∷_}
+use lib.Dec.{leb}
+use lib.ListN.{getD}
+use Rattle.slots.specs.declared.Answer.{Answer}
+use Rattle.slots.specs.Heard.{heard, numberOf}
+use Rattle.embed.specs.declared.telling.Four.{Four}
+
+-- what stands behind the number, 0 where nothing does
+abbrev pub valueOf : Answer → ℕ → ℕ
+valueOf answer i = getD (heard answer) i 0
+
+-- the number, and room for three values
+abbrev pub told : Answer → List ℕ
+told answer = numberOf answer ∷ valueOf answer 1 ∷ valueOf answer 2 ∷ valueOf answer 3 ∷ []
+
+-- A kind that does not exist: refusals have the numbers 1 to 7 in 01, answers begin at 32, and this one stands between them.
+abbrev pub badKind : List ℕ
+badKind = 31 ∷ 0 ∷ 0 ∷ 0 ∷ []
+
+-- The number that is told is a refusal's (01's table, the one above, and Waiting, which changes nothing either).
+abbrev pub isRefusal : List ℕ → Bool
+isRefusal heard′ = leb (getD heard′ 0 0) 32
+
+-- four numbers as a list
+abbrev pub listed : Four → List ℕ
+listed four = four .0 ∷ four .1 ∷ four .2 ∷ four .3 ∷ []

@@ -1,0 +1,70 @@
+// The exported calls. A slice is handed in from C as a pointer and a length, an array as a pointer.
+use crate::asking::Asked;
+use crate::asking::read_asked;
+use crate::telling::tell;
+use crate::telling::tell_bad_kind;
+use index::calls::begin;
+use index::calls::make;
+use index::calls::report;
+use index::calls::step;
+use lent::STATE;
+ghost use Rattle.embed.specs.Statements.{MakeTells, BeginTells, StepTells, ReportTells};
+
+// Makes a fresh pool of n pages of width k in the lent words, and an idle state beside it.
+#[no_mangle]
+pub extern "C" fn ghazfulit_make(
+    k: u32,
+    n: u32,
+    state: &mut [u32; STATE],
+    words: &mut [u32],
+    answer: &mut [u32; 4],
+)
+    ensures { λ _. ⌜ MakeTells k n (now (words .entry)) (now (state .exit)) (now (words .exit)) (now (answer .exit)) ⌝ }
+{
+    let heard = make(k as usize, n as usize, state, words);
+    tell(heard, answer);
+}
+
+// Begins an operation in a slot.
+#[no_mangle]
+pub extern "C" fn ghazfulit_begin(
+    state: &mut [u32; STATE],
+    slot: u32,
+    kind: u32,
+    key: u32,
+    information: u32,
+    answer: &mut [u32; 4],
+)
+    ensures { λ _. ⌜ BeginTells (now (state .entry)) slot kind key information (now (state .exit)) (now (answer .exit)) ⌝ }
+{
+    let asked = read_asked(kind, key, information);
+    let Asked::Known(op) = asked else {
+        tell_bad_kind(answer);
+        return;
+    };
+    let heard = begin(state, slot as usize, op);
+    tell(heard, answer);
+}
+
+// Steps a slot: one lock more, or its answer.
+#[no_mangle]
+pub extern "C" fn ghazfulit_step(
+    state: &mut [u32; STATE],
+    words: &mut [u32],
+    slot: u32,
+    answer: &mut [u32; 4],
+)
+    ensures { λ _. ⌜ StepTells (now (state .entry)) (now (words .entry)) slot (now (state .exit)) (now (words .exit)) (now (answer .exit)) ⌝ }
+{
+    let heard = step(state, words, slot as usize);
+    tell(heard, answer);
+}
+
+// Says who holds a page.
+#[no_mangle]
+pub extern "C" fn ghazfulit_report(state: &[u32; STATE], page: u32, answer: &mut [u32; 4])
+    ensures { λ _. ⌜ ReportTells (now (state .entry)) page (now (answer .exit)) ⌝ }
+{
+    let heard = report(state, page);
+    tell(heard, answer);
+}

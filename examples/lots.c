@@ -1,0 +1,57 @@
+/* Two buyers on one list: the house enters a lot while a buyer looks for it. Writes each answer by its number. */
+#include <stdio.h>
+
+#include "ghazfulit.h"
+
+#define K 2
+#define N 64
+
+static uint32_t state[GHAZFULIT_STATE];
+static uint32_t words[GHAZFULIT_WORDS(K, N)];
+
+/* Says an answer as a line: its name, and its values where it has some. */
+static void say(const char *what, const uint32_t *answer) {
+    switch (answer[0]) {
+    case GHAZFULIT_BEGUN: printf("%s: Begun\n", what); break;
+    case GHAZFULIT_WAITING: printf("%s: Waiting\n", what); break;
+    case GHAZFULIT_MOVED: printf("%s: Moved\n", what); break;
+    case GHAZFULIT_INSERTED: printf("%s: Inserted\n", what); break;
+    case GHAZFULIT_FOUND: printf("%s: Found %u\n", what, (unsigned)answer[1]); break;
+    case GHAZFULIT_REPORTED:
+        printf("%s: lock %u, holders %u, lowest %u\n", what, (unsigned)answer[1], (unsigned)answer[2],
+               (unsigned)answer[3]);
+        break;
+    default: printf("%s: answer %u\n", what, (unsigned)answer[0]);
+    }
+}
+
+static void begin(uint32_t slot, uint32_t kind, uint32_t key, uint32_t information) {
+    uint32_t answer[GHAZFULIT_ANSWER];
+    ghazfulit_begin(state, slot, kind, key, information, answer);
+    say(kind == GHAZFULIT_SEARCH ? "a buyer looks for a lot" : "the house enters a lot", answer);
+}
+
+static void step(uint32_t slot) {
+    uint32_t answer[GHAZFULIT_ANSWER];
+    ghazfulit_step(state, words, GHAZFULIT_WORDS(K, N), slot, answer);
+    say(slot == 0 ? "the house" : "the buyer", answer);
+}
+
+int main(void) {
+    uint32_t answer[GHAZFULIT_ANSWER];
+    ghazfulit_make(K, N, state, words, GHAZFULIT_WORDS(K, N), answer);
+    if (answer[0] != GHAZFULIT_MADE) {
+        printf("no pool: answer %u\n", (unsigned)answer[0]);
+        return 1;
+    }
+    begin(0, GHAZFULIT_INSERT, 12, 3);
+    begin(1, GHAZFULIT_SEARCH, 12, 0);
+    step(1);
+    step(0);
+    step(1);
+    ghazfulit_report(state, 0, answer);
+    say("page 0", answer);
+    step(1);
+    begin(2, 9, 12, 0);
+    return 0;
+}

@@ -1,0 +1,87 @@
+/* Ghazfulit: an index of lots for many buyers, each step of which is proved to follow its rules.
+ *
+ * The caller lends two stretches of 32-bit words, and keeps them between calls: GHAZFULIT_STATE words for the state and
+ * GHAZFULIT_WORDS(k, n) for the pool. A call writes its answer into GHAZFULIT_ANSWER words: its number, and behind it its
+ * values, or 0. Whatever the words hold, every call ends, stays within them and answers; a refused call leaves them as they
+ * were (but for a refused making, which clears the state). What the caller owes is only that each pointer leads to as many
+ * words as are named here, and that they do not overlap.
+ */
+#ifndef GHAZFULIT_H
+#define GHAZFULIT_H
+
+#include <stddef.h>
+#include <stdint.h>
+
+#ifdef __cplusplus
+extern "C" {
+#endif
+
+#define GHAZFULIT_VERSION 1
+
+/* Words of a state, words of an answer, slots, and the largest k and n. */
+#define GHAZFULIT_STATE 435
+#define GHAZFULIT_ANSWER 4
+#define GHAZFULIT_SLOTS 16
+#define GHAZFULIT_LARGEST_K 16
+#define GHAZFULIT_LARGEST_N 1024
+
+/* Words of a pool of n pages of width k. */
+#define GHAZFULIT_WORDS(k, n) ((size_t)(n) * (4 * (size_t)(k) + 3))
+
+/* Kinds of operation. */
+enum {
+    GHAZFULIT_SEARCH = 1,
+    GHAZFULIT_INSERT = 2,
+    GHAZFULIT_DELETE = 3
+};
+
+/* Answers. Below 32 are refusals. */
+enum {
+    GHAZFULIT_BAD_STATE = 1,      /* the state is not sound */
+    GHAZFULIT_BAD_POOL = 2,       /* k, n or the number of words is out of range */
+    GHAZFULIT_BAD_SLOT = 3,       /* a slot above 15 */
+    GHAZFULIT_SLOT_BUSY = 4,      /* begin on an open slot */
+    GHAZFULIT_SLOT_IDLE = 5,      /* step on a closed slot */
+    GHAZFULIT_DAMAGED = 6,        /* a granted step would meet pages that are not sound */
+    GHAZFULIT_BAD_PAGE = 7,       /* a report for a page n or above */
+    GHAZFULIT_BAD_KIND = 31,      /* a kind of operation that does not exist */
+    GHAZFULIT_WAITING = 32,       /* the lock is not to be had yet */
+    GHAZFULIT_MOVED = 33,         /* one lock more */
+    GHAZFULIT_FOUND = 34,         /* with the information */
+    GHAZFULIT_NOT_FOUND = 35,
+    GHAZFULIT_INSERTED = 36,
+    GHAZFULIT_ALREADY_THERE = 37,
+    GHAZFULIT_DELETED = 38,       /* with the information */
+    GHAZFULIT_NO_SUCH_KEY = 39,
+    GHAZFULIT_NO_ROOM = 40,
+    GHAZFULIT_BEGUN = 41,
+    GHAZFULIT_MADE = 42,
+    GHAZFULIT_REPORTED = 43       /* with the kind of lock, the number of holders, the lowest holder (16 for none) */
+};
+
+/* Kinds of lock, as a report has them. */
+enum {
+    GHAZFULIT_LOCK_NONE = 0,
+    GHAZFULIT_LOCK_RHO = 1,
+    GHAZFULIT_LOCK_XI = 2
+};
+
+/* Makes a fresh pool of n pages of width k, and writes every word of the state: Made or BadPool. */
+void ghazfulit_make(uint32_t k, uint32_t n, uint32_t *state, uint32_t *words, size_t length, uint32_t *answer);
+
+/* Begins an operation in a closed slot: Begun, or BadKind, BadState, BadSlot, SlotBusy in this order. The information
+ * counts for an insertion only. */
+void ghazfulit_begin(uint32_t *state, uint32_t slot, uint32_t kind, uint32_t key, uint32_t information, uint32_t *answer);
+
+/* Takes one lock more, if it is to be had, and does what follows: the answers 32 to 40, or BadState, BadPool, BadSlot,
+ * SlotIdle, Damaged. An answer from Found to NoRoom closes the slot. */
+void ghazfulit_step(uint32_t *state, uint32_t *words, size_t length, uint32_t slot, uint32_t *answer);
+
+/* Says who holds a page: Reported, or BadState, BadPage. */
+void ghazfulit_report(const uint32_t *state, uint32_t page, uint32_t *answer);
+
+#ifdef __cplusplus
+}
+#endif
+
+#endif

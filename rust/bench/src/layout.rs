@@ -1,0 +1,388 @@
+//! The state of a rival in two layouts: one struct a slot, and in columns.
+
+/// How many slots there are.
+pub const SLOTS: usize = 16;
+/// The most pages on a path, and cells for siblings.
+pub const HELD: usize = 10;
+/// Words of a state in columns.
+pub const STATE: usize = 19 + SLOTS * 26;
+
+/// A set of pages.
+pub type Pages = [u64; 16];
+
+/// Puts a page into a set; whether it was there. Pages are below 1,024.
+pub fn put(pages: &mut Pages, page: u32) -> bool {
+    let (word, bit) = (page as usize / 64 % 16, 1u64 << (page % 64));
+    let was = pages[word] & bit != 0;
+    pages[word] |= bit;
+    was
+}
+
+/// One slot.
+#[derive(Clone, Copy, Default)]
+pub struct Slot {
+    pub kind: u32,
+    pub key: u32,
+    pub information: u32,
+    pub want: u32,
+    pub depth: u32,
+    pub beside: u32,
+    pub path: [u32; HELD],
+    pub siblings: [u32; HELD],
+}
+
+impl Slot {
+    /// All pages held.
+    pub fn held(&self) -> impl Iterator<Item = u32> + '_ {
+        let path = &self.path[..self.depth as usize];
+        path.iter()
+            .chain(&self.siblings[..self.beside as usize])
+            .copied()
+    }
+}
+
+/// A state, in one layout or the other.
+pub trait Layout {
+    /// The state of a fresh pool.
+    fn fresh(k: u32, n: u32) -> Self;
+    fn k(&self) -> u32;
+    fn n(&self) -> u32;
+    fn waiting(&self) -> usize;
+    fn order(&self) -> &[u32; SLOTS];
+    /// The slot that is stepped, lifted out.
+    fn slot(&self, s: usize) -> Slot;
+    /// The slot put back, with so many cells of its path and of its siblings.
+    fn set_slot(&mut self, s: usize, slot: &Slot, path: usize, siblings: usize);
+    /// Takes a slot out of the order; it is put last if it goes on.
+    fn requeue(&mut self, s: usize, goes_on: bool);
+    /// Puts a slot at the end of the order.
+    fn enqueue(&mut self, s: usize);
+    /// Whether no other slot's lock clashes and no older want is for the page.
+    fn grants(&self, s: usize) -> bool;
+    /// The test of a sound state.
+    fn is_sound(&self) -> bool;
+    /// All words, in columns.
+    fn words(&self) -> [u32; STATE];
+}
+
+/// The order without a slot, and with it at the end if it goes on.
+fn requeued(order: &mut [u32], waiting: usize, s: usize, goes_on: bool) -> usize {
+    let place = order[..waiting]
+        .iter()
+        .position(|&own| own as usize == s)
+        .unwrap_or(0);
+    order.copy_within(place + 1..waiting, place);
+    order[waiting - 1] = if goes_on { s as u32 } else { 0 };
+    if goes_on {
+        waiting
+    } else {
+        waiting - 1
+    }
+}
+
+/// The slots that an order names, if it names none twice and none above 15.
+fn named(order: &[u32; SLOTS], waiting: usize) -> Option<u16> {
+    let mut mask = 0u16;
+    for &s in order.get(..waiting)? {
+        if s > 15 || mask & (1 << s) != 0 {
+            return None;
+        }
+        mask |= 1 << s;
+    }
+    Some(mask)
+}
+
+/// Whether a kind may hold so many pages.
+fn holds_so_many(kind: u32, depth: u32, beside: u32) -> bool {
+    let none = (kind == 0) & (depth == 0) & (beside == 0);
+    let search = (kind == 1) & (depth <= 1) & (beside == 0);
+    let insertion = (kind == 2) & (depth <= 10) & (beside == 0);
+    let few = (beside == 0) | (beside < depth);
+    let deletion = (kind == 3) & (depth <= 10) & (beside <= 9) & few;
+    none | search | insertion | deletion
+}
+
+/// One struct a slot.
+pub struct Structs {
+    k: u32,
+    n: u32,
+    waiting: usize,
+    order: [u32; SLOTS],
+    slots: [Slot; SLOTS],
+}
+
+impl Layout for Structs {
+    fn fresh(k: u32, n: u32) -> Structs {
+        Structs {
+            k,
+            n,
+            waiting: 0,
+            order: [0; SLOTS],
+            slots: [Slot::default(); SLOTS],
+        }
+    }
+
+    fn k(&self) -> u32 {
+        self.k
+    }
+
+    fn n(&self) -> u32 {
+        self.n
+    }
+
+    fn waiting(&self) -> usize {
+        self.waiting
+    }
+
+    fn order(&self) -> &[u32; SLOTS] {
+        &self.order
+    }
+
+    fn slot(&self, s: usize) -> Slot {
+        self.slots[s]
+    }
+
+    fn set_slot(&mut self, s: usize, slot: &Slot, _path: usize, _siblings: usize) {
+        self.slots[s] = *slot;
+    }
+
+    fn requeue(&mut self, s: usize, goes_on: bool) {
+        self.waiting = requeued(&mut self.order, self.waiting, s, goes_on);
+    }
+
+    fn enqueue(&mut self, s: usize) {
+        self.order[self.waiting] = s as u32;
+        self.waiting += 1;
+    }
+
+    fn grants(&self, s: usize) -> bool {
+        let (want, kind) = (self.slots[s].want, self.slots[s].kind);
+        let clashes = self.slots.iter().enumerate().any(|(other, slot)| {
+            other != s && (slot.kind != 1 || kind != 1) && slot.held().any(|page| page == want)
+        });
+        let mut older = self.order[..self.waiting]
+            .iter()
+            .take_while(|&&other| other as usize != s);
+        !clashes && !older.any(|&other| self.slots[other as usize].want == want)
+    }
+
+    fn is_sound(&self) -> bool {
+        if !(1..=16).contains(&self.k) || !(1..=1024).contains(&self.n) {
+            return false;
+        }
+        let Some(named) = named(&self.order, self.waiting) else {
+            return false;
+        };
+        let (mut open, mut alone, mut shared) = (0u16, [0; 16], [0; 16]);
+        for (s, slot) in self.slots.iter().enumerate() {
+            if !holds_so_many(slot.kind, slot.depth, slot.beside) {
+                return false;
+            }
+            if slot.kind == 0 {
+                continue;
+            }
+            open |= 1 << s;
+            if slot.want >= self.n {
+                return false;
+            }
+            for page in slot.held() {
+                if page >= self.n || page == slot.want {
+                    return false;
+                }
+                if slot.kind == 1 {
+                    put(&mut shared, page);
+                } else if put(&mut alone, page) {
+                    return false;
+                }
+            }
+        }
+        let clashes = (0..16).any(|i| alone[i] & shared[i] != 0);
+        open == named && !clashes
+    }
+
+    fn words(&self) -> [u32; STATE] {
+        let mut columns = Columns::fresh(self.k, self.n);
+        columns.words[2] = self.waiting as u32;
+        columns.words[3..19].copy_from_slice(&self.order);
+        for (s, slot) in self.slots.iter().enumerate() {
+            columns.set_slot(s, slot, HELD, HELD);
+        }
+        columns.words
+    }
+}
+
+/// In columns: the words that the proved index has.
+pub struct Columns {
+    words: [u32; STATE],
+}
+
+/// Rows by what they are.
+const KIND: usize = 0;
+const WANT: usize = 3;
+const DEPTH: usize = 4;
+const BESIDE: usize = 5;
+const PATH: usize = 6;
+const SIBLINGS: usize = 16;
+
+/// Where a row has the word of a slot.
+fn at(row: usize, s: usize) -> usize {
+    19 + SLOTS * row + s
+}
+
+impl Columns {
+    /// One row.
+    fn row(&self, row: usize) -> &[u32; SLOTS] {
+        let start = 19 + SLOTS * row;
+        self.words[start..start + SLOTS]
+            .try_into()
+            .expect("a row has 16 words")
+    }
+
+    /// Whether a slot other than s holds the page with a lock that clashes; rows only as far as some slot has them.
+    fn is_held(&self, s: usize, page: u32) -> bool {
+        let kinds = self.row(KIND);
+        let is_search = kinds[s] == 1;
+        let mut hit = false;
+        for (first, length) in [(PATH, DEPTH), (SIBLINGS, BESIDE)] {
+            let lengths = self.row(length);
+            let most = lengths.iter().fold(0, |most, &own| most.max(own));
+            for i in 0..most.min(HELD as u32) {
+                let row = self.row(first + i as usize);
+                for other in 0..SLOTS {
+                    let clashes = (kinds[other] != 1) | !is_search;
+                    hit |= (row[other] == page) & (i < lengths[other]) & clashes & (other != s);
+                }
+            }
+        }
+        hit
+    }
+}
+
+impl Layout for Columns {
+    fn fresh(k: u32, n: u32) -> Columns {
+        let mut words = [0; STATE];
+        words[0] = k;
+        words[1] = n;
+        Columns { words }
+    }
+
+    fn k(&self) -> u32 {
+        self.words[0]
+    }
+
+    fn n(&self) -> u32 {
+        self.words[1]
+    }
+
+    fn waiting(&self) -> usize {
+        self.words[2] as usize
+    }
+
+    fn order(&self) -> &[u32; SLOTS] {
+        self.words[3..19].try_into().expect("16 words")
+    }
+
+    fn slot(&self, s: usize) -> Slot {
+        let word = |row: usize| self.words[at(row, s)];
+        let mut slot = Slot {
+            kind: word(0),
+            key: word(1),
+            information: word(2),
+            want: word(3),
+            depth: word(4),
+            beside: word(5),
+            ..Slot::default()
+        };
+        for (i, cell) in slot.path.iter_mut().enumerate().take(word(4) as usize) {
+            *cell = word(PATH + i);
+        }
+        for (i, cell) in slot.siblings.iter_mut().enumerate().take(word(5) as usize) {
+            *cell = word(SIBLINGS + i);
+        }
+        slot
+    }
+
+    fn set_slot(&mut self, s: usize, slot: &Slot, path: usize, siblings: usize) {
+        let single = [
+            slot.kind,
+            slot.key,
+            slot.information,
+            slot.want,
+            slot.depth,
+            slot.beside,
+        ];
+        for (row, &cell) in single.iter().enumerate() {
+            self.words[at(row, s)] = cell;
+        }
+        for (i, &cell) in slot.path[..path].iter().enumerate() {
+            self.words[at(PATH + i, s)] = cell;
+        }
+        for (i, &cell) in slot.siblings[..siblings].iter().enumerate() {
+            self.words[at(SIBLINGS + i, s)] = cell;
+        }
+    }
+
+    fn requeue(&mut self, s: usize, goes_on: bool) {
+        let waiting = self.waiting();
+        self.words[2] = requeued(&mut self.words[3..19], waiting, s, goes_on) as u32;
+    }
+
+    fn enqueue(&mut self, s: usize) {
+        let waiting = self.waiting();
+        self.words[3 + waiting] = s as u32;
+        self.words[2] += 1;
+    }
+
+    fn grants(&self, s: usize) -> bool {
+        let wants = self.row(WANT);
+        let want = wants[s];
+        let mut older = self.order()[..self.waiting()]
+            .iter()
+            .take_while(|&&other| other as usize != s);
+        !older.any(|&other| wants[other as usize] == want) && !self.is_held(s, want)
+    }
+
+    fn is_sound(&self) -> bool {
+        let (k, n) = (self.k(), self.n());
+        if !(1..=16).contains(&k) || !(1..=1024).contains(&n) {
+            return false;
+        }
+        let Some(named) = named(self.order(), self.waiting()) else {
+            return false;
+        };
+        let (kinds, wants) = (self.row(KIND), self.row(WANT));
+        let (depths, besides) = (self.row(DEPTH), self.row(BESIDE));
+        let (mut bad, mut open) = (false, 0u16);
+        for s in 0..SLOTS {
+            let (kind, depth, beside) = (kinds[s], depths[s], besides[s]);
+            bad |= !holds_so_many(kind, depth, beside);
+            bad |= (kind != 0) & (wants[s] >= n);
+            open |= u16::from(kind != 0) << s;
+        }
+        if bad || open != named {
+            return false;
+        }
+        let (mut alone, mut shared) = ([0; 16], [0; 16]);
+        let mut left = open;
+        while left != 0 {
+            let s = left.trailing_zeros() as usize;
+            left &= left - 1;
+            let word = |row: usize| self.words[at(row, s)];
+            let path = (0..depths[s] as usize).map(|i| word(PATH + i));
+            let siblings = (0..besides[s] as usize).map(|i| word(SIBLINGS + i));
+            for page in path.chain(siblings) {
+                bad |= (page >= n) | (page == wants[s]);
+                if kinds[s] == 1 {
+                    put(&mut shared, page);
+                } else {
+                    bad |= put(&mut alone, page);
+                }
+            }
+        }
+        !bad && (0..16).all(|i| alone[i] & shared[i] == 0)
+    }
+
+    fn words(&self) -> [u32; STATE] {
+        self.words
+    }
+}

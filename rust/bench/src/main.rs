@@ -1,0 +1,134 @@
+//! How long a call takes, in nanoseconds: `bench [RUNS [OPERATIONS [PICTURE]]]`.
+
+mod layout;
+mod pages;
+mod plot;
+mod proved;
+mod rival;
+mod schedule;
+mod second;
+
+use std::env::args;
+use std::fs::{read_to_string, write};
+use std::time::Instant;
+
+use layout::{Columns, Structs};
+use plot::{svg, Table};
+use proved::Proved;
+use rival::Rival;
+use schedule::{run, Outcome, Program, Schedule};
+use second::Second;
+
+/// A program by name, as a function from a schedule to its nanoseconds a call and its outcome.
+type Timed = (&'static str, fn(&Schedule) -> (f64, Outcome));
+
+/// All programs; the first is the one that the others are compared with.
+const PROGRAMS: [Timed; 6] = [
+    ("proved", timed::<Proved>),
+    (
+        "refuses the same, one struct a slot",
+        timed::<Rival<Structs, true>>,
+    ),
+    (
+        "refuses the same, in columns",
+        timed::<Rival<Columns, true>>,
+    ),
+    (
+        "tests nothing, one struct a slot",
+        timed::<Rival<Structs, false>>,
+    ),
+    ("tests nothing, in columns", timed::<Rival<Columns, false>>),
+    ("the second program", timed::<Second>),
+];
+
+/// Nanoseconds that this thread has had a processor for, so that other work on the machine does not count. Where the system
+/// does not say, the clock serves.
+fn now(start: &Instant) -> u64 {
+    let stat = read_to_string("/proc/thread-self/schedstat").unwrap_or_default();
+    let first = stat.split(' ').next().and_then(|word| word.parse().ok());
+    first.unwrap_or_else(|| start.elapsed().as_nanos() as u64)
+}
+
+/// The proved one and its rivals, without the second program.
+const RIVALS: &[Timed] = PROGRAMS.split_at(5).0;
+
+/// Runs a schedule once: the pool is filled first, and only what follows is timed.
+fn timed<P: Program>(schedule: &Schedule) -> (f64, Outcome) {
+    let mut program = P::fresh(schedule.k, schedule.n);
+    run(&mut program, 1, &schedule.filling);
+    let clock = Instant::now();
+    let start = now(&clock);
+    let (answers, calls) = run(&mut program, schedule.slots, &schedule.ops);
+    let time = (now(&clock) - start) as f64 / calls as f64;
+    let left = program.left();
+    (
+        time,
+        Outcome {
+            answers,
+            calls,
+            left,
+        },
+    )
+}
+
+/// The medians of several runs of each program; all must answer the same and leave the same words.
+fn medians(schedule: &Schedule, runs: usize, programs: &[Timed]) -> Vec<f64> {
+    let mut times = vec![Vec::new(); programs.len()];
+    let mut first: Option<Outcome> = None;
+    for _ in 0..runs {
+        for ((name, program), times) in programs.iter().zip(&mut times) {
+            let (time, outcome) = program(schedule);
+            times.push(time);
+            match &first {
+                Some(first) if *first != outcome => panic!("{name} answers otherwise"),
+                Some(_) => {}
+                None => first = Some(outcome),
+            }
+        }
+    }
+    times
+        .into_iter()
+        .map(|mut times| {
+            times.sort_by(f64::total_cmp);
+            times[times.len() / 2]
+        })
+        .collect()
+}
+
+fn main() {
+    let words: Vec<String> = args().skip(1).collect();
+    let number = |i: usize| words.get(i).and_then(|word| word.parse().ok());
+    let runs = number(0).unwrap_or(5);
+    let count = number(1).unwrap_or(100_000);
+    println!("nanoseconds a call, medians of {runs} runs; nine searches to one update; same answers, same words");
+    println!("\nk = 16, 1,024 pages, 16 slots, {count} operations");
+    let schedule = Schedule::draw(16, 1024, 16, count, 1);
+    let all = medians(&schedule, runs, &PROGRAMS);
+    for ((name, _), time) in PROGRAMS.iter().zip(&all) {
+        println!("{time:8.1}  {name:40} proved / this {:6.2}", all[0] / time);
+    }
+    println!("\nproved, then the four rivals in the same order");
+    let pages = table("pages", &[64, 128, 256, 512, 1024], |n| {
+        medians(&Schedule::draw(16, n, 16, count / 4, 2), runs, RIVALS)
+    });
+    let slots = table("open slots", &[1, 2, 4, 8, 16], |slots| {
+        medians(&Schedule::draw(16, 1024, slots, count / 4, 3), runs, RIVALS)
+    });
+    if let Some(file) = words.get(2) {
+        let names: Vec<&str> = RIVALS.iter().map(|(name, _)| *name).collect();
+        write(file, svg(&[pages, slots], &names)).expect("the picture is written");
+    }
+}
+
+/// A table, printed row by row.
+fn table(by: &'static str, numbers: &[u32], times: impl Fn(u32) -> Vec<f64>) -> Table {
+    println!("\nby the number of {by}");
+    let row = |&number: &u32| {
+        let times = times(number);
+        let each: Vec<String> = times.iter().map(|time| format!("{time:8.1}")).collect();
+        println!("{number:6} {}", each.join(" "));
+        (number, times)
+    };
+    let rows = numbers.iter().map(row).collect();
+    Table { by, rows }
+}

@@ -1,0 +1,240 @@
+//! An unproved index with the same pages, locks and schedule, written for speed: with all tests of the proved one, or with
+//! none.
+
+use crate::layout::{Layout, Slot, HELD, SLOTS};
+use crate::pages::Pool;
+use crate::schedule::{Answer, Op, Program};
+
+/// A rival in a layout; `TESTS` says whether it refuses the same as the proved index.
+pub struct Rival<L, const TESTS: bool> {
+    state: L,
+    words: Vec<u32>,
+}
+
+impl<L: Layout, const TESTS: bool> Program for Rival<L, TESTS> {
+    fn fresh(k: u32, n: u32) -> Self {
+        let mut words = vec![0; n as usize * (4 * k as usize + 3)];
+        words[0] = 1;
+        Rival {
+            state: L::fresh(k, n),
+            words,
+        }
+    }
+
+    fn begin(&mut self, s: u32, op: Op) -> Answer {
+        let state = &mut self.state;
+        if TESTS && !state.is_sound() {
+            return Answer::BAD_STATE;
+        }
+        if TESTS && s as usize >= SLOTS {
+            return Answer::BAD_SLOT;
+        }
+        let s = s as usize;
+        if TESTS && state.slot(s).kind != 0 {
+            return Answer::SLOT_BUSY;
+        }
+        let (kind, key, information) = op.numbers();
+        let slot = Slot {
+            kind,
+            key,
+            information,
+            ..Slot::default()
+        };
+        let all = if TESTS { HELD } else { 0 };
+        state.set_slot(s, &slot, all, all);
+        state.enqueue(s);
+        Answer::BEGUN
+    }
+
+    fn step(&mut self, s: u32) -> Answer {
+        let (k, n) = (self.state.k(), self.state.n());
+        if TESTS && !self.state.is_sound() {
+            return Answer::BAD_STATE;
+        }
+        if TESTS && self.words.len() != n as usize * (4 * k as usize + 3) {
+            return Answer::BAD_POOL;
+        }
+        if TESTS && s as usize >= SLOTS {
+            return Answer::BAD_SLOT;
+        }
+        let s = s as usize;
+        let mut slot = self.state.slot(s);
+        if TESTS && slot.kind == 0 {
+            return Answer::SLOT_IDLE;
+        }
+        if !self.state.grants(s) {
+            return Answer::WAITING;
+        }
+        let mut pool = Pool {
+            words: &mut self.words,
+            k: k as usize,
+        };
+        if TESTS && !fits(&pool, n, &slot) {
+            return Answer::DAMAGED;
+        }
+        // cells behind a length are 0 already where nothing is tested
+        let (mut path, mut siblings) = (HELD, HELD);
+        if !TESTS {
+            path = HELD.min(slot.depth as usize + 1);
+            siblings = HELD.min(slot.beside as usize + 1);
+        }
+        take(&pool, &mut slot);
+        match judge::<TESTS>(&mut pool, n, &slot) {
+            Course::Goes(next) => {
+                slot.want = next;
+                self.state.set_slot(s, &slot, path, siblings);
+                self.state.requeue(s, true);
+                Answer::MOVED
+            }
+            Course::Ends(answer) => {
+                self.state.set_slot(s, &Slot::default(), path, siblings);
+                self.state.requeue(s, false);
+                answer
+            }
+            Course::Broken => Answer::DAMAGED,
+        }
+    }
+
+    fn left(&self) -> (Vec<u32>, Vec<u32>) {
+        (self.state.words().to_vec(), self.words.clone())
+    }
+}
+
+/// What a granted step does.
+enum Course {
+    Goes(u32),
+    Ends(Answer),
+    Broken,
+}
+
+/// Whether no ancestor of a page can be changed.
+fn is_safe(pool: &Pool, kind: u32, p: u32) -> bool {
+    match kind {
+        1 => true,
+        2 => pool.count(p) < 2 * pool.k,
+        _ => pool.count(p) > pool.k,
+    }
+}
+
+/// Whether the slot holds its leaf.
+fn is_at_leaf(pool: &Pool, slot: &Slot) -> bool {
+    slot.depth > 0 && pool.level(slot.path[slot.depth as usize - 1]) == 1
+}
+
+/// The sibling that is needed at a height above the leaves, if the page there would be short.
+fn sibling_at(pool: &Pool, slot: &Slot, height: usize) -> Option<u32> {
+    let at = (slot.depth as usize).checked_sub(1 + height)?;
+    let short = slot.path[at];
+    if short == 0 || pool.count(short) > pool.k || at == 0 {
+        return None;
+    }
+    Some(pool.neighbour(slot.path[at - 1], slot.key))
+}
+
+/// The next sibling that a deletion at its leaf needs.
+fn next_sibling(pool: &Pool, slot: &Slot) -> Option<u32> {
+    let beside = slot.beside as usize;
+    if beside > 0 && pool.count(slot.siblings[beside - 1]) > pool.k {
+        return None;
+    }
+    sibling_at(pool, slot, beside)
+}
+
+/// The pages held and the wanted one are sound, and those that the rules would have.
+fn fits(pool: &Pool, n: u32, slot: &Slot) -> bool {
+    let pages_sound = slot.held().all(|p| pool.is_page_sound(p, n));
+    if !pages_sound || !pool.is_page_sound(slot.want, n) {
+        return false;
+    }
+    let depth = slot.depth as usize;
+    if depth == 0 {
+        return slot.want == 0;
+    }
+    let path = &slot.path[..depth];
+    let leads = |father: u32, child: u32| {
+        pool.level(father) == pool.level(child) + 1 && pool.route(father, slot.key) == child
+    };
+    let is_way = path.windows(2).all(|pair| leads(pair[0], pair[1]));
+    let is_top = slot.kind == 1
+        || ((path[0] == 0 || is_safe(pool, slot.kind, path[0]))
+            && !path[1..].iter().any(|&p| is_safe(pool, slot.kind, p)));
+    if !is_way || !is_top {
+        return false;
+    }
+    if !is_at_leaf(pool, slot) {
+        return slot.beside == 0 && leads(path[depth - 1], slot.want);
+    }
+    let beside = slot.beside as usize;
+    let is_sibling = |height: usize, p: u32| {
+        sibling_at(pool, slot, height) == Some(p) && pool.level(p) as usize == height + 1
+    };
+    slot.kind == 3
+        && pool.find(path[depth - 1], slot.key).is_some()
+        && (0..beside).all(|height| {
+            let p = slot.siblings[height];
+            is_sibling(height, p) && pool.count(p) == pool.k
+        })
+        && is_sibling(beside, slot.want)
+}
+
+/// The wanted page is held now; a safe one gives up its ancestors.
+fn take(pool: &Pool, slot: &mut Slot) {
+    if is_at_leaf(pool, slot) {
+        slot.siblings[slot.beside as usize] = slot.want;
+        slot.beside += 1;
+        return;
+    }
+    if is_safe(pool, slot.kind, slot.want) {
+        slot.path = Default::default();
+        slot.depth = 0;
+    }
+    slot.path[slot.depth as usize] = slot.want;
+    slot.depth += 1;
+}
+
+/// What the operation does from where it stands.
+fn judge<const TESTS: bool>(pool: &mut Pool, n: u32, slot: &Slot) -> Course {
+    let goes = |next: u32| {
+        if TESTS && slot.held().any(|page| page == next) {
+            return Course::Broken;
+        }
+        Course::Goes(next)
+    };
+    let path = &slot.path[..slot.depth as usize];
+    let lowest = path[path.len() - 1];
+    if pool.level(lowest) > 1 {
+        return goes(pool.route(lowest, slot.key));
+    }
+    let found = pool.find(lowest, slot.key);
+    match (slot.kind, found) {
+        (1, Some(information)) => Course::Ends(Answer::found(information)),
+        (1, None) => Course::Ends(Answer::NOT_FOUND),
+        (2, Some(_)) => Course::Ends(Answer::ALREADY_THERE),
+        (2, None) => Course::Ends(insert(pool, n, slot, path)),
+        (_, None) => Course::Ends(Answer::NO_SUCH_KEY),
+        (_, Some(_)) => match next_sibling(pool, slot) {
+            Some(next) => goes(next),
+            None => {
+                let siblings = &slot.siblings[..slot.beside as usize];
+                Course::Ends(Answer::deleted(pool.delete(path, siblings, slot.key)))
+            }
+        },
+    }
+}
+
+/// Counts room, and makes the whole change of an insertion.
+fn insert(pool: &mut Pool, n: u32, slot: &Slot, path: &[u32]) -> Answer {
+    let is_full = |&&p: &&u32| pool.count(p) == 2 * pool.k;
+    let need = if is_full(&&path[path.len() - 1]) {
+        let full = path.iter().filter(is_full).count();
+        full + usize::from(path[0] == 0 && is_full(&&path[0]))
+    } else {
+        0
+    };
+    let mut taken = [0; 11];
+    if need > 0 && !pool.free(n, need, &mut taken) {
+        return Answer::NO_ROOM;
+    }
+    pool.insert(path, slot.key, slot.information, &taken[..need]);
+    Answer::INSERTED
+}

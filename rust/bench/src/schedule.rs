@@ -1,0 +1,143 @@
+//! The schedule: the same operations in the same slots, stepped in turn, whoever answers.
+
+use draw::Random;
+
+/// An operation.
+#[derive(Clone, Copy)]
+pub enum Op {
+    Search(u32),
+    Insert(u32, u32),
+    Delete(u32),
+}
+
+impl Op {
+    /// Kind, key and information.
+    pub fn numbers(self) -> (u32, u32, u32) {
+        match self {
+            Op::Search(key) => (1, key, 0),
+            Op::Insert(key, information) => (2, key, information),
+            Op::Delete(key) => (3, key, 0),
+        }
+    }
+}
+
+/// An answer: its number, and its value or 0.
+#[derive(Clone, Copy, PartialEq, Eq, Debug)]
+pub struct Answer(pub u32, pub u32);
+
+impl Answer {
+    pub const BAD_STATE: Answer = Answer(1, 0);
+    pub const BAD_POOL: Answer = Answer(2, 0);
+    pub const BAD_SLOT: Answer = Answer(3, 0);
+    pub const SLOT_BUSY: Answer = Answer(4, 0);
+    pub const SLOT_IDLE: Answer = Answer(5, 0);
+    pub const DAMAGED: Answer = Answer(6, 0);
+    pub const WAITING: Answer = Answer(32, 0);
+    pub const MOVED: Answer = Answer(33, 0);
+    pub const NOT_FOUND: Answer = Answer(35, 0);
+    pub const INSERTED: Answer = Answer(36, 0);
+    pub const ALREADY_THERE: Answer = Answer(37, 0);
+    pub const NO_SUCH_KEY: Answer = Answer(39, 0);
+    pub const NO_ROOM: Answer = Answer(40, 0);
+    pub const BEGUN: Answer = Answer(41, 0);
+
+    pub fn found(information: u32) -> Answer {
+        Answer(34, information)
+    }
+
+    pub fn deleted(information: u32) -> Answer {
+        Answer(38, information)
+    }
+}
+
+/// Something that answers.
+pub trait Program {
+    /// A fresh pool.
+    fn fresh(k: u32, n: u32) -> Self;
+    fn begin(&mut self, slot: u32, op: Op) -> Answer;
+    fn step(&mut self, slot: u32) -> Answer;
+    /// The words of state and pool.
+    fn left(&self) -> (Vec<u32>, Vec<u32>);
+}
+
+/// What is run.
+#[derive(Clone)]
+pub struct Schedule {
+    pub k: u32,
+    pub n: u32,
+    pub slots: u32,
+    pub filling: Vec<Op>,
+    pub ops: Vec<Op>,
+}
+
+impl Schedule {
+    /// Nine searches to one update, on a pool that is half full of keys.
+    pub fn draw(k: u32, n: u32, slots: u32, count: usize, seed: u64) -> Schedule {
+        let mut random = Random(seed);
+        let lots = u64::from(n) * u64::from(k) * 3 / 4;
+        let range = 2 * lots.max(1);
+        let key = |random: &mut Random| random.below(range) as u32;
+        let filling = (0..lots)
+            .map(|i| Op::Insert(key(&mut random), i as u32))
+            .collect();
+        let ops = (0..count)
+            .map(|i| match random.below(20) {
+                0 => Op::Insert(key(&mut random), i as u32),
+                1 => Op::Delete(key(&mut random)),
+                _ => Op::Search(key(&mut random)),
+            })
+            .collect();
+        Schedule {
+            k,
+            n,
+            slots,
+            filling,
+            ops,
+        }
+    }
+}
+
+/// What a run comes to.
+#[derive(PartialEq, Eq)]
+pub struct Outcome {
+    /// All answers, in one number.
+    pub answers: u64,
+    pub calls: u64,
+    pub left: (Vec<u32>, Vec<u32>),
+}
+
+/// Adds an answer to all before it.
+fn add(answers: u64, answer: Answer) -> u64 {
+    (answers.rotate_left(5) ^ u64::from(answer.0) ^ (u64::from(answer.1) << 32))
+        .wrapping_mul(0x9E37_79B9_7F4A_7C15)
+}
+
+/// Runs operations: each slot that is free takes the next, and the slots are stepped in turn.
+pub fn run<P: Program>(program: &mut P, slots: u32, ops: &[Op]) -> (u64, u64) {
+    let (mut answers, mut calls) = (0, 0);
+    let mut is_open = [false; 16];
+    let (mut next, mut open) = (0, 0);
+    loop {
+        for slot in 0..slots {
+            let answer = if is_open[slot as usize] {
+                program.step(slot)
+            } else if next < ops.len() {
+                is_open[slot as usize] = true;
+                open += 1;
+                next += 1;
+                program.begin(slot, ops[next - 1])
+            } else {
+                continue;
+            };
+            calls += 1;
+            answers = add(answers, answer);
+            if (34..=40).contains(&answer.0) {
+                is_open[slot as usize] = false;
+                open -= 1;
+            }
+        }
+        if open == 0 && next == ops.len() {
+            return (answers, calls);
+        }
+    }
+}

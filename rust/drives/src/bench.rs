@@ -1,0 +1,279 @@
+//! The lots on the bench and the shortcuts that lose a lot, each as document 01 says it.
+
+use crate::program::Program;
+
+/// Information throughout.
+const INFORMATION: u32 = 7;
+
+/// What a call must be answered, and now and then the pool's words behind it.
+struct Expected {
+    answer: [u32; 4],
+    pool: Option<Vec<u32>>,
+}
+
+/// A case: its lines, and what each call must be answered.
+pub struct Case {
+    name: &'static str,
+    lines: Vec<String>,
+    expected: Vec<Expected>,
+}
+
+const BEGUN: [u32; 4] = [41, 0, 0, 0];
+const MADE: [u32; 4] = [42, 0, 0, 0];
+const MOVED: [u32; 4] = [33, 0, 0, 0];
+const WAITING: [u32; 4] = [32, 0, 0, 0];
+const FOUND: [u32; 4] = [34, INFORMATION, 0, 0];
+const NOT_FOUND: [u32; 4] = [35, 0, 0, 0];
+const INSERTED: [u32; 4] = [36, 0, 0, 0];
+const ALREADY_THERE: [u32; 4] = [37, 0, 0, 0];
+const DELETED: [u32; 4] = [38, INFORMATION, 0, 0];
+const NO_ROOM: [u32; 4] = [40, 0, 0, 0];
+const BAD_POOL: [u32; 4] = [2, 0, 0, 0];
+const BAD_SLOT: [u32; 4] = [3, 0, 0, 0];
+const BAD_KIND: [u32; 4] = [31, 0, 0, 0];
+
+impl Case {
+    /// A case that starts with a making.
+    fn made(name: &'static str, k: u32, n: u32, answer: [u32; 4]) -> Case {
+        let mut case = Case {
+            name,
+            lines: vec![format!("p {} 9", n * (4 * k + 3))],
+            expected: Vec::new(),
+        };
+        case.call(&format!("m {k} {n}"), answer);
+        case
+    }
+
+    /// A case with k = 1 from a fresh pool.
+    fn fresh(name: &'static str, n: u32) -> Case {
+        Case::made(name, 1, n, MADE)
+    }
+
+    /// Case E: 10, 20 and 30 in three pages.
+    fn from_e(name: &'static str) -> Case {
+        let mut case = Case::fresh(name, 3);
+        for key in [10, 20, 30] {
+            case.insert(key, 1, INSERTED);
+        }
+        case
+    }
+
+    /// A call, and its answer.
+    fn call(&mut self, line: &str, answer: [u32; 4]) {
+        self.lines.push(line.to_string());
+        self.expected.push(Expected { answer, pool: None });
+    }
+
+    /// The pool's words from the first on must now be these pages.
+    fn words(&mut self, pages: &[[u32; 7]]) {
+        if let Some(last) = self.expected.last_mut() {
+            last.pool = Some(pages.concat());
+        }
+        // all words with the last call
+        let call = self.lines.pop().unwrap_or_default();
+        self.lines
+            .extend(["q 2".to_string(), call, "q 0".to_string()]);
+    }
+
+    /// An operation alone in slot 0, to its end after so many grants.
+    fn alone(&mut self, kind: u32, key: u32, grants: usize, answer: [u32; 4]) {
+        self.call(&format!("b 0 {kind} {key} {INFORMATION}"), BEGUN);
+        for _ in 1..grants {
+            self.call("t 0", MOVED);
+        }
+        self.call("t 0", answer);
+    }
+
+    fn search(&mut self, key: u32, grants: usize, answer: [u32; 4]) {
+        self.alone(1, key, grants, answer);
+    }
+
+    fn insert(&mut self, key: u32, grants: usize, answer: [u32; 4]) {
+        self.alone(2, key, grants, answer);
+    }
+
+    fn delete(&mut self, key: u32, grants: usize, answer: [u32; 4]) {
+        self.alone(3, key, grants, answer);
+    }
+
+    /// What the program says otherwise, if anything.
+    pub fn refuted(&self, program: &impl Program) -> Option<String> {
+        let input: String = self.lines.iter().map(|line| format!("{line}\n")).collect();
+        let written = program.written(input.as_bytes());
+        let text = String::from_utf8_lossy(&written).into_owned();
+        let lines: Vec<Vec<u32>> = text
+            .lines()
+            .map(|line| line.split(' ').flat_map(str::parse).collect())
+            .collect();
+        let agrees = |(numbers, expected): (&Vec<u32>, &Expected)| {
+            let is_pool = |pool: &Vec<u32>| {
+                let start = 4 + twin::STATE;
+                numbers.get(start..start + pool.len()) == Some(&pool[..])
+            };
+            numbers.get(..4) == Some(&expected.answer[..])
+                && expected.pool.as_ref().is_none_or(is_pool)
+        };
+        let same =
+            lines.len() == self.expected.len() && lines.iter().zip(&self.expected).all(agrees);
+        (!same).then(|| format!("case {} is answered otherwise:\n{input}{text}", self.name))
+    }
+}
+
+/// All cases.
+pub fn cases() -> Vec<Case> {
+    [bench(), together(), limits(), shortcuts()]
+        .into_iter()
+        .flatten()
+        .collect()
+}
+
+/// A to I.
+fn bench() -> Vec<Case> {
+    let mut a = Case::fresh("A", 1);
+    a.words(&[[1, 0, 0, 0, 0, 0, 0]]);
+
+    let mut b = Case::fresh("B", 1);
+    b.search(5, 1, NOT_FOUND);
+
+    let mut c = Case::fresh("C", 1);
+    c.insert(10, 1, INSERTED);
+    c.insert(20, 1, INSERTED);
+    c.words(&[[1, 2, 10, 7, 20, 7, 0]]);
+
+    let mut d = Case::fresh("D", 2);
+    d.insert(10, 1, INSERTED);
+    d.insert(20, 1, INSERTED);
+    d.insert(30, 1, NO_ROOM);
+    d.words(&[[1, 2, 10, 7, 20, 7, 0]]);
+
+    let mut e = Case::from_e("E");
+    e.words(&E);
+
+    let mut f = Case::from_e("F");
+    f.search(20, 2, FOUND);
+
+    let mut g = Case::from_e("G");
+    g.delete(10, 3, DELETED);
+    g.words(&[
+        [2, 1, 1, 30, 2, 0, 0],
+        [1, 1, 20, 7, 0, 0, 0],
+        [1, 1, 30, 7, 0, 0, 0],
+    ]);
+
+    let mut h = Case::from_e("H");
+    h.delete(10, 3, DELETED);
+    h.delete(20, 3, DELETED);
+    h.words(&[[1, 1, 30, 7, 0, 0, 0], [0; 7], [0; 7]]);
+
+    let mut i = Case::from_e("I");
+    i.insert(20, 2, ALREADY_THERE);
+    i.words(&E);
+
+    vec![a, b, c, d, e, f, g, h, i]
+}
+
+/// The words of case E.
+const E: [[u32; 7]; 3] = [
+    [2, 1, 1, 20, 2, 0, 0],
+    [1, 1, 10, 7, 0, 0, 0],
+    [1, 2, 20, 7, 30, 7, 0],
+];
+
+/// J and K: two slots at once.
+fn together() -> Vec<Case> {
+    let mut j = Case::from_e("J");
+    j.call("b 0 1 10 0", BEGUN);
+    j.call("t 0", MOVED);
+    j.call("b 1 3 20 0", BEGUN);
+    j.call("t 1", WAITING);
+    j.call("t 0", FOUND);
+    j.call("t 1", MOVED);
+
+    let mut k = Case::from_e("K");
+    k.call("b 0 1 10 0", BEGUN);
+    k.call("b 1 1 20 0", BEGUN);
+    k.call("t 1", WAITING);
+
+    vec![j, k]
+}
+
+/// L, and a kind of operation that does not exist.
+fn limits() -> Vec<Case> {
+    let mut slots = Case::fresh("L, slots", 1);
+    slots.call("b 15 1 5 0", BEGUN);
+    slots.call("b 16 1 5 0", BAD_SLOT);
+
+    let mut kinds = Case::fresh("kinds", 1);
+    kinds.call("b 0 0 5 0", BAD_KIND);
+    kinds.call("b 0 4 5 0", BAD_KIND);
+    kinds.call("b 16 4294967295 5 0", BAD_KIND);
+
+    vec![
+        slots,
+        kinds,
+        Case::made("L, k 16", 16, 1, MADE),
+        Case::made("L, k 0", 0, 1, BAD_POOL),
+        Case::made("L, k 17", 17, 1, BAD_POOL),
+        Case::made("L, 1,024 pages", 1, 1024, MADE),
+        Case::made("L, 1,025 pages", 1, 1025, BAD_POOL),
+    ]
+}
+
+/// Five lots, 10 to 50, in a tree of three levels: 0 above 5 and 6, 5 above 1 and 2, 6 above 3 and 4.
+fn three_levels(name: &'static str) -> Case {
+    let mut case = Case::fresh(name, 8);
+    for (key, grants) in [(10, 1), (20, 1), (30, 1), (40, 2), (50, 2)] {
+        case.insert(key, grants, INSERTED);
+    }
+    case
+}
+
+/// What each shortcut would lose.
+fn shortcuts() -> Vec<Case> {
+    // "after one grant of a search in slot 0, the report for page 0 is ρ, 1, 0; the shortcut gives none, 0, 16"
+    let mut father = Case::from_e("giving up the father before the child is granted");
+    father.call("b 0 1 20 0", BEGUN);
+    father.call("t 0", MOVED);
+    father.call("r 0", [43, 1, 1, 0]);
+
+    // "F fails"
+    let mut left = Case::from_e("sending an equal key left");
+    left.search(20, 2, FOUND);
+
+    // "the father is given up though it must change"
+    let mut safe = Case::from_e("testing μ < 2k on a deletion");
+    safe.call("b 0 3 10 0", BEGUN);
+    safe.call("t 0", MOVED);
+    safe.call("t 0", MOVED);
+    safe.call("r 0", [43, 2, 1, 0]);
+    safe.call("t 0", DELETED);
+
+    // "a search resting there holds a page that no longer leads where it wants to go, or a freed one"
+    let mut sibling = three_levels("taking words from a sibling without its lock");
+    sibling.call("b 0 1 40 0", BEGUN);
+    sibling.call("t 0", MOVED);
+    sibling.call("t 0", MOVED);
+    sibling.call("r 6", [43, 1, 1, 0]);
+    sibling.call("b 1 3 10 0", BEGUN);
+    for _ in 0..4 {
+        sibling.call("t 1", MOVED);
+    }
+    sibling.call("t 1", WAITING);
+    sibling.call("t 0", FOUND);
+    sibling.call("t 1", DELETED);
+
+    // "Freeing a page without zeroing it, or never taking it again": H, and then both pages are taken again
+    let mut freed = Case::from_e("freeing a page without zeroing it, or never taking it again");
+    freed.delete(10, 3, DELETED);
+    freed.delete(20, 3, DELETED);
+    freed.words(&[[1, 1, 30, 7, 0, 0, 0], [0; 7], [0; 7]]);
+    freed.insert(40, 1, INSERTED);
+    freed.insert(50, 1, INSERTED);
+    freed.words(&[
+        [2, 1, 1, 40, 2, 0, 0],
+        [1, 1, 30, 7, 0, 0, 0],
+        [1, 2, 40, 7, 50, 7, 0],
+    ]);
+
+    vec![father, left, safe, sibling, freed]
+}

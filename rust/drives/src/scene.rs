@@ -1,0 +1,97 @@
+//! A scene: lines that need nothing from before, with what the twin writes for each.
+
+use drive_twin::{Drive, Twin};
+use moments::Call;
+use twin::{words_of, Op, State};
+
+/// Words in one line.
+const ROW: usize = 16;
+
+/// Lines, and the machine of the twin behind the last of them.
+pub struct Scene {
+    pub lines: Vec<Vec<u8>>,
+    pub drive: Drive<Twin>,
+    /// All that the twin writes.
+    pub written: Vec<u8>,
+}
+
+impl Scene {
+    /// A scene with a pool of so many words, all alike.
+    pub fn new(length: usize, word: u32) -> Scene {
+        let mut scene = Scene {
+            lines: Vec::new(),
+            drive: Drive::new(Twin),
+            written: Vec::new(),
+        };
+        scene.text(&format!("p {length} {word}"));
+        scene
+    }
+
+    /// Puts a line at the end, given without its line feed.
+    pub fn line(&mut self, line: Vec<u8>) {
+        // a spoiled line may be two
+        for part in line.split(|&byte| byte == b'\n') {
+            self.drive.line(part, &mut self.written);
+            self.lines.push(part.to_vec());
+        }
+    }
+
+    /// Puts a line of plain text at the end.
+    pub fn text(&mut self, line: &str) {
+        self.line(line.as_bytes().to_vec());
+    }
+
+    /// The whole state.
+    pub fn state(&mut self, state: &State) {
+        self.state_words(&words_of(state));
+    }
+
+    /// The state's words from the first on.
+    pub fn state_words(&mut self, words: &[u32]) {
+        self.rows('s', words);
+    }
+
+    /// The pool's words from the first on.
+    pub fn pool_words(&mut self, words: &[u32]) {
+        self.rows('w', words);
+    }
+
+    /// Words in rows.
+    fn rows(&mut self, letter: char, words: &[u32]) {
+        for (row, part) in words.chunks(ROW).enumerate() {
+            let numbers: Vec<String> = part.iter().map(|word| word.to_string()).collect();
+            self.text(&format!("{letter} {} {}", row * ROW, numbers.join(" ")));
+        }
+    }
+
+    /// A call.
+    pub fn call(&mut self, call: Call) {
+        self.text(&call_line(call));
+    }
+
+    /// The bytes of all lines.
+    pub fn input(&self) -> Vec<u8> {
+        joined(&self.lines)
+    }
+}
+
+/// Lines as bytes, each with its line feed.
+pub fn joined(lines: &[Vec<u8>]) -> Vec<u8> {
+    lines
+        .iter()
+        .flat_map(|line| line.iter().chain(b"\n").copied())
+        .collect()
+}
+
+/// The line of a call.
+pub fn call_line(call: Call) -> String {
+    match call {
+        Call::Begin(slot, Op::Search(key)) => format!("b {slot} 1 {key} 0"),
+        Call::Begin(slot, Op::Insert(key, information)) => {
+            format!("b {slot} 2 {key} {information}")
+        }
+        Call::Begin(slot, Op::Delete(key)) => format!("b {slot} 3 {key} 0"),
+        Call::Step(slot) => format!("t {slot}"),
+        Call::Report(page) => format!("r {page}"),
+    }
+}

@@ -1,0 +1,225 @@
+//! The comparison can fail: each bug that is put into the calls of the second program is found.
+
+use draw::Random;
+use drive_twin::{Calls, Twin};
+use drives::{cases, compare, draw_scene, smallest, Scene, KINDS};
+use twin::{
+    begin_lent, free_pages, make_lent, page_words, report_lent, step_lent, Answer, Op, STATE,
+};
+
+/// A call that something is wrong with.
+#[derive(Clone, Copy, Debug)]
+enum Bug {
+    /// An older want for the same page is overlooked.
+    OlderWantOverlooked,
+    /// A search gives its father up before the child is granted.
+    FatherGivenUp,
+    /// A key equal to a reference key goes left.
+    EqualKeyLeft,
+    /// A deletion tests μ < 2k.
+    DeletionTestsFull,
+    /// A sibling is used without its lock.
+    SiblingUnlocked,
+    /// A freed page keeps its words behind the level.
+    FreedNotZeroed,
+    /// The last free page is never taken.
+    LastPageKept,
+    /// A waiting order that is too long counts as a full one.
+    LongOrderCut,
+    /// A report counts wants.
+    WantsCounted,
+    /// A refused making clears the words.
+    RefusedMakingWrites,
+    /// A closed slot keeps its key.
+    ClosedKeepsKey,
+    /// A kind that does not exist counts as closed.
+    UnknownKindClosed,
+}
+
+const BUGS: [Bug; 12] = [
+    Bug::OlderWantOverlooked,
+    Bug::FatherGivenUp,
+    Bug::EqualKeyLeft,
+    Bug::DeletionTestsFull,
+    Bug::SiblingUnlocked,
+    Bug::FreedNotZeroed,
+    Bug::LastPageKept,
+    Bug::LongOrderCut,
+    Bug::WantsCounted,
+    Bug::RefusedMakingWrites,
+    Bug::ClosedKeepsKey,
+    Bug::UnknownKindClosed,
+];
+
+/// Where a row has the word of a slot.
+fn at(row: usize, slot: usize) -> usize {
+    19 + 16 * row + slot
+}
+
+const KIND: usize = 0;
+const KEY: usize = 1;
+const WANT: usize = 3;
+const DEPTH: usize = 4;
+const SIBLINGS: usize = 5;
+
+impl Calls for Bug {
+    fn make(&self, k: u32, n: u32, state: &mut [u32; STATE], words: &mut [u32]) -> Answer {
+        let answer = make_lent(k, n, state, words);
+        if matches!((self, answer), (Bug::RefusedMakingWrites, Answer::BadPool)) {
+            words.fill(0);
+        }
+        answer
+    }
+
+    fn begin(&self, state: &mut [u32; STATE], slot: usize, op: Op) -> Answer {
+        self.spoil(state);
+        begin_lent(state, slot, op)
+    }
+
+    fn step(&self, state: &mut [u32; STATE], words: &mut [u32], slot: usize) -> Answer {
+        self.spoil(state);
+        let (before, pages) = (*state, words.to_vec());
+        let answer = step_lent(state, words, slot);
+        if slot >= 16 {
+            return answer;
+        }
+        let kind = before[at(KIND, slot)];
+        match (self, answer) {
+            (Bug::OlderWantOverlooked, Answer::Waiting) => {
+                let place = (3..19).find(|&place| state[place] == slot as u32);
+                state[3..=place.unwrap_or(3)].rotate_right(1);
+                step_lent(state, words, slot)
+            }
+            (Bug::FatherGivenUp, Answer::Moved) if kind == 1 => {
+                state[at(DEPTH, slot)] = 0;
+                answer
+            }
+            (Bug::EqualKeyLeft, Answer::Found(_) | Answer::Moved) if kind == 1 => {
+                *state = before;
+                state[at(KEY, slot)] = before[at(KEY, slot)].saturating_sub(1);
+                let answer = step_lent(state, words, slot);
+                state[at(KEY, slot)] = before[at(KEY, slot)];
+                answer
+            }
+            (Bug::DeletionTestsFull, Answer::Moved) if kind == 3 => {
+                let (mut other, mut copy) = (before, pages);
+                other[at(KIND, slot)] = 2;
+                if step_lent(&mut other, &mut copy, slot) == Answer::Moved {
+                    *state = other;
+                    state[at(KIND, slot)] = 3;
+                }
+                answer
+            }
+            (Bug::SiblingUnlocked, Answer::Moved) if state[at(SIBLINGS, slot)] > 0 => {
+                step_lent(state, words, slot)
+            }
+            (Bug::FreedNotZeroed, Answer::Deleted(_)) => {
+                let size = page_words(before[0]);
+                for start in (0..words.len()).step_by(size) {
+                    if words[start] == 0 && pages[start] != 0 {
+                        words[start + 1..start + size]
+                            .copy_from_slice(&pages[start + 1..start + size]);
+                    }
+                }
+                answer
+            }
+            (Bug::LastPageKept, Answer::Inserted) => {
+                let free = |words: &[u32]| free_pages(words, before[0], before[1]).len();
+                if free(words) == 0 && free(&pages) > 0 {
+                    words.copy_from_slice(&pages);
+                    return Answer::NoRoom;
+                }
+                answer
+            }
+            (Bug::ClosedKeepsKey, _) if state[at(KIND, slot)] == 0 && kind != 0 => {
+                state[at(KEY, slot)] = before[at(KEY, slot)];
+                answer
+            }
+            _ => answer,
+        }
+    }
+
+    fn report(&self, state: &[u32; STATE], page: u32) -> Answer {
+        let answer = report_lent(state, page);
+        let wanting =
+            (0..16).find(|&slot| state[at(KIND, slot)] != 0 && state[at(WANT, slot)] == page);
+        match (self, answer, wanting) {
+            (Bug::WantsCounted, Answer::Reported(0, 0, 16), Some(slot)) => {
+                Answer::Reported(1, 1, slot as u32)
+            }
+            _ => answer,
+        }
+    }
+}
+
+impl Bug {
+    /// Changes the state before the twin looks at it.
+    fn spoil(&self, state: &mut [u32; STATE]) {
+        match self {
+            Bug::LongOrderCut => state[2] = state[2].min(16),
+            Bug::UnknownKindClosed => state[at(KIND, 0)..at(KEY, 0)]
+                .iter_mut()
+                .filter(|kind| **kind > 3)
+                .for_each(|kind| *kind = 0),
+            _ => {}
+        }
+    }
+}
+
+/// Some scenes, the same for every bug.
+fn scenes() -> Vec<Scene> {
+    (0..28 * 12)
+        .map(|seed: u64| {
+            let kind = KINDS[(seed % KINDS.len() as u64) as usize];
+            draw_scene(kind, &mut Random(seed))
+        })
+        .collect()
+}
+
+#[test]
+fn each_bug_is_found() {
+    let scenes = scenes();
+    for bug in BUGS {
+        let program = || bug;
+        let found = scenes
+            .chunks(28)
+            .find_map(|batch| compare(&program, batch).map(|at| &batch[at]));
+        let scene = found.unwrap_or_else(|| panic!("{bug:?} is not found"));
+        let text = smallest(&program, &scene.lines);
+        assert!(text.contains("by the twin"), "{bug:?}: {text}");
+    }
+}
+
+#[test]
+fn a_small_case_is_told() {
+    let scenes = scenes();
+    let program = || Bug::WantsCounted;
+    let at = compare(&program, &scenes).expect("it is found");
+    let text = smallest(&program, &scenes[at].lines);
+    // a state, the call, and where the two differ
+    assert!(text.lines().count() < 12, "{text}");
+}
+
+#[test]
+fn the_twin_itself_is_found_right() {
+    let program = || Twin;
+    assert_eq!(compare(&program, &scenes()[..56]), None);
+    for case in cases() {
+        assert_eq!(case.refuted(&program), None);
+    }
+}
+
+#[test]
+fn a_case_of_01_finds_each_shortcut() {
+    let shortcuts = [
+        Bug::FatherGivenUp,
+        Bug::EqualKeyLeft,
+        Bug::DeletionTestsFull,
+        Bug::FreedNotZeroed,
+        Bug::LastPageKept,
+    ];
+    for bug in shortcuts {
+        let refuted = cases().iter().any(|case| case.refuted(&|| bug).is_some());
+        assert!(refuted, "{bug:?}");
+    }
+}

@@ -1,0 +1,55 @@
+//! The archive as it is linked: its sizes, its numbers and its refusals.
+
+use ghazfulit::{pool_words, Index, Lock, Op, Refusal, Step, STATE};
+
+#[test]
+fn a_state_has_just_so_many_words() {
+    // a fresh state has k and n in front, and every other word 0
+    let index = Index::new(16, 1).expect("in range");
+    assert_eq!(index.state()[..2], [16, 1]);
+    assert!(index.state()[2..].iter().all(|&word| word == 0));
+    assert_eq!(index.words().len(), pool_words(16, 1));
+}
+
+#[test]
+fn case_e_and_its_locks() {
+    let mut index = Index::new(1, 3).expect("in range");
+    for key in [10, 20, 30] {
+        index
+            .begin(
+                0,
+                Op::Insert {
+                    key,
+                    information: 7,
+                },
+            )
+            .expect("begun");
+        assert_eq!(index.step(0), Ok(Step::Inserted));
+    }
+    let pages = [
+        [2, 1, 1, 20, 2, 0, 0],
+        [1, 1, 10, 7, 0, 0, 0],
+        [1, 2, 20, 7, 30, 7, 0],
+    ];
+    assert_eq!(index.words(), pages.concat());
+    index.begin(0, Op::Search { key: 20 }).expect("begun");
+    assert_eq!(index.step(0), Ok(Step::Moved));
+    let report = index.report(0).expect("a page");
+    assert_eq!((report.held, report.holders), (Some((Lock::Rho, 0)), 1));
+    assert_eq!(index.step(0), Ok(Step::Found(7)));
+}
+
+#[test]
+fn a_refused_call_leaves_all_as_it_was() {
+    let mut words = vec![5; 9];
+    assert_eq!(Index::over(1, 1, &mut words).err(), Some(Refusal::BadPool));
+    let mut index = Index::from_words([3; STATE], &mut words);
+    assert_eq!(index.step(0), Err(Refusal::BadState));
+    assert_eq!(
+        index.begin(0, Op::Delete { key: 1 }),
+        Err(Refusal::BadState)
+    );
+    assert_eq!(index.report(0), Err(Refusal::BadState));
+    assert_eq!(index.state(), &[3; STATE]);
+    assert_eq!(words, [5; 9]);
+}

@@ -1,0 +1,14 @@
+//! Moments at which calls are tried: in the middle of random runs, with words or cells spoiled, on pages that no run
+//! reaches, and near the limits of a sound state.
+
+mod built;
+mod fresh;
+mod limits;
+mod moment;
+mod spoiled;
+
+pub use built::built;
+pub use fresh::{draw, draw_calls, made, next_call, operation, Draw};
+pub use limits::limits;
+pub use moment::{Call, Moment};
+pub use spoiled::{spoiled_state, spoiled_words};

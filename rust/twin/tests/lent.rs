@@ -1,0 +1,82 @@
+//! The state as lent words: both ways, and what a call leaves of them.
+
+use draw::Random;
+use twin::{
+    begin_lent, is_sound, make_lent, report_lent, state_of, step_lent, words_of, Answer, Op, STATE,
+};
+
+/// A fresh pool of one page.
+fn fresh() -> ([u32; STATE], [u32; 7]) {
+    let (mut state, mut words) = ([9; STATE], [9; 7]);
+    assert_eq!(make_lent(1, 1, &mut state, &mut words), Answer::Made);
+    (state, words)
+}
+
+#[test]
+fn it_has_435_words() {
+    assert_eq!(STATE, 435);
+}
+
+#[test]
+fn making_writes_every_word() {
+    let (state, words) = fresh();
+    assert_eq!(state[..3], [1, 1, 0]);
+    assert_eq!(state[3..], [0; STATE - 3]);
+    assert_eq!(words, [1, 0, 0, 0, 0, 0, 0]);
+    let mut refused = [9; STATE];
+    assert_eq!(make_lent(0, 1, &mut refused, &mut [5; 3]), Answer::BadPool);
+    assert_eq!(refused, [0; STATE]);
+}
+
+#[test]
+fn columns_stand_where_they_are_said_to() {
+    let (mut state, _) = fresh();
+    assert_eq!(begin_lent(&mut state, 5, Op::Insert(10, 7)), Answer::Begun);
+    let mut expected = [0; STATE];
+    expected[..4].copy_from_slice(&[1, 1, 1, 5]);
+    expected[19 + 5] = 2;
+    expected[19 + 16 + 5] = 10;
+    expected[19 + 32 + 5] = 7;
+    assert_eq!(state, expected);
+}
+
+#[test]
+fn words_and_state_give_each_other_back() {
+    let mut random = Random(1);
+    for _ in 0..2000 {
+        let words: [u32; STATE] = std::array::from_fn(|at| match at {
+            19..=34 => random.below(4) as u32,
+            _ => random.bits() as u32 >> random.below(32),
+        });
+        let state = state_of(&words).expect("all kinds exist");
+        assert_eq!(state_of(&words_of(&state)), Some(state));
+    }
+}
+
+#[test]
+fn a_kind_that_does_not_exist_is_no_state() {
+    let (mut state, mut words) = fresh();
+    state[19 + 3] = 4;
+    let given = state;
+    assert_eq!(begin_lent(&mut state, 0, Op::Search(1)), Answer::BadState);
+    assert_eq!(step_lent(&mut state, &mut words, 0), Answer::BadState);
+    assert_eq!(report_lent(&state, 0), Answer::BadState);
+    assert_eq!(state, given);
+}
+
+#[test]
+fn unused_words_are_not_looked_at() {
+    let (mut state, mut words) = fresh();
+    begin_lent(&mut state, 1, Op::Search(3));
+    // a closed slot's key, a search's information, a cell behind the depth, a cell behind the order
+    for at in [19 + 16 + 7, 19 + 32 + 1, 19 + 16 * 6 + 1, 18] {
+        state[at] = 77;
+    }
+    assert!(is_sound(&state_of(&state).expect("a state")));
+    assert_eq!(step_lent(&mut state, &mut words, 1), Answer::NotFound);
+    let mut expected = [0; STATE];
+    expected[..2].copy_from_slice(&[1, 1]);
+    expected[19 + 16 + 7] = 77;
+    expected[18] = 77;
+    assert_eq!(state, expected);
+}
