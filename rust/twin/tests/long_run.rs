@@ -3,7 +3,11 @@
 mod common;
 
 use common::Run;
+use twin::Answer;
 use twin::Op::{self, Delete, Insert, Search};
+
+/// The proved table of what is heard in this run.
+const TABLE: &str = include_str!("../../../crates/promises/specs/LongRun.antt");
 
 /// Three operations, and how many rounds by all three slots, by the last two, by the last.
 type Three = ([Op; 3], [usize; 3]);
@@ -24,18 +28,49 @@ const RUN: [Three; 13] = [
     ([Delete(16), Search(16), Delete(16)], [1, 0, 0]),
 ];
 
+/// The answers of the table, by the names that it gives them.
+fn table() -> Vec<Answer> {
+    let rows = TABLE
+        .split("longAnswers =\n")
+        .nth(1)
+        .expect("the table is there");
+    let rows = rows.split("[]").next().expect("it has an end");
+    let names = rows
+        .split('∷')
+        .map(str::trim)
+        .filter(|name| !name.is_empty());
+    names.map(named).collect()
+}
+
+fn named(name: &str) -> Answer {
+    match name {
+        "began" => Answer::Begun,
+        "onward" => Answer::Moved,
+        "waits" => Answer::Waiting,
+        "found" => Answer::Found(7),
+        "absent" => Answer::NotFound,
+        "inserted" => Answer::Inserted,
+        "there" => Answer::AlreadyThere,
+        "deleted" => Answer::Deleted(7),
+        "missing" => Answer::NoSuchKey,
+        "noPage" => Answer::NoRoom,
+        _ => panic!("the table has another name: {name}"),
+    }
+}
+
 #[test]
 fn up_to_four_levels_and_back() {
     let mut run = Run::new(1, 18);
+    let mut heard = Vec::new();
     let mut heights = Vec::new();
     let mut calls = 0;
     for (ops, rounds) in RUN {
         for (slot, op) in ops.into_iter().enumerate() {
-            run.begin(slot, op);
+            heard.push(run.begin(slot, op));
         }
         let steps = (0..3).flat_map(|first| (0..rounds[first]).flat_map(move |_| first..3));
         for slot in steps {
-            run.step(slot);
+            heard.push(run.step(slot));
             run.check();
             calls += 1;
         }
@@ -44,6 +79,7 @@ fn up_to_four_levels_and_back() {
         assert_eq!(run.state.waiting, 0);
     }
     assert_eq!(calls, 219);
+    assert_eq!(heard, table());
     assert_eq!(heights, [1, 2, 3, 3, 4, 4, 4, 4, 3, 3, 2, 1, 1]);
     assert_eq!(run.tallest, 4);
     assert_eq!(run.words[0], 1);
