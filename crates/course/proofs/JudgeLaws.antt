@@ -31,9 +31,9 @@ use Rattle.slots.specs.declared.Slot.{Slot}
 use Rattle.slots.specs.Parts.{keyOf, pathOf, siblingsOf, held}
 use Rattle.course.specs.declared.judging.Course.{Course}
 use Rattle.course.specs.declared.judging.Course.the-variants.{Broken, Goes}
-use Rattle.grant.specs.Granted.{Verdict, broken, goes, ends, isSafe, kept, deletes, byNeed, atLeaf, fromLeaf, comesDown, besides, atItsLeaf, granted}
-use Rattle.grant.specs.Fitting.{descends, rightlyKept, rightlyBeside, sameLevels, isSibling, isNone, fitting}
-use Rattle.grant.specs.Standing.{Stands, standPath, standSiblings}
+use Rattle.footing.specs.Granted.{Verdict, broken, goes, ends, isSafe, kept, deletes, byNeed, atLeaf, fromLeaf, comesDown, besides, atItsLeaf, granted}
+use Rattle.footing.specs.Fitting.{descends, rightlyKept, rightlyBeside, sameLevels, isSibling, isNone, fitting}
+use Rattle.footing.specs.Standing.{Stands, standPath, standSiblings}
 use Rattle.course.specs.Judged.{judgedAt, judged, ifNew, courseOf, ready, nextCourse, searchCourse, insertCourse, needCourse, deleteCourse, standsLast}
 
 -- ---- the rule of a granted step

@@ -30,10 +30,10 @@ use Rattle.slots.specs.declared.Slot.{Slot}
 use Rattle.slots.specs.Parts.{keyOf, isDelete, isOpen, openSlot, pathOf, siblingsOf, held}
 use Rattle.slots.proofs.SoundFacts.{sound-slot}
 use Rattle.slots.proofs.Keeping.{path-new, siblings-new}
-use Rattle.grant.specs.Granted.{isSafe, kept, atItsLeaf}
-use Rattle.grant.specs.Fitting.{descends, pagesSound, rightlyKept, sameLevels, isSibling, rightlyBeside, isNone, fitting}
-use Rattle.grant.specs.Standing.{Asks, fits, stood, standPath, standSiblings, Standing, Stands}
-use Rattle.grant.proofs.LookLaws.{descends-levels, pagesOf, asks-held}
+use Rattle.footing.specs.Granted.{isSafe, kept, atItsLeaf}
+use Rattle.footing.specs.Fitting.{descends, pagesSound, rightlyKept, sameLevels, isSibling, rightlyBeside, isNone, fitting}
+use Rattle.footing.specs.Standing.{Asks, fits, stood, standPath, standSiblings, Standing, Stands}
+use Rattle.footing.proofs.LookLaws.{descends-levels, pagesOf, asks-held}
 
 -- ---- a way down
 

@@ -21,8 +21,8 @@ use Rattle.slots.specs.declared.Slot.{Slot}
 use Rattle.slots.specs.Parts.{keyOf, siblingsOf, held}
 use Rattle.course.specs.declared.judging.Course.{Course}
 use Rattle.course.specs.declared.judging.Course.the-variants.{Broken, Goes, Ends, Inserts, Deletes}
-use Rattle.grant.specs.Granted.{Verdict, broken, goes, ends, deletes, atLeaf, fromLeaf}
-use Rattle.grant.specs.Fitting.{nextIsNew}
+use Rattle.footing.specs.Granted.{Verdict, broken, goes, ends, deletes, atLeaf, fromLeaf}
+use Rattle.footing.specs.Fitting.{nextIsNew}
 
 -- at the leaf, with these siblings held
 unfoldable pub judgedAt : Op → ℕ → (ℕ → Page) → List ℕ → List ℕ → List ℕ → ℕ → List ℕ → Verdict

@@ -1,7 +1,7 @@
 // What an operation does from where it stands.
 use change::needing::Need;
 use change::needing::needs;
-use grant::looking::key_asked;
+use footing::looking::key_asked;
 use page::reading::Lot;
 use pool::pages::is_leaf_of;
 use pool::pages::look_of;
@@ -14,7 +14,7 @@ ghost use mathlib.Core.Path.{_≡_};
 ghost use Rattle.pool.specs.Pool.{pageAt, freePages};
 ghost use Rattle.slots.specs.declared.Op.the-variants.{Delete};
 ghost use Rattle.slots.specs.Parts.{pathOf, siblingsOf};
-ghost use Rattle.grant.specs.Standing.{Stands};
+ghost use Rattle.footing.specs.Standing.{Stands};
 ghost use Rattle.course.specs.Judged.{judged, ifNew, courseOf, ready, nextCourse, searchCourse, insertCourse, deleteCourse};
 
 // The pages are not sound for the step; the slot goes on and wants this page; the operation ends, and no page is written; or it

@@ -1,6 +1,6 @@
 // Where an operation stands once its want is granted.
-use grant::looking::at_leaf;
-use grant::looking::is_safe;
+use footing::looking::at_leaf;
+use footing::looking::is_safe;
 use pool::pages::count_of;
 use slots::Op;
 use slots::Slot;
@@ -10,7 +10,7 @@ use slots::book::holding_one;
 ghost use mathlib.Core.Path.{_≡_};
 ghost use mathlib.Core.Bool.{true};
 ghost use Rattle.pool.specs.Pool.{pageAt};
-ghost use Rattle.grant.specs.Standing.{Asks, fits, stood};
+ghost use Rattle.footing.specs.Standing.{Asks, fits, stood};
 
 // At its leaf it holds one more sibling. Coming down, it holds the page alone, if that is safe, or one more on its path.
 pub fn stands(words: &[u32], k: usize, n: usize, op: Op, slot: Slot) -> Slot

@@ -40,8 +40,8 @@ use Rattle.lent.specs.Words.{orderIn, asRead, known, stateOf, written}
 use Rattle.lent.proofs.StateLaws.{length-order, state-known, state-written}
 use Rattle.course.specs.declared.judging.Course.{Course}
 use Rattle.course.specs.declared.judging.Course.the-variants.{Broken, Goes, Ends, Inserts, Deletes}
-use Rattle.grant.specs.Granted.{Verdict, ends, fromLeaf}
-use Rattle.grant.specs.Standing.{Stands}
+use Rattle.footing.specs.Granted.{Verdict, ends, fromLeaf}
+use Rattle.footing.specs.Standing.{Stands}
 use Rattle.course.specs.Judged.{courseOf, ready, standsLast}
 use Rattle.course.proofs.JudgeLaws.{standing-needing, standing-holding, stand-upward}
 use Rattle.index.specs.Acting.{Leaves, Acts, wanting, standLeaf, standFathers, lacksRoom, roomAnswer, afterInsertion, afterDeletion}

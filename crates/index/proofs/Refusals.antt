@@ -31,8 +31,8 @@ use Rattle.slots.specs.Sound.{sound}
 use Rattle.slots.specs.Grant.{grants}
 use Rattle.lent.specs.Words.{stateOf, lentAfter}
 use Rattle.lent.specs.Statements.{BeginSays}
-use Rattle.grant.specs.Granted.{Verdict, broken, goes, ends, kept, byNeed, deletes, atLeaf, fromLeaf, comesDown, besides, atItsLeaf, granted}
-use Rattle.grant.specs.Fitting.{soundForStep, verdict}
+use Rattle.footing.specs.Granted.{Verdict, broken, goes, ends, kept, byNeed, deletes, atLeaf, fromLeaf, comesDown, besides, atItsLeaf, granted}
+use Rattle.footing.specs.Fitting.{soundForStep, verdict}
 use Rattle.index.specs.Step.{Left, left, ofGranted, acted, steppedTask, stepped}
 use Rattle.index.specs.Make.{made}
 use Rattle.index.specs.Statements.{StepSays}

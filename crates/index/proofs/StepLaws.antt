@@ -28,9 +28,9 @@ use Rattle.lent.specs.Words.{asRead, known, stateOf, written, lentAfter}
 use Rattle.lent.proofs.StateLaws.{state-known}
 use Rattle.state.proofs.CheckingLawsSound.{SoundWords}
 use Rattle.course.specs.declared.judging.Course.{Course}
-use Rattle.grant.specs.Granted.{Verdict, broken, goes, ends, granted}
-use Rattle.grant.specs.Fitting.{pagesSound, fitting, nextIsNew, soundForStep, verdict}
-use Rattle.grant.specs.Standing.{Asks, Stands, fits, standPath, standSiblings, stood}
+use Rattle.footing.specs.Granted.{Verdict, broken, goes, ends, granted}
+use Rattle.footing.specs.Fitting.{pagesSound, fitting, nextIsNew, soundForStep, verdict}
+use Rattle.footing.specs.Standing.{Asks, Stands, fits, standPath, standSiblings, stood}
 use Rattle.course.specs.Judged.{judged, ifNew, courseOf}
 use Rattle.course.proofs.JudgeLaws.{granted-judged}
 use Rattle.course.proofs.StandLaws.{stood-stands}

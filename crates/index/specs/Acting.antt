@@ -18,8 +18,8 @@ use Rattle.slots.specs.declared.Answer.{Answer}
 use Rattle.slots.specs.declared.Answer.the-variants.{Inserted, NoRoom}
 use Rattle.slots.specs.Parts.{pathOf, siblingsOf, waitingOrder}
 use Rattle.lent.specs.Words.{asRead, stateOf, written}
-use Rattle.grant.specs.Granted.{Verdict, broken, goes, ends}
-use Rattle.grant.specs.Standing.{Stands}
+use Rattle.footing.specs.Granted.{Verdict, broken, goes, ends}
+use Rattle.footing.specs.Standing.{Stands}
 use Rattle.index.specs.Step.{acted}
 
 -- the words of the state after a verdict: as given, or with the slot and the order as the next state has them

@@ -18,8 +18,8 @@ use Rattle.slots.specs.Parts.{slotAt, pathOf, siblingsOf}
 use Rattle.slots.specs.Sound.{sound}
 use Rattle.slots.specs.Grant.{grants}
 use Rattle.slots.specs.Book.{goesOn, closes}
-use Rattle.grant.specs.Granted.{Verdict, broken, goes, ends}
-use Rattle.grant.specs.Fitting.{verdict}
+use Rattle.footing.specs.Granted.{Verdict, broken, goes, ends}
+use Rattle.footing.specs.Fitting.{verdict}
 
 -- What a call leaves: the answer with the next state, and the words.
 pub record Left : Type 0 where

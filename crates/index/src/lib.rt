@@ -1,3 +1,3 @@
 // The index: the calls that a house makes. Each answers for every argument, as the rules in specs/ say.
-pub mod acting;
+mod acting;
 pub mod calls;

@@ -21,8 +21,8 @@ use Rattle.slots.specs.Book.{leaving, begins, goesOn, closes}
 use Rattle.slots.specs.Sound.{orderSound, slotSound, noClashingHolds, sound}
 use Rattle.slots.specs.Begin.{begun}
 use Rattle.slots.specs.Report.{reported}
-use Rattle.grant.specs.Granted.{deletes, atLeaf, comesDown, besides, granted}
-use Rattle.grant.specs.Fitting.{pagesSound, descends, sameLevels, fitting, soundForStep, verdict}
+use Rattle.footing.specs.Granted.{deletes, atLeaf, comesDown, besides, granted}
+use Rattle.footing.specs.Fitting.{pagesSound, descends, sameLevels, fitting, soundForStep, verdict}
 use Rattle.index.specs.Step.{stepped}
 use Rattle.index.specs.Make.{made}
 use Rattle.runs.specs.Run.{called, run, runFrom}

@@ -26,8 +26,8 @@ use Rattle.slots.specs.Grant.{grants}
 use Rattle.slots.specs.Begin.{begun}
 use Rattle.slots.specs.Report.{reported}
 use Rattle.slots.proofs.Refusals.{begin-refused}
-use Rattle.grant.specs.Granted.{Verdict, broken, goes, ends, granted}
-use Rattle.grant.specs.Fitting.{pagesSound, fitting, nextIsNew, soundForStep, verdict}
+use Rattle.footing.specs.Granted.{Verdict, broken, goes, ends, granted}
+use Rattle.footing.specs.Fitting.{pagesSound, fitting, nextIsNew, soundForStep, verdict}
 use Rattle.ground.proofs.Choice.{by-test}
 use Rattle.index.specs.Step.{ofGranted, acted, steppedTask, stepped}
 use Rattle.index.specs.Make.{made}

@@ -41,7 +41,7 @@ use Rattle.slots.proofs.Clashes.{no-two-locks-clash}
 use Rattle.slots.proofs.GrantLaws.{holder-open}
 use Rattle.slots.proofs.OrderLaws.{member-here, member-cases, order-has-room, waiting-begins, waiting-requeued, waiting-closes}
 use Rattle.slots.proofs.Keeping.{slot-here, slot-other, path-new, siblings-new, held-new}
-use Rattle.grant.specs.Granted.{isSafe}
+use Rattle.footing.specs.Granted.{isSafe}
 use Rattle.index.specs.Step.{Left, left, stepped}
 use Rattle.tree.specs.Tree.{entriesOf}
 use Rattle.tree.specs.Change.{writtenPages}

@@ -23,7 +23,7 @@ use Rattle.slots.specs.declared.Answer.the-variants.{Moved, Inserted, AlreadyTh
 use Rattle.slots.specs.Parts.{isOpen, keyOf, slotAt, wantAt, pathOf, siblingsOf}
 use Rattle.slots.specs.Grant.{grants}
 use Rattle.slots.specs.Book.{goesOn, closes}
-use Rattle.grant.specs.Granted.{atItsLeaf}
+use Rattle.footing.specs.Granted.{atItsLeaf}
 use Rattle.index.specs.Step.{Left, left, acted, stepped}
 use Rattle.tree.specs.Tree.{entriesOf}
 use Rattle.tree.specs.Facts.{AnyTree}

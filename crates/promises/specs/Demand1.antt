@@ -25,7 +25,7 @@ use Rattle.slots.specs.Sound.{sound}
 use Rattle.slots.specs.Grant.{grants}
 use Rattle.slots.specs.Begin.{begun}
 use Rattle.slots.specs.Report.{holders, lowestHolder, lockKind, reported}
-use Rattle.grant.specs.Fitting.{soundForStep}
+use Rattle.footing.specs.Fitting.{soundForStep}
 use Rattle.index.specs.Step.{ofGranted, stepped}
 use Rattle.index.specs.Make.{made}
 

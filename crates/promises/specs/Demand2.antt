@@ -26,7 +26,7 @@ use Rattle.slots.specs.Grant.{olderThan}
 use Rattle.slots.specs.Sound.{sound}
 use Rattle.slots.specs.Heard.{changesNothing}
 use Rattle.slots.specs.Book.{leaving}
-use Rattle.grant.specs.Granted.{isSafe}
+use Rattle.footing.specs.Granted.{isSafe}
 use Rattle.index.specs.Step.{Left}
 use Rattle.tree.specs.Tree.{Tr, occurs, PoolForms}
 use Rattle.runs.specs.Run.{Call, begin, step, report, called, runFrom, CallInWords, Run}

@@ -31,7 +31,7 @@ use Rattle.slots.proofs.SoundFacts.{SoundState, facts-sound}
 use Rattle.slots.proofs.OrderLaws.{same-or-not, member-cases}
 use Rattle.slots.proofs.GrantLaws.{taking-alone}
 use Rattle.slots.proofs.Keeping.{Shaped, slot-here, slot-other, path-new, siblings-new, begins-sound, begins-shaped, closes-sound, closes-shaped, goes-on-sound, goes-on-shaped}
-use Rattle.grant.specs.Fitting.{verdict}
+use Rattle.footing.specs.Fitting.{verdict}
 use Rattle.index.specs.Step.{Left, left, acted, steppedTask, stepped}
 use Rattle.tree.specs.Tree.{Tr, PoolForms}
 use Rattle.tree.specs.Change.{memoryAfter, writtenPages}

@@ -24,7 +24,7 @@ use Rattle.slots.specs.Book.{begins, goesOn}
 use Rattle.slots.specs.Begin.{begun}
 use Rattle.slots.proofs.Keeping.{Shaped, slot-here, slot-other, path-new}
 use Rattle.slots.proofs.OrderLaws.{same-or-not}
-use Rattle.grant.specs.Granted.{kept, atItsLeaf}
+use Rattle.footing.specs.Granted.{kept, atItsLeaf}
 use Rattle.index.specs.Step.{Left, stepped}
 use Rattle.index.proofs.Refusals.{step-refused}
 use Rattle.tree.proofs.Search.{way-facts}

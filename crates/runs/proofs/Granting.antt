@@ -17,8 +17,8 @@ use Rattle.page.specs.Words.{Page, μ, isLeaf}
 use Rattle.page.specs.Place.{route}
 use Rattle.slots.specs.declared.Op.{Op}
 use Rattle.slots.specs.Parts.{keyOf}
-use Rattle.grant.specs.Granted.{isSafe, kept, atItsLeaf}
-use Rattle.grant.specs.Fitting.{descends, rightlyKept, rightlyBeside, isNone, fitting}
+use Rattle.footing.specs.Granted.{isSafe, kept, atItsLeaf}
+use Rattle.footing.specs.Fitting.{descends, rightlyKept, rightlyBeside, isNone, fitting}
 use Rattle.tree.specs.Tree.{Tr, way}
 use Rattle.tree.specs.Facts.{WayFacts}
 use Rattle.ground.proofs.Choice.{by-test}

@@ -17,7 +17,7 @@ use Rattle.ground.proofs.Tests.{member-at, all-from-members}
 use Rattle.page.specs.Words.{Keyed, Page, μ}
 use Rattle.slots.specs.declared.Op.{Op}
 use Rattle.slots.specs.Parts.{keyOf}
-use Rattle.grant.specs.Granted.{isSafe}
+use Rattle.footing.specs.Granted.{isSafe}
 use Rattle.tree.specs.Rows.{headKey, Span}
 use Rattle.tree.specs.Tree.{Tr, pageNumber, pageOf, once, occurs, rootLeast, InRange, Holds, way, Forms}
 use Rattle.tree.specs.Change.{HeldWay}

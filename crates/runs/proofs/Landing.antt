@@ -23,7 +23,7 @@ use Rattle.slots.specs.declared.Op.the-variants.{Search, Insert, Delete}
 use Rattle.slots.specs.declared.Answer.{Answer}
 use Rattle.slots.specs.declared.Answer.the-variants.{Found, NotFound, Inserted, AlreadyThere, Deleted, NoSuchKey, NoRoom}
 use Rattle.slots.specs.Parts.{keyOf, isSearch, isDelete}
-use Rattle.grant.specs.Granted.{Verdict, goes, ends, byNeed, deletes, atLeaf}
+use Rattle.footing.specs.Granted.{Verdict, goes, ends, byNeed, deletes, atLeaf}
 use Rattle.tree.specs.Tree.{Tr, entriesOf, way, leafOn, Forms, PoolForms}
 use Rattle.tree.specs.Sorted.{inserted}
 use Rattle.tree.specs.Change.{Leads}

@@ -25,8 +25,8 @@ use Rattle.slots.specs.declared.Answer.the-variants.{Moved}
 use Rattle.slots.specs.Parts.{isOpen, openSlot, closedSlot, pathOf, siblingsOf, slotAt, openAt, wantAt, holdsAt}
 use Rattle.slots.specs.Book.{goesOn, closes}
 use Rattle.slots.proofs.Keeping.{Shaped, slot-here, slot-other, path-new, siblings-new}
-use Rattle.grant.specs.Granted.{Verdict, goes, ends, isSafe, kept, atItsLeaf}
-use Rattle.grant.specs.Fitting.{verdict}
+use Rattle.footing.specs.Granted.{Verdict, goes, ends, isSafe, kept, atItsLeaf}
+use Rattle.footing.specs.Fitting.{verdict}
 use Rattle.index.specs.Step.{Left, left, acted, stepped}
 use Rattle.tree.specs.Tree.{Tr}
 use Rattle.tree.specs.Change.{writtenPages}

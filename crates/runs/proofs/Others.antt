@@ -19,7 +19,7 @@ use Rattle.page.specs.Short.{neighbour}
 use Rattle.pool.specs.Pool.{Write}
 use Rattle.slots.specs.declared.Op.{Op}
 use Rattle.slots.specs.Parts.{keyOf}
-use Rattle.grant.specs.Granted.{isSafe}
+use Rattle.footing.specs.Granted.{isSafe}
 use Rattle.tree.specs.Tree.{Tr, way, leafOn, Forms}
 use Rattle.tree.specs.Facts.{WayFacts}
 use Rattle.tree.specs.Change.{memoryAfter, writtenPages, Leads}

@@ -26,8 +26,8 @@ use Rattle.slots.specs.declared.Op.{Op}
 use Rattle.slots.specs.declared.Op.the-variants.{Search, Insert, Delete}
 use Rattle.slots.specs.declared.Answer.the-variants.{NoSuchKey}
 use Rattle.slots.specs.Parts.{keyOf}
-use Rattle.grant.specs.Granted.{Verdict, broken, goes, ends, isSafe, kept, deletes, atLeaf, fromLeaf, comesDown, besides, atItsLeaf, granted}
-use Rattle.grant.specs.Fitting.{pagesSound, descends, rightlyBeside, sameLevels, isSibling, isNone, fitting, nextIsNew, soundForStep, verdict}
+use Rattle.footing.specs.Granted.{Verdict, broken, goes, ends, isSafe, kept, deletes, atLeaf, fromLeaf, comesDown, besides, atItsLeaf, granted}
+use Rattle.footing.specs.Fitting.{pagesSound, descends, rightlyBeside, sameLevels, isSibling, isNone, fitting, nextIsNew, soundForStep, verdict}
 use Rattle.tree.specs.Tree.{Tr, Stands, way, Forms, PoolForms}
 use Rattle.tree.specs.Facts.{WayFacts}
 use Rattle.ground.proofs.Choice.{by-test}

@@ -15,8 +15,8 @@ use Rattle.slots.specs.declared.Op.{Op}
 use Rattle.slots.specs.declared.Op.the-variants.{Search, Insert, Delete}
 use Rattle.slots.specs.declared.Answer.{Answer}
 use Rattle.slots.specs.Parts.{keyOf}
-use Rattle.grant.specs.Granted.{Verdict, broken, goes, ends, kept, byNeed, deletes, atLeaf, fromLeaf, comesDown, besides, atItsLeaf, granted}
-use Rattle.grant.specs.Fitting.{soundForStep, verdict}
+use Rattle.footing.specs.Granted.{Verdict, broken, goes, ends, kept, byNeed, deletes, atLeaf, fromLeaf, comesDown, besides, atItsLeaf, granted}
+use Rattle.footing.specs.Fitting.{soundForStep, verdict}
 
 -- a slot that goes on holds this path and these siblings
 abbrev GoesTo : List ℕ → List ℕ → Verdict → Type 0

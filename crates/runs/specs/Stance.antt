@@ -13,7 +13,7 @@ use Rattle.page.specs.Short.{neighbour}
 use Rattle.slots.specs.declared.Op.{Op}
 use Rattle.slots.specs.declared.Op.the-variants.{Search, Insert, Delete}
 use Rattle.slots.specs.Parts.{keyOf, isDelete}
-use Rattle.grant.specs.Granted.{isSafe}
+use Rattle.footing.specs.Granted.{isSafe}
 use Rattle.tree.specs.Tree.{Tr, entriesOf, way}
 
 -- When a page with the number m is safe for an operation: then all its ancestors are given up. "Search gives up the father."

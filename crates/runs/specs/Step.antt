@@ -16,8 +16,8 @@ use Rattle.slots.specs.declared.Op.the-variants.{Insert}
 use Rattle.slots.specs.declared.Answer.{Answer}
 use Rattle.slots.specs.declared.Answer.the-variants.{NoRoom}
 use Rattle.slots.specs.Parts.{keyOf, isSearch}
-use Rattle.grant.specs.Granted.{goes, ends}
-use Rattle.grant.specs.Fitting.{verdict}
+use Rattle.footing.specs.Granted.{goes, ends}
+use Rattle.footing.specs.Fitting.{verdict}
 use Rattle.tree.specs.Tree.{Tr, entriesOf, occurs, PoolForms}
 use Rattle.tree.specs.Change.{writtenPages, Leads}
 use Rattle.tree.specs.Insertion.{treeRoom}

@@ -18,8 +18,8 @@ use Rattle.slots.specs.Begin.{begun}
 use Rattle.lines.specs.Text.{bytes, begins as begins-with}
 use Rattle.lines.specs.Meaning.{digits, value, front, stepping, searching, deleting, informing, inserting, asking, beginning, meaning}
 use Rattle.lines.specs.Decimal.{digitsWithin, decimal}
-use Rattle.grant.specs.Granted.{atLeaf, comesDown, granted}
-use Rattle.grant.specs.Fitting.{pagesSound, descends, sameLevels, fitting, soundForStep, verdict}
+use Rattle.footing.specs.Granted.{atLeaf, comesDown, granted}
+use Rattle.footing.specs.Fitting.{pagesSound, descends, sameLevels, fitting, soundForStep, verdict}
 use Rattle.index.specs.Step.{left, stepped}
 use Rattle.index.specs.Make.{made}
 use Rattle.talk.specs.Split.{linesOf}

@@ -14,7 +14,7 @@ use Rattle.lines.specs.Ends.{lineEnd}
 use Rattle.lines.proofs.LaidLaws.{laid-two}
 use Rattle.talk.specs.Split.{Line, ended, linesOf}
 use Rattle.talk.specs.Talk.{commanded, replies}
-use Rattle.talk.specs.Leaves.{Leaves, Writes}
+use Rattle.talk.specs.Leaves.{LineLeaves, Writes}
 use Rattle.talk.proofs.SplitLaws.{next-line, last-line, no-line}
 use Rattle.talk.proofs.LengthLaws.{reply-short}
 
@@ -34,7 +34,7 @@ module _ (whole input out₀ : List ℕ) {st : State} {ws out : List ℕ} {at en
   -- one line more
   pub going-on : {stop : ℕ} {command : Command} {st′ : State} {end′ : ℕ} {ws′ out′ : List ℕ} → stop ≡ lineEnd input at → stop < length input
       → command ≡ meaning (take (stop - at) (drop at input))
-      → Leaves (commanded st ws command) out end st′ end′ ws′ out′
+      → LineLeaves (commanded st ws command) out end st′ end′ ws′ out′
       → Going whole input out₀ st′ ws′ out′ (stop + 1) end′
   unfolding replies
   going-on {stop} {command} {st′} {end′} {ws′} {out′} e h m l =

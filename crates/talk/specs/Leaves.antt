@@ -9,7 +9,7 @@ use Rattle.talk.specs.Talk.{Reply}
 
 -- a reply written over `out` at a position: `st`, `ws` and `after` are the state, the words and the row as they are left, and
 -- `end` is behind what was written
-pub record Leaves (r : Reply) (out : List ℕ) (at : ℕ) (st : State) (end : ℕ) (ws after : List ℕ) : Type 0 where
+pub record LineLeaves (r : Reply) (out : List ℕ) (at : ℕ) (st : State) (end : ℕ) (ws after : List ℕ) : Type 0 where
   pub state : st ≡ r .state
   pub words : ws ≡ r .words
   pub bytes : after ≡ laid out at (r .said)

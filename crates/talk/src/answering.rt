@@ -14,7 +14,7 @@ ghost use lib.ListN.{length};
 ghost use Rattle.lent.specs.Words.{stateOf};
 ghost use Rattle.talk.specs.Split.{linesOf};
 ghost use Rattle.talk.specs.Talk.{commanded, replies, programWrites};
-ghost use Rattle.talk.specs.Leaves.{Leaves, Writes};
+ghost use Rattle.talk.specs.Leaves.{LineLeaves, Writes};
 
 // "It makes a pool with k = 2, N = 64": 64 pages of 4k + 3 words.
 const K: usize = 2;
@@ -39,7 +39,7 @@ fn obey(
     at: usize,
 ) -> usize
     requires { ⌜ at + 32 ≤ length (now out) ⌝ }
-    ensures { λ r. ⌜ Leaves (commanded (stateOf (now (state .entry))) (now (words .entry)) command) (now (out .entry)) at (stateOf (now (state .exit))) r (now (words .exit)) (now (out .exit)) ⌝ }
+    ensures { λ r. ⌜ LineLeaves (commanded (stateOf (now (state .entry))) (now (words .entry)) command) (now (out .entry)) at (stateOf (now (state .exit))) r (now (words .exit)) (now (out .exit)) ⌝ }
 {
     match command {
         Command::Begin(slot, op) => {

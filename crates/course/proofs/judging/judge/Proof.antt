@@ -6,7 +6,7 @@ use borrow.Author.Tests.{not-true, not-false}
 use Rattle.ground.specs.Limits.{pathHolds}
 use Rattle.pool.specs.Pool.{pageAt, freePages}
 use Rattle.slots.specs.declared.Op.{Op}
-use Rattle.grant.specs.Standing.{Stands}
+use Rattle.footing.specs.Standing.{Stands}
 use Rattle.course.proofs.JudgeLaws.{standing-needing, stand-upward, stand-known, goes-judges, search-judges, insert-judges, delete-judges}
 use Rattle.course.proofs.judging.judge.Statement.{statement}
 use Rattle.course.proofs.judging.judge.Tie as tie

@@ -5,7 +5,7 @@ use borrow.Author.Needs.{needs}
 use Rattle.ground.specs.Limits.{pathHolds}
 use Rattle.pool.specs.Pool.{pageAt}
 use Rattle.slots.specs.Parts.{pathOf, siblingsOf}
-use Rattle.grant.proofs.LookLaws.{asks-deep, asks-few}
+use Rattle.footing.proofs.LookLaws.{asks-deep, asks-few}
 use Rattle.course.proofs.StandLaws.{path-held, want-known, deep-enough, stood-at-leaf, stood-on-safe, stood-on-other}
 use Rattle.course.proofs.standing.stands.Statement.{statement}
 use Rattle.course.proofs.standing.stands.Tie as tie

@@ -1,0 +1,440 @@
+-- The pages of a slot, read again one by one: what a page that leads to another tells, a way down link by link, and what a
+-- sound slot and sound pages give the functions that read them.
+use Prim.Native.Nat.{ℕ, suc, zero, _+_, _-_, _≤_, _<_}
+use mathlib.Core.Bool.{Bool, true, false, cond, not, _&&_, _||_, and-true, and-assoc, or-false}
+use mathlib.Core.List.{List, [], _∷_, _++_, reverse, reverseAux}
+use mathlib.Core.Logic.{_≢_, ⊎-elim}
+use mathlib.Core.Path.{_≡_, refl, sym, ap, ap₂, _∙_, subst}
+use native.Mathlib.Nat.{not-suc-le-zero, le-of-suc-le-suc}
+use native.Mathlib.Numerals.{add-one}
+use native.Mathlib.Omega.{arith}
+use borrow.Author.Tests.{eqb-true, eq-eqb, ne-eqb, leb-true, not-true, not-false}
+use lib.Dec.{eqb, leb, ltb}
+use lib.ListN.{length, getD, take}
+use lib.Seq.{length-take-le, getD-take}
+use Rattle.ground.specs.Limits.{pathHolds, searchHolds, siblingHolds}
+use Rattle.ground.specs.Tests.{all, member}
+use Rattle.ground.proofs.Bools.{not-both, and-first, and-second, and-both, and-first-fails, and-second-fails, or-first, or-second, or-cases, false-if-not-true}
+use Rattle.ground.proofs.Choice.{cond-ind, cond-true, cond-false}
+use Rattle.ground.proofs.Tests.{all-none, all-append, all-more, all-stops, all-member, below-or-at, member-append, member-from}
+use Rattle.page.specs.Words.{Page, isLeaf}
+use Rattle.page.specs.Place.{route}
+use Rattle.page.specs.Sound.{soundByItself}
+use Rattle.pool.specs.Pool.{wordsOf, pageAt}
+use Rattle.change.specs.Held.{Held}
+use Rattle.change.proofs.HeldLaws.{Known, held-known, held-some, held-front, on-path, among-siblings, upward-father, upward-reverse}
+use Rattle.slots.specs.declared.Op.{Op}
+use Rattle.slots.specs.declared.Op.the-variants.{Search, Insert, Delete}
+use Rattle.slots.specs.declared.Task.{Task}
+use Rattle.slots.specs.declared.Task.the-variants.{Open}
+use Rattle.slots.specs.declared.Slot.{Slot}
+use Rattle.slots.specs.Parts.{keyOf, isOpen, pathOf, siblingsOf, held}
+use Rattle.slots.specs.Sound.{withinLimits}
+use Rattle.slots.proofs.SoundFacts.{SoundSlot, sound-slot}
+use Rattle.footing.specs.Granted.{atItsLeaf}
+use Rattle.footing.specs.Fitting.{pagesSound, leads, descends, rightlyKept, rightlyBeside, isNone, fitting}
+use Rattle.footing.specs.Standing.{Asks, fits, lastLeads}
+
+-- what a branch on a test's opposite tells of the test
+told-true : {answer test : Bool} → answer ≡ test → not answer ≡ false → test ≡ true
+told-true {answer} e f = sym e ∙ not-false answer f
+
+told-false : {answer test : Bool} → answer ≡ test → not answer ≡ true → test ≡ false
+told-false {answer} e t = sym e ∙ not-true answer t
+
+module _ (memory : ℕ → Page) (x : ℕ) where
+  -- ---- one page leads to another
+
+  -- where the levels are wrong it does not lead there
+  pub leads-astray : (p q : ℕ) → memory p .level ≢ memory q .level + 1 → leads memory x p q ≡ false
+  leads-astray p q ne = and-second-fails (eqb (route x (memory p)) q) (ne-eqb (memory p .level) (memory q .level + 1) ne)
+
+  -- where they are right the route tells
+  pub leads-route : (p q : ℕ) → memory p .level ≡ memory q .level + 1 → leads memory x p q ≡ eqb (route x (memory p)) q
+  leads-route p q e =
+      ap (λ (b : Bool). eqb (route x (memory p)) q && b) (eq-eqb (memory p .level) (memory q .level + 1) e)
+      ∙ and-true (eqb (route x (memory p)) q)
+
+  -- ---- a way down
+
+  -- each page of a way down leads to the one behind it
+  pub descends-at : (path : List ℕ) → descends memory x path ≡ true → (i : ℕ) → suc i < length path
+      → leads memory x (getD path i 0) (getD path (suc i) 0) ≡ true
+  unfolding descends
+  descends-at [] t i h = absurd (not-suc-le-zero h)
+  descends-at (p ∷ []) t i h = absurd (not-suc-le-zero (le-of-suc-le-suc h))
+  descends-at (p ∷ (q ∷ rest)) t zero h = and-first (leads memory x p q) (descends memory x (q ∷ rest)) t
+  descends-at (p ∷ (q ∷ rest)) t (suc i) h =
+      descends-at (q ∷ rest) (and-second (leads memory x p q) (descends memory x (q ∷ rest)) t) i (le-of-suc-le-suc h)
+
+  -- and lies a level above it
+  pub descends-levels : (path : List ℕ) → descends memory x path ≡ true → (i : ℕ) → suc i < length path
+      → memory (getD path i 0) .level ≡ memory (getD path (suc i) 0) .level + 1
+  descends-levels path t i h =
+      let p : ℕ = getD path i 0 in
+      let q : ℕ = getD path (suc i) 0 in
+      eqb-true (memory p .level) (memory q .level + 1)
+      (and-second (eqb (route x (memory p)) q) (eqb (memory p .level) (memory q .level + 1)) (descends-at path t i h))
+
+  -- where each leads to the one behind it, it is a way down
+  pub descends-from : (path : List ℕ)
+      → ((i : ℕ) → suc i < length path → leads memory x (getD path i 0) (getD path (suc i) 0) ≡ true) → descends memory x path ≡ true
+  unfolding descends
+  descends-from [] f = refl
+  descends-from (p ∷ []) f = refl
+  descends-from (p ∷ (q ∷ rest)) f = and-both (f 0 (omega arith)) (descends-from (q ∷ rest) (λ i h. f (suc i) (omega arith)))
+
+  -- the last page does not depend on those above it
+  last-same : (rest above above′ : List ℕ) (q want : ℕ)
+      → lastLeads memory x (reverseAux rest (q ∷ above)) want ≡ lastLeads memory x (reverseAux rest (q ∷ above′)) want
+  last-same [] above above′ q want = refl
+  last-same (r ∷ rest) above above′ q want = last-same rest (q ∷ above) (q ∷ above′) r want
+
+  -- one page more: the last page leads to it
+  pub descends-snoc : (path : List ℕ) (want : ℕ)
+      → descends memory x (path ++ want ∷ []) ≡ descends memory x path && lastLeads memory x (reverse path) want
+  unfolding descends
+  descends-snoc [] want = refl
+  descends-snoc (p ∷ []) want = and-true (leads memory x p want)
+  descends-snoc (p ∷ (q ∷ rest)) want =
+      let link : Bool = leads memory x p q in
+      let below : Bool = descends memory x (q ∷ rest) in
+      ap (λ (b : Bool). link && b) (descends-snoc (q ∷ rest) want)
+      ∙ sym (and-assoc link below (lastLeads memory x (reverse (q ∷ rest)) want))
+      ∙ ap (λ (b : Bool). link && below && b) (last-same rest [] (p ∷ []) q want)
+
+  -- ---- the first pages of a path's array
+
+  -- each of the first i leads to the one behind it
+  abbrev pub Links : List ℕ → ℕ → Type 0
+  Links path i = (j : ℕ) → suc j < i → leads memory x (getD path j 0) (getD path (suc j) 0) ≡ true
+
+  -- one page has none behind it
+  pub links-one : (path : List ℕ) → Links path 1
+  links-one path j h = absurd (not-suc-le-zero (le-of-suc-le-suc h))
+
+  -- one link more
+  pub links-more : (path : List ℕ) (i : ℕ) {answer : Bool} → 1 ≤ i → Links path i
+      → answer ≡ leads memory x (getD path (i - 1) 0) (getD path i 0) → not answer ≡ false → Links path (i + 1)
+  links-more path i one f said t =
+      let next : i ≡ suc (i - 1) = omega arith in
+      λ j h. below-or-at (λ (a : ℕ). leads memory x (getD path a 0) (getD path (suc a) 0) ≡ true) {i = j} {n = i - 1}
+      (omega arith)
+      (λ l. f j (omega arith))
+      (subst (λ (a : ℕ). leads memory x (getD path (i - 1) 0) (getD path a 0) ≡ true) next (told-true said t))
+
+  -- all links are there
+  pub links-all : (path : List ℕ) (depth i : ℕ) → depth ≤ length path → depth ≤ i → Links path i → descends memory x (take depth path) ≡ true
+  links-all path depth i long done f =
+      let len : length (take depth path) ≡ depth = length-take-le depth path long in
+      descends-from (take depth path)
+      (λ j h. ap₂ (λ (p q : ℕ). leads memory x p q) (getD-take depth path j 0 (omega arith)) (getD-take depth path (suc j) 0 (omega arith))
+      ∙ f j (omega arith))
+
+  -- a link that is missing makes it no way down
+  pub links-stop : (path : List ℕ) (depth i : ℕ) {answer : Bool} → depth ≤ length path → 1 ≤ i → i < depth
+      → answer ≡ leads memory x (getD path (i - 1) 0) (getD path i 0) → not answer ≡ true → descends memory x (take depth path) ≡ false
+  links-stop path depth i long one h said f =
+      let len : length (take depth path) ≡ depth = length-take-le depth path long in
+      let next : suc (i - 1) ≡ i = omega arith in
+      false-if-not-true (descends memory x (take depth path))
+      (λ t. not-both
+      (sym (ap₂ (λ (p q : ℕ). leads memory x p q) (getD-take depth path (i - 1) 0 (omega arith)) (getD-take depth path i 0 h))
+      ∙ subst (λ (a : ℕ). leads memory x (getD (take depth path) (i - 1) 0) (getD (take depth path) a 0) ≡ true) next
+      (descends-at (take depth path) t (i - 1) (omega arith)))
+      (told-false said f))
+
+-- ---- pages held
+
+-- two of the pages held
+pub held-two : {k n : ℕ} {ws pages : List ℕ} → Held k n ws pages → (p q : ℕ) → member p pages ≡ true → member q pages ≡ true
+    → Held k n ws (p ∷ q ∷ [])
+unfolding member
+held-two {pages = pages} h p q mp mq =
+    held-some (p ∷ q ∷ []) h
+    (λ r m. ⊎-elim (λ e. subst (λ (s : ℕ). member s pages ≡ true) (sym (eqb-true r p e)) mp)
+    (λ e. subst (λ (s : ℕ). member s pages ≡ true) (sym (eqb-true r q (sym (or-false (eqb r q)) ∙ e))) mq)
+    (or-cases (eqb r p) (eqb r q || false) m))
+
+-- one page of a path and the next
+pub held-link : {k n : ℕ} {ws : List ℕ} (path : List ℕ) (depth i : ℕ) → Held k n ws (take depth path) → depth ≤ length path → 1 ≤ i
+    → i < depth → Held k n ws (getD path (i - 1) 0 ∷ getD path i 0 ∷ [])
+held-link path depth i h long one l = held-two h (getD path (i - 1) 0) (getD path i 0) (on (i - 1) (omega arith)) (on i l)
+  where
+    on : (j : ℕ) → j < depth → member (getD path j 0) (take depth path) ≡ true
+    on j b =
+        member-from (getD path j 0) (take depth path) j 0 (omega (arith, length-take-le depth path long)) (getD-take depth path j 0 b)
+
+module _ {k n : ℕ} {ws : List ℕ} {p q : ℕ} (h : Held k n ws (p ∷ q ∷ [])) where
+  -- what is known of the one and of the other
+  pub known-first : Known k n ws p
+  unfolding member
+  known-first = held-known h p (or-first (eqb p q || false) (eq-eqb p p refl))
+
+  pub known-second : Known k n ws q
+  unfolding member
+  known-second = held-known h q (or-second (eqb q p) (or-first false (eq-eqb q q refl)))
+
+  -- a page a level above another one is no leaf
+  pub father-upper : pageAt k ws p .level ≡ pageAt k ws q .level + 1 → isLeaf (pageAt k ws p) ≡ false
+  father-upper e = ne-eqb (pageAt k ws p .level) 1 (λ leaf. omega (arith, known-second .facts .lowest))
+
+-- ---- pages sound by themselves
+
+module _ (k n : ℕ) (ws : List ℕ) where
+  -- the test of one page
+  abbrev soundAt : ℕ → Bool
+  soundAt p = soundByItself k n p (wordsOf k p ws)
+
+  -- none, one more, and one that is not sound
+  pub pages-none : pagesSound k n ws [] ≡ true
+  unfolding pagesSound
+  pages-none = all-none soundAt
+
+  pub pages-more : (cells : List ℕ) (i : ℕ) {answer : Bool} → i < length cells → pagesSound k n ws (take i cells) ≡ true
+      → answer ≡ soundAt (getD cells i 0) → not answer ≡ false → pagesSound k n ws (take (i + 1) cells) ≡ true
+  unfolding pagesSound
+  pages-more cells i h before said t =
+      ap (λ (j : ℕ). all soundAt (take j cells)) (add-one i) ∙ all-more soundAt cells i 0 h ∙ and-both before (told-true said t)
+
+  pub pages-stop : (cells : List ℕ) (count i : ℕ) {answer : Bool} → count ≤ length cells → i < count
+      → answer ≡ soundAt (getD cells i 0) → not answer ≡ true → pagesSound k n ws (take count cells) ≡ false
+  unfolding pagesSound
+  pages-stop cells count i long h said f =
+      all-stops soundAt (take count cells) 0 i (omega (arith, length-take-le count cells long))
+      (ap soundAt (getD-take count cells i 0 h) ∙ told-false said f)
+
+  -- a path, siblings and a wanted page, one after the other
+  pages-apart : (path siblings : List ℕ) (want : ℕ)
+      → pagesSound k n ws (path ++ siblings ++ want ∷ []) ≡ pagesSound k n ws path && pagesSound k n ws siblings && soundAt want
+  unfolding pagesSound all
+  pages-apart path siblings want =
+      all-append soundAt (path ++ siblings) (want ∷ [])
+      ∙ ap₂ _&&_ (all-append soundAt path siblings) (and-true (soundAt want))
+
+  module _ (path siblings : List ℕ) (want : ℕ) where
+    abbrev wholeTest : Bool
+    wholeTest = pagesSound k n ws (path ++ siblings ++ want ∷ [])
+
+    pub path-unsound : {answer : Bool} → answer ≡ pagesSound k n ws path → not answer ≡ true → wholeTest ≡ false
+    path-unsound said f =
+        pages-apart path siblings want ∙ and-first-fails (soundAt want) (and-first-fails (pagesSound k n ws siblings) (told-false said f))
+
+    pub siblings-unsound : {answer : Bool} → answer ≡ pagesSound k n ws siblings → not answer ≡ true → wholeTest ≡ false
+    siblings-unsound said f =
+        pages-apart path siblings want ∙ and-first-fails (soundAt want) (and-second-fails (pagesSound k n ws path) (told-false said f))
+
+    -- the wanted page tells
+    pub want-sound : {a b c : Bool} → a ≡ pagesSound k n ws path → not a ≡ false → b ≡ pagesSound k n ws siblings → not b ≡ false
+        → c ≡ soundAt want → c ≡ wholeTest
+    want-sound p t s u said =
+        said ∙ sym (pages-apart path siblings want ∙ ap (λ (r : Bool). r && soundAt want) (and-both (told-true p t) (told-true s u)))
+
+-- ---- a sound slot
+
+-- how many pages it holds
+limits : (op : Op) (depth beside : ℕ) → withinLimits (Open op) depth beside ≡ true → (depth ≤ pathHolds) × (beside < pathHolds)
+unfolding searchHolds pathHolds siblingHolds
+limits (Search x) depth beside t =
+    let deep : depth ≤ 1 = leb-true depth 1 (and-first (leb depth 1) (eqb beside 0) t) in
+    let none : beside ≡ 0 = eqb-true beside 0 (and-second (leb depth 1) (eqb beside 0) t) in
+    (omega arith, omega arith)
+limits (Insert x v) depth beside t =
+    let deep : depth ≤ 10 = leb-true depth 10 (and-first (leb depth 10) (eqb beside 0) t) in
+    let none : beside ≡ 0 = eqb-true beside 0 (and-second (leb depth 10) (eqb beside 0) t) in
+    (omega arith, omega arith)
+limits (Delete x) depth beside t =
+    let both : leb depth 10 && leb beside 9 ≡ true = and-first (leb depth 10 && leb beside 9) (eqb beside 0 || ltb beside depth) t in
+    let deep : depth ≤ 10 = leb-true depth 10 (and-first (leb depth 10) (leb beside 9) both) in
+    let few : beside ≤ 9 = leb-true beside 9 (and-second (leb depth 10) (leb beside 9) both) in
+    (omega arith, omega arith)
+
+-- all that it holds and wants
+abbrev pub pagesOf : Slot → List ℕ
+pagesOf slot = pathOf slot ++ siblingsOf slot ++ slot .want ∷ []
+
+-- where its pages stand among them
+module _ (slot : Slot) where
+  pub path-among : slot .depth ≤ length (slot .path) → (i : ℕ) → i < slot .depth → member (getD (slot .path) i 0) (pagesOf slot) ≡ true
+  unfolding pathOf
+  path-among long i l =
+      let p : ℕ = getD (slot .path) i 0 in
+      member-append p (held slot) (slot .want ∷ []) ∙ or-first (member p (slot .want ∷ [])) (on-path (slot .path) (slot .depth) i (siblingsOf slot) long l)
+
+  sibling-among : slot .beside ≤ length (slot .siblings) → (j : ℕ) → j < slot .beside
+      → member (getD (slot .siblings) j 0) (pagesOf slot) ≡ true
+  unfolding siblingsOf
+  sibling-among long j l =
+      let p : ℕ = getD (slot .siblings) j 0 in
+      member-append p (held slot) (slot .want ∷ [])
+      ∙ or-first (member p (slot .want ∷ [])) (among-siblings (pathOf slot) (slot .siblings) (slot .beside) j long l)
+
+  pub want-among : member (slot .want) (pagesOf slot) ≡ true
+  unfolding member
+  want-among =
+      member-append (slot .want) (held slot) (slot .want ∷ [])
+      ∙ or-second (member (slot .want) (held slot)) (or-first false (eq-eqb (slot .want) (slot .want) refl))
+
+module _ {k n : ℕ} {ws : List ℕ} {op : Op} {slot : Slot} (h : Asks k n ws op slot) where
+  facts : SoundSlot n slot
+  facts = sound-slot n slot (h .sound)
+
+  within : (slot .depth ≤ pathHolds) × (slot .beside < pathHolds)
+  within = limits op (slot .depth) (slot .beside)
+      (subst (λ (task : Task). withinLimits task (slot .depth) (slot .beside) ≡ true) (h .task) (facts .limits))
+
+  pub asks-deep : slot .depth ≤ pathHolds
+  asks-deep = within .0
+
+  pub asks-few : slot .beside < pathHolds
+  asks-few = within .1
+
+  -- its pages are pages of the pool
+  asks-inside : (p : ℕ) → member p (pagesOf slot) ≡ true → p < n
+  unfolding member
+  asks-inside p m =
+      let before : Bool = member p (held slot) in
+      facts .below (ap isOpen (h .task)) p
+      (⊎-elim (λ e. or-second (eqb p (slot .want)) e) (λ e. or-first before (sym (or-false (eqb p (slot .want))) ∙ e))
+      (or-cases before (eqb p (slot .want) || false) (sym (member-append p (held slot) (slot .want ∷ [])) ∙ m)))
+
+  pub asks-path : slot .depth ≤ length (slot .path) → (i : ℕ) → i < slot .depth → getD (slot .path) i 0 < n
+  asks-path long i l = asks-inside (getD (slot .path) i 0) (path-among slot long i l)
+
+  pub asks-siblings : slot .beside ≤ length (slot .siblings) → (j : ℕ) → j < slot .beside → getD (slot .siblings) j 0 < n
+  asks-siblings long j l = asks-inside (getD (slot .siblings) j 0) (sibling-among slot long j l)
+
+  pub asks-want : slot .want < n
+  asks-want = asks-inside (slot .want) (want-among slot)
+
+  -- sound by themselves, they are held
+  pub asks-held : {answer : Bool} → answer ≡ pagesSound k n ws (pagesOf slot) → not answer ≡ false → Held k n ws (pagesOf slot)
+  unfolding pagesSound
+  asks-held said t =
+      record {
+        least = h .least;
+        width = h .width;
+        most = h .most;
+        whole = h .whole;
+        each = λ p m. record { inside = asks-inside p m; sound = all-member (λ (q : ℕ). soundByItself k n q (wordsOf k q ws)) (pagesOf slot) (told-true said t) p m };
+      }
+
+  -- and those of its path alone
+  pub asks-path-held : {answer : Bool} → answer ≡ pagesSound k n ws (pagesOf slot) → not answer ≡ false → Held k n ws (pathOf slot)
+  asks-path-held said t =
+      held-front (pathOf slot) (siblingsOf slot) (held-front (held slot) (slot .want ∷ []) (asks-held said t))
+
+-- ---- coming down
+
+-- some sibling is held
+some-length : (siblings : List ℕ) → length siblings ≢ 0 → isNone siblings ≡ false
+some-length [] ne = absurd (ne refl)
+some-length (s ∷ siblings) ne = refl
+
+module _ (memory : ℕ → Page) (x : ℕ) (slot : Slot) where
+  abbrev comesRightly : Bool
+  comesRightly = lastLeads memory x (reverse (pathOf slot)) (slot .want) && isNone (siblingsOf slot)
+
+  -- a sibling is held
+  pub comes-beside : slot .beside ≢ 0 → slot .beside ≤ length (slot .siblings) → comesRightly ≡ false
+  unfolding siblingsOf
+  comes-beside ne long =
+      and-second-fails (lastLeads memory x (reverse (pathOf slot)) (slot .want))
+      (some-length (siblingsOf slot) (λ e. ne (sym (length-take-le (slot .beside) (slot .siblings) long) ∙ e)))
+
+  module _ (none : slot .beside ≡ 0) where
+    alone : comesRightly ≡ lastLeads memory x (reverse (pathOf slot)) (slot .want)
+    unfolding siblingsOf
+    alone =
+        let last : Bool = lastLeads memory x (reverse (pathOf slot)) (slot .want) in
+        ap (λ (j : ℕ). last && isNone (take j (slot .siblings))) none ∙ and-true last
+
+    -- nothing is held
+    pub comes-first : slot .depth ≡ 0 → comesRightly ≡ true
+    unfolding pathOf
+    comes-first top = alone ∙ ap (λ (i : ℕ). lastLeads memory x (reverse (take i (slot .path))) (slot .want)) top
+
+    -- the last page of the path tells
+    pub comes-last : 0 < slot .depth → slot .depth ≤ length (slot .path)
+        → comesRightly ≡ leads memory x (getD (slot .path) (slot .depth - 1) 0) (slot .want)
+    unfolding pathOf
+    comes-last some long =
+        alone
+        ∙ ap (λ (up : List ℕ). lastLeads memory x up (slot .want))
+        (sym (upward-reverse (slot .depth) (slot .path) long) ∙ upward-father (slot .depth) (slot .path) some)
+
+-- ---- all of it together
+
+-- what is left where two tests hold
+both-hold : {a b : Bool} (c : Bool) → a ≡ true → b ≡ true → a && (b && c) ≡ c
+both-hold {b = b} c p q = ap (λ (t : Bool). t && (b && c)) p ∙ ap (λ (t : Bool). t && c) q
+
+module _ (op : Op) (k n : ℕ) (ws : List ℕ) (slot : Slot) where
+  abbrev memory : ℕ → Page
+  memory = pageAt k ws
+
+  abbrev keptTest : Bool
+  keptTest = rightlyKept op k memory (pathOf slot) (slot .want)
+
+  abbrev wayTest : ℕ → Bool
+  wayTest x = descends memory x (pathOf slot)
+
+  abbrev besideTest : Bool
+  besideTest = rightlyBeside op k memory (reverse (pathOf slot)) (siblingsOf slot) (slot .want)
+
+  abbrev lastTest : ℕ → Bool
+  lastTest x = lastLeads memory x (reverse (pathOf slot)) (slot .want)
+
+  -- the two that the leaf chooses from
+  abbrev atLeafTest : Bool
+  atLeafTest = wayTest (keyOf op) && besideTest
+
+  abbrev comingTest : Bool
+  comingTest = descends memory (keyOf op) (pathOf slot ++ slot .want ∷ []) && isNone (siblingsOf slot)
+
+  -- one test that fails
+  pub fits-unsound : {answer : Bool} → answer ≡ pagesSound k n ws (pagesOf slot) → not answer ≡ true → fits op k n ws slot ≡ false
+  unfolding fits
+  fits-unsound said f = and-first-fails (fitting op k memory (pathOf slot) (siblingsOf slot) (slot .want)) (told-false said f)
+
+  pub fits-not-kept : {answer : Bool} → answer ≡ keptTest → not answer ≡ true → fits op k n ws slot ≡ false
+  unfolding fits fitting
+  fits-not-kept said f = and-second-fails (pagesSound k n ws (pagesOf slot)) (and-first-fails _ (told-false said f))
+
+  module _ {x : ℕ} {down : Bool} (key : x ≡ keyOf op) (way : down ≡ wayTest x) where
+    pub fits-no-way : not down ≡ true → fits op k n ws slot ≡ false
+    unfolding fits fitting
+    fits-no-way f =
+        let none : wayTest (keyOf op) ≡ false = sym (ap wayTest key) ∙ told-false way f in
+        and-second-fails (pagesSound k n ws (pagesOf slot))
+        (and-second-fails keptTest
+        (cond-ind (λ (b : Bool). b ≡ false) (atItsLeaf memory (reverse (pathOf slot))) (λ leaf. and-first-fails besideTest none)
+        (λ upper. and-first-fails (isNone (siblingsOf slot))
+        (descends-snoc memory (keyOf op) (pathOf slot) (slot .want) ∙ and-first-fails (lastTest (keyOf op)) none))))
+
+    -- the way down is one for the operation's key
+    pub way-down : not down ≡ false → wayTest (keyOf op) ≡ true
+    way-down t = sym (ap wayTest key) ∙ told-true way t
+
+    module _ {sound kept : Bool} (pages : sound ≡ pagesSound k n ws (pagesOf slot)) (p : not sound ≡ false) (rightly : kept ≡ keptTest)
+        (q : not kept ≡ false) (d : not down ≡ false) {leaf : Bool} (at : leaf ≡ atItsLeaf memory (reverse (pathOf slot))) where
+      whichever : fits op k n ws slot ≡ cond (atItsLeaf memory (reverse (pathOf slot))) atLeafTest comingTest
+      unfolding fits fitting
+      whichever = both-hold (cond (atItsLeaf memory (reverse (pathOf slot))) atLeafTest comingTest) (told-true pages p) (told-true rightly q)
+
+      -- where they hold, it is the siblings that count at the leaf
+      pub fits-at-leaf : {answer : Bool} → leaf ≡ true → answer ≡ besideTest → answer ≡ fits op k n ws slot
+      fits-at-leaf there said =
+          said
+          ∙ sym (whichever ∙ cond-true atLeafTest comingTest (sym at ∙ there) ∙ ap (λ (t : Bool). t && besideTest) (way-down d))
+
+      -- and the last page of the path above it
+      pub fits-coming : {answer : Bool} {y : ℕ} → leaf ≡ false → y ≡ keyOf op → answer ≡ lastTest y && isNone (siblingsOf slot) → answer ≡ fits op k n ws slot
+      fits-coming above key′ said =
+          said
+          ∙ ap (λ (z : ℕ). lastTest z && isNone (siblingsOf slot)) key′
+          ∙ sym
+          (whichever
+          ∙ cond-false atLeafTest comingTest (sym at ∙ above)
+          ∙ ap (λ (t : Bool). t && isNone (siblingsOf slot))
+          (descends-snoc memory (keyOf op) (pathOf slot) (slot .want) ∙ ap (λ (t : Bool). t && lastTest (keyOf op)) (way-down d)))

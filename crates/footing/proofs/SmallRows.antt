@@ -1,0 +1,31 @@
+-- Small computed rows beside the rules of a granted step, so that a wrong rule is refused here and not only on the bench.
+use Prim.Native.Nat.{ℕ}
+use mathlib.Core.Path.{_≡_, refl}
+use mathlib.Core.List.{[], _∷_}
+use lib.ListN.{getD}
+use Rattle.ground.specs.Tests.{count}
+use Rattle.page.specs.Words.{Page, entry, page, freePage}
+use Rattle.page.specs.Place.{place, has}
+use Rattle.page.specs.Short.{neighbour}
+use Rattle.change.specs.Deletion.{needs}
+use Rattle.slots.specs.declared.Op.the-variants.{Search, Insert, Delete}
+use Rattle.footing.specs.Granted.{goes, deletes, atLeaf, comesDown}
+
+-- case E, k = 1
+caseE : ℕ → Page
+caseE p = getD (page 2 1 (entry 20 2 ∷ []) ∷ page 1 0 (entry 10 7 ∷ []) ∷ page 1 0 (entry 20 7 ∷ entry 30 7 ∷ []) ∷ []) p freePage
+
+-- a search that is granted page 0 holds it and wants page 2: the father is not given up before the child is granted
+search-keeps : comesDown (Search 20) 1 caseE [] [] 0 ≡ goes (0 ∷ []) [] 2
+unfolding caseE place count comesDown
+search-keeps = refl
+
+-- a deletion that is granted a leaf with k entries keeps its father, which must change, and wants the sibling
+deletion-keeps : comesDown (Delete 10) 1 caseE [] (0 ∷ []) 1 ≡ goes (0 ∷ 1 ∷ []) [] 2
+unfolding caseE place count has neighbour needs deletes atLeaf comesDown
+deletion-keeps = refl
+
+-- an insertion that is granted a page with room for one more holds that page alone
+insertion-gives-up : comesDown (Insert 15 7) 1 caseE [] [] 0 ≡ goes (0 ∷ []) [] 1
+unfolding caseE place count comesDown
+insertion-gives-up = refl

@@ -1,0 +1,90 @@
+-- Pages sound for a step. "What the caller hears" of document 01.
+use Prim.Native.Nat.{ℕ, _+_}
+use mathlib.Core.Bool.{Bool, true, false, cond, not, _&&_, _||_}
+use mathlib.Core.List.{List, [], _∷_, _++_, reverse}
+use lib.Dec.{eqb}
+use Rattle.ground.specs.Tests.{all, member}
+use Rattle.page.specs.Words.{Page, μ}
+use Rattle.page.specs.Place.{route, has}
+use Rattle.page.specs.Sound.{soundByItself}
+use Rattle.pool.specs.Pool.{wordsOf, pageAt, freePages}
+use Rattle.change.specs.Deletion.{Need, nothing, sibling, astray, needs}
+use Rattle.slots.specs.declared.Op.{Op}
+use Rattle.slots.specs.Parts.{keyOf, isDelete}
+use Rattle.footing.specs.Granted.{Verdict, broken, goes, ends, isSafe, granted, atItsLeaf}
+
+-- "each held page and the wanted one has level 1 to 10 .., μ in range, rising keys, pointers all different and from 1 to
+-- N-1, unused words 0"
+unfoldable pub pagesSound : ℕ → ℕ → List ℕ → List ℕ → Bool
+pagesSound k n ws pages = all (λ (p : ℕ). soundByItself k n p (wordsOf k p ws)) pages
+
+-- page q is the one to which page p routes x, "and, where its father is held, [its level is] one less than the father's"
+abbrev pub leads : (ℕ → Page) → ℕ → ℕ → ℕ → Bool
+leads memory x p q = eqb (route x (memory p)) q && eqb (memory p .level) (memory q .level + 1)
+
+-- a way down: each page leads to the one behind it
+unfoldable pub descends : (ℕ → Page) → ℕ → List ℕ → Bool
+descends memory x [] = true
+descends memory x (p ∷ []) = true
+descends memory x (p ∷ (q ∷ rest)) = leads memory x p q && descends memory x (q ∷ rest)
+
+-- The pages that are still held are those whose ancestors could not be given up: the top one is page 0 or was safe when
+-- granted, and none below it was. Nothing is held before page 0 is granted.
+abbrev pub rightlyKept : Op → ℕ → (ℕ → Page) → List ℕ → ℕ → Bool
+rightlyKept op k memory [] want = eqb want 0
+rightlyKept op k memory (top ∷ below) want =
+    (eqb top 0 || isSafe op k (μ (memory top))) && all (λ (p : ℕ). not (isSafe op k (μ (memory p)))) below
+
+-- each sibling has the level of the page beside it on the path, given upward
+unfoldable pub sameLevels : (ℕ → Page) → List ℕ → List ℕ → Bool
+sameLevels memory path [] = true
+sameLevels memory [] (s ∷ siblings) = false
+sameLevels memory (p ∷ up) (s ∷ siblings) = eqb (memory p .level) (memory s .level) && sameLevels memory up siblings
+
+-- what is needed next is this page
+abbrev pub isSibling : Need → ℕ → Bool
+isSibling nothing want = false
+isSibling (sibling s) want = eqb s want
+isSibling astray want = false
+
+-- A deletion that stands at its leaf: the key is there, the siblings held are those that the rules took so far, and the
+-- want is the next one. (Only a deletion goes on from its leaf.)
+abbrev pub rightlyBeside : Op → ℕ → (ℕ → Page) → List ℕ → List ℕ → ℕ → Bool
+rightlyBeside op k memory [] siblings want = false
+rightlyBeside op k memory (leaf ∷ fathers) siblings want =
+    isDelete op
+    && has (keyOf op) (memory leaf .entries)
+    && isSibling (needs k memory (keyOf op) leaf fathers siblings) want
+    && sameLevels memory (leaf ∷ fathers) (siblings ++ want ∷ [])
+
+abbrev pub isNone : List ℕ → Bool
+isNone [] = true
+isNone (p ∷ ps) = false
+
+-- "and if these pages, read again, are the ones the rules would have this operation hold and want at this point"
+unfoldable pub fitting : Op → ℕ → (ℕ → Page) → List ℕ → List ℕ → ℕ → Bool
+fitting op k memory path siblings want =
+    rightlyKept op k memory path want
+    && cond (atItsLeaf memory (reverse path))
+    (descends memory (keyOf op) path && rightlyBeside op k memory (reverse path) siblings want)
+    (descends memory (keyOf op) (path ++ want ∷ []) && isNone siblings)
+
+-- "and the page it would want next is none that it would then hold"
+abbrev pub nextIsNew : Verdict → Bool
+nextIsNew broken = false
+nextIsNew (goes path siblings want) = not (member want (path ++ siblings))
+nextIsNew (ends answer writes) = true
+
+-- "Pages are sound for a step if": all of these together
+unfoldable pub soundForStep : Op → ℕ → ℕ → List ℕ → List ℕ → List ℕ → ℕ → Bool
+soundForStep op k n ws path siblings want =
+    pagesSound k n ws (path ++ siblings ++ want ∷ [])
+    && fitting op k (pageAt k ws) path siblings want
+    && nextIsNew (granted op k (pageAt k ws) (freePages k n ws) path siblings want)
+
+-- What a granted step comes to, damage included: what the rules say where the pages are sound for the step.
+unfoldable pub verdict : Op → ℕ → ℕ → List ℕ → List ℕ → List ℕ → ℕ → Verdict
+verdict op k n ws path siblings want =
+    cond (soundForStep op k n ws path siblings want)
+    (granted op k (pageAt k ws) (freePages k n ws) path siblings want)
+    broken

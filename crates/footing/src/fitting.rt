@@ -1,0 +1,117 @@
+// Whether the pages of a slot, read again, are sound and the ones the rules would have its operation hold and want.
+use crate::looking::all_sound;
+use crate::looking::at_leaf;
+use crate::looking::descends;
+use crate::looking::key_asked;
+use crate::looking::leads;
+use crate::looking::rightly_kept;
+use crate::looking::same_levels;
+use change::needing::Need;
+use change::needing::needs;
+use page::reading::Lot;
+use pool::pages::look_of;
+use pool::pages::sound_of;
+use slots::Op;
+use slots::Slot;
+use slots::book::with_page;
+ghost use mathlib.Core.Path.{_≡_};
+ghost use mathlib.Core.Bool.{true, _&&_};
+ghost use mathlib.Core.List.{[], _∷_, _++_, reverse};
+ghost use Prim.Native.Nat.{_≤_, _<_};
+ghost use Rattle.ground.specs.Limits.{pathHolds};
+ghost use Rattle.pool.specs.Pool.{pageAt};
+ghost use Rattle.change.specs.Held.{Held};
+ghost use Rattle.slots.specs.Parts.{keyOf, pathOf, siblingsOf};
+ghost use Rattle.footing.specs.Granted.{atItsLeaf};
+ghost use Rattle.footing.specs.Fitting as rule;
+ghost use Rattle.footing.specs.Standing.{Asks, lastLeads};
+ghost use Rattle.footing.specs.Standing as asked;
+
+// Each page held and the one wanted is sound by itself.
+pub fn pages_sound(words: &[u32], k: usize, n: usize, op: Op, slot: Slot) -> bool
+    requires { ⌜ Asks k n (now words) op slot ⌝ }
+    ensures { λ r. ⌜ r ≡ rule.pagesSound k n (now (words .entry)) (pathOf slot ++ siblingsOf slot ++ slot .want ∷ []) ⌝ }
+{
+    let path = slot.path;
+    if !all_sound(words, k, n, path, slot.depth) {
+        return false;
+    }
+    let siblings = slot.siblings;
+    if !all_sound(words, k, n, siblings, slot.beside) {
+        return false;
+    }
+    sound_of(words, k, n, slot.want)
+}
+
+// Coming down: no siblings yet, and the last page of the path leads to the wanted one.
+pub fn fits_below(words: &[u32], k: usize, n: usize, x: u32, slot: Slot) -> bool
+    requires { ⌜ (slot .depth ≤ pathHolds) × (slot .beside ≤ pathHolds) × (Held k n (now words) (pathOf slot ++ siblingsOf slot ++ slot .want ∷ [])) ⌝ }
+    ensures { λ r. ⌜ r ≡ lastLeads (pageAt k (now (words .entry))) x (reverse (pathOf slot)) (slot .want) && rule.isNone (siblingsOf slot) ⌝ }
+{
+    if slot.beside != 0 {
+        return false;
+    }
+    let depth = slot.depth;
+    if depth == 0 {
+        return true;
+    }
+    let path = slot.path;
+    leads(words, k, n, x, path[depth - 1], slot.want)
+}
+
+// A deletion at its leaf: the key is there, and what it needs next is the page it wants, beside its own page.
+pub fn fits_beside(words: &[u32], k: usize, n: usize, op: Op, slot: Slot) -> bool
+    requires { ⌜ (slot .depth ≤ pathHolds) × (slot .beside < pathHolds) × (Held k n (now words) (pathOf slot ++ siblingsOf slot ++ slot .want ∷ [])) ⌝ }
+    requires { ⌜ rule.descends (pageAt k (now words)) (keyOf op) (pathOf slot) ≡ true ⌝ }
+    requires { ⌜ atItsLeaf (pageAt k (now words)) (reverse (pathOf slot)) ≡ true ⌝ }
+    ensures { λ r. ⌜ r ≡ rule.rightlyBeside op k (pageAt k (now (words .entry))) (reverse (pathOf slot)) (siblingsOf slot) (slot .want) ⌝ }
+{
+    let Op::Delete(x) = op else {
+        return false;
+    };
+    let path = slot.path;
+    let depth = slot.depth;
+    let Lot::There(_) = look_of(words, k, n, path[depth - 1], x) else {
+        return false;
+    };
+    let siblings = slot.siblings;
+    let beside = slot.beside;
+    let Need::Sibling(next) = needs(words, k, n, x, &path, depth, &siblings, beside) else {
+        return false;
+    };
+    let want = slot.want;
+    if next != want {
+        return false;
+    }
+    same_levels(
+        words,
+        k,
+        n,
+        path,
+        depth,
+        with_page(siblings, beside, want),
+        beside + 1,
+    )
+}
+
+// All of these together.
+pub fn fits(words: &[u32], k: usize, n: usize, op: Op, slot: Slot) -> bool
+    requires { ⌜ Asks k n (now words) op slot ⌝ }
+    ensures { λ r. ⌜ r ≡ asked.fits op k n (now (words .entry)) slot ⌝ }
+{
+    if !pages_sound(words, k, n, op, slot) {
+        return false;
+    }
+    let path = slot.path;
+    let depth = slot.depth;
+    if !rightly_kept(words, k, n, op, path, depth, slot.want) {
+        return false;
+    }
+    if !descends(words, k, n, key_asked(op), path, depth) {
+        return false;
+    }
+    if at_leaf(words, k, n, path, depth) {
+        return fits_beside(words, k, n, op, slot);
+    }
+    fits_below(words, k, n, key_asked(op), slot)
+}

@@ -1,0 +1,151 @@
+// The pages of a slot, read again one by one. A path is given from the top downward, siblings from the leaf's upward.
+use ground::HELD;
+use pool::pages::count_of;
+use pool::pages::is_leaf_of;
+use pool::pages::level_of;
+use pool::pages::route_of;
+use pool::pages::sound_of;
+use slots::Op;
+ghost use mathlib.Core.Path.{_≡_};
+ghost use mathlib.Core.Bool.{_&&_};
+ghost use mathlib.Core.List.{[], _∷_, _++_, reverse};
+ghost use Prim.Native.Nat.{ℕ, _≤_, _<_};
+ghost use lib.ListN.{length, getD, take};
+ghost use Rattle.ground.specs.Limits.{largestK, largestN, pathHolds};
+ghost use Rattle.pool.specs.Pool.{poolLength, pageAt};
+ghost use Rattle.change.specs.Held.{Held};
+ghost use Rattle.slots.specs.Parts.{keyOf};
+ghost use Rattle.footing.specs.Granted.{isSafe, atItsLeaf};
+ghost use Rattle.footing.specs.Fitting as rule;
+
+// The key that an operation is about.
+pub fn key_asked(op: Op) -> u32
+    ensures { λ r. ⌜ r ≡ keyOf op ⌝ }
+{
+    match op {
+        Op::Search(x) => x,
+        Op::Insert(x, _) => x,
+        Op::Delete(x) => x,
+    }
+}
+
+// On a page with m pairs the operation gives up all others on its path.
+pub fn is_safe(op: Op, k: usize, m: usize) -> bool
+    requires { ⌜ k ≤ largestK ⌝ }
+    ensures { λ r. ⌜ r ≡ isSafe op k m ⌝ }
+{
+    match op {
+        Op::Search(_) => true,
+        Op::Insert(_, _) => m < 2 * k,
+        Op::Delete(_) => k < m,
+    }
+}
+
+// Each of the first `count` cells names a page that is sound by itself.
+pub fn all_sound(words: &[u32], k: usize, n: usize, cells: [u32; HELD], count: usize) -> bool
+    requires { ⌜ (k ≤ largestK) × (n ≤ largestN) × (length (now words) ≡ poolLength k n) × (count ≤ pathHolds) ⌝ }
+    requires { ⌜ ((i : ℕ) → i < count → getD cells i 0 < n) ⌝ }
+    ensures { λ r. ⌜ r ≡ rule.pagesSound k n (now (words .entry)) (take count cells) ⌝ }
+{
+    let mut i = 0;
+    while i < count {
+        if !sound_of(words, k, n, cells[i]) {
+            return false;
+        }
+        i += 1;
+    }
+    true
+}
+
+// The last page of the path is a leaf.
+pub fn at_leaf(words: &[u32], k: usize, n: usize, path: [u32; HELD], depth: usize) -> bool
+    requires { ⌜ (depth ≤ pathHolds) × (Held k n (now words) (take depth path)) ⌝ }
+    ensures { λ r. ⌜ r ≡ atItsLeaf (pageAt k (now (words .entry))) (reverse (take depth path)) ⌝ }
+{
+    if depth == 0 {
+        return false;
+    }
+    is_leaf_of(words, k, n, path[depth - 1])
+}
+
+// Page p routes x to page q, a level below. Levels go first: no leaf is routed through.
+pub fn leads(words: &[u32], k: usize, n: usize, x: u32, p: u32, q: u32) -> bool
+    requires { ⌜ Held k n (now words) (p ∷ q ∷ []) ⌝ }
+    ensures { λ r. ⌜ r ≡ rule.leads (pageAt k (now (words .entry))) x p q ⌝ }
+{
+    if level_of(words, k, n, p) != level_of(words, k, n, q) + 1 {
+        return false;
+    }
+    route_of(words, k, n, p, x) == q
+}
+
+// Each page of the path leads to the one below it.
+pub fn descends(words: &[u32], k: usize, n: usize, x: u32, path: [u32; HELD], depth: usize) -> bool
+    requires { ⌜ (depth ≤ pathHolds) × (Held k n (now words) (take depth path)) ⌝ }
+    ensures { λ r. ⌜ r ≡ rule.descends (pageAt k (now (words .entry))) x (take depth path) ⌝ }
+{
+    let mut i = 1;
+    while i < depth {
+        if !leads(words, k, n, x, path[i - 1], path[i]) {
+            return false;
+        }
+        i += 1;
+    }
+    true
+}
+
+// The top page is page 0 or safe, and none below it is safe. An operation that holds nothing wants page 0.
+pub fn rightly_kept(
+    words: &[u32],
+    k: usize,
+    n: usize,
+    op: Op,
+    path: [u32; HELD],
+    depth: usize,
+    want: u32,
+) -> bool
+    requires { ⌜ (depth ≤ pathHolds) × (Held k n (now words) (take depth path)) ⌝ }
+    ensures { λ r. ⌜ r ≡ rule.rightlyKept op k (pageAt k (now (words .entry))) (take depth path) want ⌝ }
+{
+    if depth == 0 {
+        return want == 0;
+    }
+    let top = path[0];
+    if top != 0 && !is_safe(op, k, count_of(words, k, n, top)) {
+        return false;
+    }
+    let mut i = 1;
+    while i < depth {
+        if is_safe(op, k, count_of(words, k, n, path[i])) {
+            return false;
+        }
+        i += 1;
+    }
+    true
+}
+
+// Each sibling has the level of the page beside it on the path.
+pub fn same_levels(
+    words: &[u32],
+    k: usize,
+    n: usize,
+    path: [u32; HELD],
+    depth: usize,
+    siblings: [u32; HELD],
+    beside: usize,
+) -> bool
+    requires { ⌜ (depth ≤ pathHolds) × (beside ≤ pathHolds) × (Held k n (now words) (take depth path ++ take beside siblings)) ⌝ }
+    ensures { λ r. ⌜ r ≡ rule.sameLevels (pageAt k (now (words .entry))) (reverse (take depth path)) (take beside siblings) ⌝ }
+{
+    if depth < beside {
+        return false;
+    }
+    let mut j = 0;
+    while j < beside {
+        if level_of(words, k, n, path[depth - 1 - j]) != level_of(words, k, n, siblings[j]) {
+            return false;
+        }
+        j += 1;
+    }
+    true
+}
