@@ -1,5 +1,4 @@
--- An operation as numbers. "An operation goes in as numbers (kind, key, information; a kind that does not exist is a clear
--- refusal)".
+-- An operation as numbers: kind, key, information. A kind that does not exist is refused (DECISIONS, "The library").
 use Prim.Native.Nat.{ℕ}
 use mathlib.Core.Bool.{cond}
 use lib.Dec.{eqb}

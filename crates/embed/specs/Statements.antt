@@ -1,7 +1,7 @@
 -- What the exported calls promise, for every argument: the four numbers of the answer, every word of the state and every
 -- word of the pool. `cells′`, `after` and `heard′` are the lent words that a call leaves.
--- "A refused call leaves every lent word as given" follows, and is said in each (`kept`): a refused making, by 01, "returns an
--- empty state".
+-- "A refused call leaves pages, locks and waiting order exactly as found." (demand 1) follows, and is said in each (`kept`): a refused
+-- making, by 01, "returns an empty state".
 use Prim.Native.Nat.{ℕ}
 use mathlib.Core.Bool.{true}
 use mathlib.Core.List.{List}
