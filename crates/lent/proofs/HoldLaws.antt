@@ -12,7 +12,7 @@ use borrow.Author.Tests.{ltb-false, ltb-true, lt-leb, eq-eqb, le-leb}
 use Rattle.ground.specs.Limits.{slotCount}
 use Rattle.ground.specs.Tests.{allBelow, anyBelow, member}
 use Rattle.ground.proofs.Bools.{and-second, and-first-fails, and-second-fails, or-first, or-first-fails, or-second-fails, not-of-true}
-use Rattle.ground.proofs.Tests.{anyBelow-more, anyBelow-same, allBelow-same, allBelow-more, allBelow-at}
+use Rattle.ground.proofs.Tests.{anyBelow-more, anyBelow-same, anyBelow-fails, anyBelow-false-at, allBelow-same, allBelow-more, allBelow-at}
 use Rattle.slots.specs.declared.Slot.{Slot}
 use Rattle.slots.specs.Parts.{held, pathOf, siblingsOf, slotAt, wantAt, holdsAt, waitingOrder}
 use Rattle.slots.specs.Locks.{lockOf, lockAt, clash}
@@ -120,6 +120,13 @@ module _ (ws : List ℕ) (s least p : ℕ) where
 
   pub others-deep : {r q : Bool} → r ≡ anyBelow 16 (topHolds ws s least p) → r ≡ false → q ≡ anyBelow 16 (deepHolds ws s least p) → q ≡ othersHold ws s least p
   others-deep e f d = d ∙ sym (ap (λ (b : Bool). b || anyBelow 16 (deepHolds ws s least p)) (sym e ∙ f)) ∙ both-ways
+
+  -- where no slot holds more than one page
+  pub others-shallow : {r q : Bool} → r ≡ anyBelow 16 (topHolds ws s least p) → r ≡ false → q ≡ anyBelow 16 (isDeep ws) → q ≡ false → false ≡ othersHold ws s least p
+  others-shallow e f d n =
+      others-deep e f
+      (sym (anyBelow-fails (deepHolds ws s least p) 16
+      (λ t b. and-first-fails (member p (held (slotIn ws t))) (and-second-fails (counts ws s least t) (anyBelow-false-at (isDeep ws) 16 (sym d ∙ n) t b)))))
 
   -- a slot that holds more than one page, by its tests
   module _ (t : ℕ) where

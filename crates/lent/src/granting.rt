@@ -92,6 +92,19 @@ pub fn is_deep(cells: &[u32; STATE], t: usize) -> bool
     (1 < depth_at(cells, t)) | (0 < beside_at(cells, t))
 }
 
+// Some slot does.
+pub fn some_deep(cells: &[u32; STATE]) -> bool
+    ensures { λ r. ⌜ r ≡ anyBelow 16 (isDeep (now (cells .entry))) ⌝ }
+{
+    let mut found = false;
+    let mut t = 0;
+    while t < SLOTS {
+        found = found | is_deep(cells, t);
+        t += 1;
+    }
+    found
+}
+
 // Slot t is another one than s, holds more than one page, and page p is among them.
 pub fn deep_holds(cells: &[u32; STATE], s: usize, least: u32, p: u32, t: usize) -> bool
     requires { ⌜ (t < 16) × Short (now cells) ⌝ }
@@ -131,6 +144,9 @@ pub fn others_hold(cells: &[u32; STATE], s: usize, least: u32, p: u32) -> bool
 {
     if tops_hold(cells, s, least, p) {
         return true;
+    }
+    if !some_deep(cells) {
+        return false;
     }
     some_deep_holds(cells, s, least, p)
 }

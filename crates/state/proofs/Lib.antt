@@ -1,4 +1,5 @@
 pub mod MaskLaws
+pub mod WalkLaws
 pub mod ReportLaws
 pub mod CheckingLaws
 pub mod CheckingLawsOrder

@@ -1,19 +1,20 @@
 -- The numbers that pass a test, as a mask: as many ones as pass, and below the lowest one as many zeros as fail.
 use Prim.Native.Nat.{ℕ, zero, suc, _+_, _*_, _/_, _%_, _^_, _≤_, _<_}
-use mathlib.Core.Bool.{Bool, true, false, cond}
-use mathlib.Core.Path.{_≡_, refl, sym, ap, ap₂, _∙_}
-use mathlib.Core.Logic.{_⊎_, inl, inr, ⊎-elim}
+use mathlib.Core.Bool.{Bool, true, false, cond, _&&_}
+use mathlib.Core.Path.{_≡_, refl, sym, ap, ap₂, _∙_, subst}
+use mathlib.Core.Logic.{_⊎_, inl, inr, ⊎-elim, _≢_}
 use native.Mathlib.Omega.{arith}
-use native.Mathlib.Nat.{not-suc-le-zero, le-of-suc-le-suc, le-refl, one-mul, pow-zero, pow-suc, mod-eq-of-lt}
+use native.Mathlib.Nat.{not-suc-le-zero, le-of-suc-le-suc, eq-or-lt-of-le, le-refl, one-mul, pow-zero, pow-suc, mod-eq-of-lt}
 use native.Mathlib.Numerals.{add-one, one-add}
-use borrow.Author.Tests.{lt-ltb}
+use borrow.Author.Tests.{lt-ltb, ltb-true, ltb-false, leb-true, le-leb, lt-leb}
+use lib.Dec.{leb, ltb}
 use lib.Bits.{bitOr, block-half, block-odd, shifted-half, shifted-even, or-shifted-r}
 use lib.Count.{ones, onesIn, ones-cat, under, trailingZeros, trailing-of-zero}
 use lib.Pow.{pow-pos, pow-lt}
 use Rattle.ground.specs.Tests.{countBelow, firstBelow}
-use Rattle.ground.proofs.Bools.{true-or-false}
+use Rattle.ground.proofs.Bools.{true-or-false, and-first, and-second, and-first-fails}
 use Rattle.ground.proofs.Choice.{cond-true, cond-false}
-use Rattle.ground.proofs.Tests.{countBelow-passes, countBelow-skips, firstBelow-none, firstBelow-more, firstBelow-goes-on, firstBelow-stops}
+use Rattle.ground.proofs.Tests.{countBelow-passes, countBelow-skips, firstBelow-none, firstBelow-more, firstBelow-goes-on, firstBelow-stops, firstBelow-most, firstBelow-passes, firstBelow-before, firstBelow-all-fail}
 use Rattle.slots.specs.Report.{maskBelow}
 
 -- ---- zeros below the lowest one
@@ -144,3 +145,75 @@ module _ (p : ℕ → Bool) where
       (λ none. ap (trailingZeros n) (none .0) ∙ trailing-of-zero n ∙ sym (none .1))
       (λ some. some .2)
       (lowest n n (le-refl n))
+
+  -- no number passes: nothing is in the mask
+  pub mask-fails : (n : ℕ) → ((i : ℕ) → i < n → p i ≡ false) → maskBelow n p ≡ 0
+  mask-fails zero f = mask-none
+  mask-fails (suc n) f = mask-skips n (f n (omega arith)) ∙ mask-fails n (λ i b. f i (omega arith))
+
+  -- and the other way
+  pub mask-empty : (n : ℕ) → maskBelow n p ≡ 0 → (i : ℕ) → i < n → p i ≡ false
+  mask-empty n e = firstBelow-all-fail p n (sym (mask-lowest n) ∙ ap (trailingZeros n) e ∙ trailing-of-zero n)
+
+-- two tests that agree below n have one mask
+pub mask-same : (p q : ℕ → Bool) (n : ℕ) → ((i : ℕ) → i < n → p i ≡ q i) → maskBelow n p ≡ maskBelow n q
+unfolding maskBelow
+mask-same p q zero f = refl
+mask-same p q (suc n) f =
+    ap₂ (λ (b : Bool) (m : ℕ). cond b (2 ^ n + m) m) (f n (omega arith)) (mask-same p q n (λ i l. f i (omega arith)))
+
+-- ---- a test with one passing number taken out: q is p, but that a fails
+
+module _ (p q : ℕ → Bool) (a : ℕ) (passed : p a ≡ true) (fails : q a ≡ false) where
+  -- the mask loses its bit
+  pub mask-less : (n : ℕ) → a < n → ((i : ℕ) → i < n → i ≢ a → q i ≡ p i) → maskBelow n p ≡ 2 ^ a + maskBelow n q
+  mask-less zero h same = absurd (not-suc-le-zero h)
+  mask-less (suc n) h same =
+      ⊎-elim
+      (λ e. let before = mask-same q p n (λ i l. same i (omega arith) (omega arith)) in
+      omega (arith, mask-passes p n (sym (ap p e) ∙ passed), mask-skips q n (sym (ap q e) ∙ fails), ap (λ (x : ℕ). 2 ^ x) e))
+      (λ l. let less = mask-less n l (λ i b. same i (omega arith)) in
+      let agree = same n (omega arith) (omega arith) in
+      ⊎-elim
+      (λ t. omega (arith, mask-passes p n t, mask-passes q n (agree ∙ t)))
+      (λ f. omega (arith, mask-skips p n f, mask-skips q n (agree ∙ f)))
+      (true-or-false (p n)))
+      (eq-or-lt-of-le (le-of-suc-le-suc h))
+
+-- ---- a walk over a mask, from its lowest number on
+
+module _ (p : ℕ → Bool) where
+  -- the numbers from b on that pass
+  abbrev pub from : ℕ → ℕ → Bool
+  from b i = leb b i && p i
+
+  -- the lowest number of what is left is the next
+  pub record Next (b s : ℕ) : Type 0 where
+    pub inside : s < 16
+    pub passed : p s ≡ true
+    pub between : (i : ℕ) → b ≤ i → i < s → p i ≡ false
+    pub taken : maskBelow 16 (from b) ≡ 2 ^ s + maskBelow 16 (from (s + 1))
+
+  pub next-of : (b s : ℕ) → maskBelow 16 (from b) ≢ 0 → s ≡ trailingZeros 16 (maskBelow 16 (from b)) → Next b s
+  next-of b s some e =
+      let first : s ≡ firstBelow 16 (from b) = e ∙ mask-lowest (from b) 16 in
+      let most : s ≤ 16 = omega (arith, first, firstBelow-most (from b) 16) in
+      let inside : s < 16 =
+      ⊎-elim
+      (λ f. absurd (some (mask-fails (from b) 16 (firstBelow-all-fail (from b) 16 (sym first ∙ f)))))
+      (λ l. l)
+      (eq-or-lt-of-le most) in
+      let here : from b s ≡ true = ap (from b) first ∙ firstBelow-passes (from b) 16 (subst (λ (x : ℕ). x < 16) first inside) in
+      let low : b ≤ s = leb-true b s (and-first (leb b s) (p s) here) in
+      let none : (i : ℕ) → i < s → from b i ≡ false = λ i l. firstBelow-before (from b) 16 i (subst (λ (x : ℕ). i < x) first l) in
+      record {
+        inside = inside;
+        passed = and-second (leb b s) (p s) here;
+        between = λ i h l. sym (ap (λ (t : Bool). t && p i) (le-leb b i h)) ∙ none i l;
+        taken = mask-less (from b) (from (s + 1)) s here (and-first-fails (p s) (lt-leb (s + 1) s (omega arith))) 16 inside
+            (λ i _ n.
+            ⊎-elim
+            (λ t. and-first-fails (p i) (lt-leb (s + 1) i (omega (arith, ltb-true i s t))) ∙ sym (none i (ltb-true i s t)))
+            (λ f. ap (λ (t : Bool). t && p i) (le-leb (s + 1) i (omega (arith, ltb-false i s f)) ∙ sym (le-leb b i (omega (arith, ltb-false i s f)))))
+            (true-or-false (ltb i s)));
+      }

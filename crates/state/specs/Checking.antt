@@ -56,6 +56,10 @@ openKind kind = not (eqb kind 0) && leb kind 3
 unfoldable pub aloneIn : List ℕ → ℕ → Bool
 aloneIn ws s = all (λ (p : ℕ). not (othersHold ws s 0 p)) (held (slotIn ws s))
 
--- that is so if slot s holds its pages under ξ
+-- slot s holds its pages under ξ
+abbrev pub updates : List ℕ → ℕ → Bool
+updates ws s = ltb 1 (cell ws 0 s)
+
+-- then no other slot holds them
 abbrev pub xiAlone : List ℕ → ℕ → Bool
-xiAlone ws s = not (ltb 1 (cell ws 0 s)) || aloneIn ws s
+xiAlone ws s = not (updates ws s) || aloneIn ws s

@@ -25,6 +25,7 @@ use lent::cells::word_at;
 use lent::granting::column_has;
 use lent::granting::is_deep;
 use lent::granting::others_hold;
+use lent::granting::some_deep;
 ghost use Prim.Native.Nat.{ℕ, _≤_, _<_};
 ghost use mathlib.Core.Bool.{true, false, not, _&&_};
 ghost use mathlib.Core.Path.{_≡_};
@@ -33,10 +34,11 @@ ghost use lib.ListN.{length, getD, take};
 ghost use Rattle.ground.specs.Limits.{largestK, largestN, slotCount};
 ghost use Rattle.ground.specs.Tests.{all, allBelow};
 ghost use Rattle.slots.specs.Parts.{held};
+ghost use Rattle.slots.specs.Report.{maskBelow};
 ghost use Rattle.slots.specs.Sound.{pagesSound, sound};
 ghost use Rattle.lent.specs.Words.{cell, column, slotIn, orderIn, stateOf};
 ghost use Rattle.lent.specs.Holds.{Short, othersHold};
-ghost use Rattle.state.specs.Checking.{mayEnter, namesEach, named, fineRow, rowFine, deepFine, openKind, aloneIn, xiAlone};
+ghost use Rattle.state.specs.Checking.{mayEnter, namesEach, named, fineRow, rowFine, deepFine, openKind, aloneIn, updates, xiAlone};
 
 // The limits of what a slot holds, as the words have them.
 const SEARCH_DEPTH: u32 = 1;
@@ -152,6 +154,9 @@ fn deep_fine(cells: &[u32; STATE], n: u32) -> bool
     requires { ⌜ Short (now cells) ⌝ }
     ensures { λ r. ⌜ r ≡ allBelow 16 (deepFine (now (cells .entry)) n) ⌝ }
 {
+    if !some_deep(cells) {
+        return true;
+    }
     let mut s = 0;
     while s < SLOTS {
         if is_deep(cells, s) {
@@ -240,19 +245,33 @@ fn is_alone(cells: &[u32; STATE], s: usize) -> bool
     column_alone(cells, s, SIBLINGS, wide(beside_at(cells, s)))
 }
 
-// No page held under ξ is held by another slot.
+// The slots whose lock is ξ, one bit for each.
+fn updating(cells: &[u32; STATE]) -> u16
+    ensures { λ r. ⌜ r ≡ maskBelow 16 (updates (now (cells .entry))) ⌝ }
+{
+    let mut mask = 0u16;
+    let mut s = 0;
+    while s < SLOTS {
+        if SEARCHES < kind_at(cells, s) {
+            mask = mask | (1u16 << s);
+        }
+        s += 1;
+    }
+    mask
+}
+
+// No page held under ξ is held by another slot. The slots are taken off the mask from the lowest on.
 fn no_clashes(cells: &[u32; STATE]) -> bool
     requires { ⌜ Short (now cells) ⌝ }
     ensures { λ r. ⌜ r ≡ allBelow 16 (xiAlone (now (cells .entry))) ⌝ }
 {
-    let mut s = 0;
-    while s < SLOTS {
-        if SEARCHES < kind_at(cells, s) {
-            if !is_alone(cells, s) {
-                return false;
-            }
+    let mut left = updating(cells);
+    while left != 0 {
+        let s = wide(u16::trailing_zeros(left));
+        if !is_alone(cells, s) {
+            return false;
         }
-        s += 1;
+        left = left - (1u16 << s);
     }
     true
 }

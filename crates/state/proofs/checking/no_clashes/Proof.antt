@@ -1,67 +1,90 @@
--- Of the slots passed each that updates holds its pages alone.
-use Rattle.state.specs.Checking.{aloneIn, xiAlone}
-use Rattle.lent.proofs.HoldLaws.{all-on}
-use Rattle.lent.specs.Words.{cell}
-use Rattle.ground.proofs.Tests.{allBelow-none, allBelow-stops}
-use Rattle.ground.proofs.Bools.{and-both, or-first, or-second, or-none, not-of-true, not-of-false}
-use Rattle.ground.specs.Tests.{allBelow}
-use borrow.Author.Tests.{not-true, not-false, lt-ltb, le-ltb}
-use lib.Dec.{ltb}
+-- The slots that update are taken off their mask from the lowest on; each holds its pages alone.
+use Rattle.state.proofs.WalkLaws.{Walked, walk-start, walk-next, walk-on, walk-stops, walk-end}
+use Rattle.state.proofs.MaskLaws.{Next}
+use Rattle.state.specs.Checking.{updates}
+use borrow.Author.Tests.{not-true, not-false}
+use lib.Pow.{pow-pos, pow-lt}
+use native.Mathlib.Nat.{one-mul, mod-eq-of-lt}
 use native.Mathlib.Omega.{arith}
-use mathlib.Core.Path.{_≡_, sym, ap, _∙_}
-use mathlib.Core.Logic.{⊎-elim}
-use mathlib.Core.Bool.{true, not}
-use Prim.Native.Nat.{ℕ, _≤_, _-_}
+use mathlib.Core.Path.{_≡_, sym, _∙_}
+use Prim.Native.Nat.{ℕ, _*_, _%_, _^_, _≤_, _<_, _-_}
 use borrow.Author.Needs.{needs}
 use Rattle.state.proofs.checking.no_clashes.Statement.{statement}
 use Rattle.state.proofs.checking.no_clashes.Tie as tie
 
 abbrev Inv-loop : tie.InvT-loop
-Inv-loop cells s₀ s = (s ≤ 16) × (allBelow s (xiAlone cells) ≡ true)
+Inv-loop cells left₀ left = Walked cells left
 
 abbrev μ-loop : tie.MeasureT-loop
-μ-loop cells s₀ s = 16 - s
+μ-loop cells left₀ left = left
+
+updating-requires : tie.Need-updating-requires Inv-loop μ-loop
+updating-requires c κs = search needs
 
 loop-holds : tie.Need-loop-holds Inv-loop μ-loop
-loop-holds c = (omega arith, allBelow-none (xiAlone (c .args .cells .now)))
+loop-holds c = walk-start (c .before .args .cells .now) (c .updating .result) (c .updating .ensures)
 
-kind-at-requires : tie.Need-kind-at-requires Inv-loop μ-loop
-kind-at-requires c κs = omega arith
+wide-requires : tie.Need-wide-requires Inv-loop μ-loop
+wide-requires c κs = search needs
+
+-- the slot just read off the mask
+next : (c : tie.After-wide Inv-loop μ-loop) → Next (updates (c .before .before .before .before .args .cells .now)) (c .before .before .loop .inv .at) (c .wide .result)
+next c =
+    let l = c .before .before .loop in
+    walk-next (c .before .before .before .before .args .cells .now) (l .left) (l .inv) (c .wide .result) (c .before .loop-test .taken) (c .wide .ensures)
 
 is-alone-requires : tie.Need-is-alone-requires Inv-loop μ-loop
-is-alone-requires c κs = search needs
+is-alone-requires c κs = (next c .inside, c .before .before .before .before .pre)
 
 returns : tie.Need-returns Inv-loop μ-loop
 returns c =
-    let ws = c .before .before .before .before .before .before .args .cells .now in
-    let s : ℕ = c .before .before .before .before .before .loop .s in
+    let l = c .before .before .before .before .loop in
+    let said = c .before .is-alone in
     sym
-    (allBelow-stops (xiAlone ws) 16 s (omega arith)
-    (or-none (not-of-true (ap (ltb 1) (sym (c .before .before .before .kind-at .ensures)) ∙ lt-ltb 1 (c .before .before .before .kind-at .result) (c .before .before .if1 .taken)))
-    (sym (c .before .is-alone .ensures) ∙ not-true (c .before .is-alone .result) (c .if2 .taken))))
+    (walk-stops (c .before .before .before .before .before .before .args .cells .now) (l .left) (l .inv) (c .before .before .wide .result) (next (c .before .before))
+    (sym (said .ensures) ∙ not-true (said .result) (c .if1 .taken)))
 
-add-s : tie.Need-add-s Inv-loop μ-loop
-add-s c = search needs
+cast-left : tie.Need-cast-left Inv-loop μ-loop
+cast-left c = omega (arith, next (c .before .before) .inside)
+
+shl-left : tie.Need-shl-left Inv-loop μ-loop
+shl-left c = next (c .before .before) .inside
+
+-- its bit, as the code makes it
+bit : (s : ℕ) → s < 16 → 1 * 2 ^ s % 65536 ≡ 2 ^ s
+bit s h =
+    let one : 1 * 2 ^ s ≡ 2 ^ s = one-mul (2 ^ s) in
+    let short : 1 * 2 ^ s < 65536 = omega (arith, one, pow-lt h) in
+    mod-eq-of-lt short ∙ one
+
+-- it is in the mask
+there : (c : tie.Else1 Inv-loop μ-loop) → 2 ^ (c .before .before .wide .result) ≤ c .before .before .before .before .loop .left
+there c =
+    let l = c .before .before .before .before .loop in
+    omega (arith, l .inv .rest, next (c .before .before) .taken)
+
+sub-left : tie.Need-sub-left Inv-loop μ-loop
+sub-left c =
+    let s : ℕ = c .before .before .wide .result in
+    omega (arith, bit s (next (c .before .before) .inside), there c)
 
 loop-less : tie.Need-loop-less Inv-loop μ-loop
-loop-less c = search needs
+loop-less c =
+    let s : ℕ = c .before .before .wide .result in
+    omega (arith, bit s (next (c .before .before) .inside), there c, pow-pos s)
 
 loop-again : tie.Need-loop-again Inv-loop μ-loop
 loop-again c =
-    let ws = c .before .before .before .before .args .cells .now in
-    let s : ℕ = c .before .before .before .loop .s in
-    let this : xiAlone ws s ≡ true =
-    ⊎-elim
-    (λ w. or-second (not (ltb 1 (cell ws 0 s))) (sym (w .1 .ensures) ∙ not-false (w .1 .result) (w .2 .left)))
-    (λ w. or-first (aloneIn ws s) (not-of-false (ap (ltb 1) (sym (c .before .kind-at .ensures)) ∙ le-ltb 1 (c .before .kind-at .result) (w .left))))
-    (c .if1 .came) in
-    (omega arith, all-on (xiAlone ws) s ∙ and-both (c .before .before .before .loop .inv .1) this)
+    let l = c .before .before .before .before .loop in
+    let s : ℕ = c .before .before .wide .result in
+    let said = c .before .is-alone in
+    walk-on (c .before .before .before .before .before .before .args .cells .now) (l .left) (l .inv) s (next (c .before .before)) (l .left - 1 * 2 ^ s % 65536)
+    (omega (arith, bit s (next (c .before .before) .inside), there c)) (sym (said .ensures) ∙ not-false (said .result) (c .if1 .left))
 
 returns-2 : tie.Need-returns-2 Inv-loop μ-loop
 returns-2 c =
-    let ws = c .before .before .args .cells .now in
-    let end : c .before .loop .s ≡ 16 = omega arith in
-    sym (ap (λ (m : ℕ). allBelow m (xiAlone ws)) (sym end) ∙ c .before .loop .inv .1)
+    let l = c .before .loop in
+    sym (walk-end (c .before .before .before .args .cells .now) (l .left) (l .inv) (c .loop-test .left))
 
 pub no-clashes-spec : {M : Type 1} → statement M
 no-clashes-spec =
@@ -69,11 +92,14 @@ no-clashes-spec =
     (tie.spec
     Inv-loop
     μ-loop
+    updating-requires
     loop-holds
-    kind-at-requires
+    wide-requires
     is-alone-requires
     returns
-    add-s
+    cast-left
+    shl-left
+    sub-left
     loop-less
     loop-again
     returns-2)
