@@ -5,7 +5,6 @@ use ground::LARGEST_K;
 use ground::LARGEST_N;
 use ground::SLOTS;
 use lent::DELETES;
-use lent::INSERTS;
 use lent::PATH;
 use lent::SEARCHES;
 use lent::SIBLINGS;
@@ -36,14 +35,10 @@ ghost use Rattle.slots.specs.Parts.{held};
 ghost use Rattle.slots.specs.Sound.{pagesSound, sound};
 ghost use Rattle.lent.specs.Words.{cell, column, slotIn, orderIn, stateOf};
 ghost use Rattle.lent.specs.Holds.{Short, othersHold};
-ghost use Rattle.state.specs.Checking.{mayEnter, namesEach, named, fineRow, rowFine, deepFine, openKind, aloneIn, xiAlone};
+ghost use Rattle.state.specs.Checking.{mayEnter, namesEach, fineRow, rowFine, deepFine, openKind, aloneIn, xiAlone};
 
-// The limits of what a slot holds, as the words have them.
-const SEARCH_DEPTH: u32 = 1;
-
+// The longest path, as the words have it.
 const DEPTH_LIMIT: u32 = 10;
-
-const BESIDE_LIMIT: u32 = 9;
 
 // k and N are in range.
 pub fn numbers_in_range(k: usize, n: usize) -> bool
@@ -61,26 +56,17 @@ pub fn numbers_in_range(k: usize, n: usize) -> bool
     n <= LARGEST_N
 }
 
-// The wanted page and the top of the path, if there is one, are pages of the pool, and not the same.
-fn is_named(depth: u32, n: u32, want: u32, top: u32) -> bool
-    ensures { λ r. ⌜ r ≡ named depth n want top ⌝ }
-{
-    (want < n) & ((depth == 0) | ((top < n) & (want != top)))
-}
-
-// A slot with these numbers holds what its kind may hold, as far as the rows tell.
+// A slot with these numbers holds what its kind may hold, as far as the rows tell. A closed slot holds nothing and a search
+// at most one page, so for both the path is no longer than the kind's number. Siblings are fewer than path pages: so at most 9.
 fn is_fine(kind: u32, depth: u32, beside: u32, n: u32, want: u32, top: u32) -> bool
     ensures { λ r. ⌜ r ≡ fineRow kind depth beside n want top ⌝ }
 {
-    let named = is_named(depth, n, want, top);
-    ((kind == 0) & (depth == 0) & (beside == 0))
-        | ((kind == SEARCHES) & (depth <= SEARCH_DEPTH) & (beside == 0) & named)
-        | ((kind == INSERTS) & (depth <= DEPTH_LIMIT) & (beside == 0) & named)
-        | ((kind == DELETES)
-            & (depth <= DEPTH_LIMIT)
-            & (beside <= BESIDE_LIMIT)
-            & ((beside == 0) | (beside < depth))
-            & named)
+    (kind <= DELETES)
+        & (depth <= DEPTH_LIMIT)
+        & ((SEARCHES < kind) | (depth <= kind))
+        & ((beside == 0) | ((kind == DELETES) & (beside < depth)))
+        & ((kind == 0) | (want < n))
+        & ((depth == 0) | ((top < n) & (want != top)))
 }
 
 // Every slot does.
