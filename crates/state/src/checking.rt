@@ -30,7 +30,7 @@ ghost use mathlib.Core.Path.{_≡_};
 ghost use lib.Dec.{leb};
 ghost use lib.ListN.{length, getD, take};
 ghost use Rattle.ground.specs.Limits.{largestK, largestN, slotCount};
-ghost use Rattle.ground.specs.Tests.{all, allBelow};
+ghost use Rattle.ground.specs.Tests.{all, allBelow, countBelow};
 ghost use Rattle.slots.specs.Parts.{held};
 ghost use Rattle.slots.specs.Sound.{pagesSound, sound};
 ghost use Rattle.lent.specs.Words.{cell, column, slotIn, orderIn, stateOf};
@@ -164,24 +164,31 @@ fn busy_of(cells: &[u32; STATE]) -> [bool; SLOTS]
     busy
 }
 
-// No slot is marked.
-fn none_of(marks: [bool; SLOTS]) -> bool
-    ensures { λ r. ⌜ r ≡ allBelow slotCount (λ (s : ℕ). not (getD marks s false)) ⌝ }
+// How many slots are marked.
+fn marked(marks: [bool; SLOTS]) -> usize
+    ensures { λ r. ⌜ r ≡ countBelow slotCount (λ (s : ℕ). getD marks s false) ⌝ }
 {
-    for s in 0..SLOTS {
+    let mut count = 0;
+    let mut s = 0;
+    while s < SLOTS {
         if marks[s] {
-            return false;
+            count += 1;
         }
+        s += 1;
     }
-    true
+    count
 }
 
-// The waiting order names each open slot once and no other.
+// The waiting order names each open slot once and no other. As many slots must be open as wait: then an order that names
+// open slots, none twice, leaves none out, and the marks are not read again.
 fn order_sound(cells: &[u32; STATE], waiting: usize, busy: [bool; SLOTS]) -> bool
     ensures { λ r. ⌜ r ≡ namesEach (λ (s : ℕ). getD busy s false) waiting (orderIn (now (cells .entry))) ⌝ }
 {
     sized(cells);
     if SLOTS < waiting {
+        return false;
+    }
+    if waiting != marked(busy) {
         return false;
     }
     let mut unnamed = busy;
@@ -197,7 +204,7 @@ fn order_sound(cells: &[u32; STATE], waiting: usize, busy: [bool; SLOTS]) -> boo
         unnamed[s] = false;
         i += 1;
     }
-    none_of(unnamed)
+    true
 }
 
 // No other slot holds one of the first `count` pages from `row` on, of slot s.
