@@ -3,28 +3,17 @@ use Prim.Native.Nat.{ℕ, _+_, _≤_, _<_}
 use mathlib.Core.Bool.{Bool, true, false, not, _&&_, _||_}
 use mathlib.Core.List.{List, [], _++_}
 use mathlib.Core.Logic.{⊎-elim}
-use mathlib.Core.Path.{_≡_, sym, ap, _∙_, subst}
+use mathlib.Core.Path.{_≡_, sym, ap, _∙_}
 use native.Mathlib.Numerals.{add-one}
-use native.Mathlib.Nat.{le-antisymm}
 use native.Mathlib.Omega.{arith}
 use borrow.Author.Tests.{eq-eqb, ne-eqb, lt-ltb, le-ltb}
 use lib.Dec.{eqb, ltb}
 use lib.ListN.{length, getD, take}
 use lib.Seq.{length-take-le, getD-take}
-use Rattle.ground.specs.Tests.{all, allBelow, member, distinct}
+use Rattle.ground.specs.Tests.{all, member, distinct}
 use Rattle.ground.proofs.Bools.{and-both, and-first, and-second, and-first-fails, and-second-fails, or-cases, or-first-fails, or-second-fails, not-of-true, not-of-false, false-if-not-true}
-use Rattle.ground.proofs.Tests.{all-none, all-more, all-stops, member-append, member-at, distinct-none, distinct-more, distinct-at, allBelow-more}
+use Rattle.ground.proofs.Tests.{all-none, all-more, all-stops, member-append, member-at, distinct-none, distinct-more, distinct-at}
 use Rattle.state.specs.Checking.{enters, mayEnter}
-
--- ---- every number below a bound, in a loop
-
--- one number more passes
-pub allBelow-on : (p : ℕ → Bool) (i : ℕ) → allBelow i p ≡ true → p i ≡ true → allBelow (i + 1) p ≡ true
-allBelow-on p i t h = ap (λ (n : ℕ). allBelow n p) (add-one i) ∙ allBelow-more p i ∙ and-both t h
-
--- all numbers were passed
-pub allBelow-end : (p : ℕ → Bool) (i n : ℕ) → i ≤ n → n ≤ i → allBelow i p ≡ true → allBelow n p ≡ true
-allBelow-end p i n a b t = subst (λ (m : ℕ). allBelow m p ≡ true) (le-antisymm a b) t
 
 -- ---- the first elements of a list, one more in each turn
 

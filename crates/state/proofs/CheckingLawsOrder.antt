@@ -1,23 +1,24 @@
 -- Laws for the test of the waiting order: the open slots that the order has not named yet are kept as marks. A slot that
--- has no mark when it is named is closed or was named before; in the end no mark may be left.
+-- has no mark when it is named is closed or was named before. As many slots are open as wait, so in the end no mark is left.
 use Prim.Native.Nat.{ℕ, _+_, _≤_, _<_}
 use mathlib.Core.Bool.{Bool, true, false, not, _&&_, _||_, and-true, or-false}
-use mathlib.Core.List.{List}
+use mathlib.Core.List.{List, [], _∷_}
 use mathlib.Core.Logic.{⊎-elim}
 use mathlib.Core.Path.{_≡_, refl, sym, ap, _∙_, subst}
 use native.Mathlib.Nat.{le-antisymm}
 use native.Mathlib.Decide.{ℕ-discrete}
 use native.Mathlib.Omega.{arith}
 use native.Mathlib.Numerals.{add-one}
-use borrow.Author.Tests.{eq-eqb, ne-eqb, lt-ltb, le-ltb, le-leb, lt-leb, not-true, not-false}
+use borrow.Author.Tests.{eq-eqb, ne-eqb, ltb-true, lt-ltb, le-ltb, le-leb, lt-leb, not-true, not-false}
 use lib.Dec.{eqb, ltb, leb}
 use lib.ListN.{length, getD, take, set}
-use lib.Seq.{getD-set-same, getD-set-other}
+use lib.Seq.{length-take-le, getD-set-same, getD-set-other}
 use Rattle.ground.specs.Limits.{slotCount}
-use Rattle.ground.specs.Tests.{all, allBelow, member, distinct}
-use Rattle.ground.proofs.Bools.{and-both, and-first, and-second, and-first-fails, and-second-fails, and-fails, or-second, not-of-true}
-use Rattle.ground.proofs.Tests.{all-none, member-none, member-more, distinct-none, allBelow-same, below-or-at}
+use Rattle.ground.specs.Tests.{all, allBelow, member, distinct, countBelow}
+use Rattle.ground.proofs.Bools.{and-both, and-first, and-second, and-first-fails, and-second-fails, and-fails, or-second, not-of-true, not-of-false, false-if-not-true}
+use Rattle.ground.proofs.Tests.{all-none, member-none, member-here, member-more, distinct-none, allBelow-at, allBelow-from, countBelow-same, countBelow-less, countBelow-fails, below-or-at}
 use Rattle.state.specs.Checking.{namesEach}
+use Rattle.state.proofs.ReportLaws.{counted-some}
 use Rattle.state.proofs.CheckingLaws.{all-on, all-stop, differ-on, differ-stop}
 
 -- the first i cells of the order name open slots, none twice, and the marks are those of the other open slots
@@ -104,26 +105,79 @@ module _ (busy unnamed : List Bool) (order : List ℕ) (i : ℕ) (so-far : Namin
         a : ℕ
         a = getD order i 0
 
--- all that wait are named: the order is sound where no mark is left
-pub naming-end : (busy unnamed : List Bool) (order : List ℕ) (i waiting : ℕ) → Naming busy unnamed order i → i ≤ waiting → waiting ≤ i → waiting ≤ slotCount
-    → namesEach (λ (s : ℕ). getD busy s false) waiting order ≡ allBelow slotCount (λ (s : ℕ). not (getD unnamed s false))
-unfolding namesEach
-naming-end busy unnamed order i waiting so-far a b few =
-    ap (λ (t : Bool). t && allBelow slotCount (λ (s : ℕ). not (getD busy s false) || member s (take waiting order)))
-    (and-both (and-both (le-leb waiting slotCount few) (whole .named)) (whole .once))
-    ∙ allBelow-same
-    (λ (s : ℕ). not (getD busy s false) || member s (take waiting order))
-    (λ (s : ℕ). not (getD unnamed s false))
-    slotCount
-    (λ s h. turned (getD busy s false) (member s (take waiting order)) ∙ ap not (sym (whole .rest s)))
-  where
-    whole : Naming busy unnamed order waiting
-    whole = subst (Naming busy unnamed order) (le-antisymm a b) so-far
+-- ---- as many slots are open as wait
 
-    turned : (o m : Bool) → not o || m ≡ not (o && not m)
-    turned true true = refl
-    turned true false = refl
-    turned false m = refl
+-- some numbers that pass are named, none twice: those that are not named, and the named, are as many as pass
+counted-apart : (p : ℕ → Bool) (n : ℕ) (xs : List ℕ) → all (λ (s : ℕ). ltb s n && p s) xs ≡ true → distinct xs ≡ true
+    → countBelow n (λ (s : ℕ). p s && not (member s xs)) + length xs ≡ countBelow n p
+unfolding all distinct member
+counted-apart p n [] t d = let same = countBelow-same (λ (s : ℕ). p s && true) p n (λ s h. and-true (p s)) in omega arith
+counted-apart p n (x ∷ xs) t d =
+    let this = and-first (ltb x n && p x) (all (λ (s : ℕ). ltb s n && p s) xs) t in
+    let new = and-first (not (member x xs)) (distinct xs) d in
+    let rest = counted-apart p n xs (and-second (ltb x n && p x) (all (λ (s : ℕ). ltb s n && p s) xs) t) (and-second (not (member x xs)) (distinct xs) d) in
+    let less = countBelow-less (λ (s : ℕ). p s && not (member s xs)) (λ (s : ℕ). p s && not (member s (x ∷ xs))) x
+    (and-both (and-second (ltb x n) (p x) this) new)
+    (and-second-fails (p x) (not-of-true (member-here x xs)))
+    n (ltb-true x n (and-first (ltb x n) (p x) this))
+    (λ i h other. ap (λ (b : Bool). p i && not (b || member i xs)) (ne-eqb i x other)) in
+    omega arith
+
+-- a slot is closed or named: it is not open and unnamed
+turned : (o m : Bool) → not o || m ≡ not (o && not m)
+turned true true = refl
+turned true false = refl
+turned false m = refl
+
+module _ (busy : List Bool) (order : List ℕ) (waiting : ℕ) (room : waiting ≤ length order) where
+  abbrev opened : ℕ → Bool
+  opened s = getD busy s false
+
+  -- the open slots that the order does not name
+  abbrev left : ℕ → Bool
+  left s = opened s && not (member s (take waiting order))
+
+  abbrev eachOpen : Bool
+  eachOpen = all (λ (s : ℕ). ltb s slotCount && opened s) (take waiting order)
+
+  abbrev once : Bool
+  once = distinct (take waiting order)
+
+  abbrev noneLeft : Bool
+  noneLeft = allBelow slotCount (λ (s : ℕ). not (opened s) || member s (take waiting order))
+
+  counted : eachOpen ≡ true → once ≡ true → countBelow slotCount left + waiting ≡ countBelow slotCount opened
+  counted t d =
+      let long = length-take-le waiting order room in
+      let whole = counted-apart opened slotCount (take waiting order) t d in
+      omega arith
+
+  -- another number of slots is open than waits
+  pub naming-other : (waiting ≡ countBelow slotCount opened → ⊥) → namesEach opened waiting order ≡ false
+  unfolding namesEach
+  naming-other other =
+      false-if-not-true (leb waiting slotCount && eachOpen && once && noneLeft)
+      (λ t.
+      let front = and-first (leb waiting slotCount && eachOpen && once) noneLeft t in
+      let named = and-second (leb waiting slotCount) eachOpen (and-first (leb waiting slotCount && eachOpen) once front) in
+      let all-named = allBelow-at (λ (s : ℕ). not (opened s) || member s (take waiting order)) slotCount (and-second (leb waiting slotCount && eachOpen && once) noneLeft t) in
+      let none = countBelow-fails left slotCount (λ s h. not-true (left s) (sym (turned (opened s) (member s (take waiting order))) ∙ all-named s h)) in
+      let sum = counted named (and-second (leb waiting slotCount && eachOpen) once front) in
+      other (omega arith))
+
+  -- all that wait are named, and as many are open: the order is sound
+  pub naming-end : (unnamed : List Bool) (i : ℕ) → Naming busy unnamed order i → i ≤ waiting → waiting ≤ i → waiting ≤ slotCount → waiting ≡ countBelow slotCount opened
+      → namesEach opened waiting order ≡ true
+  unfolding namesEach
+  naming-end unnamed i so-far a b few e =
+      let whole : Naming busy unnamed order waiting = subst (Naming busy unnamed order) (le-antisymm a b) so-far in
+      let sum = counted (whole .named) (whole .once) in
+      and-both (and-both (and-both (le-leb waiting slotCount few) (whole .named)) (whole .once))
+      (allBelow-from (λ (s : ℕ). not (opened s) || member s (take waiting order)) slotCount
+      (λ s h. turned (opened s) (member s (take waiting order))
+      ∙ not-of-false (false-if-not-true (left s) (λ t. let some = counted-some left slotCount s h t in absurd (omega arith)))))
+
+-- ---- the marks themselves
 
 -- one mark more
 pub marks-on : (opened : ℕ → Bool) (busy : List Bool) (i : ℕ) (o : Bool) → i < length busy → ((s : ℕ) → s < i → getD busy s false ≡ opened s) → o ≡ opened i

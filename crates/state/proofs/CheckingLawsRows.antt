@@ -1,17 +1,17 @@
 -- Laws for the rows of the slots: what they tell of a slot's pages, and that with the slots that hold more than one page they
 -- are the rule of a sound slot.
 use Prim.Native.Nat.{ℕ, zero, suc, _≤_, _<_}
-use mathlib.Core.Bool.{Bool, true, false, not, _&&_, _||_, true≢false}
+use mathlib.Core.Bool.{Bool, true, false, not, _&&_, _||_, and-true, and-false, or-false}
 use mathlib.Core.List.{List, [], _∷_, _++_}
 use mathlib.Core.Logic.{⊎-elim}
 use mathlib.Core.Path.{_≡_, refl, sym, ap, ap₂, _∙_}
 use native.Mathlib.Omega.{arith}
-use borrow.Author.Tests.{eqb-true, leb-true, ltb-false, not-true}
+use borrow.Author.Tests.{eq-eqb, eqb-true, le-leb, leb-true, ltb-true, ltb-false, not-true}
 use lib.Dec.{eqb, ltb, leb}
 use lib.ListN.{length, getD, take}
 use Rattle.ground.specs.Limits.{searchHolds, pathHolds, siblingHolds}
 use Rattle.ground.specs.Tests.{all, allBelow, member, distinct}
-use Rattle.ground.proofs.Bools.{and-first, and-second, and-both, or-cases, or-second, or-first-fails, or-second-fails, not-of-false}
+use Rattle.ground.proofs.Bools.{and-first, and-second, and-both, or-cases, or-first, or-second, or-first-fails, or-second-fails, not-of-false, same-if-true-together}
 use Rattle.ground.proofs.Tests.{allBelow-at}
 use Rattle.slots.specs.Parts.{pathOf, siblingsOf}
 use Rattle.slots.specs.Sound.{withinLimits, pagesSound, ifOpen, slotSound}
@@ -19,9 +19,13 @@ use Rattle.lent.specs.Words.{cell, column, taskFrom, slotIn}
 use Rattle.lent.specs.Holds.{Short}
 use Rattle.lent.proofs.HoldLaws.{by-kind}
 use Rattle.lent.proofs.StateLaws.{length-column, column-cell}
-use Rattle.state.specs.Checking.{named, fineRow, rowFine, deepFine}
+use Rattle.state.specs.Checking.{fineRow, rowFine, deepFine}
 
 -- ---- what the rows tell of the pages
+
+-- the wanted page and the top of the path, if there is one, are below n and not the same
+abbrev named : ℕ → ℕ → ℕ → ℕ → Bool
+named depth n want top = ltb want n && (eqb depth 0 || (ltb top n && not (eqb want top)))
 
 abbrev asked : ℕ → ℕ → List ℕ → Bool
 asked n want pages = all (λ (p : ℕ). ltb p n) (want ∷ pages) && distinct (want ∷ pages)
@@ -67,31 +71,66 @@ rows-of-pages n want (suc d) (x ∷ path) rest long e =
 
 -- ---- kind by kind
 
-fits : (l n d p : Bool) → (d ≡ false → n ≡ p) → (p ≡ true → n ≡ true) → (l && n) && (not d || p) ≡ l && p
-fits false n d p f g = refl
-fits true true true p f g = refl
-fits true false true true f g = g refl
-fits true false true false f g = refl
-fits true true false p f g = f refl
-fits true false false p f g = f refl
+-- the numbers of pages held, as the rows test them
+abbrev rowLimits : ℕ → ℕ → ℕ → Bool
+rowLimits kind depth beside = leb kind 3 && leb depth 10 && (ltb 1 kind || leb depth kind) && (eqb beside 0 || (eqb kind 3 && ltb beside depth))
 
-closed : (l d p : Bool) → (l ≡ true → d ≡ false) → (l || false || false || false) && (not d || p) ≡ l && true
-closed false d p f = refl
-closed true true p f = absurd (true≢false (f refl))
-closed true false p f = refl
+-- of two limits the lower counts
+lower : (d m l : ℕ) → m ≤ l → leb d l && leb d m ≡ leb d m
+lower d m l h =
+    same-if-true-together (leb d l && leb d m) (leb d m) (and-second (leb d l) (leb d m))
+    (λ t. let few = leb-true d m t in and-both (le-leb d l (omega arith)) t)
 
-second : (x : Bool) → x || false || false ≡ x
-second true = refl
-second false = refl
+-- nothing is at most 0
+at-most-none : (d : ℕ) → leb d 0 ≡ eqb d 0
+at-most-none d =
+    same-if-true-together (leb d 0) (eqb d 0)
+    (λ t. let few = leb-true d 0 t in eq-eqb d 0 (omega arith))
+    (λ t. let none = eqb-true d 0 t in le-leb d 0 (omega arith))
 
-third : (x : Bool) → x || false ≡ x
-third true = refl
-third false = refl
+-- a test that follows from the others may be left out
+follows : (a f g : Bool) → (a ≡ true → g ≡ true → f ≡ true) → a && true && g ≡ a && f && g
+follows false f g h = refl
+follows true true g h = refl
+follows true false true h = sym (h refl refl)
+follows true false false h = refl
+
+-- fewer siblings than path pages are few enough
+few-beside : (depth beside : ℕ) → leb depth 10 ≡ true → eqb beside 0 || ltb beside depth ≡ true → leb beside 9 ≡ true
+few-beside depth beside a g =
+    let short = leb-true depth 10 a in
+    ⊎-elim
+    (λ z. let none = eqb-true beside 0 z in le-leb beside 9 (omega arith))
+    (λ l. let fewer = ltb-true beside depth l in le-leb beside 9 (omega arith))
+    (or-cases (eqb beside 0) (ltb beside depth) g)
+
+-- they are the rule's
+limits-fit : (key information depth beside kind : ℕ) → kind < 4 → rowLimits kind depth beside ≡ withinLimits (taskFrom kind key information) depth beside
+unfolding searchHolds pathHolds siblingHolds
+limits-fit key information depth beside =
+    by-kind (λ (kind : ℕ). rowLimits kind depth beside ≡ withinLimits (taskFrom kind key information) depth beside)
+    (ap₂ (λ (a b : Bool). a && b) (lower depth 0 10 (omega arith) ∙ at-most-none depth) (or-false (eqb beside 0)))
+    (ap₂ (λ (a b : Bool). a && b) (lower depth 1 10 (omega arith)) (or-false (eqb beside 0)))
+    (ap₂ (λ (a b : Bool). a && b) (and-true (leb depth 10)) (or-false (eqb beside 0)))
+    (follows (leb depth 10) (leb beside 9) (eqb beside 0 || ltb beside depth) (few-beside depth beside))
+
+fits : (l w t d p : Bool) → (d ≡ false → w && t ≡ p) → (p ≡ true → w && t ≡ true) → l && w && t && (not d || p) ≡ l && p
+fits false w t d p f g = refl
+fits true w t false p f g = and-true (w && t) ∙ f refl
+fits true w t true true f g = and-true (w && t) ∙ g refl
+fits true w t true false f g = and-false (w && t)
+
+closed : (l t d p : Bool) → (l ≡ true → t ≡ true) → (l ≡ true → d ≡ false) → l && true && t && (not d || p) ≡ l && true
+closed false t d p f g = refl
+closed true t d p f g = ap₂ (λ (a b : Bool). a && (not b || p)) (f refl) (g refl)
 
 module _ (key information depth beside n want top : ℕ) (pages : Bool)
     (same : ltb 1 depth || ltb 0 beside ≡ false → named depth n want top ≡ pages) (told : pages ≡ true → named depth n want top ≡ true) where
   abbrev deep : Bool
   deep = ltb 1 depth || ltb 0 beside
+
+  abbrev high : Bool
+  high = eqb depth 0 || (ltb top n && not (eqb want top))
 
   abbrev Fits : ℕ → Type 0
   Fits kind = fineRow kind depth beside n want top && (not deep || pages)
@@ -103,16 +142,21 @@ module _ (key information depth beside n want top : ℕ) (pages : Bool)
       (eqb-true depth 0 (and-first (eqb depth 0) (eqb beside 0) e))
       (eqb-true beside 0 (and-second (eqb depth 0) (eqb beside 0) e))
 
+  -- the limits are the rule's; what is left are the pages
+  limited : (kind : ℕ) → kind < 4 → (w : Bool)
+      → withinLimits (taskFrom kind key information) depth beside && w && high && (not deep || pages) ≡ withinLimits (taskFrom kind key information) depth beside && ifOpen (taskFrom kind key information) pages
+      → rowLimits kind depth beside && w && high && (not deep || pages) ≡ withinLimits (taskFrom kind key information) depth beside && ifOpen (taskFrom kind key information) pages
+  limited kind k w e = ap (λ (l : Bool). l && w && high && (not deep || pages)) (limits-fit key information depth beside kind k) ∙ e
+
   kind-fits : (kind : ℕ) → kind < 4 → Fits kind
   unfolding searchHolds pathHolds siblingHolds
   kind-fits =
       by-kind Fits
-      (closed (eqb depth 0 && eqb beside 0) deep pages nothing-deep)
-      (ap (λ (x : Bool). x && (not deep || pages)) (second (leb depth 1 && eqb beside 0 && named depth n want top))
-      ∙ fits (leb depth 1 && eqb beside 0) (named depth n want top) deep pages same told)
-      (ap (λ (x : Bool). x && (not deep || pages)) (third (leb depth 10 && eqb beside 0 && named depth n want top))
-      ∙ fits (leb depth 10 && eqb beside 0) (named depth n want top) deep pages same told)
-      (fits (leb depth 10 && leb beside 9 && (eqb beside 0 || ltb beside depth)) (named depth n want top) deep pages same told)
+      (limited 0 (omega arith) true
+      (closed (eqb depth 0 && eqb beside 0) high deep pages (λ e. or-first (ltb top n && not (eqb want top)) (and-first (eqb depth 0) (eqb beside 0) e)) nothing-deep))
+      (limited 1 (omega arith) (ltb want n) (fits (leb depth 1 && eqb beside 0) (ltb want n) high deep pages same told))
+      (limited 2 (omega arith) (ltb want n) (fits (leb depth 10 && eqb beside 0) (ltb want n) high deep pages same told))
+      (limited 3 (omega arith) (ltb want n) (fits (leb depth 10 && leb beside 9 && (eqb beside 0 || ltb beside depth)) (ltb want n) high deep pages same told))
 
 -- the rows and the pages of a slot that holds more are the rule
 pub slot-fits : (ws : List ℕ) (n s : ℕ) → cell ws 0 s < 4 → rowFine ws n s && deepFine ws n s ≡ slotSound n (slotIn ws s)
@@ -135,70 +179,20 @@ pub record Row (kind depth beside : ℕ) : Type 0 where
 
 pub row-says : (kind depth beside n want top : ℕ) → fineRow kind depth beside n want top ≡ true → Row kind depth beside
 row-says kind depth beside n want top e =
+    let f = eqb beside 0 || (eqb kind 3 && ltb beside depth) in
+    let w = eqb kind 0 || ltb want n in
+    let limits = and-first (rowLimits kind depth beside) w (and-first (rowLimits kind depth beside && w) (eqb depth 0 || (ltb top n && not (eqb want top))) e) in
+    let numbers = and-first (leb kind 3 && leb depth 10 && (ltb 1 kind || leb depth kind)) f limits in
+    let both = and-first (leb kind 3 && leb depth 10) (ltb 1 kind || leb depth kind) numbers in
+    let k = leb-true kind 3 (and-first (leb kind 3) (leb depth 10) both) in
+    let l = leb-true depth 10 (and-second (leb kind 3) (leb depth 10) both) in
+    let few : beside ≤ 10 =
     ⊎-elim
-    (λ x.
-    ⊎-elim
-    (λ y.
-    ⊎-elim
-    (λ z. closed-row z)
-    (λ z. search-row z)
-    (or-cases a b y))
-    (λ y. insert-row y)
-    (or-cases (a || b) c x))
-    (λ x. delete-row x)
-    (or-cases (a || b || c) d e)
-  where
-    m : Bool
-    m = named depth n want top
-
-    a : Bool
-    a = eqb kind 0 && eqb depth 0 && eqb beside 0
-
-    b : Bool
-    b = eqb kind 1 && leb depth 1 && eqb beside 0 && m
-
-    c : Bool
-    c = eqb kind 2 && leb depth 10 && eqb beside 0 && m
-
-    d : Bool
-    d = eqb kind 3 && leb depth 10 && leb beside 9 && (eqb beside 0 || ltb beside depth) && m
-
-    closed-row : a ≡ true → Row kind depth beside
-    closed-row x =
-        let y = and-first (eqb kind 0 && eqb depth 0) (eqb beside 0) x in
-        let k = eqb-true kind 0 (and-first (eqb kind 0) (eqb depth 0) y) in
-        let l = eqb-true depth 0 (and-second (eqb kind 0) (eqb depth 0) y) in
-        let s = eqb-true beside 0 (and-second (eqb kind 0 && eqb depth 0) (eqb beside 0) x) in
-        record { exists = omega arith; path = omega arith; siblings = omega arith }
-
-    search-row : b ≡ true → Row kind depth beside
-    search-row x =
-        let y = and-first (eqb kind 1 && leb depth 1 && eqb beside 0) m x in
-        let z = and-first (eqb kind 1 && leb depth 1) (eqb beside 0) y in
-        let k = eqb-true kind 1 (and-first (eqb kind 1) (leb depth 1) z) in
-        let l = leb-true depth 1 (and-second (eqb kind 1) (leb depth 1) z) in
-        let s = eqb-true beside 0 (and-second (eqb kind 1 && leb depth 1) (eqb beside 0) y) in
-        record { exists = omega arith; path = omega arith; siblings = omega arith }
-
-    insert-row : c ≡ true → Row kind depth beside
-    insert-row x =
-        let y = and-first (eqb kind 2 && leb depth 10 && eqb beside 0) m x in
-        let z = and-first (eqb kind 2 && leb depth 10) (eqb beside 0) y in
-        let k = eqb-true kind 2 (and-first (eqb kind 2) (leb depth 10) z) in
-        let l = leb-true depth 10 (and-second (eqb kind 2) (leb depth 10) z) in
-        let s = eqb-true beside 0 (and-second (eqb kind 2 && leb depth 10) (eqb beside 0) y) in
-        record { exists = omega arith; path = omega arith; siblings = omega arith }
-
-    delete-row : d ≡ true → Row kind depth beside
-    delete-row x =
-        let f = eqb beside 0 || ltb beside depth in
-        let y = and-first (eqb kind 3 && leb depth 10 && leb beside 9 && f) m x in
-        let w = and-first (eqb kind 3 && leb depth 10 && leb beside 9) f y in
-        let z = and-first (eqb kind 3 && leb depth 10) (leb beside 9) w in
-        let k = eqb-true kind 3 (and-first (eqb kind 3) (leb depth 10) z) in
-        let l = leb-true depth 10 (and-second (eqb kind 3) (leb depth 10) z) in
-        let s = leb-true beside 9 (and-second (eqb kind 3 && leb depth 10) (leb beside 9) w) in
-        record { exists = omega arith; path = omega arith; siblings = omega arith }
+    (λ z. let none = eqb-true beside 0 z in omega arith)
+    (λ d. let fewer = ltb-true beside depth (and-second (eqb kind 3) (ltb beside depth) d) in omega arith)
+    (or-cases (eqb beside 0) (eqb kind 3 && ltb beside depth)
+    (and-second (leb kind 3 && leb depth 10 && (ltb 1 kind || leb depth kind)) f limits)) in
+    record { exists = omega arith; path = l; siblings = few }
 
 module _ (ws : List ℕ) (n : ℕ) (e : allBelow 16 (rowFine ws n) ≡ true) where
   pub row-at : (s : ℕ) → s < 16 → Row (cell ws 0 s) (cell ws 4 s) (cell ws 5 s)

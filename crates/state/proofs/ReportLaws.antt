@@ -29,7 +29,7 @@ use Rattle.slots.proofs.GrantLaws.{holder-open}
 use Rattle.slots.proofs.Holders.{nobody-holds, lowest-holds, update-holds}
 
 -- where one passes, the count is not 0
-counted-some : (p : ℕ → Bool) (n i : ℕ) → i < n → p i ≡ true → 0 < countBelow n p
+pub counted-some : (p : ℕ → Bool) (n i : ℕ) → i < n → p i ≡ true → 0 < countBelow n p
 counted-some p zero i h t = absurd (not-suc-le-zero h)
 counted-some p (suc n) i h t =
     ⊎-elim

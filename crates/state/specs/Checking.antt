@@ -29,17 +29,16 @@ namesEach opened waiting order =
 
 -- ---- the same of a state in words
 
--- the wanted page and the top of the path, if there is one, are below n and not the same
-abbrev pub named : ℕ → ℕ → ℕ → ℕ → Bool
-named depth n want top = ltb want n && (eqb depth 0 || (ltb top n && not (eqb want top)))
-
--- what a slot of a kind may hold, and what its rows tell of its pages
+-- what a slot of a kind may hold, and what its rows tell of its pages: the wanted page and the top of the path, if there is
+-- one, are below n and not the same
 abbrev pub fineRow : ℕ → ℕ → ℕ → ℕ → ℕ → ℕ → Bool
 fineRow kind depth beside n want top =
-    (eqb kind 0 && eqb depth 0 && eqb beside 0)
-    || (eqb kind 1 && leb depth 1 && eqb beside 0 && named depth n want top)
-    || (eqb kind 2 && leb depth 10 && eqb beside 0 && named depth n want top)
-    || (eqb kind 3 && leb depth 10 && leb beside 9 && (eqb beside 0 || ltb beside depth) && named depth n want top)
+    leb kind 3
+    && leb depth 10
+    && (ltb 1 kind || leb depth kind)
+    && (eqb beside 0 || (eqb kind 3 && ltb beside depth))
+    && (eqb kind 0 || ltb want n)
+    && (eqb depth 0 || (ltb top n && not (eqb want top)))
 
 abbrev pub rowFine : List ℕ → ℕ → ℕ → Bool
 rowFine ws n s = fineRow (cell ws 0 s) (cell ws 4 s) (cell ws 5 s) n (cell ws 3 s) (cell ws 6 s)

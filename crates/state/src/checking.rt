@@ -5,7 +5,6 @@ use ground::LARGEST_K;
 use ground::LARGEST_N;
 use ground::SLOTS;
 use lent::DELETES;
-use lent::INSERTS;
 use lent::PATH;
 use lent::SEARCHES;
 use lent::SIBLINGS;
@@ -32,20 +31,16 @@ ghost use mathlib.Core.Path.{_≡_};
 ghost use lib.Dec.{leb};
 ghost use lib.ListN.{length, getD, take};
 ghost use Rattle.ground.specs.Limits.{largestK, largestN, slotCount};
-ghost use Rattle.ground.specs.Tests.{all, allBelow};
+ghost use Rattle.ground.specs.Tests.{all, allBelow, countBelow};
 ghost use Rattle.slots.specs.Parts.{held};
 ghost use Rattle.slots.specs.Report.{maskBelow};
 ghost use Rattle.slots.specs.Sound.{pagesSound, sound};
 ghost use Rattle.lent.specs.Words.{cell, column, slotIn, orderIn, stateOf};
 ghost use Rattle.lent.specs.Holds.{Short, othersHold};
-ghost use Rattle.state.specs.Checking.{mayEnter, namesEach, named, fineRow, rowFine, deepFine, openKind, aloneIn, updates, xiAlone};
+ghost use Rattle.state.specs.Checking.{mayEnter, namesEach, fineRow, rowFine, deepFine, openKind, aloneIn, updates, xiAlone};
 
-// The limits of what a slot holds, as the words have them.
-const SEARCH_DEPTH: u32 = 1;
-
+// The longest path, as the words have it.
 const DEPTH_LIMIT: u32 = 10;
-
-const BESIDE_LIMIT: u32 = 9;
 
 // k and N are in range.
 pub fn numbers_in_range(k: usize, n: usize) -> bool
@@ -63,26 +58,17 @@ pub fn numbers_in_range(k: usize, n: usize) -> bool
     n <= LARGEST_N
 }
 
-// The wanted page and the top of the path, if there is one, are pages of the pool, and not the same.
-fn is_named(depth: u32, n: u32, want: u32, top: u32) -> bool
-    ensures { λ r. ⌜ r ≡ named depth n want top ⌝ }
-{
-    (want < n) & ((depth == 0) | ((top < n) & (want != top)))
-}
-
-// A slot with these numbers holds what its kind may hold, as far as the rows tell.
+// A slot with these numbers holds what its kind may hold, as far as the rows tell. A closed slot holds nothing and a search
+// at most one page, so for both the path is no longer than the kind's number. Siblings are fewer than path pages: so at most 9.
 fn is_fine(kind: u32, depth: u32, beside: u32, n: u32, want: u32, top: u32) -> bool
     ensures { λ r. ⌜ r ≡ fineRow kind depth beside n want top ⌝ }
 {
-    let named = is_named(depth, n, want, top);
-    ((kind == 0) & (depth == 0) & (beside == 0))
-        | ((kind == SEARCHES) & (depth <= SEARCH_DEPTH) & (beside == 0) & named)
-        | ((kind == INSERTS) & (depth <= DEPTH_LIMIT) & (beside == 0) & named)
-        | ((kind == DELETES)
-            & (depth <= DEPTH_LIMIT)
-            & (beside <= BESIDE_LIMIT)
-            & ((beside == 0) | (beside < depth))
-            & named)
+    (kind <= DELETES)
+        & (depth <= DEPTH_LIMIT)
+        & ((SEARCHES < kind) | (depth <= kind))
+        & ((beside == 0) | ((kind == DELETES) & (beside < depth)))
+        & ((kind == 0) | (want < n))
+        & ((depth == 0) | ((top < n) & (want != top)))
 }
 
 // Every slot does.
@@ -183,24 +169,31 @@ fn busy_of(cells: &[u32; STATE]) -> [bool; SLOTS]
     busy
 }
 
-// No slot is marked.
-fn none_of(marks: [bool; SLOTS]) -> bool
-    ensures { λ r. ⌜ r ≡ allBelow slotCount (λ (s : ℕ). not (getD marks s false)) ⌝ }
+// How many slots are marked.
+fn marked(marks: [bool; SLOTS]) -> usize
+    ensures { λ r. ⌜ r ≡ countBelow slotCount (λ (s : ℕ). getD marks s false) ⌝ }
 {
-    for s in 0..SLOTS {
+    let mut count = 0;
+    let mut s = 0;
+    while s < SLOTS {
         if marks[s] {
-            return false;
+            count += 1;
         }
+        s += 1;
     }
-    true
+    count
 }
 
-// The waiting order names each open slot once and no other.
+// The waiting order names each open slot once and no other. As many slots must be open as wait: then an order that names
+// open slots, none twice, leaves none out, and the marks are not read again.
 fn order_sound(cells: &[u32; STATE], waiting: usize, busy: [bool; SLOTS]) -> bool
     ensures { λ r. ⌜ r ≡ namesEach (λ (s : ℕ). getD busy s false) waiting (orderIn (now (cells .entry))) ⌝ }
 {
     sized(cells);
     if SLOTS < waiting {
+        return false;
+    }
+    if waiting != marked(busy) {
         return false;
     }
     let mut unnamed = busy;
@@ -216,7 +209,7 @@ fn order_sound(cells: &[u32; STATE], waiting: usize, busy: [bool; SLOTS]) -> boo
         unnamed[s] = false;
         i += 1;
     }
-    none_of(unnamed)
+    true
 }
 
 // No other slot holds one of the first `count` pages from `row` on, of slot s.
