@@ -33,7 +33,7 @@ use Rattle.course.specs.declared.judging.Course.{Course}
 use Rattle.course.specs.declared.judging.Course.the-variants.{Broken, Goes}
 use Rattle.footing.specs.Granted.{Verdict, broken, goes, ends, isSafe, kept, deletes, byNeed, atLeaf, fromLeaf, comesDown, besides, atItsLeaf, granted}
 use Rattle.footing.specs.Fitting.{descends, rightlyKept, rightlyBeside, sameLevels, isSibling, isNone, fitting}
-use Rattle.footing.specs.Standing.{Stands, standPath, standSiblings}
+use Rattle.footing.specs.Standing.{SlotStanding, standPath, standSiblings}
 use Rattle.course.specs.Judged.{judgedAt, judged, ifNew, courseOf, ready, nextCourse, searchCourse, insertCourse, needCourse, deleteCourse, standsLast}
 
 -- ---- the rule of a granted step
@@ -110,7 +110,7 @@ granted-judged op k memory free path siblings want h =
 
 -- ---- what is known where an operation stands
 
-module _ {op : Op} {k n : ℕ} {ws : List ℕ} {stand : Slot} (h : Stands op k n ws stand) where
+module _ {op : Op} {k n : ℕ} {ws : List ℕ} {stand : Slot} (h : SlotStanding op k n ws stand) where
   path-length : stand .depth ≡ length (pathOf stand)
   path-length = ap (λ (s : Slot). s .depth) (h .exact)
 

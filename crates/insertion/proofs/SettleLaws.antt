@@ -14,7 +14,7 @@ use Rattle.ground.proofs.Choice.{cond-true, cond-false}
 use Rattle.page.specs.Words.{Page, entry, μ}
 use Rattle.page.specs.Place.{place}
 use Rattle.page.specs.Splits.{put, split, raised}
-use Rattle.sheet.specs.Sheets.{Holds, sheetPage}
+use Rattle.sheet.specs.Sheets.{OnSheet, sheetPage}
 use Rattle.page.proofs.PutLaws.{put-μ, put-level}
 use Rattle.pool.specs.Pool.{Write, write, written, applied}
 use Rattle.pool.specs.Wrapped.{InPool}
@@ -129,11 +129,11 @@ put-grown : (x at key value : ℕ) (F : Page) → at ≡ place x (F .entries) �
 put-grown x at key value F there = ap (λ (i : ℕ). put i (entry key value) F) there
 
 -- a buffer with one pair more than a full page
-pub over-count : (k at key value : ℕ) (F : Page) {s : Sheet} → Holds (put at (entry key value) F) s → μ F ≡ 2 * k → s .count ≡ 2 * k + 1
+pub over-count : (k at key value : ℕ) (F : Page) {s : Sheet} → OnSheet (put at (entry key value) F) s → μ F ≡ 2 * k → s .count ≡ 2 * k + 1
 over-count k at key value F holds full = omega (arith, holds .counted, put-μ at (entry key value) F)
 
 -- has the page's level
-pub over-level : (at key value : ℕ) (F : Page) {s : Sheet} → Holds (put at (entry key value) F) s → s .level ≡ F .level
+pub over-level : (at key value : ℕ) (F : Page) {s : Sheet} → OnSheet (put at (entry key value) F) s → s .level ≡ F .level
 over-level at key value F holds = ap (λ (P : Page). P .level) (holds .value) ∙ put-level at (entry key value) F
 
 module _ (k x key value p a : ℕ) (F : Page) (at m : ℕ) (ws : List ℕ) (there : at ≡ place x (F .entries)) (counted : m ≡ μ F) where
@@ -144,7 +144,7 @@ module _ (k x key value p a : ℕ) (F : Page) (at m : ℕ) (ws : List ℕ) (ther
       (omega (arith, grown-μ x key value F), e ∙ ap (λ (P : Page). written k (write p P) ws) (put-grown x at key value F there))
 
   -- it was split
-  pub settle-up : {s : Sheet} {up : ℕ} {after : List ℕ} → 2 * k ≤ m → Holds (put at (entry key value) F) s
+  pub settle-up : {s : Sheet} {up : ℕ} {after : List ℕ} → 2 * k ≤ m → OnSheet (put at (entry key value) F) s
       → up ≡ split k (sheetPage s) .between
       → after ≡ applied k (write a (split k (sheetPage s) .right) ∷ write p (split k (sheetPage s) .left) ∷ []) ws
       → settledAs k p (grown x key value F) a ws after (Up up)
@@ -166,7 +166,7 @@ module _ (k x key value p a : ℕ) (F : Page) (at m : ℕ) (ws : List ℕ) (ther
       (e ∙ ap (λ (P : Page). written k (write p P) ws) (put-grown x at key value F there))
 
   -- the top was split
-  pub top-raised : (b : ℕ) (memory : ℕ → Page) {s : Sheet} {after : List ℕ} → 2 * k ≤ m → Holds (put at (entry key value) F) s
+  pub top-raised : (b : ℕ) (memory : ℕ → Page) {s : Sheet} {after : List ℕ} → 2 * k ≤ m → OnSheet (put at (entry key value) F) s
       → after
       ≡ applied k
       (write a (split k (sheetPage s) .left) ∷ write b (split k (sheetPage s) .right)

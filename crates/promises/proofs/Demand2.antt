@@ -50,7 +50,7 @@ use Rattle.runs.specs.Run.{Call, begin, step, report, called, runFrom}
 use Rattle.runs.specs.Stance.{Safe, Takes}
 use Rattle.runs.specs.Waits.{Barred}
 use Rattle.runs.specs.Step.{Ended}
-use Rattle.runs.specs.Done.{counted, isOneOf}
+use Rattle.runs.specs.Done.{countedAnswers, isOneOf}
 use Rattle.runs.proofs.Invariant.{Invariant}
 use Rattle.runs.proofs.Calls.{StepOf, noSlot, idle, waits, onward, over, step-of}
 use Rattle.runs.proofs.Runs.{call-keeps, call-numbers, BeginOf, noSuch, busy, begins-so, begin-of, ReportOf, noPage, tells, report-of, holds-after, numbers-after}
@@ -188,7 +188,7 @@ module _ (st : State) (ws : List ℕ) (inv : Invariant st ws) where
   unfolding member
   ends-so op s a writes e =
       ⊎-elim
-      (λ p. or-second (eqb (numberOf a) (numberOf NoRoom)) (ap (λ (x : Answer). isOneOf x counted) (p .answer) ∙ plain-counted op (entriesOf (inv .height) (inv .tree))))
+      (λ p. or-second (eqb (numberOf a) (numberOf NoRoom)) (ap (λ (x : Answer). isOneOf x countedAnswers) (p .answer) ∙ plain-counted op (entriesOf (inv .height) (inv .tree))))
       (λ r. ap (λ (x : Answer). isOneOf x ending) (r .0 .answer))
       (e .how)
 

@@ -14,18 +14,18 @@ use Rattle.slots.proofs.Unique.{heard-once}
 use Rattle.lines.specs.declared.Command.{Command}
 use Rattle.lines.specs.declared.Command.the-variants.{Begin, Step, Bad}
 use Rattle.lines.specs.Text.{laid}
-use Rattle.lines.specs.Names.{written, badLine}
+use Rattle.lines.specs.Names.{answerLine, badLine}
 use Rattle.index.specs.Step.{stepped}
 use Rattle.index.specs.Statements.{StepSays}
-use Rattle.talk.specs.Talk.{reply, commanded}
+use Rattle.talk.specs.Talk.{afterLine, commanded}
 use Rattle.talk.specs.Leaves.{LineLeaves}
 
 -- the line of an answer is written over `out` at a position
 abbrev Stands : List ℕ → ℕ → List ℕ → ℕ → Answer → Type 0
-Stands out at after end a = (after ≡ laid out at (written a)) × (end ≡ at + length (written a)) × (length (written a) ≤ 32)
+Stands out at after end a = (after ≡ laid out at (answerLine a)) × (end ≡ at + length (answerLine a)) × (length (answerLine a) ≤ 32)
 
 module _ (out : List ℕ) (at : ℕ) {after : List ℕ} {end : ℕ} where
-  leaves : (a : Answer) (st : State) (ws : List ℕ) → Stands out at after end a → LineLeaves (reply (written a) st ws) out at st end ws after
+  leaves : (a : Answer) (st : State) (ws : List ℕ) → Stands out at after end a → LineLeaves (afterLine (answerLine a) st ws) out at st end ws after
   leaves a st ws w = record { state = refl; words = refl; bytes = w .0; behind = w .1; short = w .2 }
 
   pub begin-leaves : (cells ws : List ℕ) (s : ℕ) (op : Op) {cells′ : List ℕ} {command : Command} {r : Answer} → command ≡ Begin s op

@@ -17,7 +17,7 @@ use Rattle.page.specs.Fits.{Fits}
 use Rattle.pool.specs.Pool.{Write}
 use Rattle.tree.specs.Rows.{headKey, Somewhere, Each, total, followed}
 use Rattle.tree.specs.Tree.{Tr, pageNumber, pageOf, once, occurs, Holds, HoldsBelow, Stands, way}
-use Rattle.tree.specs.Change.{rewritten, memoryAfter, writtenPages, Fitting}
+use Rattle.tree.specs.Change.{memoryWith, memoryAfter, writtenPages, Fitting}
 use Rattle.tree.proofs.Rows.{total-append}
 use Rattle.tree.proofs.Pages.{noLeaf}
 
@@ -117,7 +117,7 @@ times-distinct (p ∷ ps) h =
 -- after two lists of writes, one behind the other
 pub memoryAfter-append : (memory : ℕ → Page) (W U : List Write) → memoryAfter memory (W ++ U) ≡ memoryAfter (memoryAfter memory W) U
 memoryAfter-append memory [] U = refl
-memoryAfter-append memory (w ∷ W) U = memoryAfter-append (rewritten memory w) W U
+memoryAfter-append memory (w ∷ W) U = memoryAfter-append (memoryWith memory w) W U
 
 -- the pages of two lists of writes
 pub written-append : (W U : List Write) → writtenPages (W ++ U) ≡ writtenPages W ++ writtenPages U
@@ -131,7 +131,7 @@ times-written q W U = ap (times q) (written-append W U) ∙ times-append q (writ
 pub unwritten : (memory : ℕ → Page) (W : List Write) (q : ℕ) → times q (writtenPages W) ≡ 0 → memoryAfter memory W q ≡ memory q
 unwritten memory [] q h = refl
 unwritten memory (w ∷ W) q h =
-    unwritten (rewritten memory w) W q (omega arith)
+    unwritten (memoryWith memory w) W q (omega arith)
     ∙ cond-false (w .value) (memory q) (ne-eqb q (w .at) (once-not q (w .at) (omega arith)))
 
 -- the memory has what each write says
@@ -159,9 +159,9 @@ pub written-stores : (memory : ℕ → Page) (W : List Write) → ((q : ℕ) →
 written-stores memory [] h = tt
 written-stores memory (w ∷ W) h =
     let one = once-same (w .at) (w .at) refl in (
-      unwritten (rewritten memory w) W (w .at) (omega (arith, h (w .at)))
+      unwritten (memoryWith memory w) W (w .at) (omega (arith, h (w .at)))
           ∙ cond-true (w .value) (memory (w .at)) (eq-eqb (w .at) (w .at) refl),
-      written-stores (rewritten memory w) W (λ q. omega (arith, h q)),
+      written-stores (memoryWith memory w) W (λ q. omega (arith, h q)),
     )
 
 -- room for the values of two lists of writes
