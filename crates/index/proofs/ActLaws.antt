@@ -43,20 +43,13 @@ use Rattle.course.specs.declared.judging.Course.the-variants.{Broken, Goes, End
 use Rattle.footing.specs.Granted.{Verdict, ends, fromLeaf}
 use Rattle.footing.specs.Standing.{SlotStanding}
 use Rattle.course.specs.Judged.{courseOf, ready, standsLast}
-use Rattle.course.proofs.JudgeLaws.{standing-needing, standing-holding, stand-upward}
+use Rattle.course.proofs.JudgeLaws.{path-long, siblings-long, standing-needing, standing-holding, stand-upward}
 use Rattle.index.specs.Acting.{Leaves, Acts, wanting, standLeaf, standFathers, lacksRoom, roomAnswer, afterInsertion, afterDeletion}
 
 -- ---- an operation that stands somewhere
 
 module _ {op : Op} {k n : ℕ} {ws : List ℕ} {stand : Slot} (h : SlotStanding op k n ws stand) where
-  -- the lists are as long as the slot says
-  path-long : length (pathOf stand) ≡ stand .depth
-  path-long = sym (ap (λ (s : Slot). s .depth) (h .exact))
-
-  siblings-long : length (siblingsOf stand) ≡ stand .beside
-  siblings-long = sym (ap (λ (s : Slot). s .beside) (h .exact))
-
-  -- and what stands in them stands in the arrays
+  -- what stands in the lists stands in the arrays
   path-cell : (i : ℕ) → i < stand .depth → getD (pathOf stand) i 0 ≡ getD (stand .path) i 0
   unfolding pathOf
   path-cell i l = getD-take (stand .depth) (stand .path) i 0 l
@@ -70,8 +63,8 @@ module _ {op : Op} {k n : ℕ} {ws : List ℕ} {stand : Slot} (h : SlotStanding 
       → Deleting k n ws x (stand .path) (stand .depth) (stand .siblings) (stand .beside)
   stand-deleting x there =
       let s = h .standing in
-      let longPath = path-long in
-      let longSiblings = siblings-long in
+      let longPath = path-long h in
+      let longSiblings = siblings-long h in
       record {
         held = standing-needing h;
         stands = subst (standsLast (pageAt k ws) x) (stand-upward h) there;

@@ -1,6 +1,6 @@
 -- What the calls of a script hear, and that none of the lines written is BadState, BadPool or Damaged.
 use Prim.Native.Nat.{ℕ}
-use mathlib.Core.Bool.{Bool, true, false, false≢true}
+use mathlib.Core.Bool.{Bool, true, false≢true}
 use mathlib.Core.List.{List, [], _∷_, _++_, map, flatten}
 use mathlib.Core.Path.{_≡_, refl, ap, _∙_}
 use Rattle.ground.specs.Tests.{all, member}

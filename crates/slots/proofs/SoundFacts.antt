@@ -13,7 +13,7 @@ use Rattle.slots.specs.declared.Task.{Task}
 use Rattle.slots.specs.declared.Task.the-variants.{Closed, Open}
 use Rattle.slots.specs.declared.Slot.{Slot}
 use Rattle.slots.specs.declared.State.{State}
-use Rattle.slots.specs.Parts.{isOpen, held, slotAt, openAt, waitingOrder}
+use Rattle.slots.specs.Parts.{isOpen, held, slotAt, openAt, waitingOrder, idleState}
 use Rattle.slots.specs.Locks.{lockAt, isXi}
 use Rattle.slots.specs.Sound.{numbersInRange, orderSound, withinLimits, belowAndOnce, ifOpen, slotSound, noClashingHolds, sound}
 
@@ -191,3 +191,8 @@ facts-sound st f =
     (allBelow-from (λ (t : ℕ). slotSound (st .n) (slotAt st t)) slotCount (λ s b. slot-sound (st .n) (slotAt st s) (f .slot s b))))
     (allBelow-from (λ (u : ℕ). allBelow slotCount (apartTest st u)) slotCount
     (λ s b. allBelow-from (apartTest st s) slotCount (λ t c. apart-from-facts st s t (λ n x. f .alone s t b c n x))))
+
+-- the empty state, k and N 0, "which is itself BadState"
+pub empty-unsound : sound (idleState 0 0) ≡ false
+unfolding sound
+empty-unsound = refl

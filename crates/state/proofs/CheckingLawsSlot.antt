@@ -16,7 +16,7 @@ use Rattle.slots.specs.declared.Op.the-variants.{Search, Insert, Delete}
 use Rattle.slots.specs.declared.Task.{Task}
 use Rattle.slots.specs.declared.Task.the-variants.{Closed, Open}
 use Rattle.slots.specs.declared.Slot.{Slot}
-use Rattle.slots.specs.Parts.{held, pathOf, siblingsOf}
+use Rattle.slots.specs.Parts.{pathOf, siblingsOf}
 use Rattle.slots.specs.Sound.{withinLimits, belowAndOnce}
 use Rattle.state.specs.Checking.{enters, mayEnter}
 

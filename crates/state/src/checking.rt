@@ -32,7 +32,6 @@ ghost use lib.Dec.{leb};
 ghost use lib.ListN.{length, getD, take};
 ghost use Rattle.ground.specs.Limits.{largestK, largestN, slotCount};
 ghost use Rattle.ground.specs.Tests.{all, allBelow};
-ghost use Rattle.slots.specs.Parts.{held};
 ghost use Rattle.slots.specs.Sound.{belowAndOnce, sound};
 ghost use Rattle.lent.specs.Words.{cell, column, slotIn, orderIn, stateOf};
 ghost use Rattle.lent.specs.Holds.{Short, othersHold};
