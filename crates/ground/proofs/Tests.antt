@@ -613,10 +613,6 @@ module _ (p : ℕ → Bool) where
   pub firstBelow-below : (n i : ℕ) → i < n → p i ≡ true → firstBelow n p < n
   firstBelow-below n i h t = let least = firstBelow-least n i t in omega arith
 
-  -- the first is below n, so some number below n passes
-  pub firstBelow-any : (n : ℕ) → firstBelow n p < n → anyBelow n p ≡ true
-  firstBelow-any n h = anyBelow-from n (firstBelow n p) h (firstBelow-passes n h)
-
   -- a number below n that passes, with none below it that does, is the first
   pub firstBelow-found : (n a : ℕ) → a < n → p a ≡ true → ((i : ℕ) → i < a → p i ≡ false) → firstBelow n p ≡ a
   firstBelow-found n a h t f =
@@ -687,15 +683,6 @@ module _ (p q : ℕ → Bool) where
   listBelow-same zero f = refl
   listBelow-same (suc n) f =
       ap₂ (λ (xs : List ℕ) (b : Bool). xs ++ cond b (n ∷ []) []) (listBelow-same n (λ i h. f i (omega arith))) (f n (omega arith))
-
-  -- the same number is the first to pass the one and the other
-  pub firstBelow-same : (n : ℕ) → ((i : ℕ) → i < n → p i ≡ q i) → firstBelow n p ≡ firstBelow n q
-  unfolding firstBelow
-  firstBelow-same zero f = refl
-  firstBelow-same (suc n) f =
-      ap₂ (λ (a : ℕ) (b : Bool). cond (ltb a n) a (cond b n (suc n)))
-      (firstBelow-same n (λ i h. f i (omega arith)))
-      (f n (omega arith))
 
 -- no number below n passes, so the list is empty
 pub listBelow-fails : (p : ℕ → Bool) (n : ℕ) → ((i : ℕ) → i < n → p i ≡ false) → listBelow n p ≡ []

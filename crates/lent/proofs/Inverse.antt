@@ -7,7 +7,7 @@ use mathlib.Core.List.{List, _∷_, _++_}
 use mathlib.Core.Logic.{_≢_, _⊎_, inl, inr, ⊎-elim}
 use native.Mathlib.Omega.{arith}
 use lib.Dec.{ltb}
-use lib.ListN.{length, getD, take, drop, set, replicate, length-append, length-drop, getD-replicate, take-append-drop, List·getD-append}
+use lib.ListN.{length, getD, take, drop, set, replicate, length-drop, getD-replicate, take-append-drop, List·getD-append}
 use lib.Seq.{ext-getD, getD-append-add, getD-drop, take-at}
 use borrow.Author.Tests.{lt-ltb, ltb-true, ltb-false}
 use Rattle.ground.specs.Limits.{slotCount, pathHolds}
@@ -46,9 +46,6 @@ module _ (st : State) (sized : Sized st) where
   head-long : length head ≡ 19
   unfolding head
   head-long = omega (arith, sized .order)
-
-  pub words-long : length (stateWords st) ≡ 435
-  words-long = ap length words-split ∙ length-append head (listOf 416 row-of) ∙ omega (arith, head-long, length-listOf 416 row-of)
 
   words-cell : (s : ℕ) → s < 16 → (r : ℕ) → r < 26 → cell (stateWords st) r s ≡ getD (rowsOf (slotAt st s)) r 0
   unfolding row-of

@@ -1,7 +1,7 @@
 -- A granted step of a slot that stands as it should: its pages are sound for the step, and it goes on and stands as it should
 -- again, or its operation ends. It is never broken.
 use Prim.Native.Nat.{ℕ, suc, _+_, _≤_, _<_}
-use mathlib.Core.Bool.{true, not, _&&_, _||_, or-false, true≢false, false≢true}
+use mathlib.Core.Bool.{true, not, _&&_, or-false, true≢false, false≢true}
 use mathlib.Core.List.{List, [], _∷_, _++_, reverse, append-nil}
 use mathlib.Core.Logic.{inl, inr, ⊎-elim}
 use mathlib.Core.Path.{_≡_, refl, sym, ap, _∙_, subst}

@@ -17,11 +17,6 @@ unfolding flat
 flat-append [] b = refl
 flat-append (e ∷ a) b = ap (λ (r : List ℕ). e .key ∷ e .value ∷ r) (flat-append a b)
 
--- the words of a pair more
-pub flat-cons : (e : Entry) (es : List Entry) → flat (e ∷ es) ≡ e .key ∷ e .value ∷ flat es
-unfolding flat
-flat-cons e es = refl
-
 -- the words before the pairs end where the pairs begin
 pub length-front : (l m f : ℕ) → length (beforePairs l m f) ≡ pairsFrom l
 length-front l m f = by-leaf (eqb l 1)
