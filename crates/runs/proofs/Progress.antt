@@ -157,7 +157,7 @@ opened Closed e = not-both e refl
 opened (Open op) e = (op, refl)
 
 -- An open slot whose want ranks before a rank.
-record Before (st : State) (l : ℕ) (t : Tr l) (bound : ℕ) : Type 0 where
+record RankedBelow (st : State) (l : ℕ) (t : Tr l) (bound : ℕ) : Type 0 where
   slot : ℕ
   below : slot < slotCount
   runs : openAt st slot ≡ true
@@ -170,12 +170,12 @@ CanGo st = (u : ℕ) × (u < slotCount) × (openAt st u ≡ true) × (grants st 
 
 module _ (st : State) (ws : List ℕ) (inv : Invariant st ws) where
   -- an open slot's operation, and where it stands
-  record Standing (s : ℕ) : Type 0 where
+  record OpenStance (s : ℕ) : Type 0 where
     op : Op
     key : keyOf op < wordRange
     stance : Stance op (st .k) (pageAt (st .k) ws) (inv .height) (inv .tree) (pathOf (slotAt st s)) (siblingsOf (slotAt st s)) (wantAt st s)
 
-  standing : (s : ℕ) → s < slotCount → openAt st s ≡ true → Standing s
+  standing : (s : ℕ) → s < slotCount → openAt st s ≡ true → OpenStance s
   standing s b o =
       let (op, runs) = opened (slotAt st s .task) o in
       record { op = op; key = inv .keys s op b runs; stance = inv .stands s op b runs }
@@ -211,7 +211,7 @@ module _ (st : State) (ws : List ℕ) (inv : Invariant st ws) where
 
   -- Whoever is barred is barred by a slot whose own want ranks before.
   better : (s : ℕ) → s < slotCount → openAt st s ≡ true → (w : Placed (inv .height) (inv .tree) 0 wordRange (wantAt st s)) → Holder st s ⊎ Older st s
-      → Before st (inv .height) (inv .tree) (rank st (inv .height) s (w .level) (w .from))
+      → RankedBelow st (inv .height) (inv .tree) (rank st (inv .height) s (w .level) (w .from))
   better s b o w (inl h) =
       let v : ℕ = h .slot in
       let it = standing v (h .below) (holder-opens s h) in
@@ -241,7 +241,7 @@ module _ (st : State) (ws : List ℕ) (inv : Invariant st ws) where
       }
 
   -- so, from one slot to a better one, some slot is granted: ranks end at 0
-  best : (bound : ℕ) → Before st (inv .height) (inv .tree) bound → CanGo st
+  best : (bound : ℕ) → RankedBelow st (inv .height) (inv .tree) bound → CanGo st
   best zero c = absurd (omega (arith, c .less))
   best (suc bound) c =
       ⊎-elim
