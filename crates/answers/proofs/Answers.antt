@@ -8,22 +8,22 @@ use Rattle.slots.specs.declared.Answer.{Answer}
 use Rattle.slots.specs.declared.Answer.the-variants.{Found, Deleted}
 use Rattle.lines.specs.Text.{laid}
 use Rattle.lines.specs.Decimal.{decimal}
-use Rattle.lines.specs.Names.{written}
+use Rattle.lines.specs.Names.{answerLine}
 use Rattle.lines.proofs.Decimals.{word-short}
 
 pub answered : (x : Answer) {a : Answer} (out : List ℕ) (at : ℕ) {out′ : List ℕ} {r : ℕ} → a ≡ x
-    → (out′ ≡ laid out at (written x)) × (r ≡ at + length (written x))
-    → length (written x) ≤ 32
-    → (out′ ≡ laid out at (written a)) × (r ≡ at + length (written a)) × (length (written a) ≤ 32)
+    → (out′ ≡ laid out at (answerLine x)) × (r ≡ at + length (answerLine x))
+    → length (answerLine x) ≤ 32
+    → (out′ ≡ laid out at (answerLine a)) × (r ≡ at + length (answerLine a)) × (length (answerLine a) ≤ 32)
 answered x out at {out′} {r} e w h =
-    subst⁻¹ (λ (y : Answer). (out′ ≡ laid out at (written y)) × (r ≡ at + length (written y)) × (length (written y) ≤ 32)) e
+    subst⁻¹ (λ (y : Answer). (out′ ≡ laid out at (answerLine y)) × (r ≡ at + length (answerLine y)) × (length (answerLine y) ≤ 32)) e
     (w .0, w .1, h)
 
 -- with information, a 32-bit number
-pub found-short : (v : ℕ) → v < 2 ^ 32 → length (written (Found v)) ≤ 32
+pub found-short : (v : ℕ) → v < 2 ^ 32 → length (answerLine (Found v)) ≤ 32
 found-short v h = omega (arith, word-short v h, length-append (decimal v) (10 ∷ []))
 
-pub deleted-short : (v : ℕ) → v < 2 ^ 32 → length (written (Deleted v)) ≤ 32
+pub deleted-short : (v : ℕ) → v < 2 ^ 32 → length (answerLine (Deleted v)) ≤ 32
 deleted-short v h = omega (arith, word-short v h, length-append (decimal v) (10 ∷ []))
 
 -- where there is room for 32 bytes, there is room for fewer

@@ -6,7 +6,7 @@ ghost use Prim.Native.Nat.{_+_, _≤_};
 ghost use lib.ListN.{length};
 ghost use Rattle.lines.specs.Text.{bytes, laid};
 ghost use Rattle.lines.specs.Decimal.{decimal};
-ghost use Rattle.lines.specs.Names.{written, badLine, tooLong};
+ghost use Rattle.lines.specs.Names.{answerLine, badLine, tooLong};
 
 // Writes a word at a position, and gives back the position behind it.
 fn write_word(out: &mut [u8], at: usize, word: &[u8]) -> usize
@@ -64,7 +64,7 @@ fn write_value(out: &mut [u8], at: usize, word: &[u8], n: u32) -> usize
 // Writes the line of an answer, and gives back the position behind it.
 pub fn write_answer(out: &mut [u8], at: usize, a: Answer) -> usize
     requires { ⌜ at + 32 ≤ length (now out) ⌝ }
-    ensures { λ r. ⌜ (now (out .exit) ≡ laid (now (out .entry)) at (written a)) × (r ≡ at + length (written a)) × (length (written a) ≤ 32) ⌝ }
+    ensures { λ r. ⌜ (now (out .exit) ≡ laid (now (out .entry)) at (answerLine a)) × (r ≡ at + length (answerLine a)) × (length (answerLine a) ≤ 32) ⌝ }
 {
     match a {
         Answer::Waiting => write_word(out, at, b"Waiting\n"),

@@ -5,13 +5,13 @@ use mathlib.Core.List.{List, [], _∷_}
 use mathlib.Core.Logic.{_≢_}
 use mathlib.Core.Path.{_≡_, sym, ap, ap₂, _∙_, subst}
 use native.Mathlib.Nat.{not-suc-le-zero}
-use native.Mathlib.Numerals.{add-one}
 use native.Mathlib.Omega.{arith}
 use borrow.Author.Tests.{lt-ltb, le-ltb, eq-eqb, ne-eqb}
 use lib.Dec.{eqb, ltb}
-use lib.ListN.{length, getD, take, drop, length-drop, drop-of-length-le}
-use lib.Seq.{length-take-le, getD-take, drop-cons}
+use lib.ListN.{length, getD, take, drop, length-drop}
+use lib.Seq.{length-take-le}
 use Rattle.ground.proofs.Choice.{cond-true, cond-false}
+use Rattle.ground.proofs.Padded.{next-cell, no-cell}
 use Rattle.page.specs.Words.{Page, μ, isLeaf}
 use Rattle.page.specs.Short.{neighbour}
 use Rattle.change.specs.Deletion.{Need, nothing, sibling, astray, satisfied, needs}
@@ -28,17 +28,17 @@ satisfied-by left (s ∷ rest) e = ap needOf (cond-false Nothing Astray (ne-eqb 
 
 module _ (k : ℕ) (memory : ℕ → Page) (x p : ℕ) where
   -- the page can lose one
-  abbrev pub canSpare : Bool
-  canSpare = eqb p 0 || ltb k (μ (memory p))
+  abbrev pub canLose : Bool
+  canLose = eqb p 0 || ltb k (μ (memory p))
 
   -- it can lose one: nothing more is needed
-  pub needs-spared : (fathers siblings : List ℕ) → canSpare ≡ true → needs k memory x p fathers siblings ≡ satisfied siblings
+  pub needs-spared : (fathers siblings : List ℕ) → canLose ≡ true → needs k memory x p fathers siblings ≡ satisfied siblings
   unfolding needs
   needs-spared [] siblings t = cond-true (satisfied siblings) astray t
   needs-spared (f ∷ up) [] t = cond-true nothing (sibling (neighbour x (memory f))) t
   needs-spared (f ∷ up) (s ∷ siblings) t = cond-true astray _ t
 
-  module _ (short : canSpare ≡ false) where
+  module _ (short : canLose ≡ false) where
     -- it cannot, and its father is not held
     pub needs-top : (siblings : List ℕ) → needs k memory x p [] siblings ≡ astray
     unfolding needs
@@ -117,27 +117,15 @@ module _ {k n : ℕ} {ws path : List ℕ} {depth : ℕ} {siblings : List ℕ} {b
   left-over j l =
       omega (arith, length-drop j (take beside siblings), length-take-le beside siblings long-beside)
 
-  -- the next one and the others
-  next-sibling : (j : ℕ) → j < beside → drop j (take beside siblings) ≡ getD siblings j 0 ∷ drop (j + 1) (take beside siblings)
-  next-sibling j l =
-      let long = length-take-le beside siblings long-beside in
-      drop-cons (take beside siblings) j 0 (omega arith)
-      ∙ ap₂ (λ (s m : ℕ). s ∷ drop m (take beside siblings)) (getD-take beside siblings j 0 l) (sym (add-one j))
-
-  no-sibling : (j : ℕ) → j ≡ beside → drop j (take beside siblings) ≡ []
-  no-sibling j e =
-      let none : length (take beside siblings) ≤ j = omega (arith, length-take-le beside siblings long-beside) in
-      drop-of-length-le (take beside siblings) none
-
   module _ (i j : ℕ) (same : whole ≡ from i j) where
     -- the page can lose one
-    pub stop-spared : {r : Answer} → j ≤ beside → canSpare k (pageAt k ws) x (getD path i 0) ≡ true → r ≡ satisfiedBy (beside - j) → needOf r ≡ whole
+    pub stop-spared : {r : Answer} → j ≤ beside → canLose k (pageAt k ws) x (getD path i 0) ≡ true → r ≡ satisfiedBy (beside - j) → needOf r ≡ whole
     stop-spared l t e =
         ap needOf e
         ∙ satisfied-by (beside - j) (drop j (take beside siblings)) (left-over j l)
         ∙ sym (same ∙ needs-spared k (pageAt k ws) x (getD path i 0) (upward i path) (drop j (take beside siblings)) t)
 
-    module _ (short : canSpare k (pageAt k ws) x (getD path i 0) ≡ false) where
+    module _ (short : canLose k (pageAt k ws) x (getD path i 0) ≡ false) where
       -- the top of the path cannot, and its father is not held
       pub stop-top : i ≡ 0 → astray ≡ whole
       stop-top z =
@@ -156,14 +144,14 @@ module _ {k n : ℕ} {ws path : List ℕ} {depth : ℕ} {siblings : List ℕ} {b
         pub stop-sibling : j ≡ beside → sibling w ≡ whole
         stop-sibling e =
             ap sibling wanted
-            ∙ sym (by-father [] (no-sibling j e) ∙ needs-sibling k (pageAt k ws) x (getD path i 0) short (getD path (i - 1) 0) (upward (i - 1) path))
+            ∙ sym (by-father [] (no-cell siblings beside j long-beside (omega arith)) ∙ needs-sibling k (pageAt k ws) x (getD path i 0) short (getD path (i - 1) 0) (upward (i - 1) path))
 
         module _ (more : j < beside) where
           -- another page is held in its sibling's place
           pub stop-astray : getD siblings j 0 ≢ w → astray ≡ whole
           stop-astray ne =
               sym
-              (by-father (getD siblings j 0 ∷ drop (j + 1) (take beside siblings)) (next-sibling j more)
+              (by-father (getD siblings j 0 ∷ drop (j + 1) (take beside siblings)) (next-cell siblings beside j long-beside more)
               ∙ needs-astray k (pageAt k ws) x (getD path i 0) short (getD path (i - 1) 0) (upward (i - 1) path) (getD siblings j 0)
               (drop (j + 1) (take beside siblings)) (λ e. ne (e ∙ sym wanted)))
 
@@ -175,13 +163,13 @@ module _ {k n : ℕ} {ws path : List ℕ} {depth : ℕ} {siblings : List ℕ} {b
                 ap needOf e
                 ∙ satisfied-by (beside - j - 1) (drop (j + 1) (take beside siblings)) (omega arith)
                 ∙ sym
-                (by-father (getD siblings j 0 ∷ drop (j + 1) (take beside siblings)) (next-sibling j more)
+                (by-father (getD siblings j 0 ∷ drop (j + 1) (take beside siblings)) (next-cell siblings beside j long-beside more)
                 ∙ needs-shares k (pageAt k ws) x (getD path i 0) short (getD path (i - 1) 0) (upward (i - 1) path) (getD siblings j 0)
                 (drop (j + 1) (take beside siblings)) (beside-it ∙ wanted) l)
 
             -- the two join, and the father loses one
             pub goes-up : μ (pageAt k ws (getD siblings j 0)) ≤ k → whole ≡ from (i - 1) (j + 1)
             goes-up l =
-                by-father (getD siblings j 0 ∷ drop (j + 1) (take beside siblings)) (next-sibling j more)
+                by-father (getD siblings j 0 ∷ drop (j + 1) (take beside siblings)) (next-cell siblings beside j long-beside more)
                 ∙ needs-further k (pageAt k ws) x (getD path i 0) short (getD path (i - 1) 0) (upward (i - 1) path) (getD siblings j 0)
                 (drop (j + 1) (take beside siblings)) (beside-it ∙ wanted) l

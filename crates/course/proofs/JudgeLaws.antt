@@ -33,7 +33,7 @@ use Rattle.course.specs.declared.judging.Course.{Course}
 use Rattle.course.specs.declared.judging.Course.the-variants.{Broken, Goes}
 use Rattle.footing.specs.Granted.{Verdict, broken, goes, ends, isSafe, kept, deletes, byNeed, atLeaf, fromLeaf, comesDown, besides, atItsLeaf, granted}
 use Rattle.footing.specs.Fitting.{descends, rightlyKept, rightlyBeside, sameLevels, isSibling, isNone, fitting}
-use Rattle.footing.specs.Standing.{Stands, standPath, standSiblings}
+use Rattle.footing.specs.Standing.{SlotStanding, standPath, standSiblings}
 use Rattle.course.specs.Judged.{judgedAt, judged, ifNew, courseOf, ready, nextCourse, searchCourse, insertCourse, needCourse, deleteCourse, standsLast}
 
 -- ---- the rule of a granted step
@@ -110,19 +110,20 @@ granted-judged op k memory free path siblings want h =
 
 -- ---- what is known where an operation stands
 
-module _ {op : Op} {k n : ℕ} {ws : List ℕ} {stand : Slot} (h : Stands op k n ws stand) where
-  path-length : stand .depth ≡ length (pathOf stand)
-  path-length = ap (λ (s : Slot). s .depth) (h .exact)
+module _ {op : Op} {k n : ℕ} {ws : List ℕ} {stand : Slot} (h : SlotStanding op k n ws stand) where
+  -- the lists are as long as the slot says
+  pub path-long : length (pathOf stand) ≡ stand .depth
+  path-long = sym (ap (λ (s : Slot). s .depth) (h .exact))
 
-  siblings-length : stand .beside ≡ length (siblingsOf stand)
-  siblings-length = ap (λ (s : Slot). s .beside) (h .exact)
+  pub siblings-long : length (siblingsOf stand) ≡ stand .beside
+  siblings-long = sym (ap (λ (s : Slot). s .beside) (h .exact))
 
   -- the arrays hold the pages as a deletion asks
   pub standing-needing : Needing k n ws (stand .path) (stand .depth) (stand .siblings) (stand .beside)
   unfolding pathOf siblingsOf
   standing-needing =
-      let depth = path-length in
-      let beside = siblings-length in
+      let depth = path-long in
+      let beside = siblings-long in
       let s = h .standing in
       record {
         pathCells = ap length (ap (λ (t : Slot). t .path) (h .exact)) ∙ length-padded pathHolds (pathOf stand) (s .deep);

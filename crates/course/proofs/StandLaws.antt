@@ -32,7 +32,7 @@ use Rattle.slots.proofs.SoundFacts.{sound-slot}
 use Rattle.slots.proofs.Keeping.{path-new, siblings-new}
 use Rattle.footing.specs.Granted.{isSafe, kept, atItsLeaf}
 use Rattle.footing.specs.Fitting.{descends, pagesSound, rightlyKept, sameLevels, isSibling, rightlyBeside, isNone, fitting}
-use Rattle.footing.specs.Standing.{Asks, fits, stood, standPath, standSiblings, Standing, Stands}
+use Rattle.footing.specs.Standing.{Asks, fits, stood, standPath, standSiblings, Standing, SlotStanding}
 use Rattle.footing.proofs.LookLaws.{descends-levels, pagesOf, asks-held}
 
 -- ---- a way down
@@ -292,7 +292,7 @@ none-beside path (s ∷ siblings) t = absurd (false≢true t)
 
 -- a slot made of this path and these siblings stands there
 stands-new : (op : Op) {k n : ℕ} {ws : List ℕ} (want : ℕ) (path siblings : List ℕ) → Standing op k n ws path siblings
-    → Stands op k n ws (openSlot op want path siblings)
+    → SlotStanding op k n ws (openSlot op want path siblings)
 stands-new op {k} {n} {ws} want path siblings h =
     let own = sym (path-new op want path siblings) in
     let others = sym (siblings-new op want path siblings) in
@@ -391,7 +391,7 @@ module _ {op : Op} {k n : ℕ} {ws : List ℕ} {slot : Slot} (asks : Asks k n ws
 
 -- Once its want is granted, an operation stands where the rules would have it.
 pub stood-stands : (op : Op) (k n : ℕ) (ws : List ℕ) (slot : Slot) → Asks k n ws op slot → fits op k n ws slot ≡ true
-    → Stands op k n ws (stood op k (pageAt k ws) slot)
+    → SlotStanding op k n ws (stood op k (pageAt k ws) slot)
 unfolding stood
 stood-stands op k n ws slot asks fit =
     stands-new op (slot .want) (standPath op k (pageAt k ws) (pathOf slot) (slot .want))

@@ -14,7 +14,7 @@ ghost use mathlib.Core.Path.{_≡_};
 ghost use Rattle.pool.specs.Pool.{pageAt, freePages};
 ghost use Rattle.slots.specs.declared.Op.the-variants.{Delete};
 ghost use Rattle.slots.specs.Parts.{pathOf, siblingsOf};
-ghost use Rattle.footing.specs.Standing.{Stands};
+ghost use Rattle.footing.specs.Standing.{SlotStanding};
 ghost use Rattle.course.specs.Judged.{judged, ifNew, courseOf, ready, nextCourse, searchCourse, insertCourse, deleteCourse};
 
 // The pages are not sound for the step; the slot goes on and wants this page; the operation ends, and no page is written; or it
@@ -59,7 +59,7 @@ pub fn inserts(lot: Lot, x: u32, v: u32) -> Course
 
 // A deletion at its leaf.
 pub fn deletes(words: &[u32], k: usize, n: usize, x: u32, lot: Lot, stand: Slot) -> Course
-    requires { ⌜ Stands (Delete x) k n (now words) stand ⌝ }
+    requires { ⌜ SlotStanding (Delete x) k n (now words) stand ⌝ }
     ensures { λ r. ⌜ r ≡ deleteCourse k (pageAt k (now (words .entry))) x lot stand ⌝ }
 {
     let Lot::There(v) = lot else {
@@ -76,7 +76,7 @@ pub fn deletes(words: &[u32], k: usize, n: usize, x: u32, lot: Lot, stand: Slot)
 
 // What the operation does from where it stands.
 pub fn judge(words: &[u32], k: usize, n: usize, op: Op, stand: Slot) -> Course
-    requires { ⌜ Stands op k n (now words) stand ⌝ }
+    requires { ⌜ SlotStanding op k n (now words) stand ⌝ }
     ensures { λ r. ⌜ courseOf k (pageAt k (now (words .entry))) (freePages k n (now (words .entry))) (pathOf stand) (siblingsOf stand) r ≡ ifNew (judged op k (pageAt k (now (words .entry))) (freePages k n (now (words .entry))) (pathOf stand) (siblingsOf stand)) ⌝ }
     ensures { λ r. ⌜ ready op (pageAt k (now (words .entry))) (pathOf stand) r ⌝ }
 {

@@ -5,15 +5,15 @@ use mathlib.Core.Bool.{Bool, true, false, cond, _||_}
 use mathlib.Core.List.{List, [], _∷_}
 use mathlib.Core.Logic.{_≢_, ⊎-elim}
 use mathlib.Core.Path.{_≡_, refl, sym, ap, ap₂, _∙_, subst}
-use native.Mathlib.Numerals.{add-one}
 use native.Mathlib.Omega.{arith}
 use borrow.Author.Tests.{le-leb, lt-leb, leb-true, leb-false, ltb-true, ltb-false, eq-eqb, eqb-true, eqb-false}
 use lib.Dec.{leb, ltb, eqb}
 use lib.ListN.{length, getD, take, drop, drop-of-length-le}
-use lib.Seq.{length-take-le, getD-take, drop-cons}
+use lib.Seq.{length-take-le}
 use Rattle.ground.specs.Tests.{member}
 use Rattle.ground.proofs.Bools.{not-both, true-or-false, or-first, or-second}
 use Rattle.ground.proofs.Choice.{cond-true, cond-false}
+use Rattle.ground.proofs.Padded.{next-cell}
 use Rattle.page.specs.Words.{Page, μ, freePage, encode, view}
 use Rattle.page.specs.Short.{hasRight, betweenAt, merged, lessKey}
 use Rattle.page.specs.Sound.{rises}
@@ -31,6 +31,7 @@ use Rattle.change.specs.Held.{upward, leafOf, fathersOf}
 use Rattle.deletion.specs.Deleting.{Mending, Climbing, collapsing, uniting, emptied, lost, round}
 use Rattle.change.proofs.HeldLaws.{upward-top, upward-father}
 use Rattle.change.proofs.AppliedLaws.{elsewhere, written-again, applied-over}
+use Rattle.change.proofs.RuleLaws.{shrunk-top, shrunk-alone}
 use Rattle.deletion.proofs.MendLaws.{Covers, round-covers}
 
 -- ---- the rule, a page at a time
@@ -47,15 +48,6 @@ goes false true a b c h = not-both h refl
 goes false false a b c h = refl
 
 module _ (k : ℕ) (m : ℕ → Page) (x p : ℕ) (P : Page) where
-  shrunk-top : (ss : List ℕ) → shrunk k m x [] ss p P ≡ write p P ∷ []
-  unfolding shrunk
-  shrunk-top ss = refl
-
-  shrunk-alone : (fathers : List ℕ) → shrunk k m x fathers [] p P ≡ write p P ∷ []
-  unfolding shrunk
-  shrunk-alone [] = refl
-  shrunk-alone (f ∷ up) = refl
-
   shrunk-enough : (fathers ss : List ℕ) → k ≤ μ P → shrunk k m x fathers ss p P ≡ write p P ∷ []
   unfolding shrunk
   shrunk-enough [] ss h = refl
@@ -168,7 +160,7 @@ module _ {k n : ℕ} {ws₀ path : List ℕ} {depth : ℕ} {siblings : List ℕ}
     still-top : i ≡ 0 → shrunk k (pageAt k ws₀) x (upward i path) (drop j (take beside siblings)) (getD path i 0) (u .value) ≡ write (getD path i 0) (u .value) ∷ []
     still-top z =
         (ap (λ (up : List ℕ). shrunk k (pageAt k ws₀) x up (drop j (take beside siblings)) (getD path i 0) (u .value)) (upward-top i path z)
-        ∙ shrunk-top k (pageAt k ws₀) x (getD path i 0) (u .value) (drop j (take beside siblings)))
+        ∙ shrunk-top k (pageAt k ws₀) x (drop j (take beside siblings)) (getD path i 0) (u .value))
 
     -- at the top of the path
     pub climb-top : i ≡ 0 → ws ≡ all
@@ -180,7 +172,7 @@ module _ {k n : ℕ} {ws₀ path : List ℕ} {depth : ℕ} {siblings : List ℕ}
         let few : beside ≤ length siblings = omega (arith, h .few, h .besideCells) in
         let none : length (take beside siblings) ≤ j = omega (arith, length-take-le beside siblings few) in
         (ap (λ (ss : List ℕ). shrunk k (pageAt k ws₀) x (upward i path) ss (getD path i 0) (u .value)) (drop-of-length-le (take beside siblings) none)
-        ∙ shrunk-alone k (pageAt k ws₀) x (getD path i 0) (u .value) (upward i path))
+        ∙ shrunk-alone k (pageAt k ws₀) x (upward i path) (getD path i 0) (u .value))
 
     pub climb-alone : beside ≤ j → ws ≡ all
     climb-alone l = finished (still-alone l)
@@ -330,11 +322,7 @@ module _ {k n : ℕ} {ws₀ path : List ℕ} {depth : ℕ} {siblings : List ℕ}
         told = mended .1 ∙ ap₂ (λ (A B : Page). lost (ltb k (μ A)) f B (betweenAt x B)) beside-value father-value
 
         next : drop j (take beside siblings) ≡ s ∷ drop (j + 1) (take beside siblings)
-        next =
-            let few : beside ≤ length siblings = omega (arith, h .few, h .besideCells) in
-            let long = length-take-le beside siblings few in
-            drop-cons (take beside siblings) j 0 (omega arith)
-            ∙ ap₂ (λ (a m : ℕ). a ∷ drop m (take beside siblings)) (getD-take beside siblings j 0 more) (sym (add-one j))
+        next = next-cell siblings beside j (omega (arith, h .few, h .besideCells)) more
 
         by-father : shrunk k (pageAt k ws₀) x (upward i path) (drop j (take beside siblings)) p (u .value)
             ≡ shrunk k (pageAt k ws₀) x (f ∷ upward (i - 1) path) (s ∷ drop (j + 1) (take beside siblings)) p (u .value)

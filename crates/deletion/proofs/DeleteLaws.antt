@@ -16,7 +16,7 @@ use Rattle.page.specs.Splits.{split}
 use Rattle.page.specs.Short.{joined, lessKey, rekeyed}
 use Rattle.page.specs.Reading.{Readable}
 use Rattle.page.specs.Exact.{Exact}
-use Rattle.sheet.specs.Sheets.{Holds, sheetPage}
+use Rattle.sheet.specs.Sheets.{OnSheet, sheetPage}
 use Rattle.sheet.specs.declared.sheets.Sheet.{Sheet}
 use Rattle.page.specs.Fits.{Fits}
 use Rattle.page.proofs.ExactLaws.{exact-fits, left-fits, right-fits, joined-μ}
@@ -162,7 +162,7 @@ module _ {k n f b r l w : ℕ} {ws : List ℕ} {spares : Bool} {c : ℕ} (h : Se
 
 -- the neighbours joined in a buffer
 module _ {k n f b r l w : ℕ} {ws : List ℕ} {spares : Bool} {c : ℕ} (h : Settling k n ws f b r l w spares c) {s : Sheet}
-    (made : Holds (joined r (pageAt k ws l) (pageAt k ws w)) s) where
+    (made : OnSheet (joined r (pageAt k ws l) (pageAt k ws w)) s) where
   abbrev whole : Page
   whole = joined r (pageAt k ws l) (pageAt k ws w)
 

@@ -274,10 +274,6 @@ module _ {k n : ℕ} {ws : List ℕ} {f p s : ℕ} (h : Mending k n ws f p s) wh
 
   -- ---- the pages that a round writes
 
-  father-fits : Fits k F
-  unfolding pageAt
-  father-fits = exact-fits (h .fatherExact)
-
   -- the father has the key between the two
   between-inside : (x : ℕ) → betweenAt x F < μ F
   unfolding betweenAt

@@ -13,7 +13,7 @@ use Rattle.page.specs.Place.{has}
 use Rattle.page.specs.Sound.{rises}
 use Rattle.page.specs.Short.{betweenAt, joined, merged, lessKey, rekeyed}
 use Rattle.page.specs.Exact.{Exact}
-use Rattle.sheet.specs.Sheets.{Holds, sheetPage}
+use Rattle.sheet.specs.Sheets.{OnSheet, sheetPage}
 use Rattle.sheet.specs.declared.sheets.Sheet.{Sheet}
 use Rattle.pool.specs.Pool.{poolLength, wordsOf, pageAt, Write, write}
 use Rattle.pool.specs.Wrapped.{InPool}
@@ -32,7 +32,7 @@ pub record Three (k n : ℕ) (ws : List ℕ) (f b l w : ℕ) : Type 0 where
 
 -- The buffer holds a page, and no p0 if that is a leaf.
 pub record Sheeted (s : Sheet) : Type 0 where
-  pub holds : Holds (sheetPage s) s
+  pub holds : OnSheet (sheetPage s) s
   pub leafFirst : isLeaf (sheetPage s) ≡ true → s .first ≡ 0
 
 -- Its page can be cut at pair c into two with room for each.

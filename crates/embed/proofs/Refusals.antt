@@ -13,30 +13,30 @@ use Rattle.slots.specs.declared.State.{State}
 use Rattle.slots.specs.Heard.{changesNothing}
 use Rattle.slots.specs.Parts.{idleState}
 use Rattle.slots.specs.Begin.{begun}
-use Rattle.lent.specs.Words.{stateOf, wordsOf, written, lentAfter}
+use Rattle.lent.specs.Words.{stateOf, stateWords, laidInto, lentAfter}
 use Rattle.index.specs.Step.{Left, stepped}
 use Rattle.index.specs.Make.{made}
 use Rattle.index.proofs.Refusals.{AsGiven, step-refused}
 use Rattle.embed.specs.declared.asking.Asked.{Asked}
 use Rattle.embed.specs.declared.asking.Asked.the-variants.{Known, Unknown}
-use Rattle.embed.specs.Told.{told, isRefusal}
+use Rattle.embed.specs.Told.{told, leavesAll}
 use Rattle.embed.specs.Statements.{beginTold, beginLeaves}
 
 -- what is told as a refusal changes nothing
-still : (heard′ : List ℕ) (a : Answer) → heard′ ≡ told a → isRefusal heard′ ≡ true → changesNothing a ≡ true
-still heard′ a e h = sym (ap isRefusal e) ∙ h
+still : (heard′ : List ℕ) (a : Answer) → heard′ ≡ told a → leavesAll heard′ ≡ true → changesNothing a ≡ true
+still heard′ a e h = sym (ap leavesAll e) ∙ h
 
 lent-stays : (cells : List ℕ) (s : ℕ) (a : Answer) (st : State) → changesNothing a ≡ true → lentAfter cells s a st ≡ cells
 unfolding lentAfter
-lent-stays cells s a st e = cond-true cells (written cells s st) e
+lent-stays cells s a st e = cond-true cells (laidInto cells s st) e
 
-pub step-stays : (cells ws : List ℕ) (s : ℕ) (heard′ : List ℕ) → heard′ ≡ told (stepped (stateOf cells) ws s .answer) → isRefusal heard′ ≡ true
+pub step-stays : (cells ws : List ℕ) (s : ℕ) (heard′ : List ℕ) → heard′ ≡ told (stepped (stateOf cells) ws s .answer) → leavesAll heard′ ≡ true
     → (lentAfter cells s (stepped (stateOf cells) ws s .answer) (stepped (stateOf cells) ws s .state) ≡ cells) × (stepped (stateOf cells) ws s .words ≡ ws)
 step-stays cells ws s heard′ e h =
     let a : Answer = stepped (stateOf cells) ws s .answer in
     (lent-stays cells s a (stepped (stateOf cells) ws s .state) (still heard′ a e h), step-refused (stateOf cells) ws s (still heard′ a e h) .words)
 
-pub begin-stays : (cells : List ℕ) (s : ℕ) (asked : Asked) (heard′ : List ℕ) → heard′ ≡ beginTold cells s asked → isRefusal heard′ ≡ true
+pub begin-stays : (cells : List ℕ) (s : ℕ) (asked : Asked) (heard′ : List ℕ) → heard′ ≡ beginTold cells s asked → leavesAll heard′ ≡ true
     → beginLeaves cells s asked ≡ cells
 begin-stays cells s (Known op) heard′ e h =
     let a : Answer = begun (stateOf cells) s op .answer in
@@ -52,8 +52,8 @@ make-still k n ws =
     (λ _ e. absurd (false≢true e))
     (λ _ _. record { state = refl; words = refl })
 
-pub make-stays : (k n : ℕ) (ws heard′ : List ℕ) → heard′ ≡ told (made k n ws .answer) → isRefusal heard′ ≡ true
-    → (wordsOf (made k n ws .state) ≡ wordsOf (idleState 0 0)) × (made k n ws .words ≡ ws)
+pub make-stays : (k n : ℕ) (ws heard′ : List ℕ) → heard′ ≡ told (made k n ws .answer) → leavesAll heard′ ≡ true
+    → (stateWords (made k n ws .state) ≡ stateWords (idleState 0 0)) × (made k n ws .words ≡ ws)
 make-stays k n ws heard′ e h =
     let given = make-still k n ws (still heard′ (made k n ws .answer) e h) in
-    (ap wordsOf (given .state), given .words)
+    (ap stateWords (given .state), given .words)

@@ -9,19 +9,19 @@ use mathlib.Core.Path.{_≡_}
 use Rattle.slots.specs.Parts.{idleState}
 use Rattle.slots.specs.Begin.{begun}
 use Rattle.slots.specs.Report.{reported}
-use Rattle.lent.specs.Words.{stateOf, wordsOf, lentAfter}
+use Rattle.lent.specs.Words.{stateOf, stateWords, lentAfter}
 use Rattle.index.specs.Step.{stepped}
 use Rattle.index.specs.Make.{made}
 use Rattle.embed.specs.declared.asking.Asked.{Asked}
 use Rattle.embed.specs.declared.asking.Asked.the-variants.{Known, Unknown}
 use Rattle.embed.specs.Asked.{askedBy}
-use Rattle.embed.specs.Told.{told, badKind, isRefusal}
+use Rattle.embed.specs.Told.{told, badKind, leavesAll}
 
 pub record MakeTells (k n : ℕ) (ws cells′ after heard′ : List ℕ) : Type 0 where
   pub answer : heard′ ≡ told (made k n ws .answer)
-  pub all : cells′ ≡ wordsOf (made k n ws .state)
+  pub all : cells′ ≡ stateWords (made k n ws .state)
   pub words : after ≡ made k n ws .words
-  pub kept : isRefusal heard′ ≡ true → (cells′ ≡ wordsOf (idleState 0 0)) × (after ≡ ws)
+  pub kept : leavesAll heard′ ≡ true → (cells′ ≡ stateWords (idleState 0 0)) × (after ≡ ws)
 
 -- A kind that does not exist is refused before the state is looked at, and leaves all as given.
 abbrev pub beginTold : List ℕ → ℕ → Asked → List ℕ
@@ -35,13 +35,13 @@ beginLeaves cells s Unknown = cells
 pub record BeginTells (cells : List ℕ) (s kind key information : ℕ) (cells′ heard′ : List ℕ) : Type 0 where
   pub answer : heard′ ≡ beginTold cells s (askedBy kind key information)
   pub all : cells′ ≡ beginLeaves cells s (askedBy kind key information)
-  pub kept : isRefusal heard′ ≡ true → cells′ ≡ cells
+  pub kept : leavesAll heard′ ≡ true → cells′ ≡ cells
 
 pub record StepTells (cells ws : List ℕ) (s : ℕ) (cells′ after heard′ : List ℕ) : Type 0 where
   pub answer : heard′ ≡ told (stepped (stateOf cells) ws s .answer)
   pub all : cells′ ≡ lentAfter cells s (stepped (stateOf cells) ws s .answer) (stepped (stateOf cells) ws s .state)
   pub words : after ≡ stepped (stateOf cells) ws s .words
-  pub kept : isRefusal heard′ ≡ true → (cells′ ≡ cells) × (after ≡ ws)
+  pub kept : leavesAll heard′ ≡ true → (cells′ ≡ cells) × (after ≡ ws)
 
 -- It is handed the state to read, and no pool, so it changes neither.
 pub record ReportTells (cells : List ℕ) (p : ℕ) (heard′ : List ℕ) : Type 0 where

@@ -9,20 +9,20 @@ use Rattle.slots.specs.Heard.{heard, numberOf}
 use Rattle.embed.specs.declared.telling.Four.{Four}
 
 -- what stands behind the number, 0 where nothing does
-abbrev pub valueOf : Answer → ℕ → ℕ
-valueOf answer i = getD (heard answer) i 0
+abbrev pub valueBehind : Answer → ℕ → ℕ
+valueBehind answer i = getD (heard answer) i 0
 
 -- the number, and room for three values
 abbrev pub told : Answer → List ℕ
-told answer = numberOf answer ∷ valueOf answer 1 ∷ valueOf answer 2 ∷ valueOf answer 3 ∷ []
+told answer = numberOf answer ∷ valueBehind answer 1 ∷ valueBehind answer 2 ∷ valueBehind answer 3 ∷ []
 
 -- A kind that does not exist: refusals have the numbers 1 to 7 in 01, answers begin at 32, and this one stands between them.
 abbrev pub badKind : List ℕ
 badKind = 31 ∷ 0 ∷ 0 ∷ 0 ∷ []
 
--- The number that is told is a refusal's (01's table, the one above, and Waiting, which changes nothing either).
-abbrev pub isRefusal : List ℕ → Bool
-isRefusal heard′ = leb (getD heard′ 0 0) 32
+-- The number that is told is one after which all is as given: a refusal's (01's table, and the one above), or Waiting.
+abbrev pub leavesAll : List ℕ → Bool
+leavesAll heard′ = leb (getD heard′ 0 0) 32
 
 -- four numbers as a list
 abbrev pub listed : Four → List ℕ

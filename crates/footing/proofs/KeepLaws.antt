@@ -6,16 +6,16 @@ use mathlib.Core.List.{List, [], _∷_, _++_, reverse, append-assoc}
 use mathlib.Core.Logic.{_≢_}
 use mathlib.Core.Path.{_≡_, refl, sym, ap, ap₂, _∙_, subst, subst₂}
 use native.Mathlib.Nat.{le-of-suc-le-suc, not-suc-le-zero}
-use native.Mathlib.Numerals.{add-one}
 use native.Mathlib.Omega.{arith}
 use borrow.Author.Tests.{eq-eqb, ne-eqb}
 use lib.Dec.{eqb}
-use lib.ListN.{length, getD, take, drop, replicate, length-reverse, drop-of-length-le}
-use lib.Seq.{length-take-le, getD-take, drop-cons, take-at}
+use lib.ListN.{length, getD, take, drop, replicate, length-reverse}
+use lib.Seq.{length-take-le, getD-take, take-at}
 use Rattle.ground.specs.Limits.{pathHolds}
 use Rattle.ground.specs.Tests.{all, padded}
 use Rattle.ground.proofs.Bools.{and-both, and-first-fails, and-second-fails, not-of-false, not-of-true}
 use Rattle.ground.proofs.Tests.{member-from}
+use Rattle.ground.proofs.Padded.{next-cell, no-cell}
 use Rattle.page.specs.Words.{Entry, Page, μ}
 use Rattle.page.specs.Place.{has, information}
 use Rattle.page.specs.Reading.{looked}
@@ -34,20 +34,6 @@ use Rattle.footing.specs.Fitting.{descends, rightlyKept, sameLevels, isS
 use Rattle.footing.proofs.LookLaws.{descends-levels}
 
 -- ---- cells
-
--- the next of some cells and the others
-next-cell : (cells : List ℕ) (count i : ℕ) → count ≤ length cells → i < count
-    → drop i (take count cells) ≡ getD cells i 0 ∷ drop (i + 1) (take count cells)
-next-cell cells count i long h =
-    let same = length-take-le count cells long in
-    drop-cons (take count cells) i 0 (omega arith)
-    ∙ ap₂ (λ (p m : ℕ). p ∷ drop m (take count cells)) (getD-take count cells i 0 h) (sym (add-one i))
-
--- behind the last one there is none
-no-cell : (cells : List ℕ) (count i : ℕ) → count ≤ length cells → count ≤ i → drop i (take count cells) ≡ []
-no-cell cells count i long h =
-    let none : length (take count cells) ≤ i = omega (arith, length-take-le count cells long) in
-    drop-of-length-le (take count cells) none
 
 -- what is known of the page in a cell
 pub cell-known : {k n : ℕ} {ws : List ℕ} (cells : List ℕ) (count : ℕ) → count ≤ length cells → Held k n ws (take count cells)

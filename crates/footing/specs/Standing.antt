@@ -65,6 +65,6 @@ pub record Standing (op : Op) (k n : ℕ) (ws path siblings : List ℕ) : Type 0
   pub others : (j : ℕ) → j < length siblings → getD siblings j 0 ≢ 0
 
 -- The slot holds just these pages, and so much is known of them.
-pub record Stands (op : Op) (k n : ℕ) (ws : List ℕ) (stand : Slot) : Type 0 where
+pub record SlotStanding (op : Op) (k n : ℕ) (ws : List ℕ) (stand : Slot) : Type 0 where
   pub exact : stand ≡ openSlot op (stand .want) (pathOf stand) (siblingsOf stand)
   pub standing : Standing op k n ws (pathOf stand) (siblingsOf stand)

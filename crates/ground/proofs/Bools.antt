@@ -12,11 +12,6 @@ true-or-false false = inr refl
 pub not-both : {a : Bool} {X : Type 0} → a ≡ true → a ≡ false → X
 not-both t f = absurd (true≢false (sym t ∙ f))
 
--- a test that cannot be false is true
-pub true-if-not-false : (a : Bool) → (a ≡ false → ⊥) → a ≡ true
-true-if-not-false true h = refl
-true-if-not-false false h = absurd (h refl)
-
 -- a test that cannot be true is false
 pub false-if-not-true : (a : Bool) → (a ≡ true → ⊥) → a ≡ false
 false-if-not-true true h = absurd (h refl)

@@ -9,16 +9,6 @@ pub range-rises : 0 < wordRange
 unfolding wordRange
 range-rises = lit< tt
 
--- a page number is a word
-pub pages-are-words : largestN < wordRange
-unfolding largestN wordRange
-pages-are-words = lit< tt
-
--- a level is a word
-pub levels-are-words : tallest < wordRange
-unfolding tallest wordRange
-levels-are-words = lit< tt
-
 -- "a tree of height h has at least 2^h - 1 pages, and h is at most 10": no pool has pages for a tree of height 11
 pub pages-few : largestN < 2 ^ (tallest + 1) - 1
 unfolding largestN tallest

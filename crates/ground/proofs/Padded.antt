@@ -1,12 +1,26 @@
--- A list in an array: `padded`, cell by cell.
+-- A list in an array: its first cells one after another, and `padded`, cell by cell.
 use Prim.Native.Nat.{ℕ, zero, suc, _+_, _-_, _≤_, _<_}
 use mathlib.Core.List.{List, [], _∷_, _++_}
-use mathlib.Core.Path.{_≡_, refl, sym, ap, _∙_}
+use mathlib.Core.Path.{_≡_, refl, sym, ap, ap₂, _∙_}
 use native.Mathlib.Numerals.{add-one}
 use native.Mathlib.Omega.{arith}
-use lib.ListN.{length, getD, take, set, replicate, length-append, length-replicate}
-use lib.Seq.{set-at, append-snoc, take-suc, length-take-le}
+use lib.ListN.{length, getD, take, drop, set, replicate, length-append, length-replicate, drop-of-length-le}
+use lib.Seq.{set-at, append-snoc, take-suc, length-take-le, getD-take, drop-cons}
 use Rattle.ground.specs.Tests.{padded}
+
+-- the next of the first cells, and the others
+pub next-cell : (cells : List ℕ) (count i : ℕ) → count ≤ length cells → i < count
+    → drop i (take count cells) ≡ getD cells i 0 ∷ drop (i + 1) (take count cells)
+next-cell cells count i long h =
+    let same = length-take-le count cells long in
+    drop-cons (take count cells) i 0 (omega arith)
+    ∙ ap₂ (λ (p m : ℕ). p ∷ drop m (take count cells)) (getD-take count cells i 0 h) (sym (add-one i))
+
+-- behind the last of them there is none
+pub no-cell : (cells : List ℕ) (count i : ℕ) → count ≤ length cells → count ≤ i → drop i (take count cells) ≡ []
+no-cell cells count i long h =
+    let none : length (take count cells) ≤ i = omega (arith, length-take-le count cells long) in
+    drop-of-length-le (take count cells) none
 
 -- the array has all its cells
 pub length-padded : (n : ℕ) (xs : List ℕ) → length xs ≤ n → length (padded n xs) ≡ n

@@ -2,15 +2,15 @@
 -- and what tells it.
 use Prim.Native.Nat.{ℕ, zero, suc, _+_, _≤_, _<_}
 use mathlib.Core.Bool.{Bool, true, false, cond, not, _&&_, _||_, and-assoc, and-false, and-true, or-assoc, or-false, false≢true, true≢false}
-use mathlib.Core.List.{List, [], _∷_, _++_, append-nil}
-use mathlib.Core.Logic.{⊎-elim, _≢_}
+use mathlib.Core.List.{List, [], _∷_, _++_, append-nil, reverse, reverse-cons}
+use mathlib.Core.Logic.{_⊎_, inl, inr, ⊎-elim, _≢_}
 use mathlib.Core.Path.{_≡_, refl, sym, ap, ap₂, _∙_, subst}
 use native.Mathlib.Nat.{le-of-suc-le-suc, not-suc-le-zero, eq-or-lt-of-le, ne-of-lt}
 use native.Mathlib.Omega.{arith}
-use borrow.Author.Tests.{ltb-true, ltb-false, eqb-true, eq-eqb, not-true}
+use borrow.Author.Tests.{ltb-true, ltb-false, eqb-true, eq-eqb, ne-eqb, not-true}
 use lib.Dec.{eqb, ltb}
-use lib.ListN.{length, getD, take, drop, length-append, List·getD-append}
-use lib.Seq.{take-suc, getD-append-seam, drop-append-le}
+use lib.ListN.{length, getD, take, drop, length-append, length-take, take-append-drop, List·getD-append}
+use lib.Seq.{take-suc, getD-append-seam, getD-take, drop-append-le}
 use Rattle.ground.specs.Tests.{all, count, member, distinct, apart, allBelow, anyBelow, countBelow, listBelow, firstBelow}
 use Rattle.ground.proofs.Bools.{and-first, and-second, and-both, and-fails, or-first, or-second, or-cases, not-of-false, true-or-false, not-both, same-if-true-together, false-if-not-true}
 use Rattle.ground.proofs.Choice.{cond-ind, cond-true, cond-false}
@@ -80,6 +80,17 @@ module _ {A : Type 0} (p : A → Bool) where
   unfolding count
   count-more xs i d h = ap (count p) (take-suc xs i d h) ∙ count-append (take i xs) (getD xs i d ∷ [])
 
+  -- of a list turned round as many pass
+  pub count-reverse : (xs : List A) → count p (reverse xs) ≡ count p xs
+  unfolding count
+  count-reverse [] = refl
+  count-reverse (x ∷ xs) =
+      ap (count p) (reverse-cons x xs) ∙ count-append (reverse xs) (x ∷ []) ∙ one-more (p x) (count-reverse xs)
+    where
+      one-more : {c d : ℕ} (b : Bool) → c ≡ d → c + cond b 1 0 ≡ cond b (suc d) d
+      one-more true e = omega arith
+      one-more false e = omega arith
+
 -- ---- a number stands in a list
 
 -- no number stands in an empty list
@@ -97,12 +108,66 @@ pub member-there : (y x : ℕ) (xs : List ℕ) → member x xs ≡ true → memb
 unfolding member
 member-there y x xs m = or-second (eqb x y) m
 
+-- it stands in front or behind
+pub member-cases : (x y : ℕ) (xs : List ℕ) → member x (y ∷ xs) ≡ true → (x ≡ y) ⊎ (member x xs ≡ true)
+unfolding member
+member-cases x y xs m = ⊎-elim (λ e. inl (eqb-true x y e)) inr (or-cases (eqb x y) (member x xs) m)
+
+-- what stands in a list of one number is that number
+pub member-one : (x y : ℕ) → member x (y ∷ []) ≡ true → x ≡ y
+member-one x y m = ⊎-elim (λ e. e) (λ h. not-both h (member-none x)) (member-cases x y [] m)
+
+-- with another number in front it stands in a list where it did
+pub member-other : (y x : ℕ) (xs : List ℕ) → x ≢ y → member x xs ≡ member x (y ∷ xs)
+unfolding member
+member-other y x xs n = sym (ap (λ (b : Bool). b || member x xs) (ne-eqb x y n))
+
 -- a number stands in two lists where it stands in one of them
 pub member-append : (x : ℕ) (xs ys : List ℕ) → member x (xs ++ ys) ≡ member x xs || member x ys
 unfolding member
 member-append x [] ys = refl
 member-append x (y ∷ xs) ys =
     ap (λ (b : Bool). eqb x y || b) (member-append x xs ys) ∙ sym (or-assoc (eqb x y) (member x xs) (member x ys))
+
+-- a number that stands further behind stands in the list
+pub member-inside : (x : ℕ) (xs ys : List ℕ) → member x (xs ++ x ∷ ys) ≡ true
+member-inside x xs ys = member-append x xs (x ∷ ys) ∙ or-second (member x xs) (member-here x ys)
+
+-- what stands in a list that ends with y stands before the end, or is y
+pub member-last : (x : ℕ) (xs : List ℕ) (y : ℕ) → member x (xs ++ y ∷ []) ≡ true → (member x xs ≡ true) ⊎ (x ≡ y)
+member-last x xs y m =
+    ⊎-elim inl (λ h. inr (member-one x y h)) (or-cases (member x xs) (member x (y ∷ [])) (sym (member-append x xs (y ∷ [])) ∙ m))
+
+-- the last number put first
+pub member-first : (x y : ℕ) (xs : List ℕ) → member x (xs ++ y ∷ []) ≡ true → member x (y ∷ xs) ≡ true
+member-first x y xs m =
+    ⊎-elim
+    (λ h. member-there y x xs h)
+    (λ e. subst (λ (z : ℕ). member x (z ∷ xs) ≡ true) e (member-here x xs))
+    (member-last x xs y m)
+
+-- behind the first number, more numbers at the end
+pub member-wider : (x y : ℕ) (xs more : List ℕ) → member x (y ∷ xs) ≡ true → member x (y ∷ (xs ++ more)) ≡ true
+unfolding member
+member-wider x y xs more m =
+    ⊎-elim
+    (λ e. or-first (member x (xs ++ more)) e)
+    (λ h. or-second (eqb x y) (member-append x xs more ∙ or-first (member x more) h))
+    (or-cases (eqb x y) (member x xs) m)
+
+-- and other numbers before the rest
+pub member-behind : (x y : ℕ) (more xs : List ℕ) → member x (y ∷ xs) ≡ true → member x (y ∷ (more ++ xs)) ≡ true
+unfolding member
+member-behind x y more xs m =
+    ⊎-elim
+    (λ e. or-first (member x (more ++ xs)) e)
+    (λ h. or-second (eqb x y) (member-append x more xs ∙ or-second (member x more) h))
+    (or-cases (eqb x y) (member x xs) m)
+
+-- what stands among the first of a list stands in it
+pub member-take : (x i : ℕ) (xs : List ℕ) → member x (take i xs) ≡ true → member x xs ≡ true
+member-take x i xs m =
+    sym (ap (member x) (take-append-drop i xs)) ∙ member-append x (take i xs) (drop i xs) ∙ or-first (member x (drop i xs)) m
 
 -- one element more
 pub member-more : (x : ℕ) (xs : List ℕ) (i d : ℕ) → i < length xs
@@ -119,6 +184,11 @@ unfolding member
 member-from x [] i d h e = absurd (not-suc-le-zero h)
 member-from x (y ∷ xs) zero d h e = or-first (member x xs) (eq-eqb x y (sym e))
 member-from x (y ∷ xs) (suc i) d h e = or-second (eqb x y) (member-from x xs i d (le-of-suc-le-suc h) e)
+
+-- and so does it among the first n
+pub member-among : (x : ℕ) (xs : List ℕ) (n i d : ℕ) → i < length xs → i < n → getD xs i d ≡ x → member x (take n xs) ≡ true
+member-among x xs n i d h l e =
+    member-from x (take n xs) i d (omega (arith, length-take n xs)) (getD-take n xs i d l ∙ e)
 
 -- a number that stands in the list stands there at some index
 pub member-at : (x : ℕ) (xs : List ℕ) (d : ℕ) → member x xs ≡ true → (i : ℕ) × (i < length xs) × (getD xs i d ≡ x)
@@ -148,6 +218,16 @@ all-member p xs t x m =
 -- each number that stands in the list passes, so every element does
 pub all-from-members : (p : ℕ → Bool) (xs : List ℕ) → ((x : ℕ) → member x xs ≡ true → p x ≡ true) → all p xs ≡ true
 all-from-members p xs f = all-from p xs 0 (λ i h. f (getD xs i 0) (member-from (getD xs i 0) xs i 0 h refl))
+
+-- not every element passes, so a number of the list fails
+pub all-fails-at : (p : ℕ → Bool) (xs : List ℕ) → all p xs ≡ false → (x : ℕ) × (member x xs ≡ true) × (p x ≡ false)
+unfolding all
+all-fails-at p [] f = absurd (true≢false f)
+all-fails-at p (y ∷ ys) f =
+    ⊎-elim
+    (λ e. (y, member-here y ys, e))
+    (λ e. let (x, m, q) = all-fails-at p ys e in (x, member-there y x ys m, q))
+    (and-fails (p y) (all p ys) f)
 
 -- ---- no number stands in a list twice
 
@@ -533,10 +613,6 @@ module _ (p : ℕ → Bool) where
   pub firstBelow-below : (n i : ℕ) → i < n → p i ≡ true → firstBelow n p < n
   firstBelow-below n i h t = let least = firstBelow-least n i t in omega arith
 
-  -- the first is below n, so some number below n passes
-  pub firstBelow-any : (n : ℕ) → firstBelow n p < n → anyBelow n p ≡ true
-  firstBelow-any n h = anyBelow-from n (firstBelow n p) h (firstBelow-passes n h)
-
   -- a number below n that passes, with none below it that does, is the first
   pub firstBelow-found : (n a : ℕ) → a < n → p a ≡ true → ((i : ℕ) → i < a → p i ≡ false) → firstBelow n p ≡ a
   firstBelow-found n a h t f =
@@ -607,15 +683,6 @@ module _ (p q : ℕ → Bool) where
   listBelow-same zero f = refl
   listBelow-same (suc n) f =
       ap₂ (λ (xs : List ℕ) (b : Bool). xs ++ cond b (n ∷ []) []) (listBelow-same n (λ i h. f i (omega arith))) (f n (omega arith))
-
-  -- the same number is the first to pass the one and the other
-  pub firstBelow-same : (n : ℕ) → ((i : ℕ) → i < n → p i ≡ q i) → firstBelow n p ≡ firstBelow n q
-  unfolding firstBelow
-  firstBelow-same zero f = refl
-  firstBelow-same (suc n) f =
-      ap₂ (λ (a : ℕ) (b : Bool). cond (ltb a n) a (cond b n (suc n)))
-      (firstBelow-same n (λ i h. f i (omega arith)))
-      (f n (omega arith))
 
 -- no number below n passes, so the list is empty
 pub listBelow-fails : (p : ℕ → Bool) (n : ℕ) → ((i : ℕ) → i < n → p i ≡ false) → listBelow n p ≡ []

@@ -36,27 +36,20 @@ use Rattle.slots.specs.declared.Answer.the-variants.{Moved, Inserted, Deleted, 
 use Rattle.slots.specs.Parts.{pathOf, siblingsOf, closedSlot, waitingOrder}
 use Rattle.slots.specs.Book.{leaving, requeued, goesOn, closes}
 use Rattle.slots.proofs.OrderLaws.{length-leaving, length-waiting}
-use Rattle.lent.specs.Words.{orderIn, asRead, known, stateOf, written}
+use Rattle.lent.specs.Words.{orderIn, asRead, known, stateOf, laidInto}
 use Rattle.lent.proofs.StateLaws.{length-order, state-known, state-written}
 use Rattle.course.specs.declared.judging.Course.{Course}
 use Rattle.course.specs.declared.judging.Course.the-variants.{Broken, Goes, Ends, Inserts, Deletes}
 use Rattle.footing.specs.Granted.{Verdict, ends, fromLeaf}
-use Rattle.footing.specs.Standing.{Stands}
+use Rattle.footing.specs.Standing.{SlotStanding}
 use Rattle.course.specs.Judged.{courseOf, ready, standsLast}
-use Rattle.course.proofs.JudgeLaws.{standing-needing, standing-holding, stand-upward}
+use Rattle.course.proofs.JudgeLaws.{path-long, siblings-long, standing-needing, standing-holding, stand-upward}
 use Rattle.index.specs.Acting.{Leaves, Acts, wanting, standLeaf, standFathers, lacksRoom, roomAnswer, afterInsertion, afterDeletion}
 
 -- ---- an operation that stands somewhere
 
-module _ {op : Op} {k n : ℕ} {ws : List ℕ} {stand : Slot} (h : Stands op k n ws stand) where
-  -- the lists are as long as the slot says
-  path-long : length (pathOf stand) ≡ stand .depth
-  path-long = sym (ap (λ (s : Slot). s .depth) (h .exact))
-
-  siblings-long : length (siblingsOf stand) ≡ stand .beside
-  siblings-long = sym (ap (λ (s : Slot). s .beside) (h .exact))
-
-  -- and what stands in them stands in the arrays
+module _ {op : Op} {k n : ℕ} {ws : List ℕ} {stand : Slot} (h : SlotStanding op k n ws stand) where
+  -- what stands in the lists stands in the arrays
   path-cell : (i : ℕ) → i < stand .depth → getD (pathOf stand) i 0 ≡ getD (stand .path) i 0
   unfolding pathOf
   path-cell i l = getD-take (stand .depth) (stand .path) i 0 l
@@ -70,8 +63,8 @@ module _ {op : Op} {k n : ℕ} {ws : List ℕ} {stand : Slot} (h : Stands op k n
       → Deleting k n ws x (stand .path) (stand .depth) (stand .siblings) (stand .beside)
   stand-deleting x there =
       let s = h .standing in
-      let longPath = path-long in
-      let longSiblings = siblings-long in
+      let longPath = path-long h in
+      let longSiblings = siblings-long h in
       record {
         held = standing-needing h;
         stands = subst (standsLast (pageAt k ws) x) (stand-upward h) there;
@@ -131,7 +124,7 @@ module _ (k n : ℕ) (ws : List ℕ) {need : ℕ} {r : Taken} (found : Scanned n
 -- ---- an insertion
 
 -- the top of the path is page 0 or has space
-stand-top : {x v k n : ℕ} {ws : List ℕ} {stand : Slot} → Stands (Insert x v) k n ws stand
+stand-top : {x v k n : ℕ} {ws : List ℕ} {stand : Slot} → SlotStanding (Insert x v) k n ws stand
     → (getD (stand .path) 0 0 ≡ 0) ⊎ (μ (pageAt k ws (getD (stand .path) 0 0)) < 2 * k)
 stand-top {k = k} {ws = ws} {stand = stand} h =
     let some : 0 < stand .depth = omega (arith, h .standing .some, path-long h) in
@@ -140,7 +133,7 @@ stand-top {k = k} {ws = ws} {stand = stand} h =
 
 -- The pages that the count of room asks for are found.
 module _
-    {x v k n : ℕ} {ws : List ℕ} {stand : Slot} (h : Stands (Insert x v) k n ws stand)
+    {x v k n : ℕ} {ws : List ℕ} {stand : Slot} (h : SlotStanding (Insert x v) k n ws stand)
     {need : ℕ} {r : Taken} (found : Scanned need (freePages k n ws) r) (count : need ≡ room k (pageAt k ws) (standLeaf stand) (pathOf stand))
   where
     -- the words after the change with new pages from this list
@@ -199,7 +192,7 @@ unfolding padded pathHolds
 padded-long xs h = length-append xs (replicate (10 - length xs) 0) ∙ omega (arith, length-replicate {A = ℕ} (10 - length xs) 0)
 
 -- the arrays of a slot where an operation stands, and its numbers
-module _ {op : Op} {k n : ℕ} {ws : List ℕ} {stand : Slot} (h : Stands op k n ws stand) where
+module _ {op : Op} {k n : ℕ} {ws : List ℕ} {stand : Slot} (h : SlotStanding op k n ws stand) where
   deep : length (pathOf stand) ≤ 10
   unfolding pathHolds
   deep = h .standing .deep
@@ -244,11 +237,11 @@ module _ (cells : List ℕ) {ws : List ℕ} {s : ℕ} {op : Op} {stand : Slot} (
       let waiting = length-waiting st (omega arith) in
       length-append (leaving s (waitingOrder st)) (last ∷ drop (st .waiting) (st .order)) ∙ omega (arith, length-drop (st .waiting) (st .order))
 
-  closed-state : stateOf (written cells s (closes st s)) ≡ closes st s
+  closed-state : stateOf (laidInto cells s (closes st s)) ≡ closes st s
   unfolding closes padded pathHolds
   closed-state = state-written cells s closedSlot (leaving s (waitingOrder st) ++ 0 ∷ drop (st .waiting) (st .order)) (st .waiting - 1) long inside (order-long 0) refl refl exist
 
-  gone-state : (next : ℕ) → stateOf (written cells s (requeued st s (wanting next stand))) ≡ requeued st s (wanting next stand)
+  gone-state : (next : ℕ) → stateOf (laidInto cells s (requeued st s (wanting next stand))) ≡ requeued st s (wanting next stand)
   gone-state next =
       state-written cells s (wanting next stand) (leaving s (waitingOrder st) ++ s ∷ drop (st .waiting) (st .order)) (st .waiting) long inside (order-long s)
       (stand-path (a .stands)) (stand-siblings (a .stands)) exist
@@ -256,15 +249,15 @@ module _ (cells : List ℕ) {ws : List ℕ} {s : ℕ} {op : Op} {stand : Slot} (
   pub acts-broken : {course : Course} → course ≡ Broken → leaves course Damaged cells ws
   acts-broken is = subst (λ (c : Course). leaves c Damaged cells ws) (sym is) (record { answer = refl; state = state-known cells exist; all = refl; words = refl })
 
-  pub acts-goes : {course : Course} {next : ℕ} {cells′ : List ℕ} → course ≡ Goes next → cells′ ≡ written cells s (requeued st s (wanting next stand)) → leaves course Moved cells′ ws
+  pub acts-goes : {course : Course} {next : ℕ} {cells′ : List ℕ} → course ≡ Goes next → cells′ ≡ laidInto cells s (requeued st s (wanting next stand)) → leaves course Moved cells′ ws
   unfolding goesOn
   acts-goes {next = next} {cells′ = cells′} is e =
       let same : requeued st s (wanting next stand) ≡ goesOn st s op next (pathOf stand) (siblingsOf stand) =
       ap (λ (slot : Slot). requeued st s (wanting next slot)) (a .stands .exact) in
       subst (λ (c : Course). leaves c Moved cells′ ws) (sym is)
-      (record { answer = refl; state = ap stateOf e ∙ gone-state next ∙ same; all = e ∙ ap (written cells s) same; words = refl })
+      (record { answer = refl; state = ap stateOf e ∙ gone-state next ∙ same; all = e ∙ ap (laidInto cells s) same; words = refl })
 
-  pub acts-ends : {course : Course} {answer : Answer} {cells′ : List ℕ} → course ≡ Ends answer → cells′ ≡ written cells s (closes st s) → leaves course answer cells′ ws
+  pub acts-ends : {course : Course} {answer : Answer} {cells′ : List ℕ} → course ≡ Ends answer → cells′ ≡ laidInto cells s (closes st s) → leaves course answer cells′ ws
   unfolding applied
   acts-ends {answer = answer} {cells′ = cells′} is e =
       subst (λ (c : Course). leaves c answer cells′ ws) (sym is) (record { answer = refl; state = ap stateOf e ∙ closed-state; all = e; words = refl })
@@ -273,7 +266,7 @@ module _ (cells : List ℕ) {ws : List ℕ} {s : ℕ} {op : Op} {stand : Slot} (
   pub acts-inserts : {course : Course} {x v : ℕ} {answer : Answer} {cells′ words : List ℕ} → course ≡ Inserts x v
       → answer ≡ roomAnswer (st .k) (st .n) ws stand
       → words ≡ afterInsertion (st .k) (st .n) ws x v stand
-      → cells′ ≡ written cells s (closes st s)
+      → cells′ ≡ laidInto cells s (closes st s)
       → leaves course answer cells′ words
   unfolding applied
   acts-inserts {x = x} {v = v} {answer = answer} {cells′ = cells′} {words = words} is heard made e =
@@ -301,7 +294,7 @@ module _ (cells : List ℕ) {ws : List ℕ} {s : ℕ} {op : Op} {stand : Slot} (
   -- a deletion
   pub acts-deletes : {course : Course} {x v : ℕ} {cells′ words : List ℕ} → course ≡ Deletes x v
       → words ≡ afterDeletion (st .k) ws x stand
-      → cells′ ≡ written cells s (closes st s)
+      → cells′ ≡ laidInto cells s (closes st s)
       → leaves course (Deleted v) cells′ words
   acts-deletes {x = x} {v = v} {cells′ = cells′} {words = words} is made e =
       subst (λ (c : Course). leaves c (Deleted v) cells′ words) (sym is)
@@ -314,10 +307,10 @@ module _ (cells : List ℕ) {ws : List ℕ} {s : ℕ} {op : Op} {stand : Slot} (
 -- what a change may count on
 module _ {st : State} {ws : List ℕ} {s : ℕ} {op : Op} {stand : Slot} (a : Acts st ws s op stand) where
   module _ (course : Course) (fit : ready op (pageAt (st .k) ws) (pathOf stand) course) where
-    pub inserts-stands : {x v : ℕ} → course ≡ Inserts x v → Stands (Insert x v) (st .k) (st .n) ws stand
+    pub inserts-stands : {x v : ℕ} → course ≡ Inserts x v → SlotStanding (Insert x v) (st .k) (st .n) ws stand
     inserts-stands is =
         let same = subst (ready op (pageAt (st .k) ws) (pathOf stand)) is fit in
-        subst (λ (o : Op). Stands o (st .k) (st .n) ws stand) same (a .stands)
+        subst (λ (o : Op). SlotStanding o (st .k) (st .n) ws stand) same (a .stands)
 
     pub deletes-stands : {x v : ℕ} → course ≡ Deletes x v
         → Deleting (st .k) (st .n) ws x (stand .path) (stand .depth) (stand .siblings) (stand .beside)

@@ -16,7 +16,7 @@ use Rattle.slots.specs.declared.Answer.{Answer}
 use Rattle.slots.specs.declared.Answer.the-variants.{Made, BadPool}
 use Rattle.slots.specs.Heard.{heard}
 use Rattle.slots.specs.Parts.{idleState}
-use Rattle.lent.specs.Words.{stateOf, wordsOf}
+use Rattle.lent.specs.Words.{stateOf, stateWords}
 use Rattle.lent.proofs.Inverse.{state-back, idle-words, idle-sized}
 use Rattle.index.specs.Step.{Left, left}
 use Rattle.index.specs.Make.{made}
@@ -69,14 +69,14 @@ module _ (k n : ℕ) (ws : List ℕ) (good : isPool k n ws ≡ true) where
 made-says : {k n : ℕ} {ws : List ℕ} {r : Answer} {cells′ after : List ℕ} (l : Left) → made k n ws ≡ l
     → r ≡ l .answer
     → stateOf cells′ ≡ l .state
-    → cells′ ≡ wordsOf (l .state)
+    → cells′ ≡ stateWords (l .state)
     → after ≡ l .words
     → MakeSays k n ws r cells′ after
 made-says l e answer state all words =
     record {
       answer = ap heard answer ∙ sym (ap (λ (m : Left). heard (m .answer)) e);
       state = state ∙ sym (ap (λ (m : Left). m .state) e);
-      all = all ∙ sym (ap (λ (m : Left). wordsOf (m .state)) e);
+      all = all ∙ sym (ap (λ (m : Left). stateWords (m .state)) e);
       words = words ∙ sym (ap (λ (m : Left). m .words) e);
     }
 
@@ -85,17 +85,17 @@ module _ (cells : List ℕ) (long : length cells ≡ 435) {cleared : List ℕ} (
   all-zero : cleared ≡ replicate 435 0
   all-zero = zeros ∙ ap (λ (m : ℕ). replicate m 0) long
 
-  idle-cells : (k n : ℕ) → set (set cleared 0 k) 1 n ≡ wordsOf (idleState k n)
+  idle-cells : (k n : ℕ) → set (set cleared 0 k) 1 n ≡ stateWords (idleState k n)
   idle-cells k n = ap (λ (l : List ℕ). set (set l 0 k) 1 n) all-zero ∙ idle-words k n
 
-  idle-state : (k n : ℕ) → stateOf (wordsOf (idleState k n)) ≡ idleState k n
+  idle-state : (k n : ℕ) → stateOf (stateWords (idleState k n)) ≡ idleState k n
   idle-state k n = state-back (idleState k n) (idle-sized k n)
 
   module _ (k n : ℕ) (ws : List ℕ) where
     pub make-refuses : isPool k n ws ≡ false → MakeSays k n ws BadPool cleared ws
     unfolding made
     make-refuses bad =
-        let all : cleared ≡ wordsOf (idleState 0 0) = all-zero ∙ idle-words 0 0 in
+        let all : cleared ≡ stateWords (idleState 0 0) = all-zero ∙ idle-words 0 0 in
         made-says (left BadPool (idleState 0 0) ws) (cond-false (left Made (idleState k n) (fresh k n)) (left BadPool (idleState 0 0) ws) bad)
         refl (ap stateOf all ∙ idle-state 0 0) all refl
 

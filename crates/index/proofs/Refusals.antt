@@ -123,10 +123,6 @@ make-refused k n ws =
     (λ _ e. absurd (false≢true e))
     (λ _ _. record { state = refl; words = refl })
 
-pub empty-unsound : sound (idleState 0 0) ≡ false
-unfolding sound
-empty-unsound = refl
-
 abbrev SameLength : List ℕ → Left → Type 0
 SameLength ws after = length (after .words) ≡ length ws
 

@@ -24,13 +24,13 @@ use Rattle.slots.specs.Parts.{slotAt, isOpen, pathOf, siblingsOf}
 use Rattle.slots.specs.Sound.{slotSound, sound}
 use Rattle.slots.proofs.Keeping.{path-new, siblings-new}
 use Rattle.slots.proofs.SoundFacts.{SoundState, sound-facts, facts-sound, slot-sound}
-use Rattle.lent.specs.Words.{asRead, known, stateOf, written, lentAfter}
+use Rattle.lent.specs.Words.{asRead, known, stateOf, laidInto, lentAfter}
 use Rattle.lent.proofs.StateLaws.{state-known}
 use Rattle.state.proofs.CheckingLawsSound.{SoundWords}
 use Rattle.course.specs.declared.judging.Course.{Course}
 use Rattle.footing.specs.Granted.{Verdict, broken, goes, ends, granted}
 use Rattle.footing.specs.Fitting.{pagesSound, fitting, nextIsNew, soundForStep, verdict}
-use Rattle.footing.specs.Standing.{Asks, Stands, fits, standPath, standSiblings, stood}
+use Rattle.footing.specs.Standing.{Asks, SlotStanding, fits, standPath, standSiblings, stood}
 use Rattle.course.specs.Judged.{judged, ifNew, courseOf}
 use Rattle.course.proofs.JudgeLaws.{granted-judged}
 use Rattle.course.proofs.StandLaws.{stood-stands}
@@ -103,8 +103,8 @@ module _
 
       -- the operation stands here
       module _ {stand : Slot} (e : stand ≡ stood op (st .k) (pageAt (st .k) ws) slot) where
-        pub granted-stands : Stands op (st .k) (st .n) ws stand
-        granted-stands = subst (Stands op (st .k) (st .n) ws) (sym e) (stood-stands op (st .k) (st .n) ws slot asks granted-fits)
+        pub granted-stands : SlotStanding op (st .k) (st .n) ws stand
+        granted-stands = subst (SlotStanding op (st .k) (st .n) ws) (sym e) (stood-stands op (st .k) (st .n) ws slot asks granted-fits)
 
         pub granted-acts : Acts st ws s op stand
         granted-acts = record { waits = waits; stands = granted-stands }
@@ -140,7 +140,7 @@ left-says {cells} {s = s} l e answer state all words =
 same-says : {cells ws : List ℕ} {s : ℕ} (a : Answer) → left a (stateOf cells) ws ≡ stepped (stateOf cells) ws s → changesNothing a ≡ true → StepSays cells ws s a cells ws
 unfolding lentAfter
 same-says {cells} {ws} {s} a e q =
-    left-says (left a (stateOf cells) ws) e refl refl (sym (cond-true cells (written cells s (stateOf cells)) q)) refl
+    left-says (left a (stateOf cells) ws) e refl refl (sym (cond-true cells (laidInto cells s (stateOf cells)) q)) refl
 
 -- the words of the state by the verdict, and by the answer
 acted-cells : (cells ws : List ℕ) (s : ℕ) (op : Op) (v : Verdict) → Answers v

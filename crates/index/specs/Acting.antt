@@ -17,16 +17,16 @@ use Rattle.slots.specs.declared.State.{State}
 use Rattle.slots.specs.declared.Answer.{Answer}
 use Rattle.slots.specs.declared.Answer.the-variants.{Inserted, NoRoom}
 use Rattle.slots.specs.Parts.{pathOf, siblingsOf, waitingOrder}
-use Rattle.lent.specs.Words.{asRead, stateOf, written}
+use Rattle.lent.specs.Words.{asRead, stateOf, laidInto}
 use Rattle.footing.specs.Granted.{Verdict, broken, goes, ends}
-use Rattle.footing.specs.Standing.{Stands}
+use Rattle.footing.specs.Standing.{SlotStanding}
 use Rattle.index.specs.Step.{acted}
 
 -- the words of the state after a verdict: as given, or with the slot and the order as the next state has them
 abbrev pub actedCells : List ℕ → ℕ → Verdict → State → List ℕ
 actedCells cells s broken st = cells
-actedCells cells s (goes path siblings want) st = written cells s st
-actedCells cells s (ends answer writes) st = written cells s st
+actedCells cells s (goes path siblings want) st = laidInto cells s st
+actedCells cells s (ends answer writes) st = laidInto cells s st
 
 -- What a granted step gives back and leaves, by its verdict.
 pub record Leaves (cells ws : List ℕ) (s : ℕ) (op : Op) (v : Verdict) (r : Answer) (cells′ after : List ℕ) : Type 0 where
@@ -44,7 +44,7 @@ pub record Waits (st : State) (s : ℕ) : Type 0 where
 -- It was granted, and the operation stands here.
 pub record Acts (st : State) (ws : List ℕ) (s : ℕ) (op : Op) (stand : Slot) : Type 0 where
   pub waits : Waits st s
-  pub stands : Stands op (st .k) (st .n) ws stand
+  pub stands : SlotStanding op (st .k) (st .n) ws stand
 
 -- the slot with another want
 abbrev pub wanting : ℕ → Slot → Slot

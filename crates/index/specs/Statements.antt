@@ -5,7 +5,7 @@ use mathlib.Core.Path.{_≡_}
 use mathlib.Core.List.{List}
 use Rattle.slots.specs.declared.Answer.{Answer}
 use Rattle.slots.specs.Heard.{heard}
-use Rattle.lent.specs.Words.{stateOf, wordsOf, lentAfter}
+use Rattle.lent.specs.Words.{stateOf, stateWords, lentAfter}
 use Rattle.index.specs.Step.{stepped}
 use Rattle.index.specs.Make.{made}
 
@@ -13,7 +13,7 @@ use Rattle.index.specs.Make.{made}
 pub record MakeSays (k n : ℕ) (ws : List ℕ) (r : Answer) (cells′ after : List ℕ) : Type 0 where
   pub answer : heard r ≡ heard (made k n ws .answer)
   pub state : stateOf cells′ ≡ made k n ws .state
-  pub all : cells′ ≡ wordsOf (made k n ws .state)
+  pub all : cells′ ≡ stateWords (made k n ws .state)
   pub words : after ≡ made k n ws .words
 
 pub record StepSays (cells ws : List ℕ) (s : ℕ) (r : Answer) (cells′ after : List ℕ) : Type 0 where

@@ -24,15 +24,15 @@ ghost use Rattle.deletion.specs.Deleting.{Deleting};
 ghost use Rattle.slots.specs.declared.Op.the-variants.{Insert};
 ghost use Rattle.slots.specs.Parts.{pathOf, siblingsOf};
 ghost use Rattle.slots.specs.Book.{requeued};
-ghost use Rattle.lent.specs.Words.{asRead, known, written};
+ghost use Rattle.lent.specs.Words.{asRead, known, laidInto};
 ghost use Rattle.footing.specs.Fitting.{verdict};
-ghost use Rattle.footing.specs.Standing.{Asks, Stands};
+ghost use Rattle.footing.specs.Standing.{Asks, SlotStanding};
 ghost use Rattle.course.specs.Judged.{courseOf, ready};
 ghost use Rattle.index.specs.Acting.{Waits, Acts, Leaves, wanting, roomAnswer, afterInsertion, afterDeletion};
 
 // The whole change of an insertion, if there is room. Room is counted before anything is written.
 pub fn insert_lot(words: &mut [u32], k: usize, n: usize, x: u32, v: u32, stand: Slot) -> Answer
-    requires { ⌜ Stands (Insert x v) k n (now words) stand ⌝ }
+    requires { ⌜ SlotStanding (Insert x v) k n (now words) stand ⌝ }
     ensures { λ r. ⌜ r ≡ roomAnswer k n (now (words .entry)) stand ⌝ }
     ensures { λ _. ⌜ now (words .exit) ≡ afterInsertion k n (now (words .entry)) x v stand ⌝ }
 {
@@ -61,7 +61,7 @@ pub fn delete_lot(words: &mut [u32], k: usize, n: usize, x: u32, stand: Slot)
 // The slot goes on from where it stands and wants this page.
 pub fn go_on(state: &mut [u32; STATE], s: usize, stand: Slot, next: u32)
     requires { ⌜ (Waits (asRead (now state)) s) × (stand .depth ≤ 10) × (stand .beside ≤ 10) ⌝ }
-    ensures { λ _. ⌜ now (state .exit) ≡ written (now (state .entry)) s (requeued (asRead (now (state .entry))) s (wanting next stand)) ⌝ }
+    ensures { λ _. ⌜ now (state .exit) ≡ laidInto (now (state .entry)) s (requeued (asRead (now (state .entry))) s (wanting next stand)) ⌝ }
 {
     let mut slot = stand;
     slot.want = next;

@@ -28,7 +28,8 @@ use Rattle.insertion.specs.Inserting.{Inserting, grown, settledAs}
 use Rattle.insertion.specs.declared.inserting.Settled.{Settled}
 use Rattle.insertion.specs.declared.inserting.Settled.the-variants.{Done, Up}
 use Rattle.change.proofs.HeldLaws.{Known, holding-known, holding-page, one-held, upward-top, upward-father}
-use Rattle.insertion.proofs.SettleLaws.{grown-μ, settled-fits, settled-splits, settled-top, settled-done, settled-on}
+use Rattle.change.proofs.RuleLaws.{settled-fits, settled-splits}
+use Rattle.insertion.proofs.SettleLaws.{grown-μ, settled-top, settled-done, settled-on}
 
 -- from index i on all pages are full, so there are as many full pages
 count-suffix : (k : ℕ) (memory : ℕ → Page) (path : List ℕ) (i m : ℕ) → i + m ≤ length path

@@ -5,16 +5,15 @@ use mathlib.Core.Bool.{false, cond}
 use mathlib.Core.List.{List, [], _∷_}
 use mathlib.Core.Path.{_≡_, refl, sym, ap, ap₂, _∙_}
 use native.Mathlib.Omega.{arith}
-use borrow.Author.Tests.{le-leb, lt-leb, eq-eqb}
+use borrow.Author.Tests.{eq-eqb}
 use lib.Dec.{leb}
 use lib.ListN.{drop}
 use Rattle.ground.specs.Tests.{member}
 use Rattle.ground.proofs.Bools.{or-first}
-use Rattle.ground.proofs.Choice.{cond-true, cond-false}
 use Rattle.page.specs.Words.{Page, entry, μ}
 use Rattle.page.specs.Place.{place}
 use Rattle.page.specs.Splits.{put, split, raised}
-use Rattle.sheet.specs.Sheets.{Holds, sheetPage}
+use Rattle.sheet.specs.Sheets.{OnSheet, sheetPage}
 use Rattle.page.proofs.PutLaws.{put-μ, put-level}
 use Rattle.pool.specs.Pool.{Write, write, written, applied}
 use Rattle.pool.specs.Wrapped.{InPool}
@@ -24,6 +23,7 @@ use Rattle.insertion.specs.Inserting.{grown, settledAs}
 use Rattle.insertion.specs.declared.inserting.Settled.the-variants.{Done, Up}
 use Rattle.sheet.specs.declared.sheets.Sheet.{Sheet}
 use Rattle.change.proofs.HeldLaws.{Known, held-known}
+use Rattle.change.proofs.RuleLaws.{settled-fits, settled-splits, settled-raises}
 
 -- ---- lists of writes
 
@@ -51,28 +51,6 @@ held-other h inside = record { width = h .width; most = h .most; whole = h .whol
 -- ---- the rule, a page at a time
 
 module _ (k : ℕ) (memory : ℕ → Page) (x : ℕ) where
-  -- a page of at most 2k is written
-  pub settled-fits : (free up : List ℕ) (p : ℕ) (P : Page) → μ P ≤ 2 * k → settled k memory x free up p P ≡ write p P ∷ []
-  unfolding settled
-  settled-fits free [] p P h = cond-true _ _ (le-leb (μ P) (2 * k) h)
-  settled-fits free (f ∷ up) p P h = cond-true _ _ (le-leb (μ P) (2 * k) h)
-
-  -- one that has more is split, and its father has one reference key more
-  pub settled-splits : (free : List ℕ) (f : ℕ) (up : List ℕ) (p : ℕ) (P : Page) → 2 * k < μ P
-      → settled k memory x free (f ∷ up) p P
-      ≡ write (lowest free) (split k P .right) ∷ write p (split k P .left)
-      ∷ settled k memory x (drop 1 free) up f (grown x (split k P .between) (lowest free) (memory f))
-  unfolding settled
-  settled-splits free f up p P h = cond-false _ _ (lt-leb (μ P) (2 * k) h)
-
-  -- page 0 is split under a new root
-  pub settled-raises : (free : List ℕ) (p : ℕ) (P : Page) → 2 * k < μ P
-      → settled k memory x free [] p P
-      ≡ write (lowest free) (split k P .left) ∷ write (lowest (drop 1 free)) (split k P .right)
-      ∷ write p (raised P (lowest free) (split k P .between) (lowest (drop 1 free))) ∷ []
-  unfolding settled
-  settled-raises free p P h = cond-false _ _ (lt-leb (μ P) (2 * k) h)
-
   -- at the top only the first two new pages matter, and no other page
   pub settled-top : (memory′ : ℕ → Page) (free : List ℕ) (a b p : ℕ) (P : Page) → lowest free ≡ a → lowest (drop 1 free) ≡ b
       → settled k memory x free [] p P ≡ settled k memory′ x (a ∷ b ∷ []) [] p P
@@ -90,7 +68,7 @@ module _ (k : ℕ) (memory : ℕ → Page) (x : ℕ) where
   pub settled-done : (free up : List ℕ) (p : ℕ) (P : Page) (ws after : List ℕ) → μ P ≤ 2 * k → after ≡ written k (write p P) ws
       → after ≡ applied k (settled k memory x free up p P) ws
   settled-done free up p P ws after h e =
-      e ∙ sym (ap (λ (l : List Write). applied k l ws) (settled-fits free up p P h) ∙ applied-one k (write p P) ws)
+      e ∙ sym (ap (λ (l : List Write). applied k l ws) (settled-fits k memory x free up p P h) ∙ applied-one k (write p P) ws)
 
   -- a page with a father that was split: the rest of the list is what its father comes to
   pub settled-on : (free rest fathers : List ℕ) (f : ℕ) (up : List ℕ) (p : ℕ) (P : Page) (a key : ℕ) (ws after : List ℕ)
@@ -104,7 +82,7 @@ module _ (k : ℕ) (memory : ℕ → Page) (x : ℕ) where
   unfolding applied
   settled-on free rest fathers f up p P a key ws after eFathers eTaken eRest over eKey eAfter =
       ap (λ (l : List ℕ). applied k (settled k memory x free l p P) ws) eFathers
-      ∙ ap (λ (l : List Write). applied k l ws) (settled-splits free f up p P over)
+      ∙ ap (λ (l : List Write). applied k l ws) (settled-splits k memory x free f up p P over)
       ∙ ap
       (λ (b : ℕ).
       applied k (settled k memory x (drop 1 free) up f (grown x (split k P .between) b (memory f)))
@@ -129,11 +107,11 @@ put-grown : (x at key value : ℕ) (F : Page) → at ≡ place x (F .entries) �
 put-grown x at key value F there = ap (λ (i : ℕ). put i (entry key value) F) there
 
 -- a buffer with one pair more than a full page
-pub over-count : (k at key value : ℕ) (F : Page) {s : Sheet} → Holds (put at (entry key value) F) s → μ F ≡ 2 * k → s .count ≡ 2 * k + 1
+pub over-count : (k at key value : ℕ) (F : Page) {s : Sheet} → OnSheet (put at (entry key value) F) s → μ F ≡ 2 * k → s .count ≡ 2 * k + 1
 over-count k at key value F holds full = omega (arith, holds .counted, put-μ at (entry key value) F)
 
 -- has the page's level
-pub over-level : (at key value : ℕ) (F : Page) {s : Sheet} → Holds (put at (entry key value) F) s → s .level ≡ F .level
+pub over-level : (at key value : ℕ) (F : Page) {s : Sheet} → OnSheet (put at (entry key value) F) s → s .level ≡ F .level
 over-level at key value F holds = ap (λ (P : Page). P .level) (holds .value) ∙ put-level at (entry key value) F
 
 module _ (k x key value p a : ℕ) (F : Page) (at m : ℕ) (ws : List ℕ) (there : at ≡ place x (F .entries)) (counted : m ≡ μ F) where
@@ -144,7 +122,7 @@ module _ (k x key value p a : ℕ) (F : Page) (at m : ℕ) (ws : List ℕ) (ther
       (omega (arith, grown-μ x key value F), e ∙ ap (λ (P : Page). written k (write p P) ws) (put-grown x at key value F there))
 
   -- it was split
-  pub settle-up : {s : Sheet} {up : ℕ} {after : List ℕ} → 2 * k ≤ m → Holds (put at (entry key value) F) s
+  pub settle-up : {s : Sheet} {up : ℕ} {after : List ℕ} → 2 * k ≤ m → OnSheet (put at (entry key value) F) s
       → up ≡ split k (sheetPage s) .between
       → after ≡ applied k (write a (split k (sheetPage s) .right) ∷ write p (split k (sheetPage s) .left) ∷ []) ws
       → settledAs k p (grown x key value F) a ws after (Up up)
@@ -166,7 +144,7 @@ module _ (k x key value p a : ℕ) (F : Page) (at m : ℕ) (ws : List ℕ) (ther
       (e ∙ ap (λ (P : Page). written k (write p P) ws) (put-grown x at key value F there))
 
   -- the top was split
-  pub top-raised : (b : ℕ) (memory : ℕ → Page) {s : Sheet} {after : List ℕ} → 2 * k ≤ m → Holds (put at (entry key value) F) s
+  pub top-raised : (b : ℕ) (memory : ℕ → Page) {s : Sheet} {after : List ℕ} → 2 * k ≤ m → OnSheet (put at (entry key value) F) s
       → after
       ≡ applied k
       (write a (split k (sheetPage s) .left) ∷ write b (split k (sheetPage s) .right)

@@ -7,7 +7,7 @@ use mathlib.Core.List.{List, _∷_, _++_}
 use mathlib.Core.Logic.{_≢_, _⊎_, inl, inr, ⊎-elim}
 use native.Mathlib.Omega.{arith}
 use lib.Dec.{ltb}
-use lib.ListN.{length, getD, take, drop, set, replicate, length-append, length-drop, getD-replicate, take-append-drop, List·getD-append}
+use lib.ListN.{length, getD, take, drop, set, replicate, length-drop, getD-replicate, take-append-drop, List·getD-append}
 use lib.Seq.{ext-getD, getD-append-add, getD-drop, take-at}
 use borrow.Author.Tests.{lt-ltb, ltb-true, ltb-false}
 use Rattle.ground.specs.Limits.{slotCount, pathHolds}
@@ -17,7 +17,7 @@ use Rattle.ground.proofs.Tests.{allBelow-from}
 use Rattle.slots.specs.declared.Slot.{Slot}
 use Rattle.slots.specs.declared.State.{State}
 use Rattle.slots.specs.Parts.{closedSlot, slotAt, idleState}
-use Rattle.lent.specs.Words.{listOf, address, cell, column, taskFrom, slotIn, orderIn, asRead, known, stateOf, kindOf, keyIn, informationIn, rowsOf, wordsOf}
+use Rattle.lent.specs.Words.{listOf, address, cell, column, taskFrom, slotIn, orderIn, asRead, known, stateOf, kindOf, keyIn, informationIn, rowsOf, stateWords}
 use Rattle.lent.proofs.ListLaws.{length-listOf, getD-listOf, listOf-same, listOf-getD}
 use Rattle.lent.proofs.StateLaws.{by-front, slot-read, state-known, rows-read, rows-kind, length-column, column-cell}
 use Rattle.lent.proofs.HoldLaws.{by-kind}
@@ -39,59 +39,56 @@ module _ (st : State) (sized : Sized st) where
   head : List ℕ
   head = st .k ∷ st .n ∷ st .waiting ∷ st .order
 
-  words-split : wordsOf st ≡ head ++ listOf 416 row-of
-  unfolding wordsOf head row-of
+  words-split : stateWords st ≡ head ++ listOf 416 row-of
+  unfolding stateWords head row-of
   words-split = refl
 
   head-long : length head ≡ 19
   unfolding head
   head-long = omega (arith, sized .order)
 
-  pub words-long : length (wordsOf st) ≡ 435
-  words-long = ap length words-split ∙ length-append head (listOf 416 row-of) ∙ omega (arith, head-long, length-listOf 416 row-of)
-
-  words-cell : (s : ℕ) → s < 16 → (r : ℕ) → r < 26 → cell (wordsOf st) r s ≡ getD (rowsOf (slotAt st s)) r 0
+  words-cell : (s : ℕ) → s < 16 → (r : ℕ) → r < 26 → cell (stateWords st) r s ≡ getD (rowsOf (slotAt st s)) r 0
   unfolding row-of
   words-cell s h r b =
       let same : address r s ≡ 19 + (16 * r + s) = omega arith in
       let slot : (16 * r + s) % 16 ≡ s = omega arith in
       let row : (16 * r + s) / 16 ≡ r = omega arith in
-      ap (λ (i : ℕ). getD (wordsOf st) i 0) same
+      ap (λ (i : ℕ). getD (stateWords st) i 0) same
       ∙ ap (λ (l : List ℕ). getD l (19 + (16 * r + s)) 0) words-split
       ∙ subst (λ (n : ℕ). getD (head ++ listOf 416 row-of) (n + (16 * r + s)) 0 ≡ getD (listOf 416 row-of) (16 * r + s) 0) head-long
       (getD-append-add head (listOf 416 row-of) (16 * r + s) 0)
       ∙ getD-listOf 416 row-of (16 * r + s) 0 (omega arith)
       ∙ ap₂ (λ (t q : ℕ). getD (rowsOf (slotAt st t)) q 0) slot row
 
-  slot-words : (s : ℕ) → s < 16 → slotIn (wordsOf st) s ≡ slotAt st s
-  slot-words s h = rows-read (wordsOf st) s (slotAt st s) (sized .path s h) (sized .siblings s h) (words-cell s h)
+  slot-words : (s : ℕ) → s < 16 → slotIn (stateWords st) s ≡ slotAt st s
+  slot-words s h = rows-read (stateWords st) s (slotAt st s) (sized .path s h) (sized .siblings s h) (words-cell s h)
 
-  order-words : orderIn (wordsOf st) ≡ st .order
-  unfolding wordsOf orderIn
+  order-words : orderIn (stateWords st) ≡ st .order
+  unfolding stateWords orderIn
   order-words = take-at (st .order) (listOf 416 (λ (i : ℕ). getD (rowsOf (slotAt st (i % 16))) (i / 16) 0)) 16 (sized .order)
 
-  read-words : asRead (wordsOf st) ≡ st
-  unfolding wordsOf
+  read-words : asRead (stateWords st) ≡ st
+  unfolding stateWords
   read-words =
-      let slots : listOf 16 (slotIn (wordsOf st)) ≡ st .slots =
-      listOf-same 16 (slotIn (wordsOf st)) (slotAt st) slot-words ∙ listOf-getD (st .slots) closedSlot 16 (sized .slots) in
+      let slots : listOf 16 (slotIn (stateWords st)) ≡ st .slots =
+      listOf-same 16 (slotIn (stateWords st)) (slotAt st) slot-words ∙ listOf-getD (st .slots) closedSlot 16 (sized .slots) in
       λ i. record { k = st .k; n = st .n; slots = slots i; order = order-words i; waiting = st .waiting }
 
-  known-words : known (wordsOf st) ≡ true
+  known-words : known (stateWords st) ≡ true
   unfolding known slotCount
   known-words =
-      allBelow-from (λ (s : ℕ). ltb (cell (wordsOf st) 0 s) 4) 16
-      (λ s h. lt-ltb (cell (wordsOf st) 0 s) 4 (rows-kind (wordsOf st) s (slotAt st s) (sized .path s h) (sized .siblings s h) (words-cell s h)))
+      allBelow-from (λ (s : ℕ). ltb (cell (stateWords st) 0 s) 4) 16
+      (λ s h. lt-ltb (cell (stateWords st) 0 s) 4 (rows-kind (stateWords st) s (slotAt st s) (sized .path s h) (sized .siblings s h) (words-cell s h)))
 
   -- the words of a state read as that state
-  pub state-back : stateOf (wordsOf st) ≡ st
-  state-back = state-known (wordsOf st) known-words ∙ read-words
+  pub state-back : stateOf (stateWords st) ≡ st
+  state-back = state-known (stateWords st) known-words ∙ read-words
 
 -- ---- an idle state
 
 -- its words: k, N, and 0 everywhere else
-pub idle-words : (k n : ℕ) → set (set (replicate 435 0) 0 k) 1 n ≡ wordsOf (idleState k n)
-unfolding wordsOf slotCount pathHolds padded listOf
+pub idle-words : (k n : ℕ) → set (set (replicate 435 0) 0 k) 1 n ≡ stateWords (idleState k n)
+unfolding stateWords slotCount pathHolds padded listOf
 idle-words k n = refl
 
 pub idle-sized : (k n : ℕ) → Sized (idleState k n)
@@ -169,17 +166,17 @@ rows-back ws clean =
     ∙ ap (λ (i : ℕ). getD ws i 0) same
     ∙ sym (getD-drop 19 ws j 0))
 
-read-back : (ws : List ℕ) → Clean ws → wordsOf (asRead ws) ≡ ws
-unfolding wordsOf orderIn
+read-back : (ws : List ℕ) → Clean ws → stateWords (asRead ws) ≡ ws
+unfolding stateWords orderIn
 read-back ws clean =
     by-front
-    (λ (l : List ℕ). listOf 416 (λ (i : ℕ). getD (rowsOf (slotAt (asRead l) (i % 16))) (i / 16) 0) ≡ drop 19 l → wordsOf (asRead l) ≡ l)
+    (λ (l : List ℕ). listOf 416 (λ (i : ℕ). getD (rowsOf (slotAt (asRead l) (i % 16))) (i / 16) 0) ≡ drop 19 l → stateWords (asRead l) ≡ l)
     (λ a b x rest e. ap (λ (l : List ℕ). a ∷ b ∷ x ∷ (take 16 rest ++ l)) e ∙ ap (λ (l : List ℕ). a ∷ b ∷ x ∷ l) (take-append-drop 16 rest))
     ws (omega (arith, clean .long)) (rows-back ws clean)
 
 -- clean words are the words of the state that they read as
-pub words-back : (ws : List ℕ) → Clean ws → wordsOf (stateOf ws) ≡ ws
+pub words-back : (ws : List ℕ) → Clean ws → stateWords (stateOf ws) ≡ ws
 unfolding known slotCount
 words-back ws clean =
-    ap wordsOf (state-known ws (allBelow-from (λ (s : ℕ). ltb (cell ws 0 s) 4) 16 (λ s h. lt-ltb (cell ws 0 s) 4 (clean .exist s h))))
+    ap stateWords (state-known ws (allBelow-from (λ (s : ℕ). ltb (cell ws 0 s) 4) 16 (λ s h. lt-ltb (cell ws 0 s) 4 (clean .exist s h))))
     ∙ read-back ws clean

@@ -21,7 +21,7 @@ use Rattle.slots.specs.declared.Slot.{Slot}
 use Rattle.slots.specs.Parts.{closedSlot, slotAt}
 use Rattle.slots.specs.Book.{rewritten}
 use Rattle.slots.proofs.OrderLaws.{same-or-not}
-use Rattle.lent.specs.Words.{listOf, address, cell, column, taskFrom, slotIn, orderIn, asRead, known, stateOf, kindOf, keyIn, informationIn, rowsOf, spread, slotLaid, orderLaid, written}
+use Rattle.lent.specs.Words.{listOf, address, cell, column, taskFrom, slotIn, orderIn, asRead, known, stateOf, kindOf, keyIn, informationIn, rowsOf, spread, slotLaid, orderLaid, laidInto}
 use Rattle.lent.proofs.ListLaws.{length-listOf, getD-listOf, listOf-same, listOf-getD, listOf-set}
 use Rattle.lent.proofs.SpreadLaws.{length-spread, spread-beside, spread-front, spread-at}
 
@@ -225,8 +225,8 @@ module _ (ws : List ℕ) (s : ℕ) (slot : Slot) (order : List ℕ) (waiting : �
   pub next-slot : slotAt (rewritten (asRead ws) s slot order waiting) s ≡ slot
   next-slot = getD-set-same (listOf 16 (slotIn ws)) s slot closedSlot (omega (arith, length-listOf 16 (slotIn ws)))
 
-  pub written-laid : written ws s (rewritten (asRead ws) s slot order waiting) ≡ slotLaid (orderLaid ws waiting order) s slot
-  unfolding written
+  pub written-laid : laidInto ws s (rewritten (asRead ws) s slot order waiting) ≡ slotLaid (orderLaid ws waiting order) s slot
+  unfolding laidInto
   written-laid = ap (slotLaid (orderLaid ws waiting order) s) next-slot
 
   module _ (cells : length order ≡ 16) (path : length (slot .path) ≡ 10) (beside : length (slot .siblings) ≡ 10) where
@@ -281,7 +281,7 @@ module _ (ws : List ℕ) (s : ℕ) (slot : Slot) (order : List ℕ) (waiting : �
         (same-or-not t s))
 
     -- the words written are those of the next state
-    pub state-written : known ws ≡ true → stateOf (written ws s (rewritten (asRead ws) s slot order waiting)) ≡ rewritten (asRead ws) s slot order waiting
+    pub state-written : known ws ≡ true → stateOf (laidInto ws s (rewritten (asRead ws) s slot order waiting)) ≡ rewritten (asRead ws) s slot order waiting
     unfolding after mid
     state-written e = ap stateOf written-laid ∙ state-known after (known-after e) ∙ read-after
 

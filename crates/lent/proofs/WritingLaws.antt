@@ -11,7 +11,7 @@ use Rattle.slots.specs.declared.Slot.{Slot}
 use Rattle.slots.specs.Parts.{openSlot, closedSlot, waitingOrder}
 use Rattle.slots.specs.Book.{leaving, begins, requeued, closes}
 use Rattle.slots.proofs.BookLaws.{gapAt}
-use Rattle.lent.specs.Words.{address, orderIn, asRead, kindOf, keyIn, informationIn, spread, slotLaid, orderLaid, written}
+use Rattle.lent.specs.Words.{address, orderIn, asRead, kindOf, keyIn, informationIn, spread, slotLaid, orderLaid, laidInto}
 use Rattle.lent.proofs.SpreadLaws.{spread-append}
 use Rattle.lent.proofs.StateLaws.{by-front, written-laid}
 
@@ -66,16 +66,16 @@ fewer-laid ws order w v long =
 -- ---- the whole
 
 module _ (ws : List ℕ) (s : ℕ) (long : length ws ≡ 435) (inside : s < 16) where
-  pub begins-writes : (op : Op) → slotLaid (orderLaid ws (getD ws 2 0 + 1) (set (orderIn ws) (getD ws 2 0) s)) s (openSlot op 0 [] []) ≡ written ws s (begins (asRead ws) s op)
+  pub begins-writes : (op : Op) → slotLaid (orderLaid ws (getD ws 2 0 + 1) (set (orderIn ws) (getD ws 2 0) s)) s (openSlot op 0 [] []) ≡ laidInto ws s (begins (asRead ws) s op)
   unfolding begins
   begins-writes op = sym (written-laid ws s (openSlot op 0 [] []) (set (orderIn ws) (getD ws 2 0) s) (getD ws 2 0 + 1) long inside)
 
   pub requeued-writes : (slot : Slot)
-      → slotLaid (orderLaid ws (getD ws 2 0) (leaving s (take (getD ws 2 0) (orderIn ws)) ++ s ∷ drop (getD ws 2 0) (orderIn ws))) s slot ≡ written ws s (requeued (asRead ws) s slot)
+      → slotLaid (orderLaid ws (getD ws 2 0) (leaving s (take (getD ws 2 0) (orderIn ws)) ++ s ∷ drop (getD ws 2 0) (orderIn ws))) s slot ≡ laidInto ws s (requeued (asRead ws) s slot)
   unfolding waitingOrder
   requeued-writes slot = sym (written-laid ws s slot _ (getD ws 2 0) long inside)
 
-  pub closes-writes : slotLaid (orderLaid ws (getD ws 2 0 - 1) (leaving s (take (getD ws 2 0) (orderIn ws)) ++ 0 ∷ drop (getD ws 2 0) (orderIn ws))) s closedSlot ≡ written ws s (closes (asRead ws) s)
+  pub closes-writes : slotLaid (orderLaid ws (getD ws 2 0 - 1) (leaving s (take (getD ws 2 0) (orderIn ws)) ++ 0 ∷ drop (getD ws 2 0) (orderIn ws))) s closedSlot ≡ laidInto ws s (closes (asRead ws) s)
   unfolding waitingOrder closes
   closes-writes = sym (written-laid ws s closedSlot _ (getD ws 2 0 - 1) long inside)
 

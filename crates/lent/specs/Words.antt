@@ -108,13 +108,13 @@ unfoldable pub orderLaid : List ℕ → ℕ → List ℕ → List ℕ
 orderLaid ws waiting order = take 2 ws ++ waiting ∷ order ++ drop 19 ws
 
 -- the words with slot s and the waiting order as a state has them; all others stay
-unfoldable pub written : List ℕ → ℕ → State → List ℕ
-written ws s st = slotLaid (orderLaid ws (st .waiting) (st .order)) s (slotAt st s)
+unfoldable pub laidInto : List ℕ → ℕ → State → List ℕ
+laidInto ws s st = slotLaid (orderLaid ws (st .waiting) (st .order)) s (slotAt st s)
 
 -- What a call on slot s leaves: after a refusal and after Waiting every word as given, otherwise that slot and the order.
 unfoldable pub lentAfter : List ℕ → ℕ → Answer → State → List ℕ
-lentAfter ws s answer st = cond (changesNothing answer) ws (written ws s st)
+lentAfter ws s answer st = cond (changesNothing answer) ws (laidInto ws s st)
 
 -- all words of a state
-unfoldable pub wordsOf : State → List ℕ
-wordsOf st = st .k ∷ st .n ∷ st .waiting ∷ st .order ++ listOf 416 (λ (i : ℕ). getD (rowsOf (slotAt st (i % 16))) (i / 16) 0)
+unfoldable pub stateWords : State → List ℕ
+stateWords st = st .k ∷ st .n ∷ st .waiting ∷ st .order ++ listOf 416 (λ (i : ℕ). getD (rowsOf (slotAt st (i % 16))) (i / 16) 0)

@@ -18,7 +18,7 @@ ghost use lib.ListN.{length, getD, take, drop, set, replicate};
 ghost use Rattle.ground.specs.Tests.{member};
 ghost use Rattle.slots.specs.Parts.{waitingOrder};
 ghost use Rattle.slots.specs.Book.{leaving, begins, requeued, closes};
-ghost use Rattle.lent.specs.Words.{orderIn, asRead, orderLaid, written};
+ghost use Rattle.lent.specs.Words.{orderIn, asRead, orderLaid, laidInto};
 
 // Every word 0.
 pub fn clear(cells: &mut [u32])
@@ -81,7 +81,7 @@ pub fn join_order(cells: &mut [u32; STATE], waiting: usize, s: usize)
 // Beginning an operation makes the slot want page 0.
 pub fn begins(cells: &mut [u32; STATE], s: usize, op: Op)
     requires { ⌜ (s < 16) × (getD (now cells) 2 0 < 16) ⌝ }
-    ensures { λ _. ⌜ now (cells .exit) ≡ written (now (cells .entry)) s (begins (asRead (now (cells .entry))) s op) ⌝ }
+    ensures { λ _. ⌜ now (cells .exit) ≡ laidInto (now (cells .entry)) s (begins (asRead (now (cells .entry))) s op) ⌝ }
 {
     sized(cells);
     let waiting = waiting_of(cells);
@@ -92,7 +92,7 @@ pub fn begins(cells: &mut [u32; STATE], s: usize, op: Op)
 // The slot goes on with new holdings: its new want goes to the end of the waiting order.
 pub fn requeues(cells: &mut [u32; STATE], s: usize, slot: Slot)
     requires { ⌜ (s < 16) × (getD (now cells) 2 0 ≤ 16) × (member s (waitingOrder (asRead (now cells))) ≡ true) × (slot .depth ≤ 10) × (slot .beside ≤ 10) ⌝ }
-    ensures { λ _. ⌜ now (cells .exit) ≡ written (now (cells .entry)) s (requeued (asRead (now (cells .entry))) s slot) ⌝ }
+    ensures { λ _. ⌜ now (cells .exit) ≡ laidInto (now (cells .entry)) s (requeued (asRead (now (cells .entry))) s slot) ⌝ }
 {
     sized(cells);
     let waiting = waiting_of(cells);
@@ -103,7 +103,7 @@ pub fn requeues(cells: &mut [u32; STATE], s: usize, slot: Slot)
 // An answer that ends the operation gives up every lock and closes the slot.
 pub fn closes(cells: &mut [u32; STATE], s: usize)
     requires { ⌜ (s < 16) × (getD (now cells) 2 0 ≤ 16) × (member s (waitingOrder (asRead (now cells))) ≡ true) ⌝ }
-    ensures { λ _. ⌜ now (cells .exit) ≡ written (now (cells .entry)) s (closes (asRead (now (cells .entry))) s) ⌝ }
+    ensures { λ _. ⌜ now (cells .exit) ≡ laidInto (now (cells .entry)) s (closes (asRead (now (cells .entry))) s) ⌝ }
 {
     sized(cells);
     let waiting = waiting_of(cells);

@@ -12,11 +12,9 @@ use lib.ListN.{length, getD, length-append, List·getD-append}
 use Rattle.ground.specs.Tests.{all}
 use Rattle.ground.proofs.Bools.{true-or-false, and-both}
 use Rattle.ground.proofs.Tests.{all-append}
-use Rattle.lines.specs.Meaning.{isDigit, digits, value, largest, number, front}
-use Rattle.lines.specs.Forms.{Numeral}
+use Rattle.lines.specs.Meaning.{isDigit, value}
 use Rattle.lines.specs.Decimal.{lastDigit, digitsWithin, decimal}
 use Rattle.lines.proofs.DigitLaws.{digit-between, value-snoc}
-use Rattle.lines.proofs.Grammar.{front-numeral}
 
 -- any two bounds above the number do the same
 within-same : (f g n : ℕ) → n < f → n < g → digitsWithin f n ≡ digitsWithin g n
@@ -104,11 +102,3 @@ decimal-digital =
     (λ n h b. ap (all isDigit) (decimal-more n h)
     ∙ all-append isDigit (decimal (n / 10)) (lastDigit n ∷ [])
     ∙ and-both b (and-both (digit-between (lastDigit n) (omega arith) (omega arith)) refl))
-
--- so that it is read back: the number in decimal is a numeral of it, and what stands in front of bytes that begin with no
--- digit is the number
-pub decimal-numeral : (n : ℕ) → n ≤ largest → Numeral (decimal n) n
-decimal-numeral n h = record { digital = decimal-digital n; some = decimal-some n; worth = value-decimal n; small = h }
-
-pub front-decimal : (n : ℕ) (rest : List ℕ) → n ≤ largest → digits rest ≡ [] → front (decimal n ++ rest) ≡ number n rest
-front-decimal n rest h e = front-numeral rest (decimal-numeral n h) e

@@ -33,14 +33,6 @@ module _ (input : List ℕ) (at : ℕ) where
 
 -- ---- what the line is
 
--- it is no longer than the bytes it stands in
-pub line-short : (bs : List ℕ) → length (firstLine bs) ≤ length bs
-unfolding firstLine
-line-short [] = omega arith
-line-short (b ∷ bs) =
-    let rest = line-short bs in
-    cond-ind (λ (l : List ℕ). length l ≤ suc (length bs)) (eqb b 10) (λ t. omega arith) (λ f. omega arith)
-
 -- it is what stands in front of its end
 pub line-taken : (bs : List ℕ) → take (length (firstLine bs)) bs ≡ firstLine bs
 unfolding firstLine

@@ -9,10 +9,10 @@ use Rattle.slots.specs.declared.Answer.{Answer}
 use Rattle.slots.specs.declared.Answer.the-variants.{Begun, Waiting, Inserted, Found, SlotIdle, Deleted}
 use Rattle.lines.specs.declared.Command.{Command}
 use Rattle.lines.specs.declared.Command.the-variants.{Begin, Step, Bad}
-use Rattle.lines.specs.Text.{bytes, begins}
+use Rattle.lines.specs.Text.{bytes, startsWith}
 use Rattle.lines.specs.Meaning.{digits, value, front, stepping, searching, deleting, informing, inserting, asking, beginning, meaning}
 use Rattle.lines.specs.Decimal.{digitsWithin, decimal}
-use Rattle.lines.specs.Names.{written}
+use Rattle.lines.specs.Names.{answerLine}
 
 meanings : List String → List Command
 meanings = map (λ line. meaning (bytes line))
@@ -26,7 +26,7 @@ good-lines :
     ∷ Step 15
     ∷ Begin 4294967295 (Search 4294967295)
     ∷ []
-unfolding meanings begins digits value front stepping searching deleting informing inserting asking beginning meaning
+unfolding meanings startsWith digits value front stepping searching deleting informing inserting asking beginning meaning
 good-lines = refl
 
 bad-lines :
@@ -50,13 +50,13 @@ bad-lines :
     ∷ []
     )
     ≡ Bad ∷ Bad ∷ Bad ∷ Bad ∷ Bad ∷ Bad ∷ Bad ∷ Bad ∷ Bad ∷ Bad ∷ Bad ∷ Bad ∷ Bad ∷ Bad ∷ Bad ∷ Bad ∷ []
-unfolding meanings begins digits value front stepping searching deleting informing inserting asking beginning meaning
+unfolding meanings startsWith digits value front stepping searching deleting informing inserting asking beginning meaning
 bad-lines = refl
 
 -- ---- answers
 
 lines-written : List Answer → List (List ℕ)
-lines-written = map written
+lines-written = map answerLine
 
 answers :
     lines-written (Begun ∷ Waiting ∷ Inserted ∷ Found 3 ∷ SlotIdle ∷ Found 0 ∷ Deleted 4294967295 ∷ [])

@@ -17,7 +17,7 @@ use Rattle.ground.proofs.Choice.{cond-ind, cond-true}
 use Rattle.slots.specs.declared.Op.the-variants.{Search, Insert, Delete}
 use Rattle.lines.specs.declared.Command.{Command}
 use Rattle.lines.specs.declared.Command.the-variants.{Begin, Step, Bad}
-use Rattle.lines.specs.Text.{bytes, begins}
+use Rattle.lines.specs.Text.{bytes, startsWith}
 use Rattle.lines.specs.Meaning.{isDigit, digits, value, largest, Front, noNumber, number, counted, front, alone, numbered, after, stepping, searching, deleting, informing, inserting, asking, beginning, meaning}
 use Rattle.lines.specs.Forms.{Numeral, Good, toSearch, toInsert, toDelete, toStep}
 
@@ -63,7 +63,7 @@ alone-numeral {ds} {n} h = ap (λ (l : List ℕ). alone (front l)) (sym (append-
 -- ---- a good line means its command
 
 pub good-means : (line : List ℕ) {c : Command} → Good line c → meaning line ≡ c
-unfolding begins digits stepping searching deleting informing inserting asking beginning meaning
+unfolding startsWith digits stepping searching deleting informing inserting asking beginning meaning
 good-means line (toSearch {slot = slot} ss ks hs hk e) =
     ap meaning e
     ∙ ap (λ (f : Front). numbered f asking) (front-numeral (bytes " s " ++ ks) hs refl)
@@ -82,13 +82,13 @@ good-means line (toStep ss hs e) = ap meaning e ∙ ap (λ (f : Front). numbered
 -- ---- a line that means a command is good
 
 -- a word at the front, and what stands behind it
-begins-split : (word bs : List ℕ) → begins word bs ≡ true → bs ≡ word ++ drop (length word) bs
-unfolding begins
+begins-split : (word bs : List ℕ) → startsWith word bs ≡ true → bs ≡ word ++ drop (length word) bs
+unfolding startsWith
 begins-split [] bs t = refl
 begins-split (w ∷ ws) [] t = absurd (false≢true t)
 begins-split (w ∷ ws) (b ∷ bs) t =
-    ap₂ (λ (x : ℕ) (l : List ℕ). x ∷ l) (eqb-true b w (and-first (eqb b w) (begins ws bs) t))
-    (begins-split ws bs (and-second (eqb b w) (begins ws bs) t))
+    ap₂ (λ (x : ℕ) (l : List ℕ). x ∷ l) (eqb-true b w (and-first (eqb b w) (startsWith ws bs) t))
+    (begins-split ws bs (and-second (eqb b w) (startsWith ws bs) t))
 
 -- a number at the front is a numeral, and what stands behind it
 front-split : (bs : List ℕ) {n : ℕ} {rest : List ℕ} → front bs ≡ number n rest → Numeral (digits bs) n × (bs ≡ digits bs ++ rest)
@@ -167,7 +167,7 @@ module _ (line : List ℕ) where
     inserting-meant bs e =
         numbered-ind (Meant line) (front bs) (λ key rest. after " " rest (informing slot key) Bad) (inl refl)
         (λ key rest f. let found = front-split bs f in
-        cond-ind (Meant line) (begins (bytes " ") rest)
+        cond-ind (Meant line) (startsWith (bytes " ") rest)
         (λ t. informing-meant (digits bs) (drop 1 rest) (found .0)
         (e ∙ ap (λ (l : List ℕ). bytes "b " ++ (ss ++ (bytes " i " ++ l))) (found .1 ∙ ap (λ (l : List ℕ). digits bs ++ l) (begins-split (bytes " ") rest t))))
         (λ n. inl refl))
@@ -175,10 +175,10 @@ module _ (line : List ℕ) where
     asking-meant : (bs : List ℕ) → line ≡ bytes "b " ++ (ss ++ bs) → Meant line (asking slot bs)
     unfolding asking
     asking-meant bs e =
-        let behind : (word : List ℕ) → begins word bs ≡ true → line ≡ bytes "b " ++ (ss ++ (word ++ drop (length word) bs)) = λ word t. e ∙ ap (λ (l : List ℕ). bytes "b " ++ (ss ++ l)) (begins-split word bs t) in
-        cond-ind (Meant line) (begins (bytes " s ") bs) (λ t. searching-meant (drop 3 bs) (behind (bytes " s ") t))
-        (λ n. cond-ind (Meant line) (begins (bytes " i ") bs) (λ t. inserting-meant (drop 3 bs) (behind (bytes " i ") t))
-        (λ m. cond-ind (Meant line) (begins (bytes " d ") bs) (λ t. deleting-meant (drop 3 bs) (behind (bytes " d ") t)) (λ k. inl refl)))
+        let behind : (word : List ℕ) → startsWith word bs ≡ true → line ≡ bytes "b " ++ (ss ++ (word ++ drop (length word) bs)) = λ word t. e ∙ ap (λ (l : List ℕ). bytes "b " ++ (ss ++ l)) (begins-split word bs t) in
+        cond-ind (Meant line) (startsWith (bytes " s ") bs) (λ t. searching-meant (drop 3 bs) (behind (bytes " s ") t))
+        (λ n. cond-ind (Meant line) (startsWith (bytes " i ") bs) (λ t. inserting-meant (drop 3 bs) (behind (bytes " i ") t))
+        (λ m. cond-ind (Meant line) (startsWith (bytes " d ") bs) (λ t. deleting-meant (drop 3 bs) (behind (bytes " d ") t)) (λ k. inl refl)))
 
   beginning-meant : (bs : List ℕ) → line ≡ bytes "b " ++ bs → Meant line (beginning bs)
   unfolding beginning
@@ -191,5 +191,5 @@ module _ (line : List ℕ) where
   pub means-good : Meant line (meaning line)
   unfolding meaning
   means-good =
-      cond-ind (Meant line) (begins (bytes "b ") line) (λ t. beginning-meant (drop 2 line) (begins-split (bytes "b ") line t))
-      (λ n. cond-ind (Meant line) (begins (bytes "t ") line) (λ t. stepping-meant (drop 2 line) (begins-split (bytes "t ") line t)) (λ m. inl refl))
+      cond-ind (Meant line) (startsWith (bytes "b ") line) (λ t. beginning-meant (drop 2 line) (begins-split (bytes "b ") line t))
+      (λ n. cond-ind (Meant line) (startsWith (bytes "t ") line) (λ t. stepping-meant (drop 2 line) (begins-split (bytes "t ") line t)) (λ m. inl refl))

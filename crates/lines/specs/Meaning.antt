@@ -8,7 +8,7 @@ use lib.ListN.{length, drop}
 use Rattle.lines.specs.declared.Command.{Command}
 use Rattle.lines.specs.declared.Command.the-variants.{Begin, Step, Bad}
 use Rattle.slots.specs.declared.Op.the-variants.{Search, Insert, Delete}
-use Rattle.lines.specs.Text.{bytes, begins}
+use Rattle.lines.specs.Text.{bytes, startsWith}
 
 -- ---- "Numbers are decimal"
 
@@ -57,7 +57,7 @@ numbered (number n rest) means = means n rest
 
 -- what the bytes behind a word mean; where the word is missing, another form is tried
 abbrev pub after : String → List ℕ → (List ℕ → Command) → Command → Command
-after word bs means other = cond (begins (bytes word) bs) (means (drop (length (bytes word)) bs)) other
+after word bs means other = cond (startsWith (bytes word) bs) (means (drop (length (bytes word)) bs)) other
 
 -- `t SLOT`
 unfoldable pub stepping : List ℕ → Command

@@ -9,39 +9,39 @@ use Rattle.lines.specs.Text.{bytes}
 use Rattle.lines.specs.Decimal.{decimal}
 
 -- a name on a line of its own
-abbrev pub named : String → List ℕ
-named name = bytes name ++ bytes "\n"
+abbrev pub nameLine : String → List ℕ
+nameLine name = bytes name ++ bytes "\n"
 
 -- a name, a space and the information
 abbrev pub informed : String → ℕ → List ℕ
 informed name information = bytes name ++ bytes " " ++ decimal information ++ bytes "\n"
 
 -- The program makes no lock report, so that it never writes `Reported`: of that answer the name alone stands here.
-abbrev pub written : Answer → List ℕ
-written Waiting = named "Waiting"
-written Moved = named "Moved"
-written (Found information) = informed "Found" information
-written NotFound = named "NotFound"
-written Inserted = named "Inserted"
-written AlreadyThere = named "AlreadyThere"
-written (Deleted information) = informed "Deleted" information
-written NoSuchKey = named "NoSuchKey"
-written NoRoom = named "NoRoom"
-written Begun = named "Begun"
-written Made = named "Made"
-written (Reported kind holders lowest) = named "Reported"
-written BadState = named "BadState"
-written BadPool = named "BadPool"
-written BadSlot = named "BadSlot"
-written SlotBusy = named "SlotBusy"
-written SlotIdle = named "SlotIdle"
-written Damaged = named "Damaged"
-written BadPage = named "BadPage"
+abbrev pub answerLine : Answer → List ℕ
+answerLine Waiting = nameLine "Waiting"
+answerLine Moved = nameLine "Moved"
+answerLine (Found information) = informed "Found" information
+answerLine NotFound = nameLine "NotFound"
+answerLine Inserted = nameLine "Inserted"
+answerLine AlreadyThere = nameLine "AlreadyThere"
+answerLine (Deleted information) = informed "Deleted" information
+answerLine NoSuchKey = nameLine "NoSuchKey"
+answerLine NoRoom = nameLine "NoRoom"
+answerLine Begun = nameLine "Begun"
+answerLine Made = nameLine "Made"
+answerLine (Reported kind holders lowest) = nameLine "Reported"
+answerLine BadState = nameLine "BadState"
+answerLine BadPool = nameLine "BadPool"
+answerLine BadSlot = nameLine "BadSlot"
+answerLine SlotBusy = nameLine "SlotBusy"
+answerLine SlotIdle = nameLine "SlotIdle"
+answerLine Damaged = nameLine "Damaged"
+answerLine BadPage = nameLine "BadPage"
 
 -- "Another line, an unended last one, or a number above 4,294,967,295, gives BadLine"
 abbrev pub badLine : List ℕ
-badLine = named "BadLine"
+badLine = nameLine "BadLine"
 
 -- "at most 65,536 bytes (more: one line TooLong)"
 abbrev pub tooLong : List ℕ
-tooLong = named "TooLong"
+tooLong = nameLine "TooLong"

@@ -13,10 +13,10 @@ bytes none = []
 bytes (c then s) = code c ∷ bytes s
 
 -- the bytes begin with a word
-unfoldable pub begins : List ℕ → List ℕ → Bool
-begins [] bs = true
-begins (w ∷ ws) [] = false
-begins (w ∷ ws) (b ∷ bs) = eqb b w && begins ws bs
+unfoldable pub startsWith : List ℕ → List ℕ → Bool
+startsWith [] bs = true
+startsWith (w ∷ ws) [] = false
+startsWith (w ∷ ws) (b ∷ bs) = eqb b w && startsWith ws bs
 
 -- a row of bytes with a word laid over it from a position on; before and behind the word it is as it was
 abbrev pub laid : List ℕ → ℕ → List ℕ → List ℕ

@@ -5,7 +5,7 @@ ghost use mathlib.Core.Bool.{true};
 ghost use mathlib.Core.Path.{_≡_};
 ghost use Prim.Native.Nat.{_≤_, max};
 ghost use lib.ListN.{length, drop};
-ghost use Rattle.lines.specs.Text.{begins};
+ghost use Rattle.lines.specs.Text.{startsWith};
 ghost use Rattle.lines.specs.Meaning.{isDigit, front, alone, stepping, searching, deleting, informing, inserting, asking, beginning, meaning};
 ghost use Rattle.lines.specs.Ends.{lineEnd};
 ghost use Rattle.lines.specs.Positions.{frontOf, behind, Capped, Counted};
@@ -42,7 +42,7 @@ pub fn line_end(input: &[u8], from: usize) -> usize
 // Whether the line goes on with `word` at a position.
 fn goes_on(line: &[u8], at: usize, word: &[u8]) -> bool
     requires { ⌜ at ≤ length (now line) ⌝ }
-    ensures { λ r. ⌜ r ≡ begins (now (word .entry)) (drop at (now (line .entry))) ⌝ }
+    ensures { λ r. ⌜ r ≡ startsWith (now (word .entry)) (drop at (now (line .entry))) ⌝ }
 {
     let mut i = 0;
     while i < word.len() {

@@ -13,7 +13,7 @@ use lib.Seq.{length-take-le, getD-take, getD-drop, getD-set-same, take-all}
 use Rattle.ground.specs.Limits.{tallest}
 use Rattle.ground.specs.Tests.{all, member, distinct}
 use Rattle.ground.proofs.Bools.{not-both, and-second, and-both, and-first-fails, and-second-fails, not-of-false, false-if-not-true}
-use Rattle.ground.proofs.Tests.{all-from, all-stops, member-from, member-at, not-member-from, distinct-more, distinct-at}
+use Rattle.ground.proofs.Tests.{all-from, all-stops, member-at, not-member-from, distinct-more, distinct-at}
 use Rattle.page.specs.Words.{isLeaf, pointers, pairsFrom, view, size}
 use Rattle.page.specs.Sound.{rises, least, inRange, goodPointers, soundByItself}
 use Rattle.page.specs.Reading.{Readable, inShape}
@@ -88,12 +88,6 @@ module _ (ws : List ℕ) (r : Readable ws) (from : ℕ) (e : from ≡ pairsFrom 
 -- ---- the pointers
 
 module _ (ps : List ℕ) (q i : ℕ) (h : i ≤ length ps) where
-  -- q stands among the first i
-  pub repeated-found : (j : ℕ) → j < i → getD ps j 0 ≡ q → true ≡ member q (take i ps)
-  repeated-found j l e =
-      let len = length-take-le i ps h in
-      sym (member-from q (take i ps) j 0 (omega arith) (getD-take i ps j 0 l ∙ e))
-
   -- none of the first i is q
   pub repeated-done : ((j : ℕ) → j < i → getD ps j 0 ≡ q → ⊥) → false ≡ member q (take i ps)
   repeated-done f =

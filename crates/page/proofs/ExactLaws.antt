@@ -4,19 +4,17 @@ use mathlib.Core.Bool.{Bool, true, false, cond}
 use mathlib.Core.List.{List, _∷_, _++_}
 use mathlib.Core.Path.{_≡_, refl, sym, ap, _∙_, subst}
 use native.Mathlib.Omega.{arith}
-use borrow.Author.Tests.{ne-eqb}
-use lib.ListN.{length, getD, take, drop, replicate, length-append, length-take, length-drop}
+use lib.ListN.{length, getD, take, drop, length-append, length-take, length-drop}
 use Rattle.ground.proofs.Bools.{not-both}
 use Rattle.ground.proofs.Choice.{cond-ind, cond-true}
-use Rattle.page.specs.Words.{Entry, Page, entry, μ, isLeaf, freePage, encode, view, size}
+use Rattle.page.specs.Words.{Entry, Page, entry, μ, isLeaf, encode, view, size}
 use Rattle.page.specs.Sound.{soundByItself}
-use Rattle.page.specs.Splits.{put, split, raised, entryAt}
+use Rattle.page.specs.Splits.{split, entryAt}
 use Rattle.page.specs.Short.{joined, lessKey, rekeyed}
 use Rattle.page.specs.Exact.{Exact}
 use Rattle.page.specs.Fits.{Fits}
-use Rattle.page.proofs.WordLaws.{length-encode, view-encode, encode-μ, view-μ, free-fits, encode-free}
+use Rattle.page.proofs.WordLaws.{length-encode, view-encode, encode-μ, view-μ}
 use Rattle.page.proofs.SoundPage.{sound-facts, sound-words, sound-μ}
-use Rattle.page.proofs.PutLaws.{put-μ}
 
 -- words of a page sound by itself
 pub exact-sound : (k n p : ℕ) (ws : List ℕ) → length ws ≡ size k → soundByItself k n p ws ≡ true → Exact k ws
@@ -36,10 +34,6 @@ exact-encode k P fits =
       words = ap (encode k) (sym (view-encode k P fits));
     }
 
--- words that are all 0
-pub exact-free : (k : ℕ) → Exact k (replicate (size k) 0)
-exact-free k = subst (Exact k) (encode-free k) (exact-encode k freePage (free-fits k))
-
 -- the value of words that are exactly a page's fits
 pub exact-fits : {k : ℕ} {ws : List ℕ} → Exact k ws → Fits k (view ws)
 unfolding view
@@ -52,15 +46,6 @@ exact-fits {k} {ws} exact =
 -- ---- changed pages fit
 
 module _ {k : ℕ} {P : Page} (fits : Fits k P) where
-  -- a pair more, where there was room for it
-  pub put-fits : (i : ℕ) (e : Entry) → μ P < 2 * k → Fits k (put i e P)
-  unfolding put
-  put-fits i e room =
-      record {
-        room = omega (arith, put-μ i e P);
-        leafFirst = fits .leafFirst;
-      }
-
   -- a pair less
   pub lessKey-fits : (i : ℕ) → Fits k (lessKey i P)
   unfolding lessKey
@@ -103,14 +88,6 @@ right-fits k c P none room =
 pub joined-fits : (k r : ℕ) (L R : Page) → (isLeaf L ≡ true → L .first ≡ 0) → μ (joined r L R) ≤ 2 * k → Fits k (joined r L R)
 unfolding joined
 joined-fits k r L R none room = record { room = room; leafFirst = none }
-
--- a new root
-pub raised-fits : (k : ℕ) (P : Page) (a r b : ℕ) → 1 ≤ k → 1 ≤ P .level → Fits k (raised P a r b)
-raised-fits k P a r b one low =
-    record {
-      room = omega arith;
-      leafFirst = λ leaf. not-both leaf (ne-eqb (P .level + 1) 1 (λ e. omega arith));
-    }
 
 -- how many pairs two pages joined have
 pub joined-μ : (r : ℕ) (L R : Page) → μ (joined r L R) ≡ μ L + cond (isLeaf L) (μ R) (suc (μ R))

@@ -1,16 +1,16 @@
 -- Where a key stands: `place`, `has`, `information` and `without` by index, on rising keys.
 use Prim.Native.Nat.{ℕ, zero, suc, _+_, _-_, _≤_, _<_}
-use mathlib.Core.Bool.{Bool, true, false, _&&_, _||_, false≢true, or-assoc}
+use mathlib.Core.Bool.{Bool, true, false, _||_, false≢true, or-assoc}
 use mathlib.Core.List.{List, [], _∷_, _++_}
 use mathlib.Core.Logic.{⊎-elim, _≢_}
 use mathlib.Core.Path.{_≡_, refl, sym, ap, _∙_}
 use native.Mathlib.Nat.{le-of-suc-le-suc, not-suc-le-zero, le-trans, le-of-eq, lt-trans}
 use native.Mathlib.Omega.{arith}
-use borrow.Author.Tests.{leb-true, leb-false, le-leb, lt-leb, ltb-true, ltb-false, lt-ltb, eqb-true, eq-eqb, ne-eqb}
+use borrow.Author.Tests.{leb-true, leb-false, le-leb, lt-leb, ltb-true, ltb-false, eqb-true, eq-eqb, ne-eqb}
 use lib.Dec.{leb, ltb, eqb}
 use lib.ListN.{length, take, drop}
 use Rattle.ground.specs.Tests.{count}
-use Rattle.ground.proofs.Bools.{and-first, and-second, and-both, or-first, or-second, or-cases, or-first-fails, or-second-fails, true-or-false, not-both, same-if-true-together}
+use Rattle.ground.proofs.Bools.{or-first, or-second, or-cases, or-first-fails, or-second-fails, true-or-false, not-both}
 use Rattle.ground.proofs.Choice.{cond-ind, cond-true, cond-false}
 use Rattle.ground.proofs.Tests.{count-append, count-most}
 use Rattle.page.specs.Words.{Keyed, Entry}
@@ -158,21 +158,6 @@ has-place x es t y =
     let p = place-at x es t i (found .1) (found .2) in
     let back : place x es - 1 ≡ i = omega arith in
     (omega arith, ap (λ (j : ℕ). keyAt j es) back ∙ found .2)
-
--- a key stands that is the key just before its place
-pub place-has : (x : ℕ) (es : List Entry) → 0 < place x es → keyAt (place x es - 1) es ≡ x → has x es ≡ true
-place-has x es some e = let most = place-most x es in has-from x es (place x es - 1) (omega arith) e
-
--- On rising keys one look tells whether a key stands: at the entry just before its place.
-pub has-test : (x : ℕ) (es : List Entry) → rises es ≡ true → has x es ≡ ltb 0 (place x es) && eqb (keyAt (place x es - 1) es) x
-has-test x es t =
-    let some : Bool = ltb 0 (place x es) in
-    let last : ℕ = keyAt (place x es - 1) es in
-    same-if-true-together (has x es) (some && eqb last x)
-    (λ y. let there = has-place x es t y in and-both (lt-ltb 0 (place x es) (there .0)) (eq-eqb last x (there .1)))
-    (λ y. place-has x es
-    (ltb-true 0 (place x es) (and-first some (eqb last x) y))
-    (eqb-true last x (and-second some (eqb last x) y)))
 
 -- ---- information
 

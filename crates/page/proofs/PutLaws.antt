@@ -17,11 +17,6 @@ pub put-level : (i : ℕ) (e : Entry) (P : Page) → put i e P .level ≡ P .lev
 unfolding put
 put-level i e P = refl
 
--- the page keeps its first pointer
-pub put-first : (i : ℕ) (e : Entry) (P : Page) → put i e P .first ≡ P .first
-unfolding put
-put-first i e P = refl
-
 -- the page's pairs are those before place i, the new one, and the others
 pub put-entries : (i : ℕ) (e : Entry) (P : Page) → put i e P .entries ≡ take i (P .entries) ++ e ∷ drop i (P .entries)
 unfolding put

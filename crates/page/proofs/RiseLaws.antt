@@ -1,16 +1,15 @@
 -- Rising keys: the test and the order of any two keys, each from the other, and what parts and joins keep of it.
 use Prim.Native.Nat.{ℕ, zero, suc, _+_, _≤_, _<_}
-use mathlib.Core.Bool.{Bool, true, false, _&&_}
+use mathlib.Core.Bool.{true, false}
 use mathlib.Core.List.{List, [], _∷_, _++_}
-use mathlib.Core.Path.{_≡_, refl, ap, subst, subst₂}
+use mathlib.Core.Path.{_≡_, refl, ap}
 use native.Mathlib.Nat.{le-of-suc-le-suc, not-suc-le-zero, lt-trans}
 use native.Mathlib.Omega.{arith}
 use borrow.Author.Tests.{ltb-true, lt-ltb}
 use lib.Dec.{ltb}
-use lib.ListN.{length, take, drop, length-take, length-drop, length-append, List·getD-append}
-use lib.Seq.{length-take-le, take-take, getD-take, getD-drop, take-append-seam, drop-append-seam, getD-append-add}
-use Rattle.ground.proofs.Bools.{and-first, and-second, and-both, false-if-not-true, same-if-true-together}
-use Rattle.ground.proofs.Tests.{below-or-at}
+use lib.ListN.{length, take, drop, length-take, length-drop}
+use lib.Seq.{getD-take, getD-drop}
+use Rattle.ground.proofs.Bools.{and-first, and-second, and-both, false-if-not-true}
 use Rattle.page.specs.Words.{Entry, entry, keyOf}
 use Rattle.page.specs.Splits.{entryAt}
 use Rattle.page.specs.Sound.{risesFrom, rises}
@@ -19,18 +18,12 @@ use Rattle.page.specs.Sound.{risesFrom, rises}
 abbrev pub keyAt : ℕ → List Entry → ℕ
 keyAt i es = entryAt i es .key
 
--- the keys of a front, of what is behind it, and of two lists
+-- the keys of a front, and of what is behind it
 pub keyAt-take : (n : ℕ) (es : List Entry) (i : ℕ) → i < n → keyAt i (take n es) ≡ keyAt i es
 keyAt-take n es i h = ap keyOf (getD-take n es i (entry 0 0) h)
 
 pub keyAt-drop : (n : ℕ) (es : List Entry) (i : ℕ) → keyAt i (drop n es) ≡ keyAt (n + i) es
 keyAt-drop n es i = ap keyOf (getD-drop n es i (entry 0 0))
-
-pub keyAt-front : (front back : List Entry) (i : ℕ) → i < length front → keyAt i (front ++ back) ≡ keyAt i front
-keyAt-front front back i h = ap keyOf (List·getD-append front back (entry 0 0) i h)
-
-pub keyAt-back : (front back : List Entry) (i : ℕ) → keyAt (length front + i) (front ++ back) ≡ keyAt i back
-keyAt-back front back i = ap keyOf (getD-append-add front back i (entry 0 0))
 
 -- keys that rise from x on are all greater than x
 risesFrom-above : (x : ℕ) (es : List Entry) → risesFrom x es ≡ true → (i : ℕ) → i < length es → x < keyAt i es
@@ -91,26 +84,6 @@ rises-drop n es t =
     rw (keyAt-drop n es i, keyAt-drop n es (suc i))
     (rises-at es t (n + i) (n + suc i) (omega arith) (omega arith)))
 
--- the front of rising keys rises
-pub rises-front : (front back : List Entry) → rises (front ++ back) ≡ true → rises front ≡ true
-rises-front front back t =
-    subst (λ (es : List Entry). rises es ≡ true) (take-append-seam front back) (rises-take (length front) (front ++ back) t)
-
--- the back of rising keys rises
-pub rises-back : (front back : List Entry) → rises (front ++ back) ≡ true → rises back ≡ true
-rises-back front back t =
-    subst (λ (es : List Entry). rises es ≡ true) (drop-append-seam front back) (rises-drop (length front) (front ++ back) t)
-
--- where keys rise, each key of the front is lower than each key of the back
-pub rises-across : (front back : List Entry) → rises (front ++ back) ≡ true → (i j : ℕ) → i < length front → j < length back
-    → keyAt i front < keyAt j back
-rises-across front back t i j hi hj =
-    let len = length-append front back in
-    subst₂ (λ (a b : ℕ). a < b)
-    (keyAt-front front back i hi)
-    (keyAt-back front back j)
-    (rises-at (front ++ back) t i (length front + j) (omega arith) (omega arith))
-
 -- x is lower than the first of two lists of keys
 first-above : (x : ℕ) (front back : List Entry) → risesFrom x front ≡ true → (0 < length back → x < keyAt 0 back)
     → 0 < length (front ++ back) → x < keyAt 0 (front ++ back)
@@ -139,46 +112,3 @@ rises-without-middle es t i j l =
 pub rises-cons : (e : Entry) (es : List Entry) → rises es ≡ true → (0 < length es → e .key < keyAt 0 es) → rises (e ∷ es) ≡ true
 unfolding rises
 rises-cons e es = risesFrom-from (e .key) es
-
--- one key more behind rising ones, greater than the last of them: they rise on
-rises-longer : (es : List Entry) (i : ℕ) → suc i < length es → rises (take (suc i) es) ≡ true → keyAt i es < keyAt (suc i) es
-    → rises (take (suc (suc i)) es) ≡ true
-rises-longer es i h t up = rises-from (take (suc (suc i)) es) next
-  where
-    within : (j : ℕ) → j < i → keyAt j es < keyAt (suc j) es
-    within j l =
-        subst₂ (λ (a b : ℕ). a < b)
-        (keyAt-take (suc i) es j (omega arith))
-        (keyAt-take (suc i) es (suc j) (omega arith))
-        (rises-at (take (suc i) es) t j (suc j) (omega arith) (omega (arith, length-take-le (suc i) es (omega arith))))
-
-    next : (j : ℕ) → suc j < length (take (suc (suc i)) es)
-        → keyAt j (take (suc (suc i)) es) < keyAt (suc j) (take (suc (suc i)) es)
-    next j l =
-        let long = length-take-le (suc (suc i)) es h in
-        rw (keyAt-take (suc (suc i)) es j (omega arith), keyAt-take (suc (suc i)) es (suc j) (omega arith))
-        (below-or-at (λ (m : ℕ). keyAt m es < keyAt (suc m) es) {n = i} (omega arith) (within j) up)
-
--- one key more: the keys rise on if they rose and the last is lower than the new one
-pub rises-more : (es : List Entry) (i : ℕ) → suc i < length es
-    → rises (take (suc (suc i)) es) ≡ rises (take (suc i) es) && ltb (keyAt i es) (keyAt (suc i) es)
-rises-more es i h =
-    let longer : List Entry = take (suc (suc i)) es in
-    let was : Bool = rises (take (suc i) es) in
-    let up : Bool = ltb (keyAt i es) (keyAt (suc i) es) in
-    same-if-true-together (rises longer) (was && up)
-    (λ t. and-both (shorter t) (lt-ltb (keyAt i es) (keyAt (suc i) es) (rose t)))
-    (λ t. rises-longer es i h (and-first was up t) (ltb-true (keyAt i es) (keyAt (suc i) es) (and-second was up t)))
-  where
-    shorter : rises (take (suc (suc i)) es) ≡ true → rises (take (suc i) es) ≡ true
-    shorter t =
-        subst (λ (l : List Entry). rises l ≡ true)
-        (take-take (suc i) (suc (suc i)) es (omega arith))
-        (rises-take (suc i) (take (suc (suc i)) es) t)
-
-    rose : rises (take (suc (suc i)) es) ≡ true → keyAt i es < keyAt (suc i) es
-    rose t =
-        subst₂ (λ (a b : ℕ). a < b)
-        (keyAt-take (suc (suc i)) es i (omega arith))
-        (keyAt-take (suc (suc i)) es (suc i) (omega arith))
-        (rises-at (take (suc (suc i)) es) t i (suc i) (omega arith) (omega (arith, length-take-le (suc (suc i)) es h)))

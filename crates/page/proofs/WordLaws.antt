@@ -89,11 +89,6 @@ view-encode k P fits =
     let es = pairs-again (isLeaf P) (P .level) (μ P) (P .first) (P .entries) zeros in
     λ i. page (P .level) (f i) (es i)
 
--- word 0 of a page's words is its level
-pub encode-level : (k : ℕ) (P : Page) → getD (encode k P) 0 0 ≡ P .level
-unfolding encode
-encode-level k P = refl
-
 -- word 1 of a page's words is its number of pairs
 pub encode-μ : (k : ℕ) (P : Page) → getD (encode k P) 1 0 ≡ μ P
 unfolding encode
@@ -178,7 +173,3 @@ encode-free k =
 -- words that are all 0 stand for a free page
 pub view-zeros : (k : ℕ) → view (replicate (size k) 0) ≡ freePage
 view-zeros k = ap view (sym (encode-free k)) ∙ view-encode k freePage (free-fits k)
-
--- words that are all 0 are the words of the page they stand for
-pub encode-view-zeros : (k : ℕ) → encode k (view (replicate (size k) 0)) ≡ replicate (size k) 0
-encode-view-zeros k = ap (encode k) (view-zeros k) ∙ encode-free k

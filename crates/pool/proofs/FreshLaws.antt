@@ -1,22 +1,15 @@
 -- The fresh pool: page 0 is an empty leaf, every other page is free.
-use Prim.Native.Nat.{ℕ, zero, suc, _+_, _-_, _≤_, _<_}
-use mathlib.Core.Bool.{Bool, true, not, _&&_, and-true}
+use Prim.Native.Nat.{ℕ, suc, _+_, _-_, _≤_, _<_}
 use mathlib.Core.List.{List, [], _++_}
 use mathlib.Core.Path.{_≡_, refl, sym, ap, _∙_}
 use native.Mathlib.Omega.{arith}
-use borrow.Author.Tests.{ne-eqb}
-use lib.Dec.{eqb}
 use lib.ListN.{length, take, drop, set, replicate, length-set, length-replicate, replicate-append-replicate}
 use lib.Seq.{take-at, drop-at, take-set-lt, drop-set-lt}
-use Rattle.ground.specs.Tests.{listBelow}
-use Rattle.ground.proofs.Tests.{listBelow-same, length-listBelow, countBelow-less, countBelow-all}
-use Rattle.ground.proofs.Bools.{not-of-false}
-use Rattle.page.specs.Words.{Page, page, freePage, size, view, encode, flat}
+use Rattle.page.specs.Words.{page, freePage, size, view, encode, flat}
 use Rattle.page.specs.Fits.{Fits}
 use Rattle.page.proofs.WordLaws.{view-encode, view-zeros}
-use Rattle.pool.specs.Pool.{poolLength, start, wordsOf, pageAt, isFree, freePages, fresh}
+use Rattle.pool.specs.Pool.{poolLength, start, wordsOf, pageAt, fresh}
 use Rattle.pool.proofs.StretchLaws.{start-zero, ends-before, ends-in-pool}
-use Rattle.pool.proofs.FreeLaws.{isFree-level}
 
 -- the fresh pool has a pool's number of words
 pub length-fresh : (k n : ℕ) → length (fresh k n) ≡ poolLength k n
@@ -78,24 +71,3 @@ pageAt-fresh-root k n h = ap view (wordsOf-fresh-root k n h) ∙ view-encode k (
 pub pageAt-fresh-other : (k n p : ℕ) → 0 < p → p < n → pageAt k (fresh k n) p ≡ freePage
 unfolding pageAt
 pageAt-fresh-other k n p up h = ap view (wordsOf-fresh-other k n p up h) ∙ view-zeros k
-
--- the free pages of the fresh pool are all but page 0
-pub freePages-fresh : (k n : ℕ) → freePages k n (fresh k n) ≡ listBelow n (λ (p : ℕ). not (eqb p 0))
-unfolding freePages
-freePages-fresh k n = listBelow-same (isFree k (fresh k n)) (λ (p : ℕ). not (eqb p 0)) n free
-  where
-    free : (p : ℕ) → p < n → isFree k (fresh k n) p ≡ not (eqb p 0)
-    free zero h = isFree-level k (fresh k n) 0
-    free (suc p) h =
-        isFree-level k (fresh k n) (suc p)
-        ∙ ap (λ (Q : Page). not (eqb (suc p) 0) && eqb (Q .level) 0) (pageAt-fresh-other k n (suc p) (omega arith) h)
-        ∙ and-true (not (eqb (suc p) 0))
-
--- so there are n-1 of them
-pub length-freePages-fresh : (k n : ℕ) → 0 < n → length (freePages k n (fresh k n)) + 1 ≡ n
-length-freePages-fresh k n h =
-    let others : ℕ → Bool = λ (p : ℕ). not (eqb p 0) in
-    let every : ℕ → Bool = λ (p : ℕ). true in
-    let less = countBelow-less every others 0 refl refl n h (λ p l ne. not-of-false (ne-eqb p 0 ne)) in
-    let whole = countBelow-all every n (λ p l. refl) in
-    omega (arith, ap length (freePages-fresh k n), length-listBelow others n)

@@ -111,18 +111,6 @@ abbrev pub AllFit : ℕ → ℕ → List Write → Type 0
 AllFit k n [] = Unit {0}
 AllFit k n (w ∷ rest) = FitWrite k n w × AllFit k n rest
 
--- two lists of writes fit, so do both one after the other
-pub all-fit-append : (k n : ℕ) (before after : List Write) → AllFit k n before → AllFit k n after → AllFit k n (before ++ after)
-all-fit-append k n [] after b a = a
-all-fit-append k n (w ∷ rest) after b a = (b .0, all-fit-append k n rest after (b .1) a)
-
--- writing one list and then another is writing both
-pub applied-append : (k : ℕ) (before after : List Write) (ws : List ℕ)
-    → applied k (before ++ after) ws ≡ applied k after (applied k before ws)
-unfolding applied
-applied-append k [] after ws = refl
-applied-append k (w ∷ rest) after ws = applied-append k rest after (written k w ws)
-
 -- a page that no write names keeps its words
 pub wordsOf-applied-other : (k n q : ℕ) (writes : List Write) (ws : List ℕ) → AllFit k n writes
     → member q (namedBy writes) ≡ false
@@ -133,30 +121,3 @@ wordsOf-applied-other k n q (w ∷ rest) ws fit h =
     let ne = eqb-false q (w .at) (or-first-fails (eqb q (w .at)) (member q (namedBy rest)) h) in
     wordsOf-applied-other k n q rest (written k w ws) (fit .1) (or-second-fails (eqb q (w .at)) (member q (namedBy rest)) h)
     ∙ wordsOf-written-other k (w .at) q (w .value) ws ne (length-encode k (w .value) (fit .0 .fits))
-
--- a page that no write names keeps its value
-pub pageAt-applied-other : (k n q : ℕ) (writes : List Write) (ws : List ℕ) → AllFit k n writes → member q (namedBy writes) ≡ false
-    → pageAt k (applied k writes ws) q ≡ pageAt k ws q
-unfolding pageAt
-pageAt-applied-other k n q writes ws fit h = rw (wordsOf-applied-other k n q writes ws fit h)
-
--- a page that no later write names has the words of the value written
-pub wordsOf-applied-last : (k n : ℕ) (before : List Write) (w : Write) (after : List Write) (ws : List ℕ) → FitWrite k n w
-    → AllFit k n after → length ws ≡ poolLength k n → member (w .at) (namedBy after) ≡ false
-    → wordsOf k (w .at) (applied k (before ++ w ∷ after) ws) ≡ encode k (w .value)
-unfolding applied
-wordsOf-applied-last k n before w after ws fit fitAfter len h =
-    let was : List ℕ = applied k before ws in
-    ap (wordsOf k (w .at)) (applied-append k before (w ∷ after) ws)
-    ∙ wordsOf-applied-other k n (w .at) after (written k w was) fitAfter h
-    ∙ wordsOf-written-same k n (w .at) (w .value) was (fit .inPool)
-    (length-applied k before ws ∙ len)
-    (length-encode k (w .value) (fit .fits))
-
--- a page that no later write names has the value written
-pub pageAt-applied-last : (k n : ℕ) (before : List Write) (w : Write) (after : List Write) (ws : List ℕ) → FitWrite k n w
-    → AllFit k n after → length ws ≡ poolLength k n → member (w .at) (namedBy after) ≡ false
-    → pageAt k (applied k (before ++ w ∷ after) ws) (w .at) ≡ w .value
-unfolding pageAt
-pageAt-applied-last k n before w after ws fit fitAfter len h =
-    rw (wordsOf-applied-last k n before w after ws fit fitAfter len h) (view-encode k (w .value) (fit .fits))

@@ -19,7 +19,7 @@ ghost use Rattle.page.specs.Splits.{entryAt, put, split};
 ghost use Rattle.page.specs.Short.{hasRight, neighbour, betweenAt, joined, lessKey, rekeyed};
 ghost use Rattle.page.specs.Reading.{Readable, looked};
 ghost use Rattle.page.specs.Exact.{Exact};
-ghost use Rattle.sheet.specs.Sheets.{Holds, sheetPage};
+ghost use Rattle.sheet.specs.Sheets.{OnSheet, sheetPage};
 ghost use Rattle.pool.specs.Pool.{wordsOf, pageAt, write, written};
 ghost use Rattle.pool.specs.Wrapped.{InPool, Lies};
 
@@ -187,7 +187,7 @@ pub fn over_of(words: &[u32], k: usize, n: usize, p: u32, i: usize, x: u32, v: u
     requires { ⌜ InPool k n p (now words) ⌝ }
     requires { ⌜ Exact k (wordsOf k p (now words)) ⌝ }
     requires { ⌜ i ≤ μ (pageAt k (now words) p) ⌝ }
-    ensures { λ s. ⌜ Holds (put i (entry x v) (pageAt k (now (words .entry)) p)) s ⌝ }
+    ensures { λ s. ⌜ OnSheet (put i (entry x v) (pageAt k (now (words .entry)) p)) s ⌝ }
 {
     sheets::over(page_words(words, k, n, p), k, i, x, v)
 }
@@ -198,7 +198,7 @@ pub fn join_of(words: &[u32], k: usize, n: usize, l: u32, r: u32, w: u32) -> She
     requires { ⌜ (Exact k (wordsOf k l (now words))) × (Exact k (wordsOf k w (now words))) ⌝ }
     requires { ⌜ isLeaf (pageAt k (now words) l) ≡ isLeaf (pageAt k (now words) w) ⌝ }
     requires { ⌜ μ (pageAt k (now words) l) + μ (pageAt k (now words) w) + 1 ≤ 50 ⌝ }
-    ensures { λ s. ⌜ Holds (joined r (pageAt k (now (words .entry)) l) (pageAt k (now (words .entry)) w)) s ⌝ }
+    ensures { λ s. ⌜ OnSheet (joined r (pageAt k (now (words .entry)) l) (pageAt k (now (words .entry)) w)) s ⌝ }
 {
     sheets::join(page_words(words, k, n, l), r, page_words(words, k, n, w), k)
 }

@@ -26,7 +26,7 @@ use Rattle.footing.specs.Fitting.{pagesSound, descends, sameLevels, fitting, so
 use Rattle.index.specs.Step.{stepped}
 use Rattle.index.specs.Make.{made}
 use Rattle.runs.specs.Run.{called, run, runFrom}
-use Rattle.promises.specs.Bench.{Row, Holds, bench}
+use Rattle.promises.specs.Bench.{Row, RowsHold, bench}
 use Rattle.promises.specs.MoreRows.{more}
 use Rattle.promises.specs.LongRun.{again, longRows}
 
@@ -74,21 +74,21 @@ sames-is (x ∷ xs) (y ∷ ys) h =
     let (e, t) = both (same x y) (sames xs ys) h in
     ap₂ _∷_ (same-is x y e) (sames-is xs ys t)
 
-agree-holds : (rows : List Row) → agree rows ≡ true → Holds rows
+agree-holds : (rows : List Row) → agree rows ≡ true → RowsHold rows
 unfolding agree
 agree-holds [] h = tt
 agree-holds (r ∷ rows) h =
     let (e, t) = both (sames (r .given) (r .said)) (agree rows) h in
     (sames-is (r .given) (r .said) e, agree-holds rows t)
 
-pub bench-holds : Holds bench
+pub bench-holds : RowsHold bench
 unfolding calls same sames agree
 bench-holds = agree-holds bench refl
 
-pub more-holds : Holds more
+pub more-holds : RowsHold more
 unfolding calls same sames agree
 more-holds = agree-holds more refl
 
-pub long-holds : Holds longRows
+pub long-holds : RowsHold longRows
 unfolding calls same sames agree again
 long-holds = agree-holds longRows refl

@@ -26,12 +26,13 @@ use Rattle.slots.specs.Grant.{grants}
 use Rattle.slots.specs.Begin.{begun}
 use Rattle.slots.specs.Report.{reported}
 use Rattle.slots.proofs.Refusals.{begin-refused}
+use Rattle.slots.proofs.SoundFacts.{empty-unsound}
 use Rattle.footing.specs.Granted.{Verdict, broken, goes, ends, granted}
 use Rattle.footing.specs.Fitting.{pagesSound, fitting, nextIsNew, soundForStep, verdict}
 use Rattle.ground.proofs.Choice.{by-test}
 use Rattle.index.specs.Step.{ofGranted, acted, steppedTask, stepped}
 use Rattle.index.specs.Make.{made}
-use Rattle.index.proofs.Refusals.{Answers, granted-answers, step-refused, make-refused, empty-unsound, step-length, make-length}
+use Rattle.index.proofs.Refusals.{Answers, granted-answers, step-refused, make-refused, step-length, make-length}
 use Rattle.promises.specs.Demand1.{BeginDemand, WordsFit, soundForTask, StepDemand, ReportDemand, MakingInRange, MakeDemand, Demand1}
 
 -- A row of a table: an answer, and what it tells. By its number an answer tells what stands beside it; one with no row tells `other`.

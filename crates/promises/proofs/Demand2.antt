@@ -12,7 +12,7 @@ use Rattle.ground.specs.Limits.{slotCount}
 use Rattle.ground.specs.Tests.{member, padded}
 use Rattle.ground.proofs.Bools.{not-both, false-if-not-true, and-first, and-second, or-first, or-second, or-cases}
 use Rattle.ground.proofs.Choice.{cond-true, cond-false}
-use Rattle.ground.proofs.Tests.{member-append}
+use Rattle.ground.proofs.Tests.{member-here, member-cases, member-append, member-inside}
 use Rattle.page.specs.Words.{Page, μ, encode}
 use Rattle.page.specs.Place.{place, pointer}
 use Rattle.page.specs.Short.{neighbour}
@@ -39,7 +39,7 @@ use Rattle.slots.specs.Begin.{begun}
 use Rattle.slots.proofs.SoundFacts.{facts-sound}
 use Rattle.slots.proofs.Clashes.{no-two-locks-clash}
 use Rattle.slots.proofs.GrantLaws.{holder-open}
-use Rattle.slots.proofs.OrderLaws.{member-here, member-cases, order-has-room, waiting-begins, waiting-requeued, waiting-closes}
+use Rattle.slots.proofs.OrderLaws.{order-has-room, waiting-begins, waiting-requeued, waiting-closes}
 use Rattle.slots.proofs.Keeping.{slot-here, slot-other, path-new, siblings-new, held-new}
 use Rattle.footing.specs.Granted.{isSafe}
 use Rattle.index.specs.Step.{Left, left, stepped}
@@ -50,7 +50,7 @@ use Rattle.runs.specs.Run.{Call, begin, step, report, called, runFrom}
 use Rattle.runs.specs.Stance.{Safe, Takes}
 use Rattle.runs.specs.Waits.{Barred}
 use Rattle.runs.specs.Step.{Ended}
-use Rattle.runs.specs.Done.{counted, isOneOf}
+use Rattle.runs.specs.Done.{countedAnswers, isOneOf}
 use Rattle.runs.proofs.Invariant.{Invariant}
 use Rattle.runs.proofs.Calls.{StepOf, noSlot, idle, waits, onward, over, step-of}
 use Rattle.runs.proofs.Runs.{call-keeps, call-numbers, BeginOf, noSuch, busy, begins-so, begin-of, ReportOf, noPage, tells, report-of, holds-after, numbers-after}
@@ -113,18 +113,15 @@ after-call st ws inv = record {
 
 -- ---- what one call takes and gives up
 
-last-member : (p : ℕ) (ps : List ℕ) → member p (ps ++ p ∷ []) ≡ true
-last-member p ps = member-append p ps (p ∷ []) ∙ or-second (member p ps) (member-here p [])
-
 -- the page that was wanted is held afterwards
 takes-wanted : (op : Op) (k : ℕ) (memory : ℕ → Page) (path siblings : List ℕ) (want : ℕ) (path′ siblings′ : List ℕ)
     → Takes op k memory path siblings want path′ siblings′ → member want (path′ ++ siblings′) ≡ true
 takes-wanted op k memory path siblings want path′ siblings′ (inl g) =
     member-append want path′ siblings′ ∙ or-first (member want siblings′) (ap (member want) (g .holds) ∙ member-here want [])
 takes-wanted op k memory path siblings want path′ siblings′ (inr (inl g)) =
-    member-append want path′ siblings′ ∙ or-first (member want siblings′) (ap (member want) (g .holds) ∙ last-member want path)
+    member-append want path′ siblings′ ∙ or-first (member want siblings′) (ap (member want) (g .holds) ∙ member-inside want path [])
 takes-wanted op k memory path siblings want path′ siblings′ (inr (inr g)) =
-    member-append want path′ siblings′ ∙ or-second (member want path′) (ap (member want) (g .holds) ∙ last-member want siblings)
+    member-append want path′ siblings′ ∙ or-second (member want path′) (ap (member want) (g .holds) ∙ member-inside want siblings [])
 
 module _ (st : State) (ws : List ℕ) (inv : Invariant st ws) where
   order-long : st .waiting ≤ length (st .order)
@@ -188,7 +185,7 @@ module _ (st : State) (ws : List ℕ) (inv : Invariant st ws) where
   unfolding member
   ends-so op s a writes e =
       ⊎-elim
-      (λ p. or-second (eqb (numberOf a) (numberOf NoRoom)) (ap (λ (x : Answer). isOneOf x counted) (p .answer) ∙ plain-counted op (entriesOf (inv .height) (inv .tree))))
+      (λ p. or-second (eqb (numberOf a) (numberOf NoRoom)) (ap (λ (x : Answer). isOneOf x countedAnswers) (p .answer) ∙ plain-counted op (entriesOf (inv .height) (inv .tree))))
       (λ r. ap (λ (x : Answer). isOneOf x ending) (r .0 .answer))
       (e .how)
 

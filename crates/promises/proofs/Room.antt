@@ -34,7 +34,7 @@ use Rattle.tree.proofs.Words.{free-facts}
 use Rattle.runs.specs.Plain.{Reply, reply, plain}
 use Rattle.runs.specs.Stance.{Stance, Takes}
 use Rattle.runs.specs.Step.{Ended, NoRoomLeft, Comes, moves, stops}
-use Rattle.runs.specs.Done.{counted, isOneOf}
+use Rattle.runs.specs.Done.{countedAnswers, isOneOf}
 use Rattle.runs.proofs.Invariant.{Invariant, scene}
 use Rattle.runs.proofs.Stepping.{granted-comes}
 use Rattle.runs.proofs.Verdicts.{coming-ends}
@@ -180,7 +180,7 @@ module _ (st : State) (ws : List ℕ) (inv : Invariant st ws) (s : ℕ) where
   says-here none (over op a writes c rs h e ends) =
       let here : a ≡ NoRoom = sym (ap (λ (r : Left). r .answer) e) ∙ none in
       ⊎-elim
-      (λ p. not-both (ap (λ (y : Answer). isOneOf y counted) (p .answer) ∙ plain-counted op (entriesOf (inv .height) (inv .tree))) (ap (λ (y : Answer). isOneOf y counted) here))
+      (λ p. not-both (ap (λ (y : Answer). isOneOf y countedAnswers) (p .answer) ∙ plain-counted op (entriesOf (inv .height) (inv .tree))) (ap (λ (y : Answer). isOneOf y countedAnswers) here))
       (λ r.
       let inserts-so : Opened st s (Insert (r .0 .key) (r .0 .lot)) = rs ∙ ap (λ (o : Op). Open o) (r .0 .inserts) in
       record {

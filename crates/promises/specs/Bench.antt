@@ -21,9 +21,9 @@ abbrev pub row : List (List ℕ) → List (List ℕ) → Row
 row g s = record { given = g; said = s }
 
 -- the one claim: in every row the rules give what is said
-abbrev pub Holds : List Row → Type 0
-Holds [] = Unit {0}
-Holds (r ∷ rows) = (r .given ≡ r .said) × Holds rows
+abbrev pub RowsHold : List Row → Type 0
+RowsHold [] = Unit {0}
+RowsHold (r ∷ rows) = (r .given ≡ r .said) × RowsHold rows
 
 -- an operation begun in slot s and stepped n times
 abbrev pub steps : ℕ → ℕ → List Call
@@ -56,8 +56,8 @@ pool n cs = runFresh 1 n cs
 abbrev pub heardIn : Told → List (List ℕ)
 heardIn t = map heard (t .answers)
 
-abbrev pub after : Told → List Call → Told
-after t cs = run cs (t .state) (t .words)
+abbrev pub goingOn : Told → List Call → Told
+goingOn t cs = run cs (t .state) (t .words)
 
 -- case E and the deletions that follow it
 abbrev pub caseE : Told
@@ -91,24 +91,24 @@ bench =
     ∷ row (pool 1 two .words ∷ []) ((1 ∷ 2 ∷ 10 ∷ 7 ∷ 20 ∷ 7 ∷ 0 ∷ []) ∷ [])
     -- "D: then 30, N = 2: NoRoom (needs 2, free 1)."
     ∷ row
-    ((needed (pool 2 two) ∷ free 2 (pool 2 two) ∷ []) ∷ after (pool 2 two) (puts 30) .words ∷ heardIn (after (pool 2 two) (puts 30)))
+    ((needed (pool 2 two) ∷ free 2 (pool 2 two) ∷ []) ∷ goingOn (pool 2 two) (puts 30) .words ∷ heardIn (goingOn (pool 2 two) (puts 30)))
     ((2 ∷ 1 ∷ []) ∷ pool 2 two .words ∷ heard Begun ∷ heard NoRoom ∷ [])
     -- "E: then 30, N = 3: page 0 is 2,1,1,20,2,0,0; page 1 is 1,1,10,7,0,0,0; page 2 is 1,2,20,7,30,7,0."
     ∷ row (pages (pool 3 three))
     ((2 ∷ 1 ∷ 1 ∷ 20 ∷ 2 ∷ 0 ∷ 0 ∷ []) ∷ (1 ∷ 1 ∷ 10 ∷ 7 ∷ 0 ∷ 0 ∷ 0 ∷ []) ∷ (1 ∷ 2 ∷ 20 ∷ 7 ∷ 30 ∷ 7 ∷ 0 ∷ []) ∷ [])
     -- "F: in E, search 20: Found 7, by page 2, two grants."
     ∷ row
-    ((wantAt (after caseE (runs 0 (Search 20) 1) .state) 0 ∷ []) ∷ heardIn (after caseE (runs 0 (Search 20) 2)))
+    ((wantAt (goingOn caseE (runs 0 (Search 20) 1) .state) 0 ∷ []) ∷ heardIn (goingOn caseE (runs 0 (Search 20) 2)))
     ((2 ∷ []) ∷ heard Begun ∷ heard Moved ∷ heard (Found 7) ∷ [])
     -- "G: in E, delete 10: three grants; page 0 is 2,1,1,30,2,0,0; page 1 holds 20, page 2 holds 30."
-    ∷ row (heardIn (after caseE delete10) ++ pages (after caseE delete10))
+    ∷ row (heardIn (goingOn caseE delete10) ++ pages (goingOn caseE delete10))
     (heard Begun ∷ heard Moved ∷ heard Moved ∷ heard (Deleted 7)
     ∷ (2 ∷ 1 ∷ 1 ∷ 30 ∷ 2 ∷ 0 ∷ 0 ∷ []) ∷ (1 ∷ 1 ∷ 20 ∷ 7 ∷ 0 ∷ 0 ∷ 0 ∷ []) ∷ (1 ∷ 1 ∷ 30 ∷ 7 ∷ 0 ∷ 0 ∷ 0 ∷ []) ∷ [])
     -- "H: in G, delete 20: page 0 is 1,1,30,7,0,0,0; pages 1 and 2 all zero."
-    ∷ row (heardIn (after (after caseE delete10) delete20) ++ pages (after (after caseE delete10) delete20))
+    ∷ row (heardIn (goingOn (goingOn caseE delete10) delete20) ++ pages (goingOn (goingOn caseE delete10) delete20))
     (heard Begun ∷ heard Moved ∷ heard Moved ∷ heard (Deleted 7)
     ∷ (1 ∷ 1 ∷ 30 ∷ 7 ∷ 0 ∷ 0 ∷ 0 ∷ []) ∷ (0 ∷ 0 ∷ 0 ∷ 0 ∷ 0 ∷ 0 ∷ 0 ∷ []) ∷ (0 ∷ 0 ∷ 0 ∷ 0 ∷ 0 ∷ 0 ∷ 0 ∷ []) ∷ [])
     -- "I: in E, insert 20: AlreadyThere, words unchanged."
-    ∷ row (heardIn (after caseE (runs 0 (Insert 20 7) 2)) ++ pages (after caseE (runs 0 (Insert 20 7) 2)))
+    ∷ row (heardIn (goingOn caseE (runs 0 (Insert 20 7) 2)) ++ pages (goingOn caseE (runs 0 (Insert 20 7) 2)))
     (heard Begun ∷ heard Moved ∷ heard AlreadyThere ∷ pages caseE)
     ∷ []

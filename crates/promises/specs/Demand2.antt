@@ -32,7 +32,7 @@ use Rattle.tree.specs.Tree.{Tr, occurs, PoolForms}
 use Rattle.runs.specs.Run.{Call, begin, step, report, called, runFrom, CallInWords, Run}
 use Rattle.runs.specs.Stance.{Safe, Stance, Takes}
 use Rattle.runs.specs.Waits.{Barred, Before}
-use Rattle.runs.specs.Done.{counted, writing, isOneOf}
+use Rattle.runs.specs.Done.{countedAnswers, writing, isOneOf}
 use Rattle.promises.specs.Demand1.{Exactly}
 
 -- ---- after every call
@@ -87,7 +87,7 @@ pub record MovesOn (st : State) (ws : List ℕ) (s : ℕ) (after : Left) : Type 
 
 -- the answers that end an operation, whatever their values
 abbrev pub ending : List Answer
-ending = NoRoom ∷ counted
+ending = NoRoom ∷ countedAnswers
 
 -- "An answer that ends the operation gives up every lock and closes the slot."
 pub record Ends (st : State) (ws : List ℕ) (s : ℕ) (after : Left) : Type 0 where

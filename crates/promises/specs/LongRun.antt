@@ -27,8 +27,8 @@ found = heard (Found 7)
 abbrev pub absent : List ℕ
 absent = heard NotFound
 
-abbrev pub inserted : List ℕ
-inserted = heard Inserted
+abbrev pub entered : List ℕ
+entered = heard Inserted
 
 abbrev pub there : List ℕ
 there = heard AlreadyThere
@@ -48,8 +48,8 @@ again zero cs = []
 again (suc r) cs = cs ++ again r cs
 
 -- Three operations begun in slots 0, 1 and 2, then so many rounds by all three, by the last two, by the last.
-abbrev pub three : Op → Op → Op → ℕ → ℕ → ℕ → List Call
-three o p q all two one =
+abbrev pub threeAtOnce : Op → Op → Op → ℕ → ℕ → ℕ → List Call
+threeAtOnce o p q all two one =
     begin 0 o
     ∷ begin 1 p
     ∷ begin 2 q
@@ -59,40 +59,40 @@ three o p q all two one =
 
 abbrev pub longRun : List Call
 longRun =
-    three (Insert 1 7) (Delete 11) (Insert 14 7) 1 0 0
-    ++ three (Insert 14 7) (Insert 7 7) (Insert 8 7) 1 0 1
-    ++ three (Insert 2 7) (Insert 16 7) (Insert 7 7) 2 1 2
-    ++ three (Insert 13 7) (Insert 3 7) (Insert 4 7) 3 1 1
-    ++ three (Insert 9 7) (Search 17) (Insert 15 7) 3 1 1
-    ++ three (Insert 6 7) (Insert 5 7) (Delete 14) 4 1 2
-    ++ three (Delete 7) (Insert 11 7) (Delete 15) 5 0 4
-    ++ three (Search 16) (Insert 10 7) (Delete 3) 4 1 4
-    ++ three (Search 9) (Delete 5) (Delete 8) 4 3 6
-    ++ three (Insert 12 7) (Delete 2) (Delete 9) 3 6 4
-    ++ three (Delete 4) (Delete 1) (Delete 6) 4 3 4
-    ++ three (Delete 12) (Delete 13) (Delete 10) 2 2 2
-    ++ three (Delete 16) (Search 16) (Delete 16) 1 0 0
+    threeAtOnce (Insert 1 7) (Delete 11) (Insert 14 7) 1 0 0
+    ++ threeAtOnce (Insert 14 7) (Insert 7 7) (Insert 8 7) 1 0 1
+    ++ threeAtOnce (Insert 2 7) (Insert 16 7) (Insert 7 7) 2 1 2
+    ++ threeAtOnce (Insert 13 7) (Insert 3 7) (Insert 4 7) 3 1 1
+    ++ threeAtOnce (Insert 9 7) (Search 17) (Insert 15 7) 3 1 1
+    ++ threeAtOnce (Insert 6 7) (Insert 5 7) (Delete 14) 4 1 2
+    ++ threeAtOnce (Delete 7) (Insert 11 7) (Delete 15) 5 0 4
+    ++ threeAtOnce (Search 16) (Insert 10 7) (Delete 3) 4 1 4
+    ++ threeAtOnce (Search 9) (Delete 5) (Delete 8) 4 3 6
+    ++ threeAtOnce (Insert 12 7) (Delete 2) (Delete 9) 3 6 4
+    ++ threeAtOnce (Delete 4) (Delete 1) (Delete 6) 4 3 4
+    ++ threeAtOnce (Delete 12) (Delete 13) (Delete 10) 2 2 2
+    ++ threeAtOnce (Delete 16) (Search 16) (Delete 16) 1 0 0
 
 -- what is heard; each three operations begin a new line
 abbrev pub longAnswers : List (List ℕ)
 longAnswers =
-    began ∷ began ∷ began ∷ inserted ∷ missing ∷ inserted ∷
-    began ∷ began ∷ began ∷ there ∷ inserted ∷ onward ∷ inserted ∷
-    began ∷ began ∷ began ∷ onward ∷ waits ∷ waits ∷ inserted ∷ onward ∷ waits ∷ inserted ∷ onward ∷ onward ∷ there ∷
-    began ∷ began ∷ began ∷ onward ∷ waits ∷ waits ∷ onward ∷ onward ∷ waits ∷ inserted ∷ onward ∷ onward ∷ inserted ∷
-    onward ∷ inserted ∷
-    began ∷ began ∷ began ∷ onward ∷ waits ∷ waits ∷ onward ∷ onward ∷ waits ∷ inserted ∷ onward ∷ onward ∷ absent ∷
-    onward ∷ inserted ∷
-    began ∷ began ∷ began ∷ onward ∷ waits ∷ waits ∷ onward ∷ onward ∷ waits ∷ onward ∷ onward ∷ onward ∷ inserted ∷
-    onward ∷ onward ∷ inserted ∷ onward ∷ onward ∷ deleted ∷
+    began ∷ began ∷ began ∷ entered ∷ missing ∷ entered ∷
+    began ∷ began ∷ began ∷ there ∷ entered ∷ onward ∷ entered ∷
+    began ∷ began ∷ began ∷ onward ∷ waits ∷ waits ∷ entered ∷ onward ∷ waits ∷ entered ∷ onward ∷ onward ∷ there ∷
+    began ∷ began ∷ began ∷ onward ∷ waits ∷ waits ∷ onward ∷ onward ∷ waits ∷ entered ∷ onward ∷ onward ∷ entered ∷
+    onward ∷ entered ∷
+    began ∷ began ∷ began ∷ onward ∷ waits ∷ waits ∷ onward ∷ onward ∷ waits ∷ entered ∷ onward ∷ onward ∷ absent ∷
+    onward ∷ entered ∷
+    began ∷ began ∷ began ∷ onward ∷ waits ∷ waits ∷ onward ∷ onward ∷ waits ∷ onward ∷ onward ∷ onward ∷ entered ∷
+    onward ∷ onward ∷ entered ∷ onward ∷ onward ∷ deleted ∷
     began ∷ began ∷ began ∷ onward ∷ waits ∷ waits ∷ onward ∷ onward ∷ waits ∷ onward ∷ onward ∷ onward ∷ onward ∷
     onward ∷ onward ∷ deleted ∷ noPage ∷ onward ∷ onward ∷ onward ∷ onward ∷ deleted ∷
     began ∷ began ∷ began ∷ onward ∷ waits ∷ waits ∷ onward ∷ onward ∷ waits ∷ onward ∷ onward ∷ onward ∷ found ∷
-    onward ∷ onward ∷ inserted ∷ onward ∷ onward ∷ onward ∷ onward ∷ deleted ∷
+    onward ∷ onward ∷ entered ∷ onward ∷ onward ∷ onward ∷ onward ∷ deleted ∷
     began ∷ began ∷ began ∷ onward ∷ waits ∷ waits ∷ onward ∷ onward ∷ waits ∷ onward ∷ onward ∷ waits ∷ found ∷
     onward ∷ waits ∷ onward ∷ waits ∷ onward ∷ waits ∷ deleted ∷ onward ∷ onward ∷ onward ∷ onward ∷ onward ∷ onward ∷
     deleted ∷
-    began ∷ began ∷ began ∷ onward ∷ waits ∷ waits ∷ onward ∷ waits ∷ waits ∷ inserted ∷ onward ∷ waits ∷ onward ∷
+    began ∷ began ∷ began ∷ onward ∷ waits ∷ waits ∷ onward ∷ waits ∷ waits ∷ entered ∷ onward ∷ waits ∷ onward ∷
     waits ∷ onward ∷ waits ∷ onward ∷ waits ∷ onward ∷ waits ∷ onward ∷ waits ∷ deleted ∷ onward ∷ onward ∷ onward ∷
     onward ∷ deleted ∷
     began ∷ began ∷ began ∷ onward ∷ waits ∷ waits ∷ onward ∷ onward ∷ waits ∷ onward ∷ waits ∷ waits ∷ deleted ∷

@@ -11,8 +11,8 @@ use Rattle.slots.specs.Heard.{heard}
 use Rattle.slots.specs.Parts.{idleState}
 use Rattle.index.specs.Step.{Left}
 use Rattle.index.specs.Make.{made}
-use Rattle.runs.specs.Run.{Call, begin, step, report, Told, told, run}
-use Rattle.promises.specs.Bench.{Row, row, runs, puts, pool, heardIn, after, caseE, delete10, delete20, pages}
+use Rattle.runs.specs.Run.{Call, begin, step, report, Told, ran, run}
+use Rattle.promises.specs.Bench.{Row, row, runs, puts, pool, heardIn, goingOn, caseE, delete10, delete20, pages}
 
 -- a making with k and n, in words of the right number
 abbrev pub making : ℕ → ℕ → Left
@@ -25,18 +25,18 @@ tall = pool 7 (puts 1 ++ puts 2 ++ puts 3 ++ runs 0 (Insert 4 7) 2 ++ runs 0 (In
 
 -- the words of a run with the word at place i changed
 abbrev pub damaged : Told → ℕ → ℕ → Told
-damaged t i w = told [] (t .state) (set (t .words) i w)
+damaged t i w = ran [] (t .state) (set (t .words) i w)
 
 -- the words of a run cut short, or with one word more
 abbrev pub short : Told → Told
-short t = told [] (t .state) (take 20 (t .words))
+short t = ran [] (t .state) (take 20 (t .words))
 
 abbrev pub long : Told → Told
-long t = told [] (t .state) (t .words ++ 0 ∷ [])
+long t = ran [] (t .state) (t .words ++ 0 ∷ [])
 
 -- the answers of some calls after a run
 abbrev pub answers : Told → List Call → List (List ℕ)
-answers t cs = heardIn (after t cs)
+answers t cs = heardIn (goingOn t cs)
 
 abbrev pub more : List Row
 more =
@@ -65,10 +65,10 @@ more =
     ∷ row (answers tall (runs 0 (Search 5) 2 ++ runs 1 (Delete 1) 5 ++ report 6 ∷ step 0 ∷ step 1 ∷ []))
     (heard Begun ∷ heard Moved ∷ heard Moved ∷ heard Begun ∷ heard Moved ∷ heard Moved ∷ heard Moved ∷ heard Moved ∷ heard Waiting
     ∷ heard (Reported Rho 1 0) ∷ heard (Found 7) ∷ heard (Deleted 7) ∷ [])
-    ∷ row (pages (after tall (runs 1 (Delete 1) 5)))
+    ∷ row (pages (goingOn tall (runs 1 (Delete 1) 5)))
     ((2 ∷ 2 ∷ 1 ∷ 3 ∷ 3 ∷ 4 ∷ 4 ∷ []) ∷ (1 ∷ 1 ∷ 2 ∷ 7 ∷ 0 ∷ 0 ∷ 0 ∷ []) ∷ (0 ∷ 0 ∷ 0 ∷ 0 ∷ 0 ∷ 0 ∷ 0 ∷ []) ∷ [])
     -- "Freeing a page without zeroing it, or never taking it again": pages 1 and 2, freed in H, are taken again.
-    ∷ row (pages (after (after (after caseE delete10) delete20) (puts 10 ++ puts 20)))
+    ∷ row (pages (goingOn (goingOn (goingOn caseE delete10) delete20) (puts 10 ++ puts 20)))
     ((2 ∷ 1 ∷ 1 ∷ 20 ∷ 2 ∷ 0 ∷ 0 ∷ []) ∷ (1 ∷ 1 ∷ 10 ∷ 7 ∷ 0 ∷ 0 ∷ 0 ∷ []) ∷ (1 ∷ 2 ∷ 20 ∷ 7 ∷ 30 ∷ 7 ∷ 0 ∷ []) ∷ [])
     -- 1, BadState: the empty state, for every call
     ∷ row (heardIn (run (begin 0 (Search 5) ∷ step 0 ∷ report 0 ∷ []) (idleState 0 0) [])) (heard BadState ∷ heard BadState ∷ heard BadState ∷ [])
@@ -79,9 +79,9 @@ more =
     -- 4, SlotBusy; 5, SlotIdle
     ∷ row (answers caseE (begin 2 (Search 5) ∷ begin 2 (Search 5) ∷ step 3 ∷ [])) (heard Begun ∷ heard SlotBusy ∷ heard SlotIdle ∷ [])
     -- 6, Damaged: page 2's level is 2, and then its keys do not rise; the lock is not taken and the slot stays open
-    ∷ row (answers (damaged (after caseE (runs 0 (Search 20) 1)) 14 2) (step 0 ∷ report 2 ∷ report 0 ∷ step 0 ∷ []))
+    ∷ row (answers (damaged (goingOn caseE (runs 0 (Search 20) 1)) 14 2) (step 0 ∷ report 2 ∷ report 0 ∷ step 0 ∷ []))
     (heard Damaged ∷ heard (Reported None 0 16) ∷ heard (Reported Rho 1 0) ∷ heard Damaged ∷ [])
-    ∷ row (answers (damaged (after caseE (runs 0 (Search 20) 1)) 16 30) (step 0 ∷ [])) (heard Damaged ∷ [])
+    ∷ row (answers (damaged (goingOn caseE (runs 0 (Search 20) 1)) 16 30) (step 0 ∷ [])) (heard Damaged ∷ [])
     -- 7, BadPage
     ∷ row (answers caseE (report 2 ∷ report 3 ∷ [])) (heard (Reported None 0 16) ∷ heard BadPage ∷ [])
     ∷ []

@@ -30,7 +30,7 @@ use Rattle.tree.proofs.Determined.{pool-determined}
 use Rattle.tree.proofs.Words.{pool-leads, fresh-forms}
 use Rattle.runs.specs.Run.{Call, begin, step, report, called, run, runFrom, InWords, Run}
 use Rattle.runs.specs.Plain.{Reply, plain}
-use Rattle.runs.specs.Done.{Done, ended, counted, isOneOf, nobody, asks, done, plainAnswers, plainEntries, opsOf, answersIn}
+use Rattle.runs.specs.Done.{Done, ended, countedAnswers, isOneOf, nobody, asks, done, plainAnswers, plainEntries, opsOf, answersIn}
 use Rattle.runs.specs.Step.{Ended, AsPlain, NoRoomLeft}
 use Rattle.runs.proofs.Invariant.{Runs, Invariant}
 use Rattle.runs.proofs.Calls.{StepOf, noSlot, idle, waits, onward, over, step-of, same-op, closed-open}
@@ -58,11 +58,11 @@ pub record Agrees (es : List Entry) (ds : List Done) (st : State) (ws : List ℕ
   pub entries : (l : ℕ) (t : Tr l) → PoolForms (st .k) (st .n) ws l t → entriesOf l t ≡ plainEntries (opsOf ds) es
 
 -- an operation of the plain list ends with an answer that counts
-pub plain-counted : (op : Op) (es : List Entry) → isOneOf (plain op es .answer) counted ≡ true
+pub plain-counted : (op : Op) (es : List Entry) → isOneOf (plain op es .answer) countedAnswers ≡ true
 unfolding plain member
-plain-counted (Search x) es = cond-ind (λ (a : Answer). isOneOf a counted ≡ true) (has x es) (λ _. refl) (λ _. refl)
-plain-counted (Insert x v) es = cond-ind (λ (r : Reply). isOneOf (r .answer) counted ≡ true) (has x es) (λ _. refl) (λ _. refl)
-plain-counted (Delete x) es = cond-ind (λ (r : Reply). isOneOf (r .answer) counted ≡ true) (has x es) (λ _. refl) (λ _. refl)
+plain-counted (Search x) es = cond-ind (λ (a : Answer). isOneOf a countedAnswers ≡ true) (has x es) (λ _. refl) (λ _. refl)
+plain-counted (Insert x v) es = cond-ind (λ (r : Reply). isOneOf (r .answer) countedAnswers ≡ true) (has x es) (λ _. refl) (λ _. refl)
+plain-counted (Delete x) es = cond-ind (λ (r : Reply). isOneOf (r .answer) countedAnswers ≡ true) (has x es) (λ _. refl) (λ _. refl)
 
 -- ---- what was asked stays known
 
@@ -150,7 +150,7 @@ module _ (st : State) (ws : List ℕ) (inv : Invariant st ws) (asked : ℕ → O
         knows = knows-closed st ws inv s b asked knows;
         adds = ended s (asked s) a ∷ [];
         done-so = λ cs heard. cond-true (ended s (asked s) a ∷ done cs heard asked) (done cs heard asked)
-            (ap (λ (x : Answer). isOneOf x counted) (p .answer) ∙ plain-counted op (entriesIn st ws inv));
+            (ap (λ (x : Answer). isOneOf x countedAnswers) (p .answer) ∙ plain-counted op (entriesIn st ws inv));
         answers = λ ds h. ap₂ _∷_ (p .answer ∙ ap (λ (o : Op). plain o (entriesIn st ws inv) .answer) known) (h ∙ ap (plainAnswers (opsOf ds)) (next p));
         entries = λ ds. ap (plainEntries (opsOf ds)) (sym (next p));
       }
@@ -159,14 +159,14 @@ module _ (st : State) (ws : List ℕ) (inv : Invariant st ws) (asked : ℕ → O
       roomless r same =
           subst (Adds (entriesIn st ws inv) (step s) asked after) (sym same)
           (same-so (step s) after asked (knows-closed st ws inv s b asked knows)
-          (λ cs heard. cond-false (ended s (asked s) a ∷ done cs heard asked) (done cs heard asked) (ap (λ (x : Answer). isOneOf x counted) (r .answer))))
+          (λ cs heard. cond-false (ended s (asked s) a ∷ done cs heard asked) (done cs heard asked) (ap (λ (x : Answer). isOneOf x countedAnswers) (r .answer))))
 
   -- the tree after a step that ends an operation has the entries that the plain list has
   abbrev After : ℕ → Type 0
   After s = (es : List Entry) × Adds (entriesIn st ws inv) (step s) asked (stepped st ws s) es
       × ((l : ℕ) (t : Tr l) → PoolForms (st .k) (st .n) (stepped st ws s .words) l t → entriesOf l t ≡ es)
 
-  still : (s : ℕ) (a : Answer) (next : State) → Knows next asked → isOneOf a counted ≡ false → stepped st ws s ≡ left a next ws → After s
+  still : (s : ℕ) (a : Answer) (next : State) → Knows next asked → isOneOf a countedAnswers ≡ false → stepped st ws s ≡ left a next ws → After s
   unfolding done
   still s a next known uncounted e =
       subst (λ (r : Left). (es : List Entry) × Adds (entriesIn st ws inv) (step s) asked r es × ((l : ℕ) (t : Tr l) → PoolForms (st .k) (st .n) (r .words) l t → entriesOf l t ≡ es)) (sym e) (

@@ -5,14 +5,14 @@ use mathlib.Core.Logic.{_⊎_, inl, inr, ⊎-elim, _≢_}
 use mathlib.Core.List.{List, [], _∷_, _++_, append-nil}
 use mathlib.Core.Path.{_≡_, refl, sym, ap, ap₂, subst, _∙_}
 use native.Mathlib.Omega.{arith}
-use lib.Dec.{ltb, eqb}
+use lib.Dec.{ltb}
 use lib.ListN.{length}
 use borrow.Author.Tests.{ltb-true, ltb-false, lt-ltb, eq-eqb}
 use Rattle.ground.specs.Limits.{slotCount, wordRange}
 use Rattle.ground.specs.Tests.{member, apart}
 use Rattle.ground.proofs.Bools.{true-or-false, not-both, false-if-not-true, or-cases, or-first, or-first-fails, or-second, not-of-true, not-of-false}
 use Rattle.ground.proofs.Choice.{cond-true, cond-false}
-use Rattle.ground.proofs.Tests.{member-none, member-append, apart-member}
+use Rattle.ground.proofs.Tests.{member-none, member-there, member-cases, member-append, member-last, apart-member}
 use Rattle.page.specs.Words.{Page}
 use Rattle.pool.specs.Pool.{Write, poolLength, pageAt, applied}
 use Rattle.slots.specs.declared.Op.{Op}
@@ -28,7 +28,7 @@ use Rattle.slots.specs.Locks.{lockOf, lockAt, isXi}
 use Rattle.slots.specs.Grant.{grants}
 use Rattle.slots.specs.Book.{rewritten, begins, goesOn, closes}
 use Rattle.slots.proofs.SoundFacts.{SoundState, facts-sound}
-use Rattle.slots.proofs.OrderLaws.{same-or-not, member-cases}
+use Rattle.slots.proofs.OrderLaws.{same-or-not}
 use Rattle.slots.proofs.GrantLaws.{taking-alone}
 use Rattle.slots.proofs.Keeping.{Shaped, slot-here, slot-other, path-new, siblings-new, begins-sound, begins-shaped, closes-sound, closes-shaped, goes-on-sound, goes-on-shaped}
 use Rattle.footing.specs.Fitting.{verdict}
@@ -63,10 +63,6 @@ reader-task : (op : Op) → isXi (lockOf (Open op)) ≡ false → isSearch op �
 reader-task (Search x) e = refl
 reader-task (Insert x v) e = not-both refl e
 reader-task (Delete x) e = not-both refl e
-
-member-later : (q p : ℕ) (ps : List ℕ) → member q ps ≡ true → member q (p ∷ ps) ≡ true
-unfolding member
-member-later q p ps m = or-second (eqb q p) m
 
 -- One slot is written anew, the words may change: what has to be shown of that slot, and of the others.
 module _ (st : State) (ws : List ℕ) (inv : Invariant st ws) (s : ℕ) (b : s < slotCount) where
@@ -160,7 +156,7 @@ module _ (st : State) (ws : List ℕ) (inv : Invariant st ws) (s : ℕ) (b : s <
       false-if-not-true (member q (writtenPages writes)) (λ w. ⊎-elim
       (λ x. ⊎-elim
       (λ h. not-both m (apart-member (wantAt st s ∷ held (slotAt st s)) (held (slotAt st u)) (alone x) q h))
-      (λ o. let some = well .pages q (member-later q (wantAt st u) (held (slotAt st u)) m) in absurd (omega arith))
+      (λ o. let some = well .pages q (member-there (wantAt st u) q (held (slotAt st u)) m) in absurd (omega arith))
       (e .only q w))
       (λ x. not-both w (nothing-written (or-first-fails (isXi (lockAt st s)) (isXi (lockAt st u)) x)))
       (true-or-false (isXi (lockAt st s) || isXi (lockAt st u))))
@@ -256,11 +252,6 @@ module _ (st : State) (ws : List ℕ) (inv : Invariant st ws) (s : ℕ) where
       (λ y. by-task (ltb-true s slotCount y) (slotAt st s .task) refl)
       (λ z. noSlot (ltb-false s slotCount z) (past ∙ cond-true (left BadSlot st ws) _ (not-of-false z)))
       (true-or-false (ltb s slotCount))
-
-member-last : (p : ℕ) (xs : List ℕ) (w : ℕ) → member p (xs ++ w ∷ []) ≡ true → (member p xs ≡ true) ⊎ (p ≡ w)
-member-last p xs w m =
-    ⊎-elim inl (λ h. inr (⊎-elim (λ e. e) (λ none. not-both none (member-none p)) (member-cases p w [] h)))
-    (or-cases (member p xs) (member p (w ∷ [])) (sym (member-append p xs (w ∷ [])) ∙ m))
 
 -- what a slot that goes on holds, it held or wanted
 takes-from : (op : Op) (k : ℕ) (memory : ℕ → Page) (path siblings : List ℕ) (want : ℕ) (path′ siblings′ : List ℕ) → Takes op k memory path siblings want path′ siblings′

@@ -1,17 +1,17 @@
 -- At its leaf: a search answers, an insertion answers, lacks room or is made, a deletion answers, wants a sibling or is made.
-use Prim.Native.Nat.{ℕ, suc, _+_, _*_, _≤_, _<_}
+use Prim.Native.Nat.{ℕ, _+_, _*_, _≤_, _<_}
 use mathlib.Core.Bool.{Bool, true, false, cond, _&&_, true≢false, false≢true}
-use mathlib.Core.List.{List, [], _∷_, _++_, reverse, reverse-cons}
+use mathlib.Core.List.{List, [], _∷_, _++_, reverse}
 use mathlib.Core.Logic.{_⊎_, inl, inr, ⊎-elim}
 use mathlib.Core.Path.{_≡_, refl, sym, ap, ap₂, _∙_, subst}
 use native.Mathlib.Omega.{arith}
 use borrow.Author.Tests.{ltb-true, ltb-false}
 use lib.Dec.{ltb}
-use lib.ListN.{length, getD, take, drop, take-append-drop}
+use lib.ListN.{length, getD}
 use Rattle.ground.specs.Limits.{wordRange}
-use Rattle.ground.specs.Tests.{count, member}
-use Rattle.ground.proofs.Tests.{count-append, member-none, member-append, distinct-none}
-use Rattle.ground.proofs.Bools.{not-both, or-first}
+use Rattle.ground.specs.Tests.{member}
+use Rattle.ground.proofs.Tests.{count-reverse, member-none, member-take, distinct-none}
+use Rattle.ground.proofs.Bools.{not-both}
 use Rattle.ground.proofs.Choice.{cond-ind, cond-true, cond-false}
 use Rattle.page.specs.Words.{Entry, Page, page, μ, isLeaf}
 use Rattle.page.specs.Place.{has, information, without}
@@ -64,29 +64,12 @@ leads-nothing k n memory l t forms = record {
 
 -- ---- room, counted on a path or on the path turned round
 
-count-reverse : {A : Type 0} (p : A → Bool) (xs : List A) → count p (reverse xs) ≡ count p xs
-unfolding count
-count-reverse p [] = refl
-count-reverse p (x ∷ xs) =
-    ap (count p) (reverse-cons x xs)
-    ∙ count-append p (reverse xs) (x ∷ [])
-    ∙ one-more (p x) (count-reverse p xs)
-  where
-    one-more : {c d : ℕ} (b : Bool) → c ≡ d → c + cond b 1 0 ≡ cond b (suc d) d
-    one-more true e = omega arith
-    one-more false e = omega arith
-
 room-reverse : (k : ℕ) (memory : ℕ → Page) (leaf : ℕ) (path : List ℕ) → room k memory leaf path ≡ room k memory leaf (reverse path)
 unfolding room
 room-reverse k memory leaf path =
     ap₂ (λ (c : ℕ) (b : Bool). cond (ltb (μ (memory leaf)) (2 * k)) 0 (c + cond (b && isFull k memory 0) 1 0))
     (sym (count-reverse (isFull k memory) path))
     (sym (member-reverse 0 path))
-
--- what stands among the first of a list stands in it
-member-take : (q i : ℕ) (xs : List ℕ) → member q (take i xs) ≡ true → member q xs ≡ true
-member-take q i xs m =
-    sym (ap (member q) (take-append-drop i xs)) ∙ member-append q (take i xs) (drop i xs) ∙ or-first (member q (drop i xs)) m
 
 -- ---- what the leaf tells
 

@@ -23,7 +23,7 @@ use Rattle.tree.specs.Change.{HeldWay}
 use Rattle.tree.specs.Deletion.{canSpare, Deletes, Asked, Needed}
 use Rattle.tree.proofs.Memory.{times-append, member-times, distinct-times}
 use Rattle.tree.proofs.Search.{way-facts}
-use Rattle.tree.proofs.DeletionRule.{sibling≢nothing, astray≢sibling, sibling-same, needs-ask, needs-next, needs-length, asked-more, course-asked}
+use Rattle.tree.proofs.DeletionRule.{sibling≢nothing, astray≢sibling, satisfied≢sibling, sibling-same, needs-ask, needs-next, needs-length, asked-more, course-asked}
 use Rattle.tree.proofs.Deletion.{deletionLeads}
 use Rattle.tree.proofs.DeletionNeeds.{siblingsThere}
 use Rattle.runs.specs.Stance.{Rightly, WantsSibling}
@@ -42,10 +42,6 @@ record Course (k : ℕ) (memory : ℕ → Page) (x p : ℕ) (fathers siblings : 
   wantsNext : want ≡ neighbour x (memory (getD fathers (length siblings) 0))
 
 -- choices that end in a sibling
-satisfied-asks : {X : Type 0} (ss : List ℕ) {s : ℕ} → satisfied ss ≡ sibling s → X
-satisfied-asks [] e = sibling≢nothing (sym e)
-satisfied-asks (r ∷ ss) e = astray≢sibling e
-
 asks-here : (b : Bool) (r : ℕ) {s : ℕ} → cond b nothing (sibling r) ≡ sibling s → (b ≡ false) × (r ≡ s)
 asks-here true r e = sibling≢nothing (sym e)
 asks-here false r e = (refl, sibling-same e)
@@ -59,7 +55,7 @@ asks-if true n e = (refl, e)
 asks-if false n e = astray≢sibling e
 
 asks-further : (b : Bool) (ss : List ℕ) (n : Need) {s : ℕ} → cond b (satisfied ss) n ≡ sibling s → (b ≡ false) × (n ≡ sibling s)
-asks-further true ss n e = satisfied-asks ss e
+asks-further true ss n e = satisfied≢sibling ss e
 asks-further false ss n e = (refl, e)
 
 module _ (k : ℕ) (memory : ℕ → Page) (x : ℕ) where

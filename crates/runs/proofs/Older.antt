@@ -8,9 +8,8 @@ use lib.Dec.{eqb}
 use borrow.Author.Tests.{not-true}
 use Rattle.ground.specs.Tests.{member, distinct}
 use Rattle.ground.proofs.Bools.{not-both, and-first, and-second, or-second}
-use Rattle.ground.proofs.Tests.{member-none, member-append}
+use Rattle.ground.proofs.Tests.{member-none, member-here, member-cases, member-append, member-inside}
 use Rattle.slots.specs.Grant.{olderThan}
-use Rattle.slots.proofs.OrderLaws.{member-here, member-cases}
 use Rattle.runs.specs.Waits.{Before}
 use Rattle.runs.proofs.Progress.{older-there, older-cases}
 
@@ -33,22 +32,18 @@ older-before s t (y ∷ ys) w m =
     (λ h. let b = older-before s t ys later h in record { front = y ∷ b .front; between = b .between; behind = b .behind; whole = ap (λ (l : List ℕ). y ∷ l) (b .whole) })
     cases
 
--- a number that stands further behind stands in the list
-last-there : (s : ℕ) (front behind : List ℕ) → member s (front ++ s ∷ behind) ≡ true
-last-there s front behind = member-append s front (s ∷ behind) ∙ or-second (member s front) (member-here s behind)
-
 stands-older : (s t : ℕ) (front between behind : List ℕ) → distinct (front ++ t ∷ (between ++ s ∷ behind)) ≡ true
     → member t (olderThan s (front ++ t ∷ (between ++ s ∷ behind))) ≡ true
 unfolding distinct member
 stands-older s t [] between behind d =
     let rest : List ℕ = between ++ s ∷ behind in
     let once : member t rest ≡ false = not-true (member t rest) (and-first (not (member t rest)) (distinct rest) d) in
-    ap (member t) (older-there s t rest (λ e. not-both (last-there s between behind) (subst (λ (q : ℕ). member q rest ≡ false) e once)))
+    ap (member t) (older-there s t rest (λ e. not-both (member-inside s between behind) (subst (λ (q : ℕ). member q rest ≡ false) e once)))
     ∙ member-here t (olderThan s rest)
 stands-older s t (y ∷ ys) between behind d =
     let last : List ℕ = between ++ s ∷ behind in
     let rest : List ℕ = ys ++ t ∷ last in
-    let there : member s rest ≡ true = member-append s ys (t ∷ last) ∙ or-second (member s ys) (or-second (eqb s t) (last-there s between behind)) in
+    let there : member s rest ≡ true = member-append s ys (t ∷ last) ∙ or-second (member s ys) (or-second (eqb s t) (member-inside s between behind)) in
     let once : member y rest ≡ false = not-true (member y rest) (and-first (not (member y rest)) (distinct rest) d) in
     ap (member t) (older-there s y rest (λ e. not-both there (subst (λ (q : ℕ). member q rest ≡ false) e once)))
     ∙ or-second (eqb t y) (stands-older s t ys between behind (and-second (not (member y rest)) (distinct rest) d))

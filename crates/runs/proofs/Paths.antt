@@ -4,8 +4,8 @@ use Prim.Native.Nat.{ℕ, zero, suc, _+_, _≤_, _<_}
 use native.Mathlib.Omega.{arith}
 use mathlib.Core.List.{List, [], _∷_, _++_, reverse, reverse-cons, head-eq-of-cons-eq, tail-eq-of-cons-eq}
 use mathlib.Core.Path.{_≡_, refl, sym, ap, _∙_}
-use lib.ListN.{length, getD, take, drop, length-append, length-reverse, length-drop, take-append-drop, List·getD-append}
-use lib.Seq.{getD-at, getD-drop, drop-drop}
+use lib.ListN.{length, getD, take, drop, length-append, length-drop, take-append-drop}
+use lib.Seq.{getD-drop, drop-drop}
 use Rattle.ground.specs.Tests.{member}
 use Rattle.ground.proofs.Bools.{same-if-true-together}
 use Rattle.tree.specs.Change.{topOf, belowTop}
@@ -39,22 +39,12 @@ times-reverse q (x ∷ xs) =
     let ih = times-reverse q xs in
     ap (times q) (reverse-cons x xs) ∙ times-append q (reverse xs) (x ∷ []) ∙ omega arith
 
--- and the same numbers,
+-- and the same numbers
 pub member-reverse : (q : ℕ) (xs : List ℕ) → member q (reverse xs) ≡ member q xs
 member-reverse q xs =
     same-if-true-together (member q (reverse xs)) (member q xs)
     (λ m. let some = member-times q (reverse xs) m in times-member q xs (omega (arith, times-reverse q xs)))
     (λ m. let some = member-times q xs m in times-member q (reverse xs) (omega (arith, times-reverse q xs)))
-
--- each as far from the one end as it was from the other
-pub reverse-at : (xs : List ℕ) (i j : ℕ) → i + j + 1 ≡ length xs → getD (reverse xs) j 0 ≡ getD xs i 0
-reverse-at [] i j e = absurd (omega arith)
-reverse-at (x ∷ xs) zero j e =
-    ap (λ (ys : List ℕ). getD ys j 0) (reverse-cons x xs) ∙ getD-at (reverse xs) x [] 0 j (omega (arith, length-reverse xs))
-reverse-at (x ∷ xs) (suc i) j e =
-    ap (λ (ys : List ℕ). getD ys j 0) (reverse-cons x xs)
-    ∙ List·getD-append (reverse xs) (x ∷ []) 0 j (omega (arith, length-reverse xs))
-    ∙ reverse-at xs i j (omega arith)
 
 -- ---- a stretch of a list
 

@@ -1,5 +1,5 @@
 -- The laws of the plain sorted list.
-use Prim.Native.Nat.{ℕ, suc, _+_, _*_}
+use Prim.Native.Nat.{ℕ, suc, _+_}
 use mathlib.Core.Bool.{Bool, true, false, cond, _||_, false≢true}
 use mathlib.Core.List.{List, [], _∷_, _++_}
 use mathlib.Core.Logic.{_≢_, ⊎-elim}
@@ -9,10 +9,9 @@ use borrow.Author.Tests.{eqb-true, eq-eqb, ne-eqb}
 use lib.Dec.{eqb}
 use lib.ListN.{length, getD, take, drop, length-append, take-append-drop}
 use lib.Seq.{getD-append-seam}
-use Rattle.ground.specs.Limits.{wordRange}
 use Rattle.ground.proofs.Bools.{true-or-false, not-both, false-if-not-true, or-first-fails, or-cases}
 use Rattle.ground.proofs.Choice.{cond-ind, cond-true, cond-false}
-use Rattle.page.specs.Words.{Entry, Page, entry, keyOf, valueOf, page}
+use Rattle.page.specs.Words.{Entry, entry, keyOf, valueOf, page}
 use Rattle.page.specs.Place.{place, has, information, without}
 use Rattle.page.specs.Sound.{rises}
 use Rattle.page.proofs.PlaceLaws.{has-from, has-at, has-append, information-at, rises-without}
@@ -25,9 +24,7 @@ use Rattle.slots.specs.declared.Answer.the-variants.{Found, NotFound, Inserted,
 use Rattle.slots.specs.Heard.{heard, numberOf}
 use Rattle.slots.specs.Parts.{keyOf as keyOfOp}
 use Rattle.tree.specs.Sorted.{inserted}
-use Rattle.tree.specs.Tree.{Tr, entriesOf, rootLeast, Forms}
-use Rattle.tree.proofs.Sorted.{has-inserted, rises-within}
-use Rattle.tree.proofs.Search.{within-entries}
+use Rattle.tree.proofs.Sorted.{has-inserted}
 use Rattle.runs.specs.Plain.{Reply, reply, plain}
 use Rattle.runs.specs.PlainFacts.{Among, Missing, PlainFacts}
 
@@ -278,8 +275,3 @@ module _ (es : List Entry) (r : rises es ≡ true) where
     noSuchKeyKeeps = λ x m. ap (λ (p : Reply). p .entries) (delete-missing x es (missing-has x es m));
     others = others;
   }
-
--- So they hold of the entries of a pool's tree.
-pub tree-plain : (k n : ℕ) (memory : ℕ → Page) (l : ℕ) (t : Tr l) → Forms k n memory l t → PlainFacts (entriesOf l t)
-tree-plain k n memory l t f =
-    plain-facts (entriesOf l t) (rises-within 0 wordRange (entriesOf l t) (within-entries k (rootLeast l) (2 * k) l t 0 wordRange (f .inRange)))

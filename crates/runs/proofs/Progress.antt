@@ -2,7 +2,7 @@
 -- The wants are ranked: first the one whose page's range begins latest, then the one on the lowest level, then the oldest.
 -- Whoever is barred is barred by a slot whose own want ranks before, so the first of them is granted.
 use Prim.Native.Nat.{ℕ, zero, suc, _+_, _-_, _*_, _≤_, _<_}
-use mathlib.Core.Bool.{Bool, true, false, not, _&&_, _||_, true≢false}
+use mathlib.Core.Bool.{true, false, not, _&&_, _||_}
 use mathlib.Core.List.{List, [], _∷_, reverse}
 use mathlib.Core.Logic.{_⊎_, inl, inr, ⊎-elim, _≢_}
 use mathlib.Core.Path.{_≡_, refl, sym, ap, _∙_, subst}
@@ -12,10 +12,10 @@ use borrow.Author.Tests.{eqb-true, eqb-false, eq-eqb, ne-eqb, not-true, not-fals
 use lib.Dec.{eqb}
 use lib.ListN.{length, getD}
 use Rattle.ground.specs.Limits.{slotCount, wordRange}
-use Rattle.ground.specs.Tests.{all, member}
-use Rattle.ground.proofs.Bools.{true-or-false, not-both, false-if-not-true, and-first, and-second, and-fails, or-first-fails, or-second-fails, or-second}
+use Rattle.ground.specs.Tests.{member}
+use Rattle.ground.proofs.Bools.{true-or-false, not-both, false-if-not-true, and-first, and-second, and-fails, or-first-fails, or-second-fails}
 use Rattle.ground.proofs.Choice.{cond-true, cond-false}
-use Rattle.ground.proofs.Tests.{member-none, all-member, allBelow-false-at}
+use Rattle.ground.proofs.Tests.{member-none, member-here, member-there, member-cases, all-member, all-fails-at, allBelow-false-at}
 use Rattle.page.specs.Words.{Page}
 use Rattle.pool.specs.Pool.{pageAt}
 use Rattle.slots.specs.declared.Op.{Op}
@@ -27,7 +27,7 @@ use Rattle.slots.specs.Locks.{lockAt, clash}
 use Rattle.slots.specs.Grant.{olderThan, noClash, noOlder, grants}
 use Rattle.slots.proofs.Clashes.{no-two-locks-clash}
 use Rattle.slots.proofs.GrantLaws.{granted-no-clash, holder-open}
-use Rattle.slots.proofs.OrderLaws.{same-or-not, member-here, member-cases}
+use Rattle.slots.proofs.OrderLaws.{same-or-not}
 use Rattle.tree.specs.Tree.{Tr, Stands, Forms}
 use Rattle.tree.specs.Facts.{Placed}
 use Rattle.runs.specs.Stance.{Stance}
@@ -51,16 +51,6 @@ clash-found st s f =
       holds = and-first holds clashes both;
       clashes = and-second holds clashes both;
     }
-
--- a number of the list fails where not every one passes
-all-fails-at : (p : ℕ → Bool) (xs : List ℕ) → all p xs ≡ false → (x : ℕ) × (member x xs ≡ true) × (p x ≡ false)
-unfolding all member
-all-fails-at p [] f = absurd (true≢false f)
-all-fails-at p (y ∷ ys) f =
-    ⊎-elim
-    (λ e. (y, member-here y ys, e))
-    (λ e. let (x, m, q) = all-fails-at p ys e in (x, or-second (eqb x y) m, q))
-    (and-fails (p y) (all p ys) f)
 
 older-found : (st : State) (s : ℕ) → noOlder st s ≡ false → Older st s
 unfolding noOlder
@@ -117,7 +107,7 @@ older-waits s t [] m = m
 older-waits s t (y ∷ ys) m =
     ⊎-elim
     (λ e. subst (λ (q : ℕ). member q (y ∷ ys) ≡ true) (sym e) (member-here y ys))
-    (λ h. or-second (eqb t y) (older-waits s t ys h))
+    (λ h. member-there y t ys (older-waits s t ys h))
     (older-cases s t y ys m .1)
 
 -- and fewer are older than it
@@ -167,7 +157,7 @@ opened Closed e = not-both e refl
 opened (Open op) e = (op, refl)
 
 -- An open slot whose want ranks before a rank.
-record Before (st : State) (l : ℕ) (t : Tr l) (bound : ℕ) : Type 0 where
+record RankedBelow (st : State) (l : ℕ) (t : Tr l) (bound : ℕ) : Type 0 where
   slot : ℕ
   below : slot < slotCount
   runs : openAt st slot ≡ true
@@ -180,12 +170,12 @@ CanGo st = (u : ℕ) × (u < slotCount) × (openAt st u ≡ true) × (grants st 
 
 module _ (st : State) (ws : List ℕ) (inv : Invariant st ws) where
   -- an open slot's operation, and where it stands
-  record Standing (s : ℕ) : Type 0 where
+  record OpenStance (s : ℕ) : Type 0 where
     op : Op
     key : keyOf op < wordRange
     stance : Stance op (st .k) (pageAt (st .k) ws) (inv .height) (inv .tree) (pathOf (slotAt st s)) (siblingsOf (slotAt st s)) (wantAt st s)
 
-  standing : (s : ℕ) → s < slotCount → openAt st s ≡ true → Standing s
+  standing : (s : ℕ) → s < slotCount → openAt st s ≡ true → OpenStance s
   standing s b o =
       let (op, runs) = opened (slotAt st s .task) o in
       record { op = op; key = inv .keys s op b runs; stance = inv .stands s op b runs }
@@ -221,7 +211,7 @@ module _ (st : State) (ws : List ℕ) (inv : Invariant st ws) where
 
   -- Whoever is barred is barred by a slot whose own want ranks before.
   better : (s : ℕ) → s < slotCount → openAt st s ≡ true → (w : Placed (inv .height) (inv .tree) 0 wordRange (wantAt st s)) → Holder st s ⊎ Older st s
-      → Before st (inv .height) (inv .tree) (rank st (inv .height) s (w .level) (w .from))
+      → RankedBelow st (inv .height) (inv .tree) (rank st (inv .height) s (w .level) (w .from))
   better s b o w (inl h) =
       let v : ℕ = h .slot in
       let it = standing v (h .below) (holder-opens s h) in
@@ -251,7 +241,7 @@ module _ (st : State) (ws : List ℕ) (inv : Invariant st ws) where
       }
 
   -- so, from one slot to a better one, some slot is granted: ranks end at 0
-  best : (bound : ℕ) → Before st (inv .height) (inv .tree) bound → CanGo st
+  best : (bound : ℕ) → RankedBelow st (inv .height) (inv .tree) bound → CanGo st
   best zero c = absurd (omega (arith, c .less))
   best (suc bound) c =
       ⊎-elim

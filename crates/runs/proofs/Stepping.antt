@@ -1,7 +1,7 @@
 -- A granted step of a slot that stands as it should: its pages are sound for the step, and it goes on and stands as it should
 -- again, or its operation ends. It is never broken.
 use Prim.Native.Nat.{ℕ, suc, _+_, _≤_, _<_}
-use mathlib.Core.Bool.{true, false, not, _&&_, _||_, or-false, true≢false, false≢true}
+use mathlib.Core.Bool.{true, not, _&&_, or-false, true≢false, false≢true}
 use mathlib.Core.List.{List, [], _∷_, _++_, reverse, append-nil}
 use mathlib.Core.Logic.{inl, inr, ⊎-elim}
 use mathlib.Core.Path.{_≡_, refl, sym, ap, _∙_, subst}
@@ -13,7 +13,7 @@ use lib.ListN.{length, getD, length-append, length-reverse, List·getD-append}
 use lib.Seq.{getD-at}
 use Rattle.ground.specs.Limits.{wordRange}
 use Rattle.ground.specs.Tests.{member, distinct}
-use Rattle.ground.proofs.Tests.{all-from-members, member-append}
+use Rattle.ground.proofs.Tests.{all-from-members, member-append, member-first, member-wider, member-behind}
 use Rattle.ground.proofs.Bools.{true-or-false, and-both, and-first, or-first, or-second, or-cases}
 use Rattle.ground.proofs.Choice.{cond-ind, cond-true, cond-false}
 use Rattle.page.specs.Words.{Page, μ, isLeaf}
@@ -43,33 +43,6 @@ use Rattle.runs.proofs.Granting.{Down, Reached, descends-way, rightly-t
 use Rattle.runs.proofs.Landing.{Does, on, done, leaf-is, leaf-has, search-does, insert-does, missing-ends, delete-does}
 
 -- ---- pages in lists
-
--- a page that stands last stands first
-member-first : (q want : ℕ) (ps : List ℕ) → member q (ps ++ want ∷ []) ≡ true → member q (want ∷ ps) ≡ true
-unfolding member
-member-first q want ps m =
-    ⊎-elim
-    (λ h. or-second (eqb q want) h)
-    (λ e. or-first (member q ps) (sym (or-false (eqb q want)) ∙ e))
-    (or-cases (member q ps) (eqb q want || false) (sym (member-append q ps (want ∷ [])) ∙ m))
-
--- more pages behind
-member-wider : (q want : ℕ) (ps more : List ℕ) → member q (want ∷ ps) ≡ true → member q (want ∷ (ps ++ more)) ≡ true
-unfolding member
-member-wider q want ps more m =
-    ⊎-elim
-    (λ e. or-first (member q (ps ++ more)) e)
-    (λ h. or-second (eqb q want) (member-append q ps more ∙ or-first (member q more) h))
-    (or-cases (eqb q want) (member q ps) m)
-
--- other pages before
-member-behind : (q want : ℕ) (more ps : List ℕ) → member q (want ∷ ps) ≡ true → member q (want ∷ (more ++ ps)) ≡ true
-unfolding member
-member-behind q want more ps m =
-    ⊎-elim
-    (λ e. or-first (member q (more ++ ps)) e)
-    (λ h. or-second (eqb q want) (member-append q more ps ∙ or-second (member q more) h))
-    (or-cases (eqb q want) (member q ps) m)
 
 -- what is kept was held or wanted
 kept-inside : (op : Op) (k : ℕ) (memory : ℕ → Page) (path siblings : List ℕ) (want q : ℕ) → member q (kept op k memory path want) ≡ true

@@ -24,8 +24,8 @@ abbrev pub ended : ℕ → Op → Answer → Done
 ended s op a = record { slot = s; op = op; answer = a }
 
 -- the answers that end an operation, save NoRoom; whatever their values
-abbrev pub counted : List Answer
-counted = Found 0 ∷ NotFound ∷ Inserted ∷ AlreadyThere ∷ Deleted 0 ∷ NoSuchKey ∷ []
+abbrev pub countedAnswers : List Answer
+countedAnswers = Found 0 ∷ NotFound ∷ Inserted ∷ AlreadyThere ∷ Deleted 0 ∷ NoSuchKey ∷ []
 
 -- the answers of which pages are written
 abbrev pub writing : List Answer
@@ -41,12 +41,12 @@ nobody s = Search 0
 abbrev pub asks : ℕ → Op → (ℕ → Op) → ℕ → Op
 asks s op asked u = cond (eqb u s) op (asked u)
 
--- A begin answered Begun asks its operation in its slot; a step answered by one of `counted` ends what was asked there.
+-- A begin answered Begun asks its operation in its slot; a step answered by one of `countedAnswers` ends what was asked there.
 unfoldable pub done : List Call → List Answer → (ℕ → Op) → List Done
 done [] heard asked = []
 done (c ∷ cs) [] asked = []
 done (begin s op ∷ cs) (a ∷ heard) asked = done cs heard (cond (isOneOf a (Begun ∷ [])) (asks s op asked) asked)
-done (step s ∷ cs) (a ∷ heard) asked = cond (isOneOf a counted) (ended s (asked s) a ∷ done cs heard asked) (done cs heard asked)
+done (step s ∷ cs) (a ∷ heard) asked = cond (isOneOf a countedAnswers) (ended s (asked s) a ∷ done cs heard asked) (done cs heard asked)
 done (report p ∷ cs) (a ∷ heard) asked = done cs heard asked
 
 -- "A plain sorted list, worked through one operation after another": its answers, and its entries at the end

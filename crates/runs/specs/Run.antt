@@ -33,16 +33,16 @@ pub record Told : Type 0 where
   pub state : State
   pub words : List ℕ
 
-abbrev pub told : List Answer → State → List ℕ → Told
-told heardSo st ws = record { answers = heardSo; state = st; words = ws }
+abbrev pub ran : List Answer → State → List ℕ → Told
+ran heardSo st ws = record { answers = heardSo; state = st; words = ws }
 
 -- "each call given what the last one left"
 unfoldable pub run : List Call → State → List ℕ → Told
-run [] st ws = told [] st ws
+run [] st ws = ran [] st ws
 run (c ∷ cs) st ws =
     let one = called st ws c in
     let rest = run cs (one .state) (one .words) in
-    told (one .answer ∷ rest .answers) (rest .state) (rest .words)
+    ran (one .answer ∷ rest .answers) (rest .state) (rest .words)
 
 -- "From a fresh pool": a pool is made in these words, then come the calls
 unfoldable pub runFrom : ℕ → ℕ → List ℕ → List Call → Told

@@ -1,6 +1,6 @@
 -- What the calls of a script hear, and that none of the lines written is BadState, BadPool or Damaged.
 use Prim.Native.Nat.{ℕ}
-use mathlib.Core.Bool.{Bool, true, false, false≢true}
+use mathlib.Core.Bool.{Bool, true, false≢true}
 use mathlib.Core.List.{List, [], _∷_, _++_, map, flatten}
 use mathlib.Core.Path.{_≡_, refl, ap, _∙_}
 use Rattle.ground.specs.Tests.{all, member}
@@ -14,8 +14,8 @@ use Rattle.slots.specs.declared.Answer.the-variants.{Waiting, Moved, Found, Not
 use Rattle.slots.specs.Heard.{numberOf}
 use Rattle.lines.specs.declared.Command.{Command}
 use Rattle.lines.specs.declared.Command.the-variants.{Begin, Step, Bad}
-use Rattle.lines.specs.Text.{begins}
-use Rattle.lines.specs.Names.{written, badLine}
+use Rattle.lines.specs.Text.{startsWith}
+use Rattle.lines.specs.Names.{answerLine, badLine}
 use Rattle.lines.specs.Ends.{firstLine}
 use Rattle.talk.specs.Split.{ended, linesOf}
 use Rattle.talk.proofs.OneEach.{answer-line, bad-line}
@@ -59,8 +59,8 @@ script-hears (Step s ∷ cs) st ws inv h =
 script-hears (Bad ∷ cs) st ws inv h = script-hears cs st ws inv h
 
 -- none of these is written as one of the three
-answer-quiet : (a : Answer) → isSpoken a ≡ true → quiet (ended (firstLine (written a))) ≡ true
-unfolding member begins firstLine
+answer-quiet : (a : Answer) → isSpoken a ≡ true → quiet (ended (firstLine (answerLine a))) ≡ true
+unfolding member startsWith firstLine
 answer-quiet Waiting h = refl
 answer-quiet Moved h = refl
 answer-quiet (Found v) h = refl
@@ -82,11 +82,11 @@ answer-quiet Damaged h = absurd (false≢true h)
 answer-quiet BadPage h = refl
 
 bad-quiet : quiet (ended (firstLine badLine)) ≡ true
-unfolding begins firstLine
+unfolding startsWith firstLine
 bad-quiet = refl
 
 -- an answer's line in front of others
-answer-more : (a : Answer) (rest : List ℕ) → isSpoken a ≡ true → all quiet (linesOf rest) ≡ true → all quiet (linesOf (written a ++ rest)) ≡ true
+answer-more : (a : Answer) (rest : List ℕ) → isSpoken a ≡ true → all quiet (linesOf rest) ≡ true → all quiet (linesOf (answerLine a ++ rest)) ≡ true
 unfolding all
 answer-more a rest h r = ap (all quiet) (answer-line a rest) ∙ and-both (answer-quiet a h) r
 

@@ -10,7 +10,7 @@ use lib.ListN.{length}
 use Rattle.ground.specs.Tests.{all}
 use Rattle.ground.proofs.Bools.{true-or-false}
 use Rattle.ground.proofs.Choice.{cond-true}
-use Rattle.lines.specs.Text.{begins}
+use Rattle.lines.specs.Text.{startsWith}
 use Rattle.lines.specs.Names.{tooLong}
 use Rattle.talk.specs.Split.{linesOf}
 use Rattle.talk.specs.Talk.{programK, programPages, blank, opening, mostBytes, programWrites}
@@ -34,7 +34,7 @@ unfolding runFrom
 script-heard input = script-hears (commandsIn (linesOf input)) (opening .state) (opening .words) opening-holds (script-in-words (linesOf input))
 
 too-long-quiet : all quiet (linesOf tooLong) ≡ true
-unfolding all begins linesOf
+unfolding all startsWith linesOf
 too-long-quiet = refl
 
 pub never-said : NeverSaid

@@ -19,10 +19,10 @@ use Rattle.slots.specs.declared.Answer.the-variants.{Waiting, Moved, Found, Not
 use Rattle.slots.specs.Heard.{numberOf}
 use Rattle.lines.specs.declared.Command.{Command}
 use Rattle.lines.specs.declared.Command.the-variants.{Begin, Step, Bad}
-use Rattle.lines.specs.Text.{bytes, begins}
+use Rattle.lines.specs.Text.{bytes, startsWith}
 use Rattle.lines.specs.Meaning.{value}
 use Rattle.lines.specs.Decimal.{decimal}
-use Rattle.lines.specs.Names.{written}
+use Rattle.lines.specs.Names.{answerLine}
 use Rattle.lines.specs.Ends.{firstLine}
 use Rattle.lines.proofs.Decimals.{decimal-digital, value-decimal}
 use Rattle.talk.specs.Split.{Line, ended, linesOf}
@@ -36,24 +36,24 @@ use Rattle.script.proofs.Heard.{spoken, isSpoken}
 
 unfoldable readBack : List ℕ → Answer
 readBack line =
-    cond (begins (bytes "Waiting") line) Waiting
-    (cond (begins (bytes "Moved") line) Moved
-    (cond (begins (bytes "Found ") line) (Found (value (drop (length (bytes "Found ")) line)))
-    (cond (begins (bytes "NotFound") line) NotFound
-    (cond (begins (bytes "Inserted") line) Inserted
-    (cond (begins (bytes "AlreadyThere") line) AlreadyThere
-    (cond (begins (bytes "Deleted ") line) (Deleted (value (drop (length (bytes "Deleted ")) line)))
-    (cond (begins (bytes "NoSuchKey") line) NoSuchKey
-    (cond (begins (bytes "NoRoom") line) NoRoom
-    (cond (begins (bytes "Begun") line) Begun
-    (cond (begins (bytes "Made") line) Made
-    (cond (begins (bytes "BadState") line) BadState
-    (cond (begins (bytes "BadPool") line) BadPool
-    (cond (begins (bytes "BadSlot") line) BadSlot
-    (cond (begins (bytes "SlotBusy") line) SlotBusy
-    (cond (begins (bytes "SlotIdle") line) SlotIdle
-    (cond (begins (bytes "Damaged") line) Damaged
-    (cond (begins (bytes "BadPage") line) BadPage
+    cond (startsWith (bytes "Waiting") line) Waiting
+    (cond (startsWith (bytes "Moved") line) Moved
+    (cond (startsWith (bytes "Found ") line) (Found (value (drop (length (bytes "Found ")) line)))
+    (cond (startsWith (bytes "NotFound") line) NotFound
+    (cond (startsWith (bytes "Inserted") line) Inserted
+    (cond (startsWith (bytes "AlreadyThere") line) AlreadyThere
+    (cond (startsWith (bytes "Deleted ") line) (Deleted (value (drop (length (bytes "Deleted ")) line)))
+    (cond (startsWith (bytes "NoSuchKey") line) NoSuchKey
+    (cond (startsWith (bytes "NoRoom") line) NoRoom
+    (cond (startsWith (bytes "Begun") line) Begun
+    (cond (startsWith (bytes "Made") line) Made
+    (cond (startsWith (bytes "BadState") line) BadState
+    (cond (startsWith (bytes "BadPool") line) BadPool
+    (cond (startsWith (bytes "BadSlot") line) BadSlot
+    (cond (startsWith (bytes "SlotBusy") line) SlotBusy
+    (cond (startsWith (bytes "SlotIdle") line) SlotIdle
+    (cond (startsWith (bytes "Damaged") line) Damaged
+    (cond (startsWith (bytes "BadPage") line) BadPage
     (Reported None 0 0))))))))))))))))))
 
 isReport : Answer → Bool
@@ -66,8 +66,8 @@ asRead a = cond (isReport a) (Reported None 0 0) a
 number-back : (v : ℕ) → value (firstLine (decimal v ++ 10 ∷ [])) ≡ v
 number-back v = ap value (first-of (decimal v) [] (digits-plain (decimal v) (decimal-digital v))) ∙ value-decimal v
 
-reads-back : (a : Answer) → readBack (firstLine (written a)) ≡ asRead a
-unfolding begins firstLine readBack isReport
+reads-back : (a : Answer) → readBack (firstLine (answerLine a)) ≡ asRead a
+unfolding startsWith firstLine readBack isReport
 reads-back Waiting = refl
 reads-back Moved = refl
 reads-back (Found v) = ap Found (number-back v)
@@ -94,7 +94,7 @@ unfolding all member isReport
 spoken-plain a h = not-true (isReport a) (all-member (λ n. not (eqb n (numberOf (Reported None 0 0)))) (map numberOf spoken) refl (numberOf a) h)
 
 -- so that such an answer stands alone with its line
-line-once : (b a : Answer) → isSpoken a ≡ true → firstLine (written b) ≡ firstLine (written a) → b ≡ a
+line-once : (b a : Answer) → isSpoken a ≡ true → firstLine (answerLine b) ≡ firstLine (answerLine a) → b ≡ a
 unfolding isReport
 line-once b a h e =
     let same : asRead b ≡ a = sym (reads-back b) ∙ ap readBack e ∙ reads-back a ∙ cond-false (Reported None 0 0) a (spoken-plain a h) in
@@ -114,10 +114,10 @@ behindFirst [] = []
 behindFirst (line ∷ lines) = lines
 
 -- two outputs of the same lines begin with the same answer, and go on with the same lines
-answers-first : (b a : Answer) (bs rest : List ℕ) → isSpoken a ≡ true → linesOf (written b ++ bs) ≡ linesOf (written a ++ rest)
+answers-first : (b a : Answer) (bs rest : List ℕ) → isSpoken a ≡ true → linesOf (answerLine b ++ bs) ≡ linesOf (answerLine a ++ rest)
     → (b ≡ a) × (linesOf bs ≡ linesOf rest)
 answers-first b a bs rest h e =
-    let same : ended (firstLine (written b)) ∷ linesOf bs ≡ ended (firstLine (written a)) ∷ linesOf rest = sym (answer-line b bs) ∙ e ∙ answer-line a rest in
+    let same : ended (firstLine (answerLine b)) ∷ linesOf bs ≡ ended (firstLine (answerLine a)) ∷ linesOf rest = sym (answer-line b bs) ∙ e ∙ answer-line a rest in
     (line-once b a h (ap firstText same), ap behindFirst same)
 
 -- the answers of an output are determined by its lines

@@ -14,7 +14,7 @@ use Rattle.lines.specs.declared.Command.{Command}
 use Rattle.lines.specs.declared.Command.the-variants.{Begin, Step, Bad}
 use Rattle.lines.specs.Meaning.{meaning, largest}
 use Rattle.lines.specs.Forms.{Good, toSearch, toInsert, toDelete, toStep}
-use Rattle.lines.specs.Names.{written, badLine}
+use Rattle.lines.specs.Names.{answerLine, badLine}
 use Rattle.lines.proofs.Grammar.{means-good}
 use Rattle.index.specs.Step.{stepped}
 use Rattle.talk.specs.Split.{Line, ended, unended, linesOf}
@@ -30,9 +30,9 @@ command-run : (c : Command) (st : State) (ws : List ℕ) (lines : List Line)
     → commanded st ws c .said ++ replies (commanded st ws c .state) (commanded st ws c .words) lines
     ≡ flatten (saidTo (c ∷ commandsIn lines) (run (callsBy (c ∷ commandsIn lines)) st ws .answers))
 unfolding flatten callsBy saidTo called run
-command-run (Begin s op) st ws lines rest = ap (λ (bs : List ℕ). written (begun st s op .answer) ++ bs) (rest (begun st s op .state) ws)
+command-run (Begin s op) st ws lines rest = ap (λ (bs : List ℕ). answerLine (begun st s op .answer) ++ bs) (rest (begun st s op .state) ws)
 command-run (Step s) st ws lines rest =
-    ap (λ (bs : List ℕ). written (stepped st ws s .answer) ++ bs) (rest (stepped st ws s .state) (stepped st ws s .words))
+    ap (λ (bs : List ℕ). answerLine (stepped st ws s .answer) ++ bs) (rest (stepped st ws s .state) (stepped st ws s .words))
 command-run Bad st ws lines rest = ap (λ (bs : List ℕ). badLine ++ bs) (rest st ws)
 
 replies-run : (lines : List Line) (st : State) (ws : List ℕ) → replies st ws lines ≡ flatten (saidBy lines (run (callsOf lines) st ws .answers))

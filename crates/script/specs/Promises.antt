@@ -6,7 +6,7 @@ use mathlib.Core.Path.{_≡_}
 use lib.ListN.{length}
 use Rattle.ground.specs.Tests.{all}
 use Rattle.slots.specs.declared.Answer.{Answer}
-use Rattle.lines.specs.Text.{bytes, begins}
+use Rattle.lines.specs.Text.{bytes, startsWith}
 use Rattle.talk.specs.Split.{Line, ended, unended, linesOf}
 use Rattle.talk.specs.Talk.{mostBytes, programWrites}
 use Rattle.runs.specs.Done.{Done, nobody, done, plainAnswers, opsOf, answersIn}
@@ -21,7 +21,7 @@ textOf (unended line) = line
 
 -- the line is none of the three, nor begins with one
 abbrev pub quiet : Line → Bool
-quiet line = not (begins (bytes "BadState") (textOf line) || begins (bytes "BadPool") (textOf line) || begins (bytes "Damaged") (textOf line))
+quiet line = not (startsWith (bytes "BadState") (textOf line) || startsWith (bytes "BadPool") (textOf line) || startsWith (bytes "Damaged") (textOf line))
 
 -- no line of what is written, whatever was read
 abbrev pub NeverSaid : Type 0

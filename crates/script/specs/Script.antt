@@ -7,7 +7,7 @@ use Rattle.slots.specs.declared.Answer.{Answer}
 use Rattle.lines.specs.declared.Command.{Command}
 use Rattle.lines.specs.declared.Command.the-variants.{Begin, Step, Bad}
 use Rattle.lines.specs.Meaning.{meaning}
-use Rattle.lines.specs.Names.{written, badLine}
+use Rattle.lines.specs.Names.{answerLine, badLine}
 use Rattle.talk.specs.Split.{Line, ended, unended, linesOf}
 use Rattle.talk.specs.Talk.{programK, programPages, blank, mostBytes, programWrites}
 use Rattle.runs.specs.Run.{Call, begin, step, Told, runFrom, Run}
@@ -38,9 +38,9 @@ callsOf lines = callsBy (commandsIn lines)
 unfoldable pub saidTo : List Command → List Answer → List (List ℕ)
 saidTo [] heard = []
 saidTo (Begin s op ∷ rest) [] = []
-saidTo (Begin s op ∷ rest) (a ∷ heard) = written a ∷ saidTo rest heard
+saidTo (Begin s op ∷ rest) (a ∷ heard) = answerLine a ∷ saidTo rest heard
 saidTo (Step s ∷ rest) [] = []
-saidTo (Step s ∷ rest) (a ∷ heard) = written a ∷ saidTo rest heard
+saidTo (Step s ∷ rest) (a ∷ heard) = answerLine a ∷ saidTo rest heard
 saidTo (Bad ∷ rest) heard = badLine ∷ saidTo rest heard
 
 abbrev pub saidBy : List Line → List Answer → List (List ℕ)

@@ -8,7 +8,7 @@ use lib.Dec.{eqb}
 use lib.ListN.{length, take, drop, replicate}
 use lib.Seq.{drop-nil}
 use Rattle.page.specs.Words.{Entry, Page, entry, μ, flat, used, encode, pairs, pairsFrom, size}
-use Rattle.sheet.specs.Sheets.{front}
+use Rattle.sheet.specs.Sheets.{beforePairs}
 use Rattle.page.proofs.WordLaws.{length-used}
 
 -- the words of two runs of pairs stand one behind the other
@@ -17,13 +17,8 @@ unfolding flat
 flat-append [] b = refl
 flat-append (e ∷ a) b = ap (λ (r : List ℕ). e .key ∷ e .value ∷ r) (flat-append a b)
 
--- the words of a pair more
-pub flat-cons : (e : Entry) (es : List Entry) → flat (e ∷ es) ≡ e .key ∷ e .value ∷ flat es
-unfolding flat
-flat-cons e es = refl
-
 -- the words before the pairs end where the pairs begin
-pub length-front : (l m f : ℕ) → length (front l m f) ≡ pairsFrom l
+pub length-front : (l m f : ℕ) → length (beforePairs l m f) ≡ pairsFrom l
 length-front l m f = by-leaf (eqb l 1)
   where
     by-leaf : (leaf : Bool) → length (l ∷ m ∷ cond leaf [] (f ∷ [])) ≡ cond leaf 2 3
@@ -40,7 +35,7 @@ pairsFrom-least level = two-or-three (eqb level 1)
 
 -- The words of a page: those before the pairs, the pairs, zeros.
 pub encode-front : (k : ℕ) (P : Page)
-    → encode k P ≡ front (P .level) (μ P) (P .first) ++ (flat (P .entries) ++ replicate (size k - (pairsFrom (P .level) + 2 * μ P)) 0)
+    → encode k P ≡ beforePairs (P .level) (μ P) (P .first) ++ (flat (P .entries) ++ replicate (size k - (pairsFrom (P .level) + 2 * μ P)) 0)
 unfolding encode
 encode-front k P =
     ap (λ (n : ℕ). used P ++ replicate (size k - n) 0) (length-used P)

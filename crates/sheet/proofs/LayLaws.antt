@@ -10,20 +10,20 @@ use lib.Seq.{paste, length-paste, take-paste, take-at, sets-eq}
 use Rattle.ground.proofs.Choice.{cond-true, cond-false}
 use Rattle.page.specs.Words.{Entry, entry, keyOf, valueOf, page, flat, encode, pairs, pairsFrom, size}
 use Rattle.page.specs.Splits.{entryAt, split}
-use Rattle.sheet.specs.Sheets.{front}
+use Rattle.sheet.specs.Sheets.{beforePairs}
 use Rattle.page.proofs.ReadingLaws.{pairs-at}
 use Rattle.page.proofs.WordLaws.{length-pairs, flat-pairs, pairsFrom-most}
 use Rattle.sheet.proofs.FlatLaws.{length-front, encode-front, take-pairs, drop-pairs}
 
 module _ (k l f n : ℕ) (w₀ : List ℕ) {at : ℕ} {w₁ : List ℕ} (long : length w₀ ≡ size k) (from : at ≡ pairsFrom l)
-    (fronted : w₁ ≡ front l n f ++ drop (pairsFrom l) w₀) where
+    (fronted : w₁ ≡ beforePairs l n f ++ drop (pairsFrom l) w₀) where
   -- the words before the pairs leave the length as it was
   pub length-fronted : length w₁ ≡ size k
   length-fronted =
       let most : pairsFrom l ≤ 3 = pairsFrom-most l in
-      let first : length (front l n f) ≡ pairsFrom l = length-front l n f in
+      let first : length (beforePairs l n f) ≡ pairsFrom l = length-front l n f in
       let rest : length (drop (pairsFrom l) w₀) ≡ length w₀ - pairsFrom l = length-drop (pairsFrom l) w₀ in
-      ap length fronted ∙ length-append (front l n f) (drop (pairsFrom l) w₀) ∙ omega arith
+      ap length fronted ∙ length-append (beforePairs l n f) (drop (pairsFrom l) w₀) ∙ omega arith
 
   -- the words laid down are the words of the page with the run's pairs
   pub lay-encoded : (ps : List ℕ) {w₂ w₃ : List ℕ} → n ≤ 2 * k → 2 * n ≤ length ps → w₂ ≡ paste w₁ at ps (2 * n)
@@ -33,25 +33,25 @@ module _ (k l f n : ℕ) (w₀ : List ℕ) {at : ℕ} {w₁ : List ℕ} (long : 
       let all : length w₁ ≡ size k = length-fronted in
       let es : List Entry = pairs n ps in
       let many : length es ≡ n = length-pairs n ps enough in
-      let ahead : take at w₁ ≡ front l n f =
-      ap (take at) fronted ∙ take-at (front l n f) (drop (pairsFrom l) w₀) at (length-front l n f ∙ sym from) in
-      let written : take (at + 2 * n) w₂ ≡ front l n f ++ flat es =
+      let ahead : take at w₁ ≡ beforePairs l n f =
+      ap (take at) fronted ∙ take-at (beforePairs l n f) (drop (pairsFrom l) w₀) at (length-front l n f ∙ sym from) in
+      let written : take (at + 2 * n) w₂ ≡ beforePairs l n f ++ flat es =
       ap (take (at + 2 * n)) copied
       ∙ take-paste w₁ at ps (2 * n) (omega arith) enough
       ∙ ap (λ (u : List ℕ). u ++ take (2 * n) ps) ahead
-      ∙ ap (λ (u : List ℕ). front l n f ++ u) (sym (flat-pairs n ps enough)) in
+      ∙ ap (λ (u : List ℕ). beforePairs l n f ++ u) (sym (flat-pairs n ps enough)) in
       let same : length w₂ ≡ size k = ap length copied ∙ length-paste w₁ at ps (2 * n) (omega arith) enough ∙ all in
       let left : length w₂ - (at + 2 * n) ≡ size k - (pairsFrom l + 2 * n) = omega arith in
       wiped
       ∙ ap (λ (u : List ℕ). u ++ replicate (length w₂ - (at + 2 * n)) 0) written
-      ∙ ap (λ (z : ℕ). front l n f ++ flat es ++ replicate z 0) left
-      ∙ append-assoc (front l n f) (flat es) (replicate (size k - (pairsFrom l + 2 * n)) 0)
-      ∙ ap (λ (z : ℕ). front l z f ++ (flat es ++ replicate (size k - (pairsFrom l + 2 * z)) 0)) (sym many)
+      ∙ ap (λ (z : ℕ). beforePairs l n f ++ flat es ++ replicate z 0) left
+      ∙ append-assoc (beforePairs l n f) (flat es) (replicate (size k - (pairsFrom l + 2 * n)) 0)
+      ∙ ap (λ (z : ℕ). beforePairs l z f ++ (flat es ++ replicate (size k - (pairsFrom l + 2 * z)) 0)) (sym many)
       ∙ sym (encode-front k (page l f es))
 
 -- a root's words
 pub root-encoded : (k l f r b : ℕ) (w₀ : List ℕ) {at : ℕ} {w₁ w₃ : List ℕ} → length w₀ ≡ size k → 1 ≤ k → at ≡ pairsFrom l
-    → w₁ ≡ front l 1 f ++ drop (pairsFrom l) w₀
+    → w₁ ≡ beforePairs l 1 f ++ drop (pairsFrom l) w₀
     → w₃ ≡ take (at + 2) (set (set w₁ at r) (at + 1) b) ++ replicate (length (set (set w₁ at r) (at + 1) b) - (at + 2)) 0
     → w₃ ≡ encode k (page l f (entry r b ∷ []))
 unfolding pairs

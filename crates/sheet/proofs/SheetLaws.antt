@@ -13,7 +13,7 @@ use Rattle.page.specs.Words.{Entry, Page, entry, page, μ, isLeaf, flat, encode
 use Rattle.page.specs.Splits.{put}
 use Rattle.page.specs.Short.{joined}
 use Rattle.page.specs.Exact.{Exact}
-use Rattle.sheet.specs.Sheets.{Holds, front}
+use Rattle.sheet.specs.Sheets.{OnSheet, beforePairs}
 use Rattle.page.proofs.WordLaws.{length-flat, pairs-flat}
 use Rattle.page.proofs.ReadingLaws.{view-level}
 use Rattle.sheet.proofs.WritingLaws.{bounds}
@@ -46,7 +46,7 @@ module _ (k l f : ℕ) (a b : List Entry) where
       → drop at ws ≡ flat a ++ (flat b ++ replicate (size k - (pairsFrom l + 2 * length (a ++ b))) 0)
   words-behind {ws} {at} same from =
       let zs : List ℕ = replicate (size k - (pairsFrom l + 2 * length (a ++ b))) 0 in
-      let F : List ℕ = front l (length (a ++ b)) f in
+      let F : List ℕ = beforePairs l (length (a ++ b)) f in
       ap (drop at) (same ∙ encode-front k (page l f (a ++ b)))
       ∙ drop-at F (flat (a ++ b) ++ zs) at (length-front l (length (a ++ b)) f ∙ sym from)
       ∙ ap (λ (u : List ℕ). u ++ zs) (flat-append a b)
@@ -87,7 +87,7 @@ pub over-exact : {k : ℕ} {ws : List ℕ} → Exact k ws → (i x v : ℕ) (ps�
     → ps₁ ≡ paste ps₀ 0 (drop at ws) (2 * i)
     → ps₃ ≡ paste (set (set ps₁ (2 * i) x) (2 * i + 1) v) (2 * i + 2) (drop (at + 2 * i) ws) (2 * m - 2 * i)
     → length ps₃ ≡ 100
-    → Holds (put i (entry x v) (view ws)) (record { level = getD ws 0 0; first = f; count = m + 1; pairs = ps₃ })
+    → OnSheet (put i (entry x v) (view ws)) (record { level = getD ws 0 0; first = f; count = m + 1; pairs = ps₃ })
 unfolding put view
 over-exact {k} {ws} exact i x v ps₀ {at} {m} {f} {ps₁} {ps₃} small inside from all first whole copied again kept =
     let P : Page = view ws in
@@ -137,7 +137,7 @@ module _ {k : ℕ} {lw w : List ℕ} (left : Exact k lw) (right : Exact k w) (al
 
   -- what `join` gathers of two leaves
   pub join-leaves : {ps₂ : List ℕ} → getD lw 0 0 ≡ 1 → ps₂ ≡ paste ps₁ (2 * m) (drop 2 w) (2 * n) → length ps₂ ≡ 100
-      → Holds (joined r (view lw) (view w)) (record { level = getD lw 0 0; first = 0; count = m + n; pairs = ps₂ })
+      → OnSheet (joined r (view lw) (view w)) (record { level = getD lw 0 0; first = 0; count = m + n; pairs = ps₂ })
   unfolding joined view
   join-leaves {ps₂} leaf again kept =
       let esL : List Entry = view lw .entries in
@@ -164,7 +164,7 @@ module _ {k : ℕ} {lw w : List ℕ} (left : Exact k lw) (right : Exact k w) (al
   -- what `join` gathers of two pages above the leaves
   pub join-uppers : {ps₃ : List ℕ} → (getD lw 0 0 ≡ 1 → ⊥) → 2 * m + 2 ≤ length ps₀
       → ps₃ ≡ paste (set (set ps₁ (2 * m) r) (2 * m + 1) (getD w 2 0)) (2 * m + 2) (drop 3 w) (2 * n) → length ps₃ ≡ 100
-      → Holds (joined r (view lw) (view w)) (record { level = getD lw 0 0; first = getD lw 2 0; count = m + n + 1; pairs = ps₃ })
+      → OnSheet (joined r (view lw) (view w)) (record { level = getD lw 0 0; first = getD lw 2 0; count = m + n + 1; pairs = ps₃ })
   unfolding joined view
   join-uppers {ps₃} upper room again kept =
       let esL : List Entry = view lw .entries in

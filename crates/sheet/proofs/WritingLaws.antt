@@ -14,7 +14,7 @@ use Rattle.page.specs.Words.{Entry, Page, entry, page, μ, flat, encode, view, 
 use Rattle.page.specs.Splits.{put, entryAt}
 use Rattle.page.specs.Short.{lessKey, rekeyed}
 use Rattle.page.specs.Exact.{Exact}
-use Rattle.sheet.specs.Sheets.{front}
+use Rattle.sheet.specs.Sheets.{beforePairs}
 use Rattle.page.proofs.WordLaws.{length-flat, pairsFrom-most, view-μ}
 use Rattle.page.proofs.ReadingLaws.{view-level}
 use Rattle.sheet.proofs.FlatLaws.{flat-append, length-front, pairsFrom-least, encode-front}
@@ -90,7 +90,7 @@ module _ (k l f : ℕ) (a b : List Entry) where
       → paste (set ws 1 (getD ws 1 0 + 1)) p (x ∷ v ∷ drop p (set ws 1 (getD ws 1 0 + 1))) n ≡ encode k (page l f (a ++ entry x v ∷ b))
   put-encoded x v {p} {n} {ws} e room place count =
       let m : ℕ = length (a ++ b) in
-      let F : List ℕ = front l (m + 1) f in
+      let F : List ℕ = beforePairs l (m + 1) f in
       let before : length (a ++ b) ≡ length a + length b = length-append a b in
       let more : length (a ++ entry x v ∷ b) ≡ m + 1 = omega (arith, length-append a (entry x v ∷ b)) in
       let most : pairsFrom l ≤ 3 = pairsFrom-most l in
@@ -98,7 +98,7 @@ module _ (k l f : ℕ) (a b : List Entry) where
       ap (λ (u : List ℕ). paste (set u 1 (getD u 1 0 + 1)) p (x ∷ v ∷ drop p (set u 1 (getD u 1 0 + 1))) n) (e ∙ encode-front k (page l f (a ++ b)))
       ∙ put-words F a b (replicate (size k - (pairsFrom l + 2 * m)) 0) x v (place ∙ ap (λ (z : ℕ). z + 2 * length a) (sym (length-front l (m + 1) f))) count
       ∙ ap (λ (z : ℕ). F ++ (flat (a ++ entry x v ∷ b) ++ drop 2 (replicate z 0))) zeros
-      ∙ ap (λ (z : ℕ). front l z f ++ (flat (a ++ entry x v ∷ b) ++ replicate (size k - (pairsFrom l + 2 * z)) 0)) (sym more)
+      ∙ ap (λ (z : ℕ). beforePairs l z f ++ (flat (a ++ entry x v ∷ b) ++ replicate (size k - (pairsFrom l + 2 * z)) 0)) (sym more)
       ∙ sym (encode-front k (page l f (a ++ entry x v ∷ b)))
 
   -- the pair between a and b taken out
@@ -110,7 +110,7 @@ module _ (k l f : ℕ) (a b : List Entry) where
       ≡ encode k (page l f (a ++ b))
   pull-encoded e {p} {n} {q} {ws} same room place count end =
       let m : ℕ = length (a ++ e ∷ b) in
-      let F : List ℕ = front l (m - 1) f in
+      let F : List ℕ = beforePairs l (m - 1) f in
       let before : length (a ++ b) ≡ length a + length b = length-append a b in
       let less : m - 1 ≡ length (a ++ b) = omega (arith, length-append a (e ∷ b)) in
       let one : m ≡ suc (length (a ++ b)) = omega (arith, length-append a (e ∷ b)) in
@@ -120,7 +120,7 @@ module _ (k l f : ℕ) (a b : List Entry) where
       (same ∙ encode-front k (page l f (a ++ e ∷ b)))
       ∙ pull-words F a e b (replicate (size k - (pairsFrom l + 2 * m)) 0) (place ∙ ap (λ (z : ℕ). z + 2 * length a) (sym (length-front l (m - 1) f))) count end
       ∙ ap (λ (z : ℕ). F ++ (flat (a ++ b) ++ replicate z 0)) zeros
-      ∙ ap (λ (z : ℕ). front l z f ++ (flat (a ++ b) ++ replicate (size k - (pairsFrom l + 2 * length (a ++ b))) 0)) less
+      ∙ ap (λ (z : ℕ). beforePairs l z f ++ (flat (a ++ b) ++ replicate (size k - (pairsFrom l + 2 * length (a ++ b))) 0)) less
       ∙ sym (encode-front k (page l f (a ++ b)))
 
   -- another key for the pair between a and b
@@ -130,9 +130,9 @@ module _ (k l f : ℕ) (a b : List Entry) where
       let m : ℕ = length (a ++ e ∷ b) in
       let as-many : length (a ++ entry r (e .value) ∷ b) ≡ m = length-append a (entry r (e .value) ∷ b) ∙ sym (length-append a (e ∷ b)) in
       ap (λ (u : List ℕ). set u p r) (same ∙ encode-front k (page l f (a ++ e ∷ b)))
-      ∙ rekey-words (front l m f) a e b (replicate (size k - (pairsFrom l + 2 * m)) 0) r
+      ∙ rekey-words (beforePairs l m f) a e b (replicate (size k - (pairsFrom l + 2 * m)) 0) r
       (place ∙ ap (λ (z : ℕ). z + 2 * length a) (sym (length-front l m f)))
-      ∙ ap (λ (z : ℕ). front l z f ++ (flat (a ++ entry r (e .value) ∷ b) ++ replicate (size k - (pairsFrom l + 2 * z)) 0)) (sym as-many)
+      ∙ ap (λ (z : ℕ). beforePairs l z f ++ (flat (a ++ entry r (e .value) ∷ b) ++ replicate (size k - (pairsFrom l + 2 * z)) 0)) (sym as-many)
       ∙ sym (encode-front k (page l f (a ++ entry r (e .value) ∷ b)))
 
 -- Where things lie in words that are exactly a page's.
@@ -222,7 +222,7 @@ module _ {k : ℕ} {ws : List ℕ} (exact : Exact k ws) (i : ℕ) {at : ℕ} (fr
 
 -- the words before a leaf's pairs
 pub leaf-front : (l m f : ℕ) (ws : List ℕ) → 3 ≤ length ws → l ≡ 1
-    → (2 ≡ pairsFrom l) × (set (set ws 0 l) 1 m ≡ front l m f ++ drop (pairsFrom l) ws)
+    → (2 ≡ pairsFrom l) × (set (set ws 0 l) 1 m ≡ beforePairs l m f ++ drop (pairsFrom l) ws)
 leaf-front l m f [] three leaf = absurd (omega arith)
 leaf-front l m f (a ∷ []) three leaf = absurd (omega arith)
 leaf-front l m f (a ∷ (b ∷ ws)) three leaf = by-test (eqb l 1) (eq-eqb l 1 leaf)
@@ -233,7 +233,7 @@ leaf-front l m f (a ∷ (b ∷ ws)) three leaf = by-test (eqb l 1) (eq-eqb l 1 l
 
 -- the words before the pairs of a page above the leaves
 pub upper-front : (l m f : ℕ) (ws : List ℕ) → 3 ≤ length ws → (l ≡ 1 → ⊥)
-    → (3 ≡ pairsFrom l) × (set (set (set ws 0 l) 1 m) 2 f ≡ front l m f ++ drop (pairsFrom l) ws)
+    → (3 ≡ pairsFrom l) × (set (set (set ws 0 l) 1 m) 2 f ≡ beforePairs l m f ++ drop (pairsFrom l) ws)
 upper-front l m f [] three upper = absurd (omega arith)
 upper-front l m f (a ∷ []) three upper = absurd (omega arith)
 upper-front l m f (a ∷ (b ∷ [])) three upper = absurd (omega arith)

@@ -13,7 +13,7 @@ ghost use Rattle.page.specs.Words.{size, entry, page, μ, isLeaf, pairs, encode
 ghost use Rattle.page.specs.Splits.{put, split};
 ghost use Rattle.page.specs.Short.{joined};
 ghost use Rattle.page.specs.Exact.{Exact};
-ghost use Rattle.sheet.specs.Sheets.{Holds, sheetPage};
+ghost use Rattle.sheet.specs.Sheets.{OnSheet, sheetPage};
 
 // The words of at most 50 pairs: two pages joined have 3k+1 at most.
 pub struct Sheet {
@@ -35,7 +35,7 @@ pub fn first_of(w: &[u32]) -> u32
 pub fn over(w: &[u32], k: usize, i: usize, x: u32, v: u32) -> Sheet
     requires { ⌜ Exact k (now w) ⌝ }
     requires { ⌜ (k ≤ largestK) × (i ≤ μ (view (now w))) ⌝ }
-    ensures { λ s. ⌜ Holds (put i (entry x v) (view (now (w .entry)))) s ⌝ }
+    ensures { λ s. ⌜ OnSheet (put i (entry x v) (view (now (w .entry)))) s ⌝ }
 {
     let m = wide(w[1]);
     let at = pairs_from(w[0]);
@@ -57,7 +57,7 @@ pub fn over(w: &[u32], k: usize, i: usize, x: u32, v: u32) -> Sheet
 pub fn join(l: &[u32], r: u32, w: &[u32], k: usize) -> Sheet
     requires { ⌜ (Exact k (now l)) × (Exact k (now w)) ⌝ }
     requires { ⌜ (isLeaf (view (now l)) ≡ isLeaf (view (now w))) × (μ (view (now l)) + μ (view (now w)) + 1 ≤ 50) ⌝ }
-    ensures { λ s. ⌜ Holds (joined r (view (now (l .entry))) (view (now (w .entry)))) s ⌝ }
+    ensures { λ s. ⌜ OnSheet (joined r (view (now (l .entry))) (view (now (w .entry)))) s ⌝ }
 {
     let m = wide(l[1]);
     let n = wide(w[1]);

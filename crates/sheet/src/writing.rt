@@ -12,7 +12,7 @@ ghost use Rattle.page.specs.Words.{size, entry, page, μ, pairsFrom, encode, vi
 ghost use Rattle.page.specs.Splits.{put};
 ghost use Rattle.page.specs.Short.{lessKey, rekeyed};
 ghost use Rattle.page.specs.Exact.{Exact};
-ghost use Rattle.sheet.specs.Sheets.{front};
+ghost use Rattle.sheet.specs.Sheets.{beforePairs};
 
 // The n words of `src` from word a on, copied to `dst` from word b on.
 pub fn copy_words(src: &[u32], a: usize, dst: &mut [u32], b: usize, n: usize)
@@ -74,7 +74,7 @@ pub fn pull_two(w: &mut [u32], a: usize, e: usize)
 // The words before a page's pairs. Returns where the pairs begin.
 pub fn put_front(w: &mut [u32], level: u32, m: u32, first: u32) -> usize
     requires { ⌜ 3 ≤ length (now w) ⌝ }
-    ensures { λ r. ⌜ (r ≡ pairsFrom level) × (now (w .exit) ≡ front level m first ++ drop (pairsFrom level) (now (w .entry))) ⌝ }
+    ensures { λ r. ⌜ (r ≡ pairsFrom level) × (now (w .exit) ≡ beforePairs level m first ++ drop (pairsFrom level) (now (w .entry))) ⌝ }
 {
     w[0] = level;
     w[1] = m;

@@ -8,14 +8,12 @@ use native.Mathlib.Omega.{arith}
 use native.Mathlib.Numerals.{add-one}
 use lib.ListN.{length, getD, take, drop, set, length-append, length-drop, take-append-drop, drop-of-length-le}
 use lib.Seq.{set-at, take-suc, drop-cons, drop-append-le, slice-empty, length-take-le, append-snoc, take-take, getD-take}
-use borrow.Author.Tests.{eq-eqb, ne-eqb}
 use Rattle.ground.specs.Tests.{member}
-use Rattle.ground.proofs.Choice.{cond-true, cond-false}
 use Rattle.ground.proofs.Bools.{not-both}
 pub use Rattle.ground.proofs.Padded.{padded-add, padded-more}
-use Rattle.ground.proofs.Tests.{member-none}
+use Rattle.ground.proofs.Tests.{member-none, member-cases, member-other}
 use Rattle.slots.specs.Book.{leaving}
-use Rattle.slots.proofs.OrderLaws.{member-cases}
+use Rattle.slots.proofs.OrderLaws.{leaving-here, leaving-there}
 
 -- one page more behind the first i cells
 pub length-add : (cells : List ℕ) (i a : ℕ) → i ≤ length cells → i + 1 ≡ length (take i cells ++ a ∷ [])
@@ -30,17 +28,6 @@ pub record Passed (s : ℕ) (order : List ℕ) (i : ℕ) : Type 0 where
 
 pub passed-none : {s : ℕ} (order : List ℕ) → member s order ≡ true → Passed s order 0
 passed-none order h = record { apart = refl; ahead = h }
-
-leaving-other : (s x : ℕ) (xs : List ℕ) → (x ≡ s → ⊥) → leaving s (x ∷ xs) ≡ x ∷ leaving s xs
-unfolding leaving
-leaving-other s x xs h = cond-false xs (x ∷ leaving s xs) (ne-eqb x s h)
-
-leaving-same : (s x : ℕ) (xs : List ℕ) → x ≡ s → leaving s (x ∷ xs) ≡ xs
-unfolding leaving
-leaving-same s x xs h = cond-true xs (x ∷ leaving s xs) (eq-eqb x s h)
-
-member-other : (s x : ℕ) (xs : List ℕ) → member s (x ∷ xs) ≡ true → (x ≡ s → ⊥) → member s xs ≡ true
-member-other s x xs h n = ⊎-elim (λ e. absurd (n (sym e))) (λ m. m) (member-cases s x xs h)
 
 last-is : (s x : ℕ) (xs : List ℕ) → xs ≡ [] → member s (x ∷ xs) ≡ true → x ≡ s
 last-is s x xs e h = ⊎-elim (λ f. sym f) (λ f. not-both f (ap (member s) e ∙ member-none s)) (member-cases s x xs h)
@@ -59,10 +46,10 @@ module _ (s : ℕ) (order : List ℕ) (i : ℕ) (inside : i < length order) (p :
         apart =
             p .apart
             ∙ ap (λ (l : List ℕ). take i order ++ leaving s l) opened
-            ∙ ap (λ (l : List ℕ). take i order ++ l) (leaving-other s (getD order i 0) (drop (suc i) order) h)
+            ∙ ap (λ (l : List ℕ). take i order ++ l) (leaving-there s (getD order i 0) (drop (suc i) order) h)
             ∙ sym (append-snoc (take i order) (getD order i 0) (leaving s (drop (suc i) order)))
             ∙ ap (λ (l : List ℕ). l ++ leaving s (drop (suc i) order)) (sym (take-suc order i 0 inside));
-        ahead = member-other s (getD order i 0) (drop (suc i) order) ahead-there h;
+        ahead = member-other (getD order i 0) s (drop (suc i) order) (λ e. h (sym e)) ∙ ahead-there;
       })
 
   -- found at place i
@@ -70,7 +57,7 @@ module _ (s : ℕ) (order : List ℕ) (i : ℕ) (inside : i < length order) (p :
   passed-found h =
       p .apart
       ∙ ap (λ (l : List ℕ). take i order ++ leaving s l) opened
-      ∙ ap (λ (l : List ℕ). take i order ++ l) (leaving-same s (getD order i 0) (drop (suc i) order) h)
+      ∙ ap (λ (l : List ℕ). take i order ++ l) (leaving-here s (getD order i 0) (drop (suc i) order) h)
       ∙ ap (λ (n : ℕ). take i order ++ drop n order) (sym (add-one i))
 
   -- at the last place there is no other

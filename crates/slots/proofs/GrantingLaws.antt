@@ -6,7 +6,7 @@ use mathlib.Core.List.{List, [], _∷_}
 use native.Mathlib.Omega.{arith}
 use native.Mathlib.Numerals.{add-one}
 use lib.Dec.{eqb}
-use lib.ListN.{length, getD, take, drop, length-take, drop-of-length-le}
+use lib.ListN.{length, getD, take, drop, drop-of-length-le}
 use lib.Seq.{drop-cons, take-all, getD-take}
 use borrow.Author.Tests.{eq-eqb, ne-eqb}
 use Rattle.ground.specs.Limits.{slotCount}
@@ -29,12 +29,6 @@ among-more p cells i h none other =
     ap (λ (n : ℕ). member p (take n cells)) (add-one i)
     ∙ member-more p cells i 0 h
     ∙ or-none none (ne-eqb p (getD cells i 0) (λ e. other (sym e)))
-
--- it stands in cell i
-pub among-found : (p : ℕ) (cells : List ℕ) (count i : ℕ) → i < length cells → i < count → getD cells i 0 ≡ p → true ≡ member p (take count cells)
-among-found p cells count i h l e =
-    let short : i < length (take count cells) = omega (arith, length-take count cells) in
-    sym (member-from p (take count cells) i 0 short (getD-take count cells i 0 l ∙ e))
 
 -- behind the last cell there is none
 pub among-all : (p : ℕ) (cells : List ℕ) (count i : ℕ) → length cells ≤ i → length cells ≤ count → member p (take i cells) ≡ false

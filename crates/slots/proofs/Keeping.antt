@@ -10,8 +10,8 @@ use lib.ListN.{length, getD, take, drop, set, replicate, length-set, length-appe
 use lib.Seq.{getD-set-same, getD-set-other, take-append-seam}
 use Rattle.ground.specs.Limits.{largestK, largestN, slotCount, searchHolds, pathHolds, siblingHolds}
 use Rattle.ground.specs.Tests.{member, distinct, apart, padded}
-use Rattle.ground.proofs.Bools.{false-if-not-true, not-both, and-both, or-cases, or-first, or-second}
-use Rattle.ground.proofs.Tests.{member-none, member-append, distinct-none, distinct-snoc, apart-from, apart-swap}
+use Rattle.ground.proofs.Bools.{false-if-not-true, not-both, and-both, or-first, or-second}
+use Rattle.ground.proofs.Tests.{member-none, member-one, member-append, member-inside, member-last, distinct-none, distinct-snoc, apart-from, apart-swap}
 use Rattle.slots.specs.declared.Op.{Op}
 use Rattle.slots.specs.declared.Op.the-variants.{Search, Insert, Delete}
 use Rattle.slots.specs.declared.Task.the-variants.{Open}
@@ -22,7 +22,7 @@ use Rattle.slots.specs.Locks.{lockOf, lockAt, isXi}
 use Rattle.slots.specs.Sound.{withinLimits}
 use Rattle.slots.specs.Book.{rewritten, leaving, begins, goesOn, closes}
 use Rattle.slots.proofs.SoundFacts.{SoundSlot, SoundState}
-use Rattle.slots.proofs.OrderLaws.{same-or-not, member-here, member-cases, length-waiting, length-leaving, member-leaving, leaving-gone, distinct-leaving, leaving-was, order-has-room, waiting-begins, waiting-requeued, waiting-closes}
+use Rattle.slots.proofs.OrderLaws.{same-or-not, length-waiting, length-leaving, member-leaving, leaving-gone, distinct-leaving, leaving-was, order-has-room, waiting-begins, waiting-requeued, waiting-closes}
 
 -- the arrays have the lengths of their types
 pub record Shaped (st : State) : Type 0 where
@@ -121,9 +121,6 @@ begun-limits (Search x) = refl
 begun-limits (Insert x v) = refl
 begun-limits (Delete x) = refl
 
-member-one : (x y : ℕ) → member x (y ∷ []) ≡ true → x ≡ y
-member-one x y m = ⊎-elim (λ e. e) (λ h. not-both h (member-none x)) (member-cases x y [] m)
-
 -- another number behind a list
 member-before : (t s : ℕ) (xs : List ℕ) → t ≢ s → member t (xs ++ s ∷ []) ≡ member t xs
 member-before t s xs n =
@@ -154,11 +151,10 @@ module _ (st : State) (shaped : Shaped st) (f : SoundState st) (s : ℕ) (b : s 
       let absent : member s (waitingOrder st) ≡ false = false-if-not-true (member s (waitingOrder st)) (λ m. not-both (f .orderOpen s m) closed) in
       record {
         waits = omega arith;
-        below = λ t m. ⊎-elim (λ h. f .orderBelow t h) (λ h. subst (λ (q : ℕ). q < slotCount) (sym (member-one t s h)) b)
-            (or-cases (member t (waitingOrder st)) (member t (s ∷ [])) (sym (member-append t (waitingOrder st) (s ∷ [])) ∙ m));
+        below = λ t m. ⊎-elim (λ h. f .orderBelow t h) (λ e. subst (λ (q : ℕ). q < slotCount) (sym e) b) (member-last t (waitingOrder st) s m);
         different = distinct-snoc (waitingOrder st) s ∙ and-both (f .orderOnce) (ap not absent);
         others = λ t n. member-before t s (waitingOrder st) n;
-        itself = member-append s (waitingOrder st) (s ∷ []) ∙ or-second (member s (waitingOrder st)) (member-here s []);
+        itself = member-inside s (waitingOrder st) [];
         sound = begun-sound (st .n) op (f .nLeast);
         alone = λ t c n x. subst (λ (l : List ℕ). apart l (held (slotAt st t)) ≡ true) (sym (held-new op 0 [] [])) (nothing-apart (held (slotAt st t)));
       }
@@ -198,11 +194,11 @@ module _ (st : State) (shaped : Shaped st) (f : SoundState st) (s : ℕ) (b : s 
       let gone = leaving-gone s (waitingOrder st) (f .orderOnce) in
       record {
         waits = f .waits;
-        below = λ t m. ⊎-elim (λ q. f .orderBelow t (leaving-was s t (waitingOrder st) (f .orderOnce) q .1)) (λ q. subst (λ (r : ℕ). r < slotCount) (sym (member-one t s q)) b)
-            (or-cases (member t (leaving s (waitingOrder st))) (member t (s ∷ [])) (sym (member-append t (leaving s (waitingOrder st)) (s ∷ [])) ∙ m));
+        below = λ t m. ⊎-elim (λ q. f .orderBelow t (leaving-was s t (waitingOrder st) (f .orderOnce) q .1)) (λ e. subst (λ (r : ℕ). r < slotCount) (sym e) b)
+            (member-last t (leaving s (waitingOrder st)) s m);
         different = distinct-snoc (leaving s (waitingOrder st)) s ∙ and-both (distinct-leaving s (waitingOrder st) (f .orderOnce)) (ap not gone);
         others = λ t n. member-before t s (leaving s (waitingOrder st)) n ∙ member-leaving s t (waitingOrder st) n;
-        itself = member-append s (leaving s (waitingOrder st)) (s ∷ []) ∙ or-second (member s (leaving s (waitingOrder st))) (member-here s []) ∙ sym stays;
+        itself = member-inside s (leaving s (waitingOrder st)) [] ∙ sym stays;
         sound = g;
         alone = h;
       }

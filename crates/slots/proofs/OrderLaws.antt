@@ -1,7 +1,7 @@
 -- The waiting order: it has room while a slot is closed, and how it stands after a slot began, went on or closed.
 use Prim.Native.Nat.{ℕ, suc, _+_, _-_, _≤_, _<_}
 use mathlib.Core.Bool.{Bool, true, false, not, _||_}
-use mathlib.Core.Logic.{_≢_, _⊎_, inl, inr, ⊎-elim}
+use mathlib.Core.Logic.{_≢_, _⊎_, ⊎-elim}
 use mathlib.Core.Path.{_≡_, refl, sym, ap, subst, _∙_}
 use mathlib.Core.List.{List, [], _∷_, _++_}
 use native.Mathlib.Omega.{arith}
@@ -9,32 +9,19 @@ use native.Mathlib.Numerals.{add-one}
 use lib.Dec.{eqb}
 use lib.ListN.{length, take, drop, set, length-append}
 use lib.Seq.{length-take-le, take-suc-set, take-at, append-snoc}
-use borrow.Author.Tests.{eq-eqb, ne-eqb, eqb-true, not-true}
+use borrow.Author.Tests.{eq-eqb, ne-eqb, not-true}
 use Rattle.ground.specs.Limits.{slotCount}
 use Rattle.ground.specs.Tests.{member, distinct, countBelow}
-use Rattle.ground.proofs.Bools.{not-both, or-cases, and-first, and-second, and-both, or-first, or-second, false-if-not-true}
+use Rattle.ground.proofs.Bools.{not-both, and-first, and-second, and-both, false-if-not-true}
 use Rattle.ground.proofs.Choice.{cond-true, cond-false}
 pub use Rattle.ground.proofs.Choice.{same-or-not}
-use Rattle.ground.proofs.Tests.{member-none, countBelow-less, countBelow-fails, countBelow-most}
+use Rattle.ground.proofs.Tests.{member-none, member-here, member-there, member-cases, member-other, countBelow-less, countBelow-fails, countBelow-most}
 use Rattle.slots.specs.declared.Op.{Op}
 use Rattle.slots.specs.declared.Slot.{Slot}
 use Rattle.slots.specs.declared.State.{State}
 use Rattle.slots.specs.Parts.{openAt, waitingOrder}
 use Rattle.slots.specs.Book.{leaving, begins, requeued, closes}
 use Rattle.slots.proofs.SoundFacts.{SoundState}
-
--- another number is as often in the list with x in front as in the list
-member-other : (x i : ℕ) (xs : List ℕ) → i ≢ x → member i xs ≡ member i (x ∷ xs)
-unfolding member
-member-other x i xs n = sym (ap (λ (t : Bool). t || member i xs) (ne-eqb i x n))
-
-pub member-here : (x : ℕ) (xs : List ℕ) → member x (x ∷ xs) ≡ true
-unfolding member
-member-here x xs = or-first (member x xs) (eq-eqb x x refl)
-
-member-there : (x i : ℕ) (xs : List ℕ) → member i xs ≡ true → member i (x ∷ xs) ≡ true
-unfolding member
-member-there x i xs m = or-second (eqb i x) m
 
 -- a list of different numbers below n is as long as there are numbers below n in it
 length-counted : (n : ℕ) (xs : List ℕ) → distinct xs ≡ true → ((x : ℕ) → member x xs ≡ true → x < n) → length xs ≡ countBelow n (λ (i : ℕ). member i xs)
@@ -73,18 +60,15 @@ in-front : (x t : ℕ) (xs ys : List ℕ) → member x xs ≡ member x ys → me
 unfolding member
 in-front x t xs ys e = ap (λ (m : Bool). eqb x t || m) e
 
-leaving-here : (s t : ℕ) (ts : List ℕ) → t ≡ s → leaving s (t ∷ ts) ≡ ts
+-- it stands in front, and those behind it stay,
+pub leaving-here : (s t : ℕ) (ts : List ℕ) → t ≡ s → leaving s (t ∷ ts) ≡ ts
 unfolding leaving
 leaving-here s t ts e = cond-true ts (t ∷ leaving s ts) (eq-eqb t s e)
 
-leaving-there : (s t : ℕ) (ts : List ℕ) → t ≢ s → leaving s (t ∷ ts) ≡ t ∷ leaving s ts
+-- or it is looked for behind the first
+pub leaving-there : (s t : ℕ) (ts : List ℕ) → t ≢ s → leaving s (t ∷ ts) ≡ t ∷ leaving s ts
 unfolding leaving
 leaving-there s t ts n = cond-false ts (t ∷ leaving s ts) (ne-eqb t s n)
-
--- a number in front or behind
-pub member-cases : (x t : ℕ) (ts : List ℕ) → member x (t ∷ ts) ≡ true → (x ≡ t) ⊎ (member x ts ≡ true)
-unfolding member
-member-cases x t ts m = ⊎-elim (λ e. inl (eqb-true x t e)) (λ e. inr e) (or-cases (eqb x t) (member x ts) m)
 
 -- it is one shorter
 pub length-leaving : (s : ℕ) (xs : List ℕ) → member s xs ≡ true → suc (length (leaving s xs)) ≡ length xs

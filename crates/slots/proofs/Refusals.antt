@@ -1,6 +1,6 @@
 -- A refused beginning leaves the state as given.
 use Prim.Native.Nat.{ℕ}
-use mathlib.Core.Bool.{true, false, not, false≢true}
+use mathlib.Core.Bool.{true, not, false≢true}
 use mathlib.Core.Path.{_≡_, refl}
 use lib.Dec.{ltb}
 use Rattle.ground.specs.Limits.{slotCount}

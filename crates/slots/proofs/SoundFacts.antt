@@ -13,9 +13,9 @@ use Rattle.slots.specs.declared.Task.{Task}
 use Rattle.slots.specs.declared.Task.the-variants.{Closed, Open}
 use Rattle.slots.specs.declared.Slot.{Slot}
 use Rattle.slots.specs.declared.State.{State}
-use Rattle.slots.specs.Parts.{isOpen, held, slotAt, openAt, waitingOrder}
+use Rattle.slots.specs.Parts.{isOpen, held, slotAt, openAt, waitingOrder, idleState}
 use Rattle.slots.specs.Locks.{lockAt, isXi}
-use Rattle.slots.specs.Sound.{numbersInRange, orderSound, withinLimits, pagesSound, ifOpen, slotSound, noClashingHolds, sound}
+use Rattle.slots.specs.Sound.{numbersInRange, orderSound, withinLimits, belowAndOnce, ifOpen, slotSound, noClashingHolds, sound}
 
 -- one slot, in a pool of n pages
 pub record SoundSlot (n : ℕ) (s : Slot) : Type 0 where
@@ -54,9 +54,9 @@ unfolding slotSound
 sound-slot n s h =
     let within = withinLimits (s .task) (s .depth) (s .beside) in
     let names = all (λ (p : ℕ). ltb p n) (s .want ∷ held s) in
-    let pages : isOpen (s .task) ≡ true → pagesSound n s ≡ true = if-open (s .task) (pagesSound n s) (and-second within (ifOpen (s .task) (pagesSound n s)) h) in
+    let pages : isOpen (s .task) ≡ true → belowAndOnce n s ≡ true = if-open (s .task) (belowAndOnce n s) (and-second within (ifOpen (s .task) (belowAndOnce n s)) h) in
     record {
-      limits = and-first within (ifOpen (s .task) (pagesSound n s)) h;
+      limits = and-first within (ifOpen (s .task) (belowAndOnce n s)) h;
       below = λ o p m. ltb-true p n (all-member (λ (q : ℕ). ltb q n) (s .want ∷ held s) (and-first names (distinct (s .want ∷ held s)) (pages o)) p m);
       different = λ o. and-second names (distinct (s .want ∷ held s)) (pages o);
     }
@@ -65,7 +65,7 @@ pub slot-sound : (n : ℕ) (s : Slot) → SoundSlot n s → slotSound n s ≡ tr
 unfolding slotSound
 slot-sound n s h =
     and-both (h .limits)
-    (if-open-from (s .task) (pagesSound n s)
+    (if-open-from (s .task) (belowAndOnce n s)
     (λ o. and-both (all-from-members (λ (q : ℕ). ltb q n) (s .want ∷ held s) (λ p m. lt-ltb p n (h .below o p m))) (h .different o)))
 
 -- the two tests that go through the slots, by name
@@ -191,3 +191,8 @@ facts-sound st f =
     (allBelow-from (λ (t : ℕ). slotSound (st .n) (slotAt st t)) slotCount (λ s b. slot-sound (st .n) (slotAt st s) (f .slot s b))))
     (allBelow-from (λ (u : ℕ). allBelow slotCount (apartTest st u)) slotCount
     (λ s b. allBelow-from (apartTest st s) slotCount (λ t c. apart-from-facts st s t (λ n x. f .alone s t b c n x))))
+
+-- the empty state, k and N 0, "which is itself BadState"
+pub empty-unsound : sound (idleState 0 0) ≡ false
+unfolding sound
+empty-unsound = refl

@@ -35,15 +35,15 @@ withinLimits (Open (Delete x)) depth beside =
     leb depth pathHolds && leb beside siblingHolds && (eqb beside 0 || ltb beside depth)
 
 -- "all pages named are below N; no slot holds a page twice or wants one it holds". A closed slot names none.
-abbrev pub pagesSound : ℕ → Slot → Bool
-pagesSound n s = all (λ (p : ℕ). ltb p n) (s .want ∷ held s) && distinct (s .want ∷ held s)
+abbrev pub belowAndOnce : ℕ → Slot → Bool
+belowAndOnce n s = all (λ (p : ℕ). ltb p n) (s .want ∷ held s) && distinct (s .want ∷ held s)
 
 abbrev pub ifOpen : Task → Bool → Bool
 ifOpen Closed test = true
 ifOpen (Open op) test = test
 
 unfoldable pub slotSound : ℕ → Slot → Bool
-slotSound n s = withinLimits (s .task) (s .depth) (s .beside) && ifOpen (s .task) (pagesSound n s)
+slotSound n s = withinLimits (s .task) (s .depth) (s .beside) && ifOpen (s .task) (belowAndOnce n s)
 
 -- "no ξ-held page is held by another slot"
 unfoldable pub noClashingHolds : State → Bool

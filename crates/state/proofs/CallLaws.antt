@@ -21,7 +21,7 @@ use Rattle.slots.specs.Sound.{sound}
 use Rattle.slots.specs.Book.{begins}
 use Rattle.slots.specs.Begin.{outcome, begun}
 use Rattle.slots.specs.Report.{lockKind, holders, lowestHolder, reported}
-use Rattle.lent.specs.Words.{orderIn, asRead, known, stateOf, written, lentAfter}
+use Rattle.lent.specs.Words.{orderIn, asRead, known, stateOf, laidInto, lentAfter}
 use Rattle.lent.specs.Statements.{BeginSays, ReportSays}
 use Rattle.lent.proofs.StateLaws.{length-order, state-known, state-written}
 
@@ -63,7 +63,7 @@ module _ (cells : List ℕ) (s : ℕ) (op : Op) where
   -- a refusal leaves every word
   refused : (a : Answer) → outcome a (stateOf cells) ≡ begun (stateOf cells) s op → changesNothing a ≡ true → BeginSays cells s op a cells
   unfolding lentAfter
-  refused a e q = begin-says cells s op (outcome a (stateOf cells)) e refl (sym (cond-true cells (written cells s (stateOf cells)) q))
+  refused a e q = begin-says cells s op (outcome a (stateOf cells)) e refl (sym (cond-true cells (laidInto cells s (stateOf cells)) q))
 
   pub says-unsound : sound (stateOf cells) ≡ false → BeginSays cells s op BadState cells
   says-unsound h = refused BadState (begun-unsound (stateOf cells) s op h) refl
@@ -76,7 +76,7 @@ module _ (cells : List ℕ) (s : ℕ) (op : Op) where
       pub says-busy : openAt (asRead cells) s ≡ true → BeginSays cells s op SlotBusy cells
       says-busy o = refused SlotBusy (begun-busy (stateOf cells) s op h b (ap (λ (st : State). openAt st s) (state-known cells exist) ∙ o)) refl
 
-      pub says-begun : length cells ≡ 435 → openAt (asRead cells) s ≡ false → {after : List ℕ} → after ≡ written cells s (begins (asRead cells) s op)
+      pub says-begun : length cells ≡ 435 → openAt (asRead cells) s ≡ false → {after : List ℕ} → after ≡ laidInto cells s (begins (asRead cells) s op)
           → BeginSays cells s op Begun after
       unfolding begins slotCount padded pathHolds lentAfter
       says-begun long o {after} e =
@@ -87,7 +87,7 @@ module _ (cells : List ℕ) (s : ℕ) (op : Op) where
           ∙ state-written cells s (openSlot op 0 [] []) (set (orderIn cells) (getD cells 2 0) s) (getD cells 2 0 + 1) long b
           (length-set (orderIn cells) (getD cells 2 0) s ∙ length-order cells long) refl refl exist
           ∙ ap (λ (st : State). begins st s op) (sym read))
-          (e ∙ ap (λ (st : State). written cells s (begins st s op)) (sym read))
+          (e ∙ ap (λ (st : State). laidInto cells s (begins st s op)) (sym read))
 
 -- ---- report
 

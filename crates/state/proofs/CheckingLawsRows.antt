@@ -14,7 +14,7 @@ use Rattle.ground.specs.Tests.{all, allBelow, member, distinct}
 use Rattle.ground.proofs.Bools.{and-first, and-second, and-both, or-cases, or-first, or-second, or-first-fails, or-second-fails, not-of-false, same-if-true-together}
 use Rattle.ground.proofs.Tests.{allBelow-at}
 use Rattle.slots.specs.Parts.{pathOf, siblingsOf}
-use Rattle.slots.specs.Sound.{withinLimits, pagesSound, ifOpen, slotSound}
+use Rattle.slots.specs.Sound.{withinLimits, belowAndOnce, ifOpen, slotSound}
 use Rattle.lent.specs.Words.{cell, column, taskFrom, slotIn}
 use Rattle.lent.specs.Holds.{Short}
 use Rattle.lent.proofs.HoldLaws.{by-kind}
@@ -164,7 +164,7 @@ unfolding slotSound pathOf siblingsOf
 slot-fits ws n s known =
     let path : List ℕ = column ws 6 s in
     let first : getD path 0 0 ≡ cell ws 6 s = column-cell ws 6 s 0 (omega arith) in
-    kind-fits (cell ws 1 s) (cell ws 2 s) (cell ws 4 s) (cell ws 5 s) n (cell ws 3 s) (cell ws 6 s) (pagesSound n (slotIn ws s))
+    kind-fits (cell ws 1 s) (cell ws 2 s) (cell ws 4 s) (cell ws 5 s) n (cell ws 3 s) (cell ws 6 s) (belowAndOnce n (slotIn ws s))
     (λ e. ap (named (cell ws 4 s) n (cell ws 3 s)) (sym first) ∙ shallow n (cell ws 3 s) (cell ws 4 s) (cell ws 5 s) path (column ws 16 s) (length-column ws 6 s) e)
     (λ e. ap (named (cell ws 4 s) n (cell ws 3 s)) (sym first)
     ∙ rows-of-pages n (cell ws 3 s) (cell ws 4 s) path (take (cell ws 5 s) (column ws 16 s)) (length-column ws 6 s) e)

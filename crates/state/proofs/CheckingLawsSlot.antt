@@ -16,8 +16,8 @@ use Rattle.slots.specs.declared.Op.the-variants.{Search, Insert, Delete}
 use Rattle.slots.specs.declared.Task.{Task}
 use Rattle.slots.specs.declared.Task.the-variants.{Closed, Open}
 use Rattle.slots.specs.declared.Slot.{Slot}
-use Rattle.slots.specs.Parts.{held, pathOf, siblingsOf}
-use Rattle.slots.specs.Sound.{withinLimits, pagesSound}
+use Rattle.slots.specs.Parts.{pathOf, siblingsOf}
+use Rattle.slots.specs.Sound.{withinLimits, belowAndOnce}
 use Rattle.state.specs.Checking.{enters, mayEnter}
 
 -- ---- the pages of one slot
@@ -130,19 +130,19 @@ module _ (n want : ℕ) (path siblings : List ℕ) where
 
 module _ (n : ℕ) (s : Slot) where
   -- the wanted page is not below n
-  pub pages-high : n ≤ s .want → pagesSound n s ≡ false
+  pub pages-high : n ≤ s .want → belowAndOnce n s ≡ false
   pages-high = asked-high n (s .want) (pathOf s) (siblingsOf s)
 
   module _ (below : s .want < n) {r : Bool} (said : r ≡ mayEnter n (s .want) [] (take (s .depth) (s .path))) where
     -- the path fails
-    pub pages-path : r ≡ false → pagesSound n s ≡ false
+    pub pages-path : r ≡ false → belowAndOnce n s ≡ false
     unfolding pathOf
     pages-path f =
         asked-is n (s .want) (pathOf s) (siblingsOf s) below
         ∙ and-first-fails (mayEnter n (s .want) (pathOf s) (siblingsOf s)) (sym said ∙ f)
 
     -- the path passes: the siblings decide
-    pub pages-siblings : r ≡ true → {q : Bool} → q ≡ mayEnter n (s .want) (take (s .depth) (s .path)) (take (s .beside) (s .siblings)) → q ≡ pagesSound n s
+    pub pages-siblings : r ≡ true → {q : Bool} → q ≡ mayEnter n (s .want) (take (s .depth) (s .path)) (take (s .beside) (s .siblings)) → q ≡ belowAndOnce n s
     unfolding pathOf siblingsOf
     pages-siblings t e =
         e

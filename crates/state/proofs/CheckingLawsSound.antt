@@ -16,7 +16,7 @@ use Rattle.ground.proofs.Tests.{allBelow-same, allBelow-from}
 use Rattle.slots.specs.declared.Slot.{Slot}
 use Rattle.slots.specs.Parts.{idleState, slotAt, openAt, isOpen, waitingOrder}
 use Rattle.slots.specs.Sound.{orderSound, withinLimits, slotSound, noClashingHolds, sound}
-use Rattle.slots.proofs.SoundFacts.{SoundState, sound-facts}
+use Rattle.slots.proofs.SoundFacts.{SoundState, sound-facts, empty-unsound}
 use Rattle.lent.specs.Words.{cell, taskFrom, slotIn, orderIn, asRead, known, stateOf}
 use Rattle.lent.specs.Holds.{Short}
 use Rattle.lent.proofs.StateLaws.{slot-read, state-known}
@@ -88,10 +88,6 @@ reorder true true true d a = refl
 reorder true true false d a = refl
 reorder true false true d a = refl
 reorder true false false d a = refl
-
-pub empty-unsound : sound (idleState 0 0) ≡ false
-unfolding sound
-empty-unsound = refl
 
 module _ (ws : List ℕ) where
   abbrev numbers : Bool

@@ -7,7 +7,7 @@ use lib.ListN.{take}
 use Rattle.ground.specs.Limits.{slotCount}
 use Rattle.ground.specs.Tests.{all, allBelow, member, distinct}
 use Rattle.slots.specs.Parts.{held}
-use Rattle.slots.specs.Sound.{pagesSound}
+use Rattle.slots.specs.Sound.{belowAndOnce}
 use Rattle.lent.specs.Words.{cell, slotIn}
 use Rattle.lent.specs.Holds.{isDeep, othersHold}
 
@@ -45,7 +45,7 @@ rowFine ws n s = fineRow (cell ws 0 s) (cell ws 4 s) (cell ws 5 s) n (cell ws 3 
 
 -- the pages of a slot that holds more than one
 abbrev pub deepFine : List ℕ → ℕ → ℕ → Bool
-deepFine ws n s = not (isDeep ws s) || pagesSound n (slotIn ws s)
+deepFine ws n s = not (isDeep ws s) || belowAndOnce n (slotIn ws s)
 
 -- the kinds of open slots
 abbrev pub openKind : ℕ → Bool

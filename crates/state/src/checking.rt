@@ -32,9 +32,8 @@ ghost use lib.Dec.{leb};
 ghost use lib.ListN.{length, getD, take};
 ghost use Rattle.ground.specs.Limits.{largestK, largestN, slotCount};
 ghost use Rattle.ground.specs.Tests.{all, allBelow, countBelow};
-ghost use Rattle.slots.specs.Parts.{held};
 ghost use Rattle.slots.specs.Report.{maskBelow};
-ghost use Rattle.slots.specs.Sound.{pagesSound, sound};
+ghost use Rattle.slots.specs.Sound.{belowAndOnce, sound};
 ghost use Rattle.lent.specs.Words.{cell, column, slotIn, orderIn, stateOf};
 ghost use Rattle.lent.specs.Holds.{Short, othersHold};
 ghost use Rattle.state.specs.Checking.{mayEnter, namesEach, fineRow, rowFine, deepFine, openKind, aloneIn, updates, xiAlone};
@@ -122,7 +121,7 @@ fn may_enter(cells: &[u32; STATE], s: usize, n: u32, row: usize, count: usize, o
 // All pages that slot s names are below n, it holds none twice, and wants none that it holds.
 fn pages_fine(cells: &[u32; STATE], s: usize, n: u32) -> bool
     requires { ⌜ (s < 16) × Short (now cells) ⌝ }
-    ensures { λ r. ⌜ r ≡ pagesSound n (slotIn (now (cells .entry)) s) ⌝ }
+    ensures { λ r. ⌜ r ≡ belowAndOnce n (slotIn (now (cells .entry)) s) ⌝ }
 {
     if n <= want_at(cells, s) {
         return false;

@@ -15,7 +15,7 @@ use Rattle.slots.specs.Grant.{olderThan, noClash, noOlder}
 use Rattle.slots.specs.Book.{leaving, begins, goesOn, closes}
 use Rattle.slots.specs.Sound.{orderSound, slotSound, noClashingHolds, sound}
 use Rattle.slots.specs.Begin.{begun}
-use Rattle.lines.specs.Text.{bytes, begins as begins-with}
+use Rattle.lines.specs.Text.{bytes, startsWith as begins-with}
 use Rattle.lines.specs.Meaning.{digits, value, front, stepping, searching, deleting, informing, inserting, asking, beginning, meaning}
 use Rattle.lines.specs.Decimal.{digitsWithin, decimal}
 use Rattle.footing.specs.Granted.{atLeaf, comesDown, granted}

@@ -14,34 +14,34 @@ use Rattle.slots.proofs.Unique.{heard-once}
 use Rattle.lines.specs.declared.Command.{Command}
 use Rattle.lines.specs.declared.Command.the-variants.{Begin, Step, Bad}
 use Rattle.lines.specs.Text.{laid}
-use Rattle.lines.specs.Names.{written, badLine}
+use Rattle.lines.specs.Names.{answerLine, badLine}
 use Rattle.index.specs.Step.{stepped}
 use Rattle.index.specs.Statements.{StepSays}
-use Rattle.talk.specs.Talk.{reply, commanded}
+use Rattle.talk.specs.Talk.{afterLine, commanded}
 use Rattle.talk.specs.Leaves.{LineLeaves}
 
 -- the line of an answer is written over `out` at a position
-abbrev Stands : List ℕ → ℕ → List ℕ → ℕ → Answer → Type 0
-Stands out at after end a = (after ≡ laid out at (written a)) × (end ≡ at + length (written a)) × (length (written a) ≤ 32)
+abbrev AnswerStands : List ℕ → ℕ → List ℕ → ℕ → Answer → Type 0
+AnswerStands out at after end a = (after ≡ laid out at (answerLine a)) × (end ≡ at + length (answerLine a)) × (length (answerLine a) ≤ 32)
 
 module _ (out : List ℕ) (at : ℕ) {after : List ℕ} {end : ℕ} where
-  leaves : (a : Answer) (st : State) (ws : List ℕ) → Stands out at after end a → LineLeaves (reply (written a) st ws) out at st end ws after
+  leaves : (a : Answer) (st : State) (ws : List ℕ) → AnswerStands out at after end a → LineLeaves (afterLine (answerLine a) st ws) out at st end ws after
   leaves a st ws w = record { state = refl; words = refl; bytes = w .0; behind = w .1; short = w .2 }
 
   pub begin-leaves : (cells ws : List ℕ) (s : ℕ) (op : Op) {cells′ : List ℕ} {command : Command} {r : Answer} → command ≡ Begin s op
       → BeginSays cells s op r cells′
-      → Stands out at after end r
+      → AnswerStands out at after end r
       → LineLeaves (commanded (stateOf cells) ws command) out at (stateOf cells′) end ws after
   begin-leaves cells ws s op {cells′} {command} {r} e says w =
       let st : State = stateOf cells in
       let heard : r ≡ begun st s op .answer = heard-once r (begun st s op .answer) (says .answer) in
       subst⁻¹ (λ (c : Command). LineLeaves (commanded st ws c) out at (stateOf cells′) end ws after) e
       (subst⁻¹ (λ (t : State). LineLeaves (commanded st ws (Begin s op)) out at t end ws after) (says .state)
-      (leaves (begun st s op .answer) (begun st s op .state) ws (subst (Stands out at after end) heard w)))
+      (leaves (begun st s op .answer) (begun st s op .state) ws (subst (AnswerStands out at after end) heard w)))
 
   pub step-leaves : (cells ws : List ℕ) (s : ℕ) {cells′ ws′ : List ℕ} {command : Command} {r : Answer} → command ≡ Step s
       → StepSays cells ws s r cells′ ws′
-      → Stands out at after end r
+      → AnswerStands out at after end r
       → LineLeaves (commanded (stateOf cells) ws command) out at (stateOf cells′) end ws′ after
   step-leaves cells ws s {cells′} {ws′} {command} {r} e says w =
       let st : State = stateOf cells in
@@ -49,7 +49,7 @@ module _ (out : List ℕ) (at : ℕ) {after : List ℕ} {end : ℕ} where
       subst⁻¹ (λ (c : Command). LineLeaves (commanded st ws c) out at (stateOf cells′) end ws′ after) e
       (subst⁻¹ (λ (t : State). LineLeaves (commanded st ws (Step s)) out at t end ws′ after) (says .state)
       (subst⁻¹ (λ (v : List ℕ). LineLeaves (commanded st ws (Step s)) out at (stepped st ws s .state) end v after) (says .words)
-      (leaves (stepped st ws s .answer) (stepped st ws s .state) (stepped st ws s .words) (subst (Stands out at after end) heard w))))
+      (leaves (stepped st ws s .answer) (stepped st ws s .state) (stepped st ws s .words) (subst (AnswerStands out at after end) heard w))))
 
   pub bad-leaves : (st : State) (ws : List ℕ) {command : Command} → command ≡ Bad
       → (after ≡ laid out at badLine) × (end ≡ at + length badLine)

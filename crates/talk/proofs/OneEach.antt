@@ -18,7 +18,7 @@ use Rattle.lines.specs.declared.Command.the-variants.{Begin, Step, Bad}
 use Rattle.lines.specs.Text.{bytes}
 use Rattle.lines.specs.Meaning.{isDigit, meaning}
 use Rattle.lines.specs.Decimal.{decimal}
-use Rattle.lines.specs.Names.{written, badLine}
+use Rattle.lines.specs.Names.{answerLine, badLine}
 use Rattle.lines.specs.Ends.{firstLine}
 use Rattle.lines.proofs.Decimals.{decimal-digital}
 use Rattle.index.specs.Step.{stepped}
@@ -59,7 +59,7 @@ digits-plain (d ∷ ds) t =
     (digits-plain ds (and-second (isDigit d) (all isDigit ds) t))
 
 -- the line of an answer is one line
-pub answer-line : (a : Answer) (rest : List ℕ) → linesOf (written a ++ rest) ≡ ended (firstLine (written a)) ∷ linesOf rest
+pub answer-line : (a : Answer) (rest : List ℕ) → linesOf (answerLine a ++ rest) ≡ ended (firstLine (answerLine a)) ∷ linesOf rest
 unfolding all
 answer-line Waiting rest = one-line (bytes "Waiting") rest refl
 answer-line Moved rest = one-line (bytes "Moved") rest refl

@@ -5,11 +5,11 @@ use mathlib.Core.Path.{_≡_}
 use lib.ListN.{length}
 use Rattle.slots.specs.declared.State.{State}
 use Rattle.lines.specs.Text.{laid}
-use Rattle.talk.specs.Talk.{Reply}
+use Rattle.talk.specs.Talk.{AfterLine}
 
 -- a reply written over `out` at a position: `st`, `ws` and `after` are the state, the words and the row as they are left, and
 -- `end` is behind what was written
-pub record LineLeaves (r : Reply) (out : List ℕ) (at : ℕ) (st : State) (end : ℕ) (ws after : List ℕ) : Type 0 where
+pub record LineLeaves (r : AfterLine) (out : List ℕ) (at : ℕ) (st : State) (end : ℕ) (ws after : List ℕ) : Type 0 where
   pub state : st ≡ r .state
   pub words : ws ≡ r .words
   pub bytes : after ≡ laid out at (r .said)

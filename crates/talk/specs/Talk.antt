@@ -11,37 +11,37 @@ use Rattle.slots.specs.Begin.{begun}
 use Rattle.lines.specs.declared.Command.{Command}
 use Rattle.lines.specs.declared.Command.the-variants.{Begin, Step, Bad}
 use Rattle.lines.specs.Meaning.{meaning}
-use Rattle.lines.specs.Names.{written, badLine, tooLong}
+use Rattle.lines.specs.Names.{answerLine, badLine, tooLong}
 use Rattle.index.specs.Step.{Left, stepped}
 use Rattle.index.specs.Make.{made}
 use Rattle.talk.specs.Split.{Line, ended, unended, linesOf}
 
 -- What a line leaves: the bytes of its answer, and the state and words for the next line.
-pub record Reply : Type 0 where
+pub record AfterLine : Type 0 where
   pub said : List ℕ
   pub state : State
   pub words : List ℕ
 
-abbrev pub reply : List ℕ → State → List ℕ → Reply
-reply said st ws = record { said = said; state = st; words = ws }
+abbrev pub afterLine : List ℕ → State → List ℕ → AfterLine
+afterLine said st ws = record { said = said; state = st; words = ws }
 
 -- what a call leaves, its answer written out
-abbrev pub afterBegin : List ℕ → Outcome → Reply
-afterBegin ws r = reply (written (r .answer)) (r .state) ws
+abbrev pub afterBegin : List ℕ → Outcome → AfterLine
+afterBegin ws r = afterLine (answerLine (r .answer)) (r .state) ws
 
-abbrev pub afterStep : Left → Reply
-afterStep r = reply (written (r .answer)) (r .state) (r .words)
+abbrev pub afterStep : Left → AfterLine
+afterStep r = afterLine (answerLine (r .answer)) (r .state) (r .words)
 
 -- a command is the call that it names; what is no command calls nothing and "gives BadLine"
-abbrev pub commanded : State → List ℕ → Command → Reply
+abbrev pub commanded : State → List ℕ → Command → AfterLine
 commanded st ws (Begin s op) = afterBegin ws (begun st s op)
 commanded st ws (Step s) = afterStep (stepped st ws s)
-commanded st ws Bad = reply badLine st ws
+commanded st ws Bad = afterLine badLine st ws
 
 -- "Another line, an unended last one, .. gives BadLine"
-abbrev pub answered : State → List ℕ → Line → Reply
+abbrev pub answered : State → List ℕ → Line → AfterLine
 answered st ws (ended line) = commanded st ws (meaning line)
-answered st ws (unended line) = reply badLine st ws
+answered st ws (unended line) = afterLine badLine st ws
 
 -- "Each line is answered by one": one behind the other, each call given what the last one left
 unfoldable pub replies : State → List ℕ → List Line → List ℕ

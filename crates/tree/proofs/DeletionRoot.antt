@@ -16,13 +16,13 @@ use Rattle.page.specs.Place.{without}
 use Rattle.page.proofs.WordLaws.{free-fits}
 use Rattle.pool.specs.Pool.{Write, write}
 use Rattle.change.specs.Deletion.{shrunk}
+use Rattle.change.proofs.RuleLaws.{shrunk-top}
 use Rattle.tree.specs.Rows.{headKey}
 use Rattle.tree.specs.Tree.{Tr, pageNumber, pageOf, entriesOf, once, occurs, InRange, rootLeast, Holds, Stands, Forms}
 use Rattle.tree.specs.Change.{memoryAfter, writtenPages, Fitting, Leads}
 use Rattle.tree.proofs.Memory.{once-same, once-is, times-distinct, times-written, absent-times, member-times, unwritten, Stores, stores-left, stores-right, written-stores, fitting-append}
 use Rattle.tree.proofs.Mend.{Things, thingsOf, treeAt, pageIn, tier, Run, entriesIn, occursIn, HoldsIn, StandsIn, things-back, number-back, page-back, entries-things, occurs-things, holds-things, stands-things, stands-top, stands-below, run-range, things-μ, things-fit}
 use Rattle.tree.proofs.MendPatch.{hits, Elsewhere, Patch, opened, opened-occurs, opened-entries, opened-cases}
-use Rattle.tree.proofs.DeletionRule.{shrunk-top}
 use Rattle.tree.proofs.DeletionStep.{Reached, Joined, Step, stays, evens, joins}
 use Rattle.tree.proofs.DeletionTree.{joined-on}
 

@@ -34,7 +34,7 @@ astray≢nothing e = let z : _≡_ {A = ℕ} 0 1 = cc in absurd (omega arith)
 pub astray≢sibling : {s : ℕ} {X : Type 0} → astray ≡ sibling s → X
 astray≢sibling e = let z : _≡_ {A = ℕ} 0 1 = cc in absurd (omega arith)
 
-satisfied≢sibling : {s : ℕ} {X : Type 0} (ss : List ℕ) → satisfied ss ≡ sibling s → X
+pub satisfied≢sibling : {s : ℕ} {X : Type 0} (ss : List ℕ) → satisfied ss ≡ sibling s → X
 satisfied≢sibling [] e = sibling≢nothing (sym e)
 satisfied≢sibling (r ∷ ss) e = astray≢sibling e
 
@@ -241,14 +241,6 @@ stepped k memory x f s p P T =
     (write (leftOne x (memory f) p s) (merged x (memory f) P (memory s)) ∷ write (rightOne x (memory f) p s) freePage ∷ T)))
 
 module _ (k : ℕ) (memory : ℕ → Page) (x : ℕ) where
-  pub shrunk-top : (ss : List ℕ) (p : ℕ) (P : Page) → shrunk k memory x [] ss p P ≡ write p P ∷ []
-  unfolding shrunk
-  shrunk-top ss p P = refl
-
-  pub shrunk-alone : (f : ℕ) (up : List ℕ) (p : ℕ) (P : Page) → shrunk k memory x (f ∷ up) [] p P ≡ write p P ∷ []
-  unfolding shrunk
-  shrunk-alone f up p P = refl
-
   shrunk-step : (f : ℕ) (up : List ℕ) (s : ℕ) (ss : List ℕ) (p : ℕ) (P : Page)
       → shrunk k memory x (f ∷ up) (s ∷ ss) p P ≡ stepped k memory x f s p P (shrunk k memory x up ss f (lessKey (betweenAt x (memory f)) (memory f)))
   unfolding shrunk stepped

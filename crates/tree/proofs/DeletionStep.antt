@@ -15,6 +15,7 @@ use Rattle.page.specs.Splits.{parted}
 use Rattle.page.specs.Short.{fromRight, fromLeft, neighbour, betweenAt, moved, lessKey, rekeyed}
 use Rattle.pool.specs.Pool.{Write, write}
 use Rattle.change.specs.Deletion.{nothing, needs, shrunk}
+use Rattle.change.proofs.RuleLaws.{shrunk-alone}
 use Rattle.tree.specs.Rows.{headKey, Span, Each}
 use Rattle.tree.specs.Tree.{Tr, pageNumber, once, occurs, Holds, ChildIn}
 use Rattle.tree.specs.Change.{Fitting}
@@ -24,7 +25,7 @@ use Rattle.tree.proofs.Mend.{Thing, Things, thingsOf, treeAt, pageIn, t
 use Rattle.tree.proofs.MendPatch.{hits, Patch, graft, opened, opened-run, holds-opened, opened-occurs}
 use Rattle.tree.proofs.MendShort.{page-written, pair-joined, pair-moved}
 use Rattle.tree.proofs.Pages.{rowPage-same, rowPage-lessKey, rowPage-rekeyed, right-hasRight, right-neighbour, right-betweenAt, right-moved, right-merged, left-hasRight, left-neighbour, left-betweenAt, left-moved, left-merged}
-use Rattle.tree.proofs.DeletionRule.{needs-none, needs-shared, shrunk-alone, right-moves, left-moves, right-joins, left-joins}
+use Rattle.tree.proofs.DeletionRule.{needs-none, needs-shared, right-moves, left-moves, right-joins, left-joins}
 
 -- The change is done below the page t or at it: t becomes `tree`, by these writes.
 pub record Settled (k : ℕ) (memory : ℕ → Page) (x l : ℕ) (t : Tr l) (lo hi : ℕ) (W : List Write) : Type 0 where
@@ -292,7 +293,7 @@ module _ (k : ℕ) (memory : ℕ → Page) (x l : ℕ) (one : 1 ≤ k) where
           number = number-back l n new;
           patch =
               subst (λ (U : List Write). Patch k memory x (suc l) (c ∷ []) (keyed (c .key) (treeAt l n new) ∷ []) (c .key) (headKey ys hi) U)
-              (ap (λ (U : List Write). below ++ U) (sym (shrunk-alone k memory x f up n (pageIn l new))) ∙ sym rule)
+              (ap (λ (U : List Write). below ++ U) (sym (shrunk-alone k memory x (f ∷ up) n (pageIn l new))) ∙ sym rule)
               (page-written k memory x l one c (headKey ys hi) new below range (child-rises k memory x l xs c ys lo hi r)
               (child-different k memory x l xs c ys lo hi r) p (omega arith) (omega arith));
         })

@@ -9,8 +9,8 @@ use Rattle.page.specs.Words.{Keyed, Entry, Page, entry}
 use Rattle.page.specs.Splits.{entryAt}
 use Rattle.pool.specs.Pool.{pageAt}
 use Rattle.tree.specs.Rows.{headKey, Span, Each, references, rowPage}
-use Rattle.tree.specs.Tree.{Tr, pageNumber, pageOf, entriesOf, rootLeast, InRange, Holds, Forms, PoolForms}
-use Rattle.tree.specs.Facts.{AnyTree, anyTree}
+use Rattle.tree.specs.Tree.{Tr, pageNumber, pageOf, rootLeast, InRange, Holds, Forms, PoolForms}
+use Rattle.tree.specs.Facts.{anyTree}
 use Rattle.tree.proofs.Memory.{top-holds}
 use Rattle.tree.proofs.Search.{pageOf-level}
 
@@ -77,16 +77,12 @@ module _ (k n : ℕ) (memory : ℕ → Page) (l : ℕ) (t : Tr l) (forms : Forms
       (same-tree k (rootLeast l) (rootLeast l) (2 * k) (2 * k) memory l t t′ 0 wordRange wordRange (forms .root ∙ sym (forms′ .root))
       (forms .inRange) (forms′ .inRange) (forms .holds) (forms′ .holds)))
 
-  -- two trees of one memory are one,
+  -- two trees of one memory are one
   pub determined : (l′ : ℕ) (t′ : Tr l′) → Forms k n memory l′ t′ → anyTree l t ≡ anyTree l′ t′
   determined l′ t′ forms′ =
       let level : memory 0 .level ≡ l + 1 = root-level k n memory l t forms in
       let level′ : memory 0 .level ≡ l′ + 1 = root-level k n memory l′ t′ forms′ in
       same-of-height l′ (omega arith) t′ forms′
-
-  -- and so are their entries
-  pub entries-determined : (l′ : ℕ) (t′ : Tr l′) → Forms k n memory l′ t′ → entriesOf l t ≡ entriesOf l′ t′
-  entries-determined l′ t′ forms′ = ap (λ (a : AnyTree). entriesOf (a .0) (a .1)) (determined l′ t′ forms′)
 
 -- Two trees of one pool's words are one.
 pub pool-determined : (k n : ℕ) (ws : List ℕ) (l : ℕ) (t : Tr l) (l′ : ℕ) (t′ : Tr l′) → PoolForms k n ws l t → PoolForms k n ws l′ t′

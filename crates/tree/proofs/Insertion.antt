@@ -17,13 +17,14 @@ use Rattle.page.specs.Words.{Entry, Page, μ, keyed}
 use Rattle.page.specs.Splits.{Parted, raised}
 use Rattle.pool.specs.Pool.{Write, write}
 use Rattle.change.specs.Insertion.{lowest, room, settled, insertion}
+use Rattle.change.proofs.RuleLaws.{settled-fits, settled-raises}
 use Rattle.tree.specs.Tree.{Node, Tr, pageNumber, pageOf, entriesOf, once, occurs, InRange, rootLeast, Holds, Stands, way, Forms, node}
 use Rattle.tree.specs.Sorted.{inserted}
 use Rattle.tree.specs.Change.{memoryAfter, writtenPages, Fitting, Leads, FreeFor}
 use Rattle.tree.specs.Insertion.{fillings, newPages, treeRoom, InsertionLeads, RoomOfTree}
 use Rattle.tree.proofs.Pages.{rowPage-raised}
 use Rattle.tree.proofs.Memory.{times, times-cut, times-member, member-times, absent-times, distinct-times, times-distinct, times-written, unwritten, Stores, stores-left, stores-right, written-stores, fitting-append, fits-page, holds-top}
-use Rattle.tree.proofs.InsertionWay.{newPages-full, settled-fits, settled-raises}
+use Rattle.tree.proofs.InsertionWay.{newPages-full}
 use Rattle.tree.proofs.InsertionSplit.{Halves, halves}
 use Rattle.tree.proofs.Search.{pageOf-level}
 use Rattle.tree.proofs.InsertionTree.{tree-most, tree-shrink, taken-last, begun, Change, Grown, grown, Piece, piece-stopped, piece-written}

@@ -17,6 +17,7 @@ use Rattle.page.specs.Place.{place, has}
 use Rattle.page.specs.Splits.{Parted, put}
 use Rattle.pool.specs.Pool.{Write, write}
 use Rattle.change.specs.Insertion.{lowest, settled, insertion}
+use Rattle.change.proofs.RuleLaws.{settled-fits, settled-splits}
 use Rattle.tree.specs.Rows.{headKey, Span, Somewhere, Each, gathered, total}
 use Rattle.tree.specs.Tree.{Leaf, Tr, pageNumber, pageOf, entriesOf, once, occurs, LeafIn, NodeIn, InRange, Holds, HoldsBelow, Stands, way, node, ChildIn}
 use Rattle.tree.specs.Sorted.{inserted}
@@ -26,7 +27,7 @@ use Rattle.tree.proofs.Rows.{headKey-append, span-replace, middle-rises
 use Rattle.tree.proofs.Sorted.{Within, within-gathered, has-parts, inserted-parts, within-inserted, length-inserted}
 use Rattle.tree.proofs.Pages.{rowPage-place, rowPage-same, rowPage-put, rowPage-μ-around}
 use Rattle.tree.proofs.Memory.{once-same, times, times-cut, times-written, Stores, stores-left, stores-right, fitting-append, fits-page, holds-top, top-holds, root-occurs, row-same, total-middle}
-use Rattle.tree.proofs.InsertionWay.{newPages-full, newPages-space, settled-fits, settled-splits}
+use Rattle.tree.proofs.InsertionWay.{newPages-full, newPages-space}
 use Rattle.tree.proofs.Search.{within-entries}
 use Rattle.tree.proofs.InsertionSplit.{Halves, halves}
 use Rattle.tree.proofs.Ways.{row-μ}

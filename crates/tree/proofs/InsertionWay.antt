@@ -6,7 +6,7 @@ use mathlib.Core.List.{List, [], _∷_, _++_, map, append-nil}
 use mathlib.Core.Logic.{_⊎_, inl, inr}
 use mathlib.Core.Path.{_≡_, refl, sym, ap, _∙_}
 use native.Mathlib.Omega.{arith}
-use borrow.Author.Tests.{ltb-true, ltb-false, leb-true, leb-false, le-leb, lt-leb, eqb-true, eqb-false, eq-eqb, ne-eqb, not-true}
+use borrow.Author.Tests.{ltb-true, ltb-false, leb-true, leb-false, eqb-true, eqb-false, eq-eqb, ne-eqb, not-true}
 use lib.Dec.{leb, ltb, eqb}
 use lib.ListN.{length, take, drop, length-drop}
 use Rattle.ground.specs.Tests.{all, count, member}
@@ -14,9 +14,10 @@ use Rattle.ground.proofs.Bools.{and-first, and-second}
 use Rattle.ground.proofs.Choice.{by-test, cond-true, cond-false}
 use Rattle.page.specs.Words.{Page, entry, μ}
 use Rattle.page.specs.Place.{place}
-use Rattle.page.specs.Splits.{put, split, raised}
+use Rattle.page.specs.Splits.{put, split}
 use Rattle.pool.specs.Pool.{Write, write}
 use Rattle.change.specs.Insertion.{lowest, isFull, room, settled}
+use Rattle.change.proofs.RuleLaws.{settled-fits, settled-splits, settled-raises}
 use Rattle.tree.specs.Tree.{once}
 use Rattle.tree.specs.Change.{writtenPages, topOf, belowTop}
 use Rattle.tree.specs.Insertion.{hasSpace, newPages}
@@ -124,28 +125,6 @@ module _ (k : ℕ) (memory : ℕ → Page) where
     abbrev pub fatherWith : ℕ → Page → ℕ → Page
     fatherWith father P taken = put (place x (memory father .entries)) (entry (split k P .between) taken) (memory father)
 
-    -- a page of at most 2k is written
-    pub settled-fits : (free up : List ℕ) (p : ℕ) (P : Page) → μ P ≤ 2 * k → settled k memory x free up p P ≡ write p P ∷ []
-    unfolding settled
-    settled-fits free [] p P h = cond-true _ _ (le-leb (μ P) (2 * k) h)
-    settled-fits free (f ∷ up) p P h = cond-true _ _ (le-leb (μ P) (2 * k) h)
-
-    -- one that has more is split, and its father has one reference key more
-    pub settled-splits : (free : List ℕ) (f : ℕ) (up : List ℕ) (p : ℕ) (P : Page) → 2 * k < μ P
-        → settled k memory x free (f ∷ up) p P
-        ≡ write (lowest free) (split k P .right) ∷ write p (split k P .left)
-        ∷ settled k memory x (drop 1 free) up f (fatherWith f P (lowest free))
-    unfolding settled
-    settled-splits free f up p P h = cond-false _ _ (lt-leb (μ P) (2 * k) h)
-
-    -- page 0 is split under a new root
-    pub settled-raises : (free : List ℕ) (p : ℕ) (P : Page) → 2 * k < μ P
-        → settled k memory x free [] p P
-        ≡ write (lowest free) (split k P .left) ∷ write (lowest (drop 1 free)) (split k P .right)
-        ∷ write p (raised P (lowest free) (split k P .between) (lowest (drop 1 free))) ∷ []
-    unfolding settled
-    settled-raises free p P h = cond-false _ _ (lt-leb (μ P) (2 * k) h)
-
     -- the pages above such a top do not matter to the rule
     pub settled-stops : (free : List ℕ) (p : ℕ) (P : Page) (fathers above : List ℕ) → μ P ≡ suc (μ (memory p)) → Stops p fathers above
         → settled k memory x free (fathers ++ above) p P ≡ settled k memory x free fathers p P
@@ -153,18 +132,18 @@ module _ (k : ℕ) (memory : ℕ → Page) where
         ap (λ (ps : List ℕ). settled k memory x free ps p P) (ap (λ (a : List ℕ). fathers ++ a) e ∙ append-nil fathers)
     settled-stops free p P [] above m (inr e) =
         let less = ltb-true (μ (memory p)) (2 * k) e in
-        settled-fits free above p P (omega arith) ∙ sym (settled-fits free [] p P (omega arith))
+        settled-fits k memory x free above p P (omega arith) ∙ sym (settled-fits k memory x free [] p P (omega arith))
     settled-stops free p P (f ∷ up) above m (inr e) =
         by-test (leb (μ P) (2 * k))
         (λ t.
         let fits = leb-true (μ P) (2 * k) t in
-        settled-fits free (f ∷ (up ++ above)) p P fits ∙ sym (settled-fits free (f ∷ up) p P fits))
+        settled-fits k memory x free (f ∷ (up ++ above)) p P fits ∙ sym (settled-fits k memory x free (f ∷ up) p P fits))
         (λ t.
         let more = leb-false (μ P) (2 * k) t in
-        settled-splits free f (up ++ above) p P more
+        settled-splits k memory x free f (up ++ above) p P more
         ∙ ap (λ (W : List Write). write (lowest free) (split k P .right) ∷ write p (split k P .left) ∷ W)
         (settled-stops (drop 1 free) f (fatherWith f P (lowest free)) up above (put-μ _ _ _) (inr e))
-        ∙ sym (settled-splits free f up p P more))
+        ∙ sym (settled-splits k memory x free f up p P more))
 
     -- the rule writes each page of the way once, and each page that it takes, which are the first ones of the free list
     pub settled-pages : (q : ℕ) (free : List ℕ) (p : ℕ) (P : Page) (fathers : List ℕ)
@@ -183,12 +162,12 @@ module _ (k : ℕ) (memory : ℕ → Page) where
         let second = taken-first q (drop 1 free) 0 (rw (length-drop 1 free) (omega arith)) in
         let count : times q (take (newPages k (numbers (p ∷ []))) free) ≡ times q (take 2 free)
         = ap (λ (n : ℕ). times q (take n free)) full in
-        ap (λ (W : List Write). times q (writtenPages W)) (settled-raises free p P (omega arith)) ∙ omega arith)
+        ap (λ (W : List Write). times q (writtenPages W)) (settled-raises k memory x free p P (omega arith)) ∙ omega arith)
         (λ t.
         let other : μ (memory p) ≡ 2 * k → ⊥ = eqb-false (μ (memory p)) (2 * k) t in
         let none : newPages k (numbers (p ∷ [])) ≡ 0 = newPages-space k (μ (memory p)) [] (omega (arith, a .0)) in
         let count : times q (take (newPages k (numbers (p ∷ []))) free) ≡ 0 = ap (λ (n : ℕ). times q (take n free)) none in
-        ap (λ (W : List Write). times q (writtenPages W)) (settled-fits free [] p P (omega (arith, a .0))) ∙ omega arith)
+        ap (λ (W : List Write). times q (writtenPages W)) (settled-fits k memory x free [] p P (omega (arith, a .0))) ∙ omega arith)
     settled-pages q free p P (g ∷ up) m a f r =
         let n : ℕ = newPages k (numbers (g ∷ up)) in
         let full : newPages k (numbers (p ∷ g ∷ up)) ≡ suc n = newPages-full k (μ (memory p)) (numbers (g ∷ up)) (f .0) in
@@ -197,4 +176,4 @@ module _ (k : ℕ) (memory : ℕ → Page) where
         = ap (λ (i : ℕ). times q (take i free)) full in
         let above = settled-pages q (drop 1 free) g (fatherWith g P (lowest free)) up (put-μ _ _ _) (a .1) (f .1)
         (rw (length-drop 1 free) (omega arith)) in
-        ap (λ (W : List Write). times q (writtenPages W)) (settled-splits free g up p P (omega (arith, f .0))) ∙ omega arith
+        ap (λ (W : List Write). times q (writtenPages W)) (settled-splits k memory x free g up p P (omega (arith, f .0))) ∙ omega arith

@@ -17,7 +17,7 @@ use Rattle.page.specs.Fits.{Fits}
 use Rattle.pool.specs.Pool.{Write}
 use Rattle.tree.specs.Rows.{headKey, Somewhere, Each, total, followed}
 use Rattle.tree.specs.Tree.{Tr, pageNumber, pageOf, once, occurs, Holds, HoldsBelow, Stands, way}
-use Rattle.tree.specs.Change.{rewritten, memoryAfter, writtenPages, Fitting}
+use Rattle.tree.specs.Change.{memoryWith, memoryAfter, writtenPages, Fitting}
 use Rattle.tree.proofs.Rows.{total-append}
 use Rattle.tree.proofs.Pages.{noLeaf}
 
@@ -114,11 +114,6 @@ times-distinct (p ∷ ps) h =
 
 -- ---- the memory after a list of writes
 
--- after two lists of writes, one behind the other
-pub memoryAfter-append : (memory : ℕ → Page) (W U : List Write) → memoryAfter memory (W ++ U) ≡ memoryAfter (memoryAfter memory W) U
-memoryAfter-append memory [] U = refl
-memoryAfter-append memory (w ∷ W) U = memoryAfter-append (rewritten memory w) W U
-
 -- the pages of two lists of writes
 pub written-append : (W U : List Write) → writtenPages (W ++ U) ≡ writtenPages W ++ writtenPages U
 written-append W U = map-append (λ (w : Write). w .at) W U
@@ -131,18 +126,13 @@ times-written q W U = ap (times q) (written-append W U) ∙ times-append q (writ
 pub unwritten : (memory : ℕ → Page) (W : List Write) (q : ℕ) → times q (writtenPages W) ≡ 0 → memoryAfter memory W q ≡ memory q
 unwritten memory [] q h = refl
 unwritten memory (w ∷ W) q h =
-    unwritten (rewritten memory w) W q (omega arith)
+    unwritten (memoryWith memory w) W q (omega arith)
     ∙ cond-false (w .value) (memory q) (ne-eqb q (w .at) (once-not q (w .at) (omega arith)))
 
 -- the memory has what each write says
 abbrev pub Stores : (ℕ → Page) → List Write → Type 0
 Stores M [] = Unit {0}
 Stores M (w ∷ W) = (M (w .at) ≡ w .value) × Stores M W
-
--- of two lists of writes, one behind the other,
-pub stores-append : (M : ℕ → Page) (W U : List Write) → Stores M W → Stores M U → Stores M (W ++ U)
-stores-append M [] U s r = r
-stores-append M (w ∷ W) U s r = (s .0, stores-append M W U (s .1) r)
 
 -- of the first part of a list of writes,
 pub stores-left : (M : ℕ → Page) (W U : List Write) → Stores M (W ++ U) → Stores M W
@@ -159,9 +149,9 @@ pub written-stores : (memory : ℕ → Page) (W : List Write) → ((q : ℕ) →
 written-stores memory [] h = tt
 written-stores memory (w ∷ W) h =
     let one = once-same (w .at) (w .at) refl in (
-      unwritten (rewritten memory w) W (w .at) (omega (arith, h (w .at)))
+      unwritten (memoryWith memory w) W (w .at) (omega (arith, h (w .at)))
           ∙ cond-true (w .value) (memory (w .at)) (eq-eqb (w .at) (w .at) refl),
-      written-stores (rewritten memory w) W (λ q. omega (arith, h q)),
+      written-stores (memoryWith memory w) W (λ q. omega (arith, h q)),
     )
 
 -- room for the values of two lists of writes
@@ -228,15 +218,10 @@ pub holds-top : (M : ℕ → Page) (l : ℕ) (t : Tr l) → M (pageNumber l t) �
 holds-top M zero t e h = e
 holds-top M (suc l) t e h = (e, h)
 
--- a tree that is held has its root page in the memory,
+-- a tree that is held has its root page in the memory
 pub top-holds : (M : ℕ → Page) (l : ℕ) (t : Tr l) → Holds M l t → M (pageNumber l t) ≡ pageOf l t
 top-holds M zero t h = h
 top-holds M (suc l) t h = h .0
-
--- and its pages below
-pub below-holds : (M : ℕ → Page) (l : ℕ) (t : Tr l) → Holds M l t → HoldsBelow M l t
-below-holds M zero t h = tt
-below-holds M (suc l) t h = h .1
 
 -- each thing of a row is held by a memory that agrees on the row's pages
 each-same : {C : Type 0} (H H′ : C → Type 0) (f : ℕ → C → ℕ) (R : ℕ → Type 0) (row : List (Keyed C))

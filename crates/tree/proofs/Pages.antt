@@ -1,22 +1,21 @@
 -- What the rules' page functions do to the pages of a tree: an upper page is the row of its children, a leaf the row of
 -- its entries, and each rule is a cut, a join or a small change of rows.
-use Prim.Native.Nat.{ℕ, suc, _+_, _-_, _*_, _≤_, _<_}
+use Prim.Native.Nat.{ℕ, suc, _+_, _-_, _≤_, _<_}
 use native.Mathlib.Omega.{arith}
 use mathlib.Core.Bool.{true, false}
 use mathlib.Core.Path.{_≡_, refl, sym, ap, _∙_, subst}
 use mathlib.Core.List.{List, [], _∷_, _++_, map, map-append, map-map}
 use lib.Dec.{eqb}
-use lib.ListN.{length, getD, take, drop, length-append, length-map, take-append-drop, length-drop}
-use lib.Seq.{length-take-le, append-snoc, take-at, drop-at, getD-at}
+use lib.ListN.{length, getD, drop, length-append, length-map}
+use lib.Seq.{append-snoc, take-at, drop-at, getD-at}
 use borrow.Author.Tests.{lt-ltb, le-ltb, le-leb, lt-leb, ne-eqb}
 use Rattle.ground.specs.Tests.{count}
 use Rattle.ground.proofs.Choice.{cond-true, cond-false}
-use Rattle.page.specs.Words.{Keyed, Entry, Page, entry, page, μ, isLeaf, keyOf, valueOf, pointers}
+use Rattle.page.specs.Words.{Keyed, Entry, Page, entry, page, μ, keyOf, valueOf, pointers}
 use Rattle.page.specs.Place.{place, pointer, route}
 use Rattle.page.specs.Splits.{parted, entryAt, put, split, raised}
 use Rattle.page.specs.Short.{hasRight, neighbour, betweenAt, keyBetween, fromRight, fromLeft, joined, lessKey, rekeyed, moved, merged}
 use Rattle.tree.specs.Rows.{headKey, Span, topPointer, references, rowPage}
-use Rattle.tree.specs.Sorted.{inserted}
 
 -- ---- pairs at a known place
 
@@ -52,34 +51,11 @@ last-at L e = rw (length-append L (e ∷ [])) (omega arith)
 
 -- ---- leaves
 
--- a leaf is a leaf
-pub leaf-isLeaf : (es : List Entry) → isLeaf (page 1 0 es) ≡ true
-leaf-isLeaf es = refl
-
--- an entry put into a leaf where its key belongs
-pub leaf-put : (x v : ℕ) (es : List Entry) → put (place x es) (entry x v) (page 1 0 es) ≡ page 1 0 (inserted x v es)
-unfolding put inserted
-leaf-put x v es = refl
-
 -- a leaf with 2k + 1 entries splits behind its first k
 pub leaf-split : (k : ℕ) (L : List Entry) (e : Entry) (R : List Entry)
     → length L ≡ k → split k (page 1 0 (L ++ e ∷ R)) ≡ parted (page 1 0 L) (e .key) (page 1 0 (e ∷ R))
 unfolding split
 leaf-split k L e R h = rw (take-at L (e ∷ R) k h, drop-at L (e ∷ R) k h, getD-at L e R (entry 0 0) k h)
-
--- the same, where the right part is not taken apart
-pub leaf-split-cut : (k hi : ℕ) (L R : List Entry)
-    → length L ≡ k → 0 < length R → split k (page 1 0 (L ++ R)) ≡ parted (page 1 0 L) (headKey R hi) (page 1 0 R)
-leaf-split-cut k hi L [] h z = absurd (omega arith)
-leaf-split-cut k hi L (e ∷ R) h z = leaf-split k L e R h
-
--- the split of a leaf whose entries are not cut yet
-pub leaf-split-at : (k : ℕ) (es : List Entry)
-    → length es ≡ 2 * k + 1
-    → split k (page 1 0 es) ≡ parted (page 1 0 (take k es)) (headKey (drop k es) 0) (page 1 0 (drop k es))
-leaf-split-at k es h =
-    ap (λ (fs : List Entry). split k (page 1 0 fs)) (sym (take-append-drop k es))
-    ∙ leaf-split-cut k 0 (take k es) (drop k es) (length-take-le k es (omega arith)) (rw (length-drop k es) (omega arith))
 
 -- two leaves join as their entries do
 pub leaf-joined : (r : ℕ) (L R : List Entry) → joined r (page 1 0 L) (page 1 0 R) ≡ page 1 0 (L ++ R)
@@ -99,23 +75,6 @@ unfolding fromLeft
 leaf-fromLeft r L e R =
     let h : length L ≡ length (L ++ e ∷ []) - 1 = last-at L e in
     rw (take-at L (e ∷ []) (length (L ++ e ∷ []) - 1) h, getD-at L e [] (entry 0 0) (length (L ++ e ∷ []) - 1) h)
-
--- the same from the right, where the entry that moves is a part B and the others are not taken apart
-pub leaf-fromRight-cut : (r hi : ℕ) (L B R : List Entry)
-    → length B ≡ 1
-    → 0 < length R
-    → fromRight r (page 1 0 L) (page 1 0 (B ++ R)) ≡ parted (page 1 0 (L ++ B)) (headKey R hi) (page 1 0 R)
-leaf-fromRight-cut r hi L [] R h z = absurd (omega arith)
-leaf-fromRight-cut r hi L (e ∷ (f ∷ B)) R h z = absurd (omega arith)
-leaf-fromRight-cut r hi L (e ∷ []) [] h z = absurd (omega arith)
-leaf-fromRight-cut r hi L (e ∷ []) (f ∷ R) h z = leaf-fromRight r L e f R
-
--- the same from the left
-pub leaf-fromLeft-cut : (r hi : ℕ) (L B R : List Entry)
-    → length B ≡ 1 → fromLeft r (page 1 0 (L ++ B)) (page 1 0 R) ≡ parted (page 1 0 L) (headKey B hi) (page 1 0 (B ++ R))
-leaf-fromLeft-cut r hi L [] R h = absurd (omega arith)
-leaf-fromLeft-cut r hi L (e ∷ (f ∷ B)) R h = absurd (omega arith)
-leaf-fromLeft-cut r hi L (e ∷ []) R h = leaf-fromLeft r L e R
 
 -- ---- pages above the leaves, by their pairs
 
@@ -156,10 +115,6 @@ upper-fromLeft l r p q L e R =
 -- ---- pages above the leaves, by their children
 
 module _ {C : Type 0} where
-  -- an upper page is no leaf
-  pub rowPage-isLeaf : (l : ℕ) (at : C → ℕ) (row : List (Keyed C)) → isLeaf (rowPage (suc (suc l)) at row) ≡ false
-  rowPage-isLeaf l at row = noLeaf l
-
   -- in a Span, no key behind x's end is at most x
   none-below : (P : C → ℕ → ℕ → Type 0) (at : C → ℕ) (ys : List (Keyed C)) (hi x : ℕ)
       → Span P ys hi → x < headKey ys hi → place x (references at ys) ≡ 0
@@ -280,20 +235,6 @@ module _ {C : Type 0} where
       ∙ rw (← u, ← v) (sym (behind lv at xs d (e ∷ ys)))
       ∙ sym (rowPage-same lv at xs d d′ (e ∷ ys) p q)
 
-  -- the same at the place of an x that belongs to d
-  pub rowPage-put-place : (P : C → ℕ → ℕ → Type 0) (lv : ℕ) (at : C → ℕ) (xs : List (Keyed C)) (d d′ e : Keyed C) (ys : List (Keyed C)) (hi x r a : ℕ)
-      → Span P (xs ++ d ∷ ys) hi
-      → d .key ≤ x
-      → x < headKey ys hi
-      → d′ .key ≡ d .key
-      → at (d′ .value) ≡ at (d .value)
-      → e .key ≡ r
-      → at (e .value) ≡ a
-      → put (place x (rowPage lv at (xs ++ d ∷ ys) .entries)) (entry r a) (rowPage lv at (xs ++ d ∷ ys)) ≡ rowPage lv at (xs ++ d′ ∷ e ∷ ys)
-  rowPage-put-place P lv at xs d d′ e ys hi x r a sp b c p q u v =
-      ap (λ (i : ℕ). put i (entry r a) (rowPage lv at (xs ++ d ∷ ys))) (rowPage-place P lv at xs d ys hi x sp b c)
-      ∙ rowPage-put lv at xs d d′ e ys r a p q u v
-
   -- a father with one reference key less: s, the child right of d, is gone
   pub rowPage-lessKey : (lv : ℕ) (at : C → ℕ) (xs : List (Keyed C)) (d d′ s : Keyed C) (ys : List (Keyed C))
       → d′ .key ≡ d .key
@@ -337,26 +278,6 @@ module _ {C : Type 0} where
       ∙ upper-split l (at (y .value)) k (references at L) (entry (e .key) (at (e .value))) (references at R)
       (length-map L (λ (c : Keyed C). entry (c .key) (at (c .value))) ∙ omega arith)
 
-  -- the same, where the right part is not taken apart
-  pub rowPage-split-cut : (l : ℕ) (at : C → ℕ) (k hi : ℕ) (L R : List (Keyed C))
-      → length L ≡ suc k
-      → 0 < length R
-      → split k (rowPage (suc (suc l)) at (L ++ R))
-      ≡ parted (rowPage (suc (suc l)) at L) (headKey R hi) (rowPage (suc (suc l)) at R)
-  rowPage-split-cut l at k hi L [] h z = absurd (omega arith)
-  rowPage-split-cut l at k hi L (e ∷ R) h z = rowPage-split l at k L e R h
-
-  -- the split of an upper page whose row is not cut yet
-  pub rowPage-split-at : (l : ℕ) (at : C → ℕ) (k : ℕ) (row : List (Keyed C))
-      → length row ≡ 2 * k + 2
-      → split k (rowPage (suc (suc l)) at row)
-      ≡ parted (rowPage (suc (suc l)) at (take (suc k) row)) (headKey (drop (suc k) row) 0) (rowPage (suc (suc l)) at (drop (suc k) row))
-  rowPage-split-at l at k row h =
-      ap (λ (ds : List (Keyed C)). split k (rowPage (suc (suc l)) at ds)) (sym (take-append-drop (suc k) row))
-      ∙ rowPage-split-cut l at k 0 (take (suc k) row) (drop (suc k) row)
-      (length-take-le (suc k) row (omega arith))
-      (rw (length-drop (suc k) row) (omega arith))
-
   -- two upper pages join as their rows do: the father's key r comes down before the right page's first child
   pub rowPage-joined : (l : ℕ) (at : C → ℕ) (r : ℕ) (L : List (Keyed C)) (e : Keyed C) (R : List (Keyed C))
       → 0 < length L
@@ -389,41 +310,6 @@ module _ {C : Type 0} where
       ap (λ (es : List Entry). fromLeft r (page (suc (suc l)) (at (y .value)) es) (rowPage (suc (suc l)) at (f ∷ R))) (references-append at L (e ∷ []))
       ∙ upper-fromLeft l r (at (y .value)) (at (f .value)) (references at L) (entry (e .key) (at (e .value))) (references at R)
       ∙ rw (← u)
-
-  -- the same join, where the right page's row is not taken apart
-  pub rowPage-joined-cut : (l : ℕ) (at : C → ℕ) (r hi : ℕ) (L R : List (Keyed C))
-      → 0 < length L
-      → 0 < length R
-      → headKey R hi ≡ r
-      → joined r (rowPage (suc (suc l)) at L) (rowPage (suc (suc l)) at R) ≡ rowPage (suc (suc l)) at (L ++ R)
-  rowPage-joined-cut l at r hi L [] h z u = absurd (omega arith)
-  rowPage-joined-cut l at r hi L (e ∷ R) h z u = rowPage-joined l at r L e R h u
-
-  -- the same move from the right, where the child that moves is a part B and the others are not taken apart
-  pub rowPage-fromRight-cut : (l : ℕ) (at : C → ℕ) (r hi : ℕ) (L B R : List (Keyed C))
-      → 0 < length L
-      → length B ≡ 1
-      → 0 < length R
-      → headKey B hi ≡ r
-      → fromRight r (rowPage (suc (suc l)) at L) (rowPage (suc (suc l)) at (B ++ R))
-      ≡ parted (rowPage (suc (suc l)) at (L ++ B)) (headKey R hi) (rowPage (suc (suc l)) at R)
-  rowPage-fromRight-cut l at r hi L [] R g h z u = absurd (omega arith)
-  rowPage-fromRight-cut l at r hi L (e ∷ (f ∷ B)) R g h z u = absurd (omega arith)
-  rowPage-fromRight-cut l at r hi L (e ∷ []) [] g h z u = absurd (omega arith)
-  rowPage-fromRight-cut l at r hi L (e ∷ []) (f ∷ R) g h z u = rowPage-fromRight l at r L e f R g u
-
-  -- the same from the left
-  pub rowPage-fromLeft-cut : (l : ℕ) (at : C → ℕ) (r hi : ℕ) (L B R : List (Keyed C))
-      → 0 < length L
-      → length B ≡ 1
-      → 0 < length R
-      → headKey R hi ≡ r
-      → fromLeft r (rowPage (suc (suc l)) at (L ++ B)) (rowPage (suc (suc l)) at R)
-      ≡ parted (rowPage (suc (suc l)) at L) (headKey B hi) (rowPage (suc (suc l)) at (B ++ R))
-  rowPage-fromLeft-cut l at r hi L [] R g h z u = absurd (omega arith)
-  rowPage-fromLeft-cut l at r hi L (e ∷ (f ∷ B)) R g h z u = absurd (omega arith)
-  rowPage-fromLeft-cut l at r hi L (e ∷ []) [] g h z u = absurd (omega arith)
-  rowPage-fromLeft-cut l at r hi L (e ∷ []) (f ∷ R) g h z u = rowPage-fromLeft l at r L e f R g u
 
   -- the root over its two halves: d, where the range begins, and e
   pub rowPage-raised : (l : ℕ) (at : C → ℕ) (Q : Page) (d e : Keyed C) (a r b : ℕ)
@@ -498,24 +384,6 @@ module _ {C : Type 0} where
         cond-true (joined (keyBetween x (rowPage lv at (xs ++ d ∷ s ∷ ys))) Q S) (joined (keyBetween x (rowPage lv at (xs ++ d ∷ s ∷ ys))) S Q) right-hasRight
         ∙ ap (λ (r : ℕ). joined r Q S) right-keyBetween
 
-    -- the father less s
-    pub right-lessKey : (d′ : Keyed C)
-        → d′ .key ≡ d .key
-        → at (d′ .value) ≡ at (d .value)
-        → lessKey (betweenAt x (rowPage lv at (xs ++ d ∷ s ∷ ys))) (rowPage lv at (xs ++ d ∷ s ∷ ys)) ≡ rowPage lv at (xs ++ d′ ∷ ys)
-    right-lessKey d′ p q =
-        ap (λ (i : ℕ). lessKey i (rowPage lv at (xs ++ d ∷ s ∷ ys))) right-betweenAt ∙ rowPage-lessKey lv at xs d d′ s ys p q
-
-    -- the father with another key between d and s
-    pub right-rekeyed : (d′ s′ : Keyed C) (r : ℕ)
-        → d′ .key ≡ d .key
-        → at (d′ .value) ≡ at (d .value)
-        → s′ .key ≡ r
-        → at (s′ .value) ≡ at (s .value)
-        → rekeyed (betweenAt x (rowPage lv at (xs ++ d ∷ s ∷ ys))) r (rowPage lv at (xs ++ d ∷ s ∷ ys)) ≡ rowPage lv at (xs ++ d′ ∷ s′ ∷ ys)
-    right-rekeyed d′ s′ r p q u v =
-        ap (λ (i : ℕ). rekeyed i r (rowPage lv at (xs ++ d ∷ s ∷ ys))) right-betweenAt ∙ rowPage-rekeyed lv at xs d d′ s s′ ys r p q u v
-
   -- x belongs to d, the last child, which has a left neighbour s
   module _ (P : C → ℕ → ℕ → Type 0) (lv : ℕ) (at : C → ℕ) (xs : List (Keyed C)) (s d : Keyed C) (hi x : ℕ)
       (span : Span P (xs ++ s ∷ d ∷ []) hi) (low : d .key ≤ x) (high : x < hi) where
@@ -560,21 +428,3 @@ module _ {C : Type 0} where
     left-merged Q S =
         cond-false (joined (keyBetween x (rowPage lv at (xs ++ s ∷ d ∷ []))) Q S) (joined (keyBetween x (rowPage lv at (xs ++ s ∷ d ∷ []))) S Q) left-hasRight
         ∙ ap (λ (r : ℕ). joined r S Q) left-keyBetween
-
-    -- the father less d
-    pub left-lessKey : (s′ : Keyed C)
-        → s′ .key ≡ s .key
-        → at (s′ .value) ≡ at (s .value)
-        → lessKey (betweenAt x (rowPage lv at (xs ++ s ∷ d ∷ []))) (rowPage lv at (xs ++ s ∷ d ∷ [])) ≡ rowPage lv at (xs ++ s′ ∷ [])
-    left-lessKey s′ p q =
-        ap (λ (i : ℕ). lessKey i (rowPage lv at (xs ++ s ∷ d ∷ []))) left-betweenAt ∙ rowPage-lessKey lv at xs s s′ d [] p q
-
-    -- the father with another key between s and d
-    pub left-rekeyed : (s′ d′ : Keyed C) (r : ℕ)
-        → s′ .key ≡ s .key
-        → at (s′ .value) ≡ at (s .value)
-        → d′ .key ≡ r
-        → at (d′ .value) ≡ at (d .value)
-        → rekeyed (betweenAt x (rowPage lv at (xs ++ s ∷ d ∷ []))) r (rowPage lv at (xs ++ s ∷ d ∷ [])) ≡ rowPage lv at (xs ++ s′ ∷ d′ ∷ [])
-    left-rekeyed s′ d′ r p q u v =
-        ap (λ (i : ℕ). rekeyed i r (rowPage lv at (xs ++ s ∷ d ∷ []))) left-betweenAt ∙ rowPage-rekeyed lv at xs s s′ d d′ [] r p q u v

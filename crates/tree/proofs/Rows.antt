@@ -1,20 +1,18 @@
 -- Laws of rows: a row cut in two, two rows joined, a thing replaced, and the thing to which a key belongs.
 use Prim.Native.Nat.{ℕ, suc, _+_, _≤_, _<_}
-use mathlib.Core.Bool.{cond}
 use mathlib.Core.List.{List, [], _∷_, _++_, append-assoc}
 use mathlib.Core.Logic.{_⊎_, inl, inr, ⊎-elim}
 use mathlib.Core.Path.{_≡_, refl, sym, ap, _∙_, subst}
 use native.Mathlib.Omega.{arith}
 use borrow.Author.Tests.{leb-true, leb-false, le-leb, lt-leb}
 use lib.Dec.{leb}
-use lib.ListN.{length, length-map}
+use lib.ListN.{length}
 use Rattle.ground.specs.Tests.{count}
 pub use Rattle.ground.proofs.Choice.{by-test}
 use Rattle.ground.proofs.Choice.{cond-true, cond-false}
-use Rattle.page.specs.Words.{Keyed, Entry, entry}
+use Rattle.page.specs.Words.{Keyed, Entry}
 use Rattle.page.specs.Place.{place}
-use Rattle.page.proofs.PlaceLaws.{place-append}
-use Rattle.tree.specs.Rows.{headKey, Span, Somewhere, Each, gathered, total, followed, references}
+use Rattle.tree.specs.Rows.{headKey, Span, Somewhere, Each, gathered, total, followed}
 
 -- a joined row begins where its first part does, which ends where the second begins
 pub headKey-append : {C : Type 0} (xs ys : List (Keyed C)) (hi : ℕ) → headKey (xs ++ ys) hi ≡ headKey xs (headKey ys hi)
@@ -53,21 +51,6 @@ pub keys-map : {C : Type 0} (P Q : ℕ → Type 0) (row : List (Keyed C)) → ((
 keys-map P Q [] f h = tt
 keys-map P Q (d ∷ ds) f h = (f (d .key) (h .0), keys-map P Q ds f (h .1))
 
--- what each key of two rows has, each key of the joined row has,
-pub keys-append : {C : Type 0} (P : ℕ → Type 0) (xs ys : List (Keyed C)) → Keys P xs → Keys P ys → Keys P (xs ++ ys)
-keys-append P [] ys h k = k
-keys-append P (d ∷ ds) ys h k = (h .0, keys-append P ds ys (h .1) k)
-
--- and so has each of its first part,
-pub keys-left : {C : Type 0} (P : ℕ → Type 0) (xs ys : List (Keyed C)) → Keys P (xs ++ ys) → Keys P xs
-keys-left P [] ys h = tt
-keys-left P (d ∷ ds) ys h = (h .0, keys-left P ds ys (h .1))
-
--- and each of its second
-pub keys-right : {C : Type 0} (P : ℕ → Type 0) (xs ys : List (Keyed C)) → Keys P (xs ++ ys) → Keys P ys
-keys-right P [] ys h = h
-keys-right P (d ∷ ds) ys h = keys-right P ds ys (h .1)
-
 -- every key of a spanned row is below its end
 pub keys-below : {C : Type 0} (P : C → ℕ → ℕ → Type 0) (row : List (Keyed C)) (hi : ℕ) → Span P row hi → Keys (λ k. k < hi) row
 keys-below P [] hi s = tt
@@ -77,28 +60,6 @@ keys-below P (d ∷ ds) hi s = (let m = headKey-most P ds hi (s .2) in omega (ar
 pub keys-from : {C : Type 0} (P : C → ℕ → ℕ → Type 0) (row : List (Keyed C)) (lo hi : ℕ) → lo ≤ headKey row hi → Span P row hi → Keys (λ k. lo ≤ k) row
 keys-from P [] lo hi l s = tt
 keys-from P (d ∷ ds) lo hi l s = (l, keys-from P ds lo hi (omega (arith, s .0)) (s .2))
-
--- what P tells of a thing and its range, told of each
-pub span-map : {C : Type 0} (P Q : C → ℕ → ℕ → Type 0) (row : List (Keyed C)) (hi : ℕ) → ((c : C) (a b : ℕ) → a < b → P c a b → Q c a b) → Span P row hi → Span Q row hi
-span-map P Q [] hi f s = tt
-span-map P Q (d ∷ ds) hi f s = (s .0, f (d .value) (d .key) (headKey ds hi) (s .0) (s .1), span-map P Q ds hi f (s .2))
-
--- the same, where the ranges are known to lie between lo and hi
-pub span-map-inside : {C : Type 0} (P Q : C → ℕ → ℕ → Type 0) (row : List (Keyed C)) (lo hi : ℕ) → lo ≤ headKey row hi
-    → ((c : C) (a b : ℕ) → lo ≤ a → a < b → b ≤ hi → P c a b → Q c a b) → Span P row hi → Span Q row hi
-span-map-inside P Q [] lo hi l f s = tt
-span-map-inside P Q (d ∷ ds) lo hi l f s = (
-  s .0,
-  f (d .value) (d .key) (headKey ds hi) l (s .0) (headKey-most P ds hi (s .2)) (s .1),
-  span-map-inside P Q ds lo hi (omega (arith, s .0)) f (s .2),
-)
-
--- the same, where each thing has R besides
-pub span-map-each : {C : Type 0} (P Q : C → ℕ → ℕ → Type 0) (R : C → Type 0) (row : List (Keyed C)) (hi : ℕ)
-    → ((c : C) (a b : ℕ) → a < b → R c → P c a b → Q c a b) → Each R row → Span P row hi → Span Q row hi
-span-map-each P Q R [] hi f r s = tt
-span-map-each P Q R (d ∷ ds) hi f r s =
-    (s .0, f (d .value) (d .key) (headKey ds hi) (s .0) (r .0) (s .1), span-map-each P Q R ds hi f (r .1) (s .2))
 
 -- A thing d in a spanned row: its range is not empty,
 pub middle-rises : {C : Type 0} (P : C → ℕ → ℕ → Type 0) (xs : List (Keyed C)) (d : Keyed C) (ys : List (Keyed C)) (hi : ℕ) → Span P (xs ++ d ∷ ys) hi → d .key < headKey ys hi
@@ -115,11 +76,6 @@ middle-before P xs d ys hi s = span-left P xs (d ∷ ys) hi s
 -- and what stands behind it spans up to the end.
 pub middle-after : {C : Type 0} (P : C → ℕ → ℕ → Type 0) (xs : List (Keyed C)) (d : Keyed C) (ys : List (Keyed C)) (hi : ℕ) → Span P (xs ++ d ∷ ys) hi → Span P ys hi
 middle-after P xs d ys hi s = span-right P xs (d ∷ ys) hi s .2
-
--- a row put together around a thing
-pub span-middle : {C : Type 0} (P : C → ℕ → ℕ → Type 0) (xs : List (Keyed C)) (d : Keyed C) (ys : List (Keyed C)) (hi : ℕ)
-    → Span P xs (d .key) → d .key < headKey ys hi → P (d .value) (d .key) (headKey ys hi) → Span P ys hi → Span P (xs ++ d ∷ ys) hi
-span-middle P xs d ys hi before rises here after = span-append P xs (d ∷ ys) hi before (rises, here, after)
 
 -- a part of a spanned row replaced by another with the same ends
 pub span-replace : {C : Type 0} (P : C → ℕ → ℕ → Type 0) (xs old new ys : List (Keyed C)) (hi : ℕ)
@@ -183,17 +139,6 @@ place-behind P x row hi s h = place-all x row (keys-map (λ k. k < hi) (λ k. k 
 pub place-before : {C : Type 0} (P : C → ℕ → ℕ → Type 0) (x : ℕ) (row : List (Keyed C)) (hi : ℕ) → Span P row hi → x < headKey row hi → place x row ≡ 0
 place-before P x row hi s h = place-none x row (keys-from P row (suc x) hi h s)
 
--- a key's place is behind the thing to which it belongs
-pub place-spot : {C : Type 0} (P : C → ℕ → ℕ → Type 0) (x : ℕ) (xs : List (Keyed C)) (d : Keyed C) (ys : List (Keyed C)) (hi : ℕ)
-    → Span P (xs ++ d ∷ ys) hi → d .key ≤ x → x < headKey ys hi → place x (xs ++ d ∷ ys) ≡ suc (length xs)
-unfolding place count
-place-spot P x xs d ys hi s from to =
-    let cut : place x (xs ++ d ∷ ys) ≡ place x xs + place x (d ∷ ys) = place-append x xs (d ∷ ys) in
-    let left : place x xs ≡ length xs = place-behind P x xs (d .key) (middle-before P xs d ys hi s) from in
-    let right : place x ys ≡ 0 = place-before P x ys hi (middle-after P xs d ys hi s) to in
-    let one : place x (d ∷ ys) ≡ suc (place x ys) = cond-true _ _ (le-leb (d .key) x from) in
-    cut ∙ omega arith
-
 -- entries gathered from two rows joined
 pub gathered-append : {C : Type 0} (f : C → List Entry) (xs ys : List (Keyed C)) → gathered f (xs ++ ys) ≡ gathered f xs ++ gathered f ys
 gathered-append f [] ys = refl
@@ -219,11 +164,6 @@ each-left P (d ∷ ds) ys h = (h .0, each-left P ds ys (h .1))
 pub each-right : {C : Type 0} (P : C → Type 0) (xs ys : List (Keyed C)) → Each P (xs ++ ys) → Each P ys
 each-right P [] ys h = h
 each-right P (d ∷ ds) ys h = each-right P ds ys (h .1)
-
--- what P tells of a thing, told of each
-pub each-map : {C : Type 0} (P Q : C → Type 0) (row : List (Keyed C)) → ((c : C) → P c → Q c) → Each P row → Each Q row
-each-map P Q [] f h = tt
-each-map P Q (d ∷ ds) f h = (f (d .value) (h .0), each-map P Q ds f (h .1))
 
 -- what P tells of a thing and its range, told of each without its range
 pub each-span : {C : Type 0} (P : C → ℕ → ℕ → Type 0) (Q : C → Type 0) (row : List (Keyed C)) (hi : ℕ) → ((c : C) (a b : ℕ) → a < b → P c a b → Q c) → Span P row hi → Each Q row
@@ -256,18 +196,3 @@ pub somewhere-map : {C : Type 0} (P Q : C → ℕ → ℕ → Type 0) (row : Lis
 somewhere-map P Q [] hi f h = absurd h
 somewhere-map P Q (d ∷ ds) hi f (inl h) = inl (f (d .value) (d .key) (headKey ds hi) h)
 somewhere-map P Q (d ∷ ds) hi f (inr h) = inr (somewhere-map P Q ds hi f h)
-
--- a row has as many references as things
-pub length-references : {C : Type 0} (at : C → ℕ) (row : List (Keyed C)) → length (references at row) ≡ length row
-length-references {C} at row = length-map row (λ (d : Keyed C). entry (d .key) (at (d .value)))
-
--- the references of two rows joined
-pub references-append : {C : Type 0} (at : C → ℕ) (xs ys : List (Keyed C)) → references at (xs ++ ys) ≡ references at xs ++ references at ys
-references-append at [] ys = refl
-references-append at (d ∷ ds) ys = ap (λ (l : List Entry). entry (d .key) (at (d .value)) ∷ l) (references-append at ds ys)
-
--- a key has the same place among the references as among the things
-pub place-references : {C : Type 0} (x : ℕ) (at : C → ℕ) (row : List (Keyed C)) → place x (references at row) ≡ place x row
-unfolding place count
-place-references x at [] = refl
-place-references x at (d ∷ ds) = ap (λ (n : ℕ). cond (leb (d .key) x) (suc n) n) (place-references x at ds)

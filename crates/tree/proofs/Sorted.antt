@@ -4,8 +4,8 @@ use mathlib.Core.Bool.{Bool, true, false, cond, _&&_, _||_, true≢false}
 use mathlib.Core.List.{List, [], _∷_, _++_, append-assoc}
 use mathlib.Core.Path.{_≡_, refl, sym, ap, ap₂, _∙_, subst}
 use native.Mathlib.Omega.{arith}
-use borrow.Author.Tests.{ltb-true, lt-ltb, leb-true, leb-false, le-leb, eqb-true, eqb-false, eq-eqb, ne-eqb}
-use lib.Dec.{leb, ltb, eqb}
+use borrow.Author.Tests.{lt-ltb, leb-true, leb-false, le-leb, eqb-false, eq-eqb, ne-eqb}
+use lib.Dec.{leb, eqb}
 use lib.ListN.{length, take, drop, length-append, take-append-drop}
 use lib.Seq.{take-append-le, drop-append-le, take-append-add, drop-append-add}
 use Rattle.ground.specs.Tests.{count}
@@ -16,7 +16,7 @@ use Rattle.page.specs.Sound.{rises, risesFrom}
 use Rattle.page.proofs.PlaceLaws.{place-most, place-append}
 use Rattle.tree.specs.Rows.{headKey, Span, gathered, references}
 use Rattle.tree.specs.Sorted.{inserted}
-use Rattle.tree.proofs.Rows.{headKey-append, span-left, span-right, span-append, headKey-most, Keys, keys-below, keys-from, keys-map, place-behind, place-before}
+use Rattle.tree.proofs.Rows.{headKey-append, span-left, span-right, span-append, Keys, keys-below, keys-from, keys-map, place-behind, place-before}
 
 -- nothing is asked of an entry's information
 abbrev pub Anything : ℕ → ℕ → ℕ → Type 0
@@ -25,10 +25,6 @@ Anything v a b = Unit {0}
 -- the keys rise strictly, from lo on and below hi
 abbrev pub Within : ℕ → List Entry → ℕ → Type 0
 Within lo es hi = (lo ≤ headKey es hi) × Span Anything es hi
-
--- the ends of a range are in order
-pub within-range : (lo : ℕ) (es : List Entry) (hi : ℕ) → Within lo es hi → lo ≤ hi
-within-range lo es hi w = let m = headKey-most Anything es hi (w .1) in omega (arith, w .0)
 
 -- rising keys below a bound are below a greater one
 pub span-widen : (es : List Entry) (a b : ℕ) → a ≤ b → Span Anything es a → Span Anything es b
@@ -58,20 +54,6 @@ within-left lo hi xs ys w = (subst (λ (n : ℕ). lo ≤ n) (headKey-append xs y
 -- the second part of a list reaches from where it begins to the end
 pub within-right : (lo hi : ℕ) (xs ys : List Entry) → Within lo (xs ++ ys) hi → Within (headKey ys hi) ys hi
 within-right lo hi xs ys w = (omega arith, span-right Anything xs ys hi (w .1))
-
--- the second part of a list begins in the list's range
-pub within-seam : (lo hi : ℕ) (xs ys : List Entry) → Within lo (xs ++ ys) hi → lo ≤ headKey ys hi
-within-seam lo hi xs ys w = within-range lo xs (headKey ys hi) (within-left lo hi xs ys w)
-
--- the first i entries reach to where the others begin
-pub within-take : (lo hi i : ℕ) (es : List Entry) → Within lo es hi → Within lo (take i es) (headKey (drop i es) hi)
-within-take lo hi i es w =
-    within-left lo hi (take i es) (drop i es) (subst (λ (l : List Entry). Within lo l hi) (sym (take-append-drop i es)) w)
-
--- the entries behind the first i reach from where they begin to the end
-pub within-drop : (lo hi i : ℕ) (es : List Entry) → Within lo es hi → Within (headKey (drop i es) hi) (drop i es) hi
-within-drop lo hi i es w =
-    within-right lo hi (take i es) (drop i es) (subst (λ (l : List Entry). Within lo l hi) (sym (take-append-drop i es)) w)
 
 -- the entries of a spanned row, gathered, lie in its range, where those of each thing lie in the thing's range
 pub within-gathered : {C : Type 0} (P : C → ℕ → ℕ → Type 0) (f : C → List Entry) (row : List (Keyed C)) (hi : ℕ)
@@ -265,48 +247,14 @@ within-without x lo hi (e ∷ es) w =
     (λ t. (omega (arith, w .0, w .1 .0), w .1 .2))
     (λ t. (w .0, (ih .0, tt, ih .1)))
 
--- a list lacks a key that was taken out of it
-lacks-without : (x lo hi : ℕ) (es : List Entry) → Within lo es hi → Lacks x (without x es)
-unfolding without
-lacks-without x lo hi [] w = tt
-lacks-without x lo hi (e ∷ es) w =
-    let rest : Within (suc (e .key)) es hi = (w .1 .0, w .1 .2) in
-    cond-ind (λ (r : List Entry). Lacks x r) (eqb (e .key) x)
-    (λ t. lacks-before x (suc (e .key)) hi es rest (omega (arith, eqb-true (e .key) x t)))
-    (λ t. (eqb-false (e .key) x t, lacks-without x (suc (e .key)) hi es rest))
-
--- a key that was taken out does not stand there any more
-pub has-without : (x lo hi : ℕ) (es : List Entry) → Within lo es hi → has x (without x es) ≡ false
-has-without x lo hi es w = has-lacks x (without x es) (lacks-without x lo hi es w)
-
 -- keys in a range rise from a number before them
 risesFrom-span : (x hi : ℕ) (es : List Entry) → x < headKey es hi → Span Anything es hi → risesFrom x es ≡ true
 unfolding risesFrom
 risesFrom-span x hi [] h s = refl
 risesFrom-span x hi (e ∷ es) h s = ap₂ (λ (a b : Bool). a && b) (lt-ltb x (e .key) h) (risesFrom-span (e .key) hi es (s .0) (s .2))
 
--- keys in a range rise, as the test of a page has it,
+-- keys in a range rise, as the test of a page has it
 pub rises-within : (lo hi : ℕ) (es : List Entry) → Within lo es hi → rises es ≡ true
 unfolding rises
 rises-within lo hi [] w = refl
 rises-within lo hi (e ∷ es) w = risesFrom-span (e .key) hi es (w .1 .0) (w .1 .2)
-
--- keys that rise from a number are in the range behind it
-within-risesFrom : (x hi : ℕ) (es : List Entry) → risesFrom x es ≡ true → x < hi → Keys (λ k. k < hi) es → Within (suc x) es hi
-unfolding risesFrom
-within-risesFrom x hi [] r h k = (h, tt)
-within-risesFrom x hi (e ∷ es) r h k =
-    by-test (ltb x (e .key))
-    (λ t.
-    let ih : Within (suc (e .key)) es hi
-    = within-risesFrom (e .key) hi es (sym (ap (λ (b : Bool). b && risesFrom (e .key) es) t) ∙ r) (k .0) (k .1) in
-    (ltb-true x (e .key) t, (ih .0, tt, ih .1)))
-    (λ t. absurd (true≢false (sym r ∙ ap (λ (b : Bool). b && risesFrom (e .key) es) t)))
-
--- and rising keys below a bound are in the range up to it
-pub within-rises : (hi : ℕ) (es : List Entry) → rises es ≡ true → Keys (λ k. k < hi) es → Within 0 es hi
-unfolding rises
-within-rises hi [] r k = (omega arith, tt)
-within-rises hi (e ∷ es) r k =
-    let rest : Within (suc (e .key)) es hi = within-risesFrom (e .key) hi es r (k .0) (k .1) in
-    (omega arith, (rest .0, tt, rest .1))

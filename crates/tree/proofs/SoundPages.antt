@@ -1,24 +1,21 @@
 -- Sound pages: every page of the tree passes the rule's test of a page sound by itself.
 use Prim.Native.Nat.{ℕ, zero, suc, _+_, _-_, _*_, _≤_, _<_}
-use mathlib.Core.Bool.{Bool, true, false, _&&_, true≢false}
+use mathlib.Core.Bool.{Bool, true, _&&_, true≢false}
 use mathlib.Core.Path.{_≡_, refl, sym, ap, _∙_, subst}
 use mathlib.Core.List.{List, [], _∷_, _++_, map}
 use mathlib.Core.Logic.{_≢_}
 use native.Mathlib.Omega.{arith}
-use borrow.Author.Tests.{leb-true, leb-false, ltb-true, ltb-false, le-leb, lt-ltb}
+use borrow.Author.Tests.{leb-true, leb-false, le-leb, lt-ltb}
 use lib.Dec.{leb, ltb, eqb}
 use lib.ListN.{length}
 use Rattle.ground.specs.Limits.{largestN, tallest, wordRange}
 use Rattle.ground.specs.Tests.{all, distinct}
 use Rattle.ground.proofs.Bools.{and-both, not-both}
-use Rattle.ground.proofs.Choice.{by-test, cond-ind, cond-true, cond-false}
+use Rattle.ground.proofs.Choice.{by-test, cond-ind}
 use Rattle.ground.proofs.Tests.{all-from-members}
-use Rattle.page.specs.Words.{Keyed, Page, μ, isLeaf, pointers}
-use Rattle.page.specs.Place.{place, pointer, route}
-use Rattle.page.specs.Short.{hasRight, neighbour}
+use Rattle.page.specs.Words.{Keyed, Page, isLeaf, pointers}
 use Rattle.page.specs.Sound.{rises, least, soundByItself}
-use Rattle.page.proofs.PlaceLaws.{place-most}
-use Rattle.page.proofs.SoundPage.{SoundPage, sound-test, sound-pointers-differ}
+use Rattle.page.proofs.SoundPage.{SoundPage, sound-test}
 use Rattle.pool.specs.Pool.{wordsOf, pageAt}
 use Rattle.tree.specs.Rows.{headKey, Span, total, references, rowPage}
 use Rattle.tree.specs.Tree.{Tr, pageNumber, pageOf, once, occurs, rootLeast, InRange, Holds, Forms, PoolForms}
@@ -150,17 +147,3 @@ pub pool-sound : (k n : ℕ) (ws : List ℕ) (l : ℕ) (t : Tr l) → 1 ≤ k �
 pool-sound k n ws l t one most pool q o =
     ap (soundByItself k n q) (pool .exact q (pool .forms .within q o))
     ∙ sound-test k n q (pageAt k ws q) (sound-pages k n (pageAt k ws) l t one most (pool .forms) q o)
-
--- The neighbour of a page in a sound father is another page than it.
-pub sound-neighbour : {k n p : ℕ} {P : Page} → SoundPage k n p P → isLeaf P ≡ false → 1 ≤ μ P → (x : ℕ) → neighbour x P ≢ route x P
-unfolding neighbour
-sound-neighbour {P = P} s upper some x e =
-    let i : ℕ = place x (P .entries) in
-    let most : i ≤ μ P = place-most x (P .entries) in
-    by-test (hasRight x P)
-    (λ y.
-    let right : i < μ P = ltb-true i (μ P) y in
-    sound-pointers-differ s upper i (suc i) (omega arith) right (sym (sym (cond-true (pointer (suc i) P) (pointer (i - 1) P) y) ∙ e)))
-    (λ n.
-    let last : μ P ≤ i = ltb-false i (μ P) n in
-    sound-pointers-differ s upper (i - 1) i (omega arith) most (sym (cond-false (pointer (suc i) P) (pointer (i - 1) P) n) ∙ e))

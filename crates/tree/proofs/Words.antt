@@ -21,7 +21,7 @@ use Rattle.pool.proofs.StretchLaws.{pool-by-pages}
 use Rattle.pool.proofs.FreeLaws.{Free, test-free, free-test, freePages-free, free-freePages}
 use Rattle.pool.proofs.FreshLaws.{length-fresh, wordsOf-fresh-root, wordsOf-fresh-other, pageAt-fresh-root, pageAt-fresh-other}
 use Rattle.tree.specs.Tree.{Tr, pageNumber, once, occurs, Holds, Forms, PoolForms}
-use Rattle.tree.specs.Change.{rewritten, memoryAfter, writtenPages, Fitting, Leads}
+use Rattle.tree.specs.Change.{memoryWith, memoryAfter, writtenPages, Fitting, Leads}
 use Rattle.tree.specs.Facts.{emptyTree, FreeFacts}
 use Rattle.tree.proofs.Memory.{once-same, once-is, holds-same, root-occurs}
 use Rattle.tree.proofs.Ways.{total-found, place-facts}
@@ -43,11 +43,11 @@ fit-writes k n (w ∷ rest) fits inside = (
 memoryAfter-at : (memory memory′ : ℕ → Page) (writes : List Write) (q : ℕ) → memory q ≡ memory′ q → memoryAfter memory writes q ≡ memoryAfter memory′ writes q
 memoryAfter-at memory memory′ [] q e = e
 memoryAfter-at memory memory′ (w ∷ rest) q e =
-    memoryAfter-at (rewritten memory w) (rewritten memory′ w) rest q (ap (cond (eqb q (w .at)) (w .value)) e)
+    memoryAfter-at (memoryWith memory w) (memoryWith memory′ w) rest q (ap (cond (eqb q (w .at)) (w .value)) e)
 
 module _ (k n : ℕ) where
   -- one page written into the words is one page changed in the memory
-  written-memory : (w : Write) (ws : List ℕ) → FitWrite k n w → length ws ≡ poolLength k n → (q : ℕ) → pageAt k (written k w ws) q ≡ rewritten (pageAt k ws) w q
+  written-memory : (w : Write) (ws : List ℕ) → FitWrite k n w → length ws ≡ poolLength k n → (q : ℕ) → pageAt k (written k w ws) q ≡ memoryWith (pageAt k ws) w q
   written-memory w ws fit len q =
       by-test (eqb q (w .at))
       (λ t.
@@ -63,7 +63,7 @@ module _ (k n : ℕ) where
   applied-memory [] ws fit len q = refl
   applied-memory (w ∷ rest) ws fit len q =
       applied-memory rest (written k w ws) (fit .1) (length-written k w ws ∙ len) q
-      ∙ memoryAfter-at (pageAt k (written k w ws)) (rewritten (pageAt k ws) w) rest q (written-memory w ws (fit .0) len q)
+      ∙ memoryAfter-at (pageAt k (written k w ws)) (memoryWith (pageAt k ws) w) rest q (written-memory w ws (fit .0) len q)
 
   -- each page's words are the words of its value
   abbrev pub Exact : List ℕ → Type 0

@@ -13,12 +13,12 @@ use Rattle.pool.specs.Pool.{Write}
 use Rattle.tree.specs.Tree.{Tr, entriesOf, occurs, Stands, way, Forms}
 
 -- the memory after one page is written, and after a list of pages is
-abbrev pub rewritten : (ℕ → Page) → Write → ℕ → Page
-rewritten memory w q = cond (eqb q (w .at)) (w .value) (memory q)
+abbrev pub memoryWith : (ℕ → Page) → Write → ℕ → Page
+memoryWith memory w q = cond (eqb q (w .at)) (w .value) (memory q)
 
 abbrev pub memoryAfter : (ℕ → Page) → List Write → ℕ → Page
 memoryAfter memory [] = memory
-memoryAfter memory (w ∷ rest) = memoryAfter (rewritten memory w) rest
+memoryAfter memory (w ∷ rest) = memoryAfter (memoryWith memory w) rest
 
 abbrev pub writtenPages : List Write → List ℕ
 writtenPages writes = map (λ (w : Write). w .at) writes

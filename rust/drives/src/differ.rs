@@ -3,6 +3,7 @@
 use std::collections::BTreeMap;
 
 use drive_twin::{Drive, Twin};
+use versus::{first_difference, line_at};
 
 use crate::program::Program;
 use crate::scene::{joined, Scene};
@@ -156,20 +157,12 @@ fn fewer(program: &impl Program, mut lines: Vec<Vec<u8>>) -> Vec<Vec<u8>> {
 fn told(program: &impl Program, lines: &[Vec<u8>]) -> String {
     let input = joined(lines);
     let (ours, twins) = (program.written(&input), Drive::new(Twin).answers(&input));
-    let line = ours
-        .split(|&byte| byte == b'\n')
-        .zip(twins.split(|&byte| byte == b'\n'))
-        .take_while(|(one, other)| one == other)
-        .count();
-    let nth = |bytes: &[u8]| {
-        let part = bytes.split(|&byte| byte == b'\n').nth(line);
-        String::from_utf8_lossy(part.unwrap_or(b"(nothing)")).into_owned()
-    };
+    let line = first_difference(&ours, &twins);
     format!(
         "{}answer {} is {:?}, by the twin {:?}",
         String::from_utf8_lossy(&input),
         line + 1,
-        nth(&ours),
-        nth(&twins)
+        line_at(&ours, line),
+        line_at(&twins, line)
     )
 }

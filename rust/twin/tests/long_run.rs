@@ -49,7 +49,7 @@ fn named(name: &str) -> Answer {
         "waits" => Answer::Waiting,
         "found" => Answer::Found(7),
         "absent" => Answer::NotFound,
-        "inserted" => Answer::Inserted,
+        "entered" => Answer::Inserted,
         "there" => Answer::AlreadyThere,
         "deleted" => Answer::Deleted(7),
         "missing" => Answer::NoSuchKey,

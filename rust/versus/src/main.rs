@@ -10,7 +10,7 @@ use std::thread;
 
 use draw::Random;
 use lots_twin::{answers, MOST};
-use versus::{fill_and_empty, random_input, written};
+use versus::{fill_and_empty, first_difference, line_at, random_input, written};
 
 /// How many short inputs, and how many that are as long as may be.
 const SHORT: u64 = 2000;
@@ -112,23 +112,12 @@ fn tally(inputs: &[Vec<u8>]) -> String {
 /// Where the two differ first.
 fn show(words: &[String], input: &[u8]) {
     let (ours, twins) = (written(words, input), answers(input));
-    let line = ours
-        .split(|&byte| byte == b'\n')
-        .zip(twins.split(|&byte| byte == b'\n'))
-        .take_while(|(one, other)| one == other)
-        .count();
-    let nth = |bytes: &[u8]| {
-        let part = bytes
-            .split(|&byte| byte == b'\n')
-            .nth(line)
-            .unwrap_or(b"(nothing)");
-        String::from_utf8_lossy(part).into_owned()
-    };
+    let line = first_difference(&ours, &twins);
     println!(
         "line {}: {:?} is answered {:?}, by the twin {:?}",
         line + 1,
-        nth(input),
-        nth(&ours),
-        nth(&twins)
+        line_at(input, line),
+        line_at(&ours, line),
+        line_at(&twins, line)
     );
 }

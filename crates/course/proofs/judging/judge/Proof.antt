@@ -6,7 +6,7 @@ use borrow.Author.Tests.{not-true, not-false}
 use Rattle.ground.specs.Limits.{pathHolds}
 use Rattle.pool.specs.Pool.{pageAt, freePages}
 use Rattle.slots.specs.declared.Op.{Op}
-use Rattle.footing.specs.Standing.{Stands}
+use Rattle.footing.specs.Standing.{SlotStanding}
 use Rattle.course.proofs.JudgeLaws.{standing-needing, stand-upward, stand-known, goes-judges, search-judges, insert-judges, delete-judges}
 use Rattle.course.proofs.judging.judge.Statement.{statement}
 use Rattle.course.proofs.judging.judge.Tie as tie
@@ -66,7 +66,7 @@ enum-known-op-2 : tie.Need-enum-known-op-2
 enum-known-op-2 c = search needs
 
 deletes-requires : tie.Need-deletes-requires
-deletes-requires c κs = let was = c .before .before .before .before .before .before .before .before .before .before .args in subst (λ (o : Op). Stands o (was .k) (was .n) (was .words .now) (was .stand)) (c .before .op2 .given .1) (c .before .before .before .before .before .before .before .before .before .before .pre)
+deletes-requires c κs = let was = c .before .before .before .before .before .before .before .before .before .before .args in subst (λ (o : Op). SlotStanding o (was .k) (was .n) (was .words .now) (was .stand)) (c .before .op2 .given .1) (c .before .before .before .before .before .before .before .before .before .before .pre)
 
 returns-2 : tie.Need-returns-2
 returns-2 c =

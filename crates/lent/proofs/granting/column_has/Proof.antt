@@ -1,8 +1,8 @@
 -- Of the rows passed none is page p.
 use Rattle.lent.proofs.StateLaws.{column-cell, length-column}
 use Rattle.lent.specs.Words.{column}
-use Rattle.slots.proofs.GrantingLaws.{among-more, among-found}
-use Rattle.ground.proofs.Tests.{member-none}
+use Rattle.slots.proofs.GrantingLaws.{among-more}
+use Rattle.ground.proofs.Tests.{member-none, member-among}
 use Rattle.ground.specs.Tests.{member}
 use denote.Ref.{now}
 use lib.ListN.{take}
@@ -34,8 +34,8 @@ returns c =
     let was = c .before .before .before .before .args in
     let j = c .before .before .before .loop .j in
     let col = column (was .cells .now) (was .row) (was .s) in
-    among-found (was .p) col (was .count) j (omega (arith, length-column (was .cells .now) (was .row) (was .s))) (omega arith)
-    (column-cell (was .cells .now) (was .row) (was .s) j (omega arith) ∙ sym (c .before .word-at .ensures) ∙ c .if1 .taken)
+    sym (member-among (was .p) col (was .count) j 0 (omega (arith, length-column (was .cells .now) (was .row) (was .s))) (omega arith)
+    (column-cell (was .cells .now) (was .row) (was .s) j (omega arith) ∙ sym (c .before .word-at .ensures) ∙ c .if1 .taken))
 
 add-j : tie.Need-add-j Inv-loop μ-loop
 add-j c = search needs

@@ -5,20 +5,20 @@ use native.Mathlib.Nat.{add-zero}
 use native.Mathlib.Omega.{arith}
 use borrow.Author.Needs.{needs}
 use lib.ListN.{length, drop}
-use Rattle.lines.specs.Text.{begins}
+use Rattle.lines.specs.Text.{startsWith}
 use Rattle.lines.proofs.WordLaws.{begins-done, begins-short, begins-other, begins-on}
 use Rattle.lines.proofs.reading.goes_on.Statement.{statement}
 use Rattle.lines.proofs.reading.goes_on.Tie as tie
 
 abbrev Inv-loop : tie.InvT-loop
-Inv-loop line at word i₀ i = (begins (drop i word) (drop (at + i) line) ≡ begins word (drop at line)) × (i ≤ length word) × (at + i ≤ length line)
+Inv-loop line at word i₀ i = (startsWith (drop i word) (drop (at + i) line) ≡ startsWith word (drop at line)) × (i ≤ length word) × (at + i ≤ length line)
 
 abbrev μ-loop : tie.MeasureT-loop
 μ-loop line at word i₀ i = length word - i
 
 loop-holds : tie.Need-loop-holds Inv-loop μ-loop
 loop-holds c =
-    (ap (λ (k : ℕ). begins (c .args .word .now) (drop k (c .args .line .now))) (add-zero (c .args .at)), search needs, search needs)
+    (ap (λ (k : ℕ). startsWith (c .args .word .now) (drop k (c .args .line .now))) (add-zero (c .args .at)), search needs, search needs)
 
 sub-if1 : tie.Need-sub-if1 Inv-loop μ-loop
 sub-if1 c = search needs

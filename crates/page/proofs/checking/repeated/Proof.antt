@@ -3,9 +3,10 @@ use Prim.Native.Nat.{ℕ, _-_, _≤_, _<_}
 use mathlib.Core.Path.{_≡_, sym, _∙_}
 use native.Mathlib.Omega.{arith}
 use borrow.Author.Count.{below-none, below-more}
+use Rattle.ground.proofs.Tests.{member-among}
 use Rattle.page.specs.Words.{view, pointers}
 use Rattle.page.specs.Place.{pointer}
-use Rattle.page.proofs.CheckingLaws.{repeated-found, repeated-done}
+use Rattle.page.proofs.CheckingLaws.{repeated-done}
 use Rattle.page.proofs.ReadingLaws.{pointer-inside, pointer-word, length-pointers}
 use Rattle.page.proofs.checking.repeated.Statement.{statement}
 use Rattle.page.proofs.checking.repeated.Tie as tie
@@ -54,8 +55,8 @@ returns c =
     let len = length-pointers (start .args .w .now) (start .pre .0) in
     let P = view (start .args .w .now) in
     let at = c .before .before .before .loop .j in
-    repeated-found (pointers P) (pointer (start .args .i) P) (start .args .i) (omega arith) at (omega arith)
-    (word at (omega arith) ∙ c .if1 .taken ∙ sym (word (start .args .i) (start .pre .1 .1)))
+    sym (member-among (pointer (start .args .i) P) (pointers P) (start .args .i) at 0 (omega arith) (omega arith)
+    (word at (omega arith) ∙ c .if1 .taken ∙ sym (word (start .args .i) (start .pre .1 .1))))
 
 add-j : tie.Need-add-j Inv-loop μ-loop
 add-j c = omega arith

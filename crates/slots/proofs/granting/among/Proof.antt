@@ -6,8 +6,8 @@ use native.Mathlib.Omega.{arith}
 use lib.ListN.{length, take}
 use borrow.Author.Needs.{needs}
 use Rattle.ground.specs.Tests.{member}
-use Rattle.ground.proofs.Tests.{member-none}
-use Rattle.slots.proofs.GrantingLaws.{among-more, among-found, among-all}
+use Rattle.ground.proofs.Tests.{member-none, member-among}
+use Rattle.slots.proofs.GrantingLaws.{among-more, among-all}
 use Rattle.slots.proofs.granting.among.Statement.{statement}
 use Rattle.slots.proofs.granting.among.Tie as tie
 
@@ -36,7 +36,7 @@ array-read-if2 c = search needs
 returns-2 : tie.Need-returns-2 Inv-loop μ-loop
 returns-2 c =
     let was = c .before .before .before .before .args in
-    among-found (was .p) (was .t1) (was .count) (c .before .before .before .loop .i) (omega arith) (omega arith) (c .if2 .taken)
+    sym (member-among (was .p) (was .t1) (was .count) (c .before .before .before .loop .i) 0 (omega arith) (omega arith) (c .if2 .taken))
 
 add-i : tie.Need-add-i Inv-loop μ-loop
 add-i c = search needs

@@ -3,7 +3,7 @@ use Rattle.state.specs.Checking.{deepFine}
 use Rattle.lent.proofs.HoldLaws.{all-on}
 use Rattle.lent.specs.Holds.{isDeep}
 use Rattle.lent.specs.Words.{slotIn}
-use Rattle.slots.specs.Sound.{pagesSound}
+use Rattle.slots.specs.Sound.{belowAndOnce}
 use Rattle.ground.proofs.Tests.{allBelow-none, allBelow-from, allBelow-stops, anyBelow-false-at}
 use Rattle.ground.proofs.Bools.{and-both, or-first, or-second, or-none, not-of-true, not-of-false}
 use Rattle.ground.specs.Tests.{allBelow}
@@ -32,7 +32,7 @@ returns c =
     let none = sym (c .before .some-deep .ensures) ∙ not-true (c .before .some-deep .result) (c .if1 .taken) in
     sym
     (allBelow-from (deepFine (was .cells .now) (was .n)) 16
-    (λ s b. or-first (pagesSound (was .n) (slotIn (was .cells .now) s)) (not-of-false (anyBelow-false-at (isDeep (was .cells .now)) 16 none s b))))
+    (λ s b. or-first (belowAndOnce (was .n) (slotIn (was .cells .now) s)) (not-of-false (anyBelow-false-at (isDeep (was .cells .now)) 16 none s b))))
 
 loop-holds : tie.Need-loop-holds Inv-loop μ-loop
 loop-holds c =
@@ -68,7 +68,7 @@ loop-again c =
     let this : deepFine ws n s ≡ true =
     ⊎-elim
     (λ w. or-second (not (isDeep ws s)) (sym (w .1 .ensures) ∙ not-false (w .1 .result) (w .2 .left)))
-    (λ w. or-first (pagesSound n (slotIn ws s)) (not-of-false (sym (c .before .is-deep .ensures) ∙ w .left)))
+    (λ w. or-first (belowAndOnce n (slotIn ws s)) (not-of-false (sym (c .before .is-deep .ensures) ∙ w .left)))
     (c .if2 .came) in
     (omega arith, all-on (deepFine ws n) s ∙ and-both (c .before .before .before .loop .inv .1) this)
 
