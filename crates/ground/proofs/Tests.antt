@@ -455,12 +455,6 @@ module _ (p : ℕ → Bool) where
   pub countBelow-skips : (n : ℕ) → p n ≡ false → countBelow (suc n) p ≡ countBelow n p
   countBelow-skips n f = countBelow-more n ∙ cond-false (suc (countBelow n p)) (countBelow n p) f
 
-  -- each number below n passes, so n pass
-  pub countBelow-all : (n : ℕ) → ((i : ℕ) → i < n → p i ≡ true) → countBelow n p ≡ n
-  countBelow-all zero f = countBelow-none
-  countBelow-all (suc n) f =
-      countBelow-passes n (f n (omega arith)) ∙ ap suc (countBelow-all n (λ i h. f i (omega arith)))
-
   -- each number below n fails, so none passes
   pub countBelow-fails : (n : ℕ) → ((i : ℕ) → i < n → p i ≡ false) → countBelow n p ≡ 0
   countBelow-fails zero f = countBelow-none
@@ -608,10 +602,6 @@ module _ (p : ℕ → Bool) where
       (λ l. not-both t (firstBelow-before n i (ltb-true i (firstBelow n p) l)))
       (ltb-false i (firstBelow n p))
       (true-or-false (ltb i (firstBelow n p)))
-
-  -- some number below n passes, so the first is below n
-  pub firstBelow-below : (n i : ℕ) → i < n → p i ≡ true → firstBelow n p < n
-  firstBelow-below n i h t = let least = firstBelow-least n i t in omega arith
 
   -- a number below n that passes, with none below it that does, is the first
   pub firstBelow-found : (n a : ℕ) → a < n → p a ≡ true → ((i : ℕ) → i < a → p i ≡ false) → firstBelow n p ≡ a

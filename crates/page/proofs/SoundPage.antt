@@ -2,7 +2,6 @@
 use Prim.Native.Nat.{ℕ, _+_, _-_, _*_, _≤_, _<_}
 use mathlib.Core.Bool.{Bool, true, false, cond, _&&_}
 use mathlib.Core.List.{List}
-use mathlib.Core.Logic.{_≢_}
 use mathlib.Core.Path.{_≡_, refl, sym, _∙_}
 use borrow.Author.Tests.{leb-true, le-leb, ltb-true}
 use lib.Dec.{leb, ltb, eqb}
@@ -11,7 +10,7 @@ use lib.ListN.{length, getD, drop, length-map}
 use Rattle.ground.specs.Limits.{tallest}
 use Rattle.ground.specs.Tests.{all, distinct}
 use Rattle.ground.proofs.Bools.{and-first, and-second, and-both}
-use Rattle.ground.proofs.Tests.{all-at, distinct-at}
+use Rattle.ground.proofs.Tests.{all-at}
 use Rattle.ground.proofs.Choice.{cond-ind, cond-true, cond-false}
 use Rattle.page.specs.Words.{Page, μ, isLeaf, pointers, valueOf, used, pairsFrom, view, encode, size}
 use Rattle.page.specs.Place.{pointer}
@@ -127,10 +126,3 @@ sound-pointer {n = n} {P = P} s upper i h =
     let len = length-map (P .entries) valueOf in
     let t = all-at (λ (r : ℕ). leb 1 r && ltb r n) (pointers P) 0 (s .pointersInPool upper) i (omega arith) in
     (leb-true 1 q (and-first (leb 1 q) (ltb q n) t), ltb-true q n (and-second (leb 1 q) (ltb q n) t))
-
--- In a sound page above the leaves no two pointers are the same.
-pub sound-pointers-differ : {k n p : ℕ} {P : Page} → SoundPage k n p P → isLeaf P ≡ false → (i j : ℕ) → i < j → j ≤ μ P
-    → pointer i P ≢ pointer j P
-sound-pointers-differ {P = P} s upper i j l h =
-    let len = length-map (P .entries) valueOf in
-    distinct-at (pointers P) 0 (s .pointersApart upper) i j l (omega arith)
