@@ -56,7 +56,7 @@ pub fn holds_at(cells: &[u32; STATE], s: usize, p: u32) -> bool
 }
 
 // Slot t is another one than s, its kind is not below `least`, and page p is the top of its path.
-pub fn is_top(t: usize, s: usize, least: u32, kind: u32, depth: u32, top: u32, p: u32) -> bool
+pub fn is_top(t: u32, s: u32, least: u32, kind: u32, depth: u32, top: u32, p: u32) -> bool
     ensures { λ r. ⌜ r ≡ (not (eqb t s) && leb least kind) && (ltb 0 depth && eqb p top) ⌝ }
 {
     (t != s) & (least <= kind) & ((0 < depth) & (p == top))
@@ -64,6 +64,7 @@ pub fn is_top(t: usize, s: usize, least: u32, kind: u32, depth: u32, top: u32, p
 
 // Page p is on top of another slot's path.
 pub fn tops_hold(cells: &[u32; STATE], s: usize, least: u32, p: u32) -> bool
+    requires { ⌜ s < 16 ⌝ }
     ensures { λ r. ⌜ r ≡ anyBelow 16 (topHolds (now (cells .entry)) s least p) ⌝ }
 {
     let mut found = false;
@@ -71,8 +72,8 @@ pub fn tops_hold(cells: &[u32; STATE], s: usize, least: u32, p: u32) -> bool
     while t < SLOTS {
         found = found
             | is_top(
-                t,
-                s,
+                t as u32,
+                s as u32,
                 least,
                 kind_at(cells, t),
                 depth_at(cells, t),
@@ -139,7 +140,7 @@ pub fn some_deep_holds(cells: &[u32; STATE], s: usize, least: u32, p: u32) -> bo
 
 // Another slot than s, whose kind is not below `least`, holds page p.
 pub fn others_hold(cells: &[u32; STATE], s: usize, least: u32, p: u32) -> bool
-    requires { ⌜ Short (now cells) ⌝ }
+    requires { ⌜ (s < 16) × Short (now cells) ⌝ }
     ensures { λ r. ⌜ r ≡ othersHold (now (cells .entry)) s least p ⌝ }
 {
     if tops_hold(cells, s, least, p) {
@@ -203,8 +204,8 @@ pub fn grants(cells: &[u32; STATE], s: usize) -> bool
     requires { ⌜ (getD (now cells) 2 0 ≤ 16) × ((t : ℕ) → member t (waitingOrder (asRead (now cells))) ≡ true → t < slotCount) ⌝ }
     ensures { λ r. ⌜ r ≡ rule.grants (asRead (now (cells .entry))) s ⌝ }
 {
-    if !no_clash(cells, s) {
+    if !no_older(cells, s) {
         return false;
     }
-    no_older(cells, s)
+    no_clash(cells, s)
 }

@@ -25,6 +25,12 @@ abbrev μ-loop : tie.MeasureT-loop
 loop-holds : tie.Need-loop-holds Inv-loop μ-loop
 loop-holds c = (omega arith, sym (anyBelow-none (topHolds (c .args .cells .now) (c .args .s) (c .args .least) (c .args .p))))
 
+cast-is-top : tie.Need-cast-is-top Inv-loop μ-loop
+cast-is-top c = search needs
+
+cast-is-top-2 : tie.Need-cast-is-top-2 Inv-loop μ-loop
+cast-is-top-2 c = search needs
+
 kind-at-requires : tie.Need-kind-at-requires Inv-loop μ-loop
 kind-at-requires c κs = search needs
 
@@ -69,6 +75,8 @@ tops-hold-spec =
     Inv-loop
     μ-loop
     loop-holds
+    cast-is-top
+    cast-is-top-2
     kind-at-requires
     depth-at-requires
     top-at-requires
