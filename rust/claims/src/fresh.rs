@@ -34,7 +34,7 @@ fn claim_fresh(
     calls: &[Call],
 ) -> (Vec<String>, String) {
     let calls_text = text::list(calls.iter().map(|&call| text::call(call)));
-    let left = format!("runFresh {} {} {calls_text}", draw.k, draw.n);
+    let left = format!("anew {} {} {calls_text}", draw.k, draw.n);
     let (kinds, right) = told(moment, calls);
     (kinds, text::claim(name, &left, &right))
 }

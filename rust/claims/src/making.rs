@@ -12,14 +12,9 @@ pub fn claim(name: &str, random: &mut Random) -> (Vec<String>, String) {
     let right = u64::from(n) * page_words(k.min(20)) as u64;
     let length = if right < 400 { right } else { random.below(30) } + random.one(&[0, 0, 0, 1]);
     let mut words: Vec<u32> = (0..length).map(|_| random.below(50) as u32).collect();
-    let left = format!("made {k} {n} {}", text::numbers(&words));
+    let left = format!("making {k} {n} {}", text::numbers(&words));
     let (answer, state) = make(k, n, &mut words);
-    let right = format!(
-        "left {} {} {}",
-        answer.name(),
-        text::state(&state),
-        text::numbers(&words)
-    );
+    let right = text::told(&[answer], &state, &words);
     (
         vec![answer.name().to_string()],
         text::claim(name, &left, &right),

@@ -1,12 +1,10 @@
 //! Calls, states and words as antt text.
 
 use moments::Call;
-use twin::{Op, Slot, State};
+use twin::{Answer, Op, Slot, State};
 
-/// What stands at the head of every file of claims.
+/// What stands at the head of every file of claims; `calls` there opens the rules to them.
 pub const HEAD: &str = include_str!("head.txt");
-/// The line that opens the rules to the claims.
-pub const OPENING: &str = include_str!("opening.txt");
 
 /// A list, each element already text.
 pub fn list<I: IntoIterator<Item = String>>(elements: I) -> String {
@@ -71,7 +69,17 @@ pub fn state(state: &State) -> String {
     )
 }
 
+/// What is told at the end: the answers, call by call, the state and the words.
+pub fn told(answers: &[Answer], at_end: &State, words: &[u32]) -> String {
+    format!(
+        "told {} {} {}",
+        list(answers.iter().map(|answer| numbers(&answer.heard()))),
+        state(at_end),
+        numbers(words)
+    )
+}
+
 /// A claim: its name, what is evaluated and what it gives.
 pub fn claim(name: &str, left: &str, right: &str) -> String {
-    format!("{name} : {left} ≡ {right}\n{OPENING}{name} = refl\n\n")
+    format!("{name} : {left} ≡ {right}\nunfolding calls\n{name} = refl\n\n")
 }

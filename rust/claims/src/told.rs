@@ -7,26 +7,21 @@ use crate::text;
 
 /// Makes the calls, and gives what they did and the text of all that is told at the end.
 pub fn told(moment: &mut Moment, calls: &[Call]) -> (Vec<String>, String) {
-    let (mut kinds, mut heard) = (Vec::new(), Vec::new());
+    let (mut kinds, mut answers) = (Vec::new(), Vec::new());
     for &call in calls {
         let before = moment.clone();
         let answer = moment.call(call);
         kinds.push(kind(&before, call, answer, moment));
-        heard.push(text::numbers(&answer.heard()));
+        answers.push(answer);
     }
-    let answers = text::list(heard);
-    let text = format!(
-        "told {answers} {} {}",
-        text::state(&moment.state),
-        text::numbers(&moment.words)
-    );
+    let text = text::told(&answers, &moment.state, &moment.words);
     (kinds, text)
 }
 
 /// The claim that the calls from this moment on tell what the twin tells; the moment moves on.
 pub fn claim_from(name: &str, moment: &mut Moment, calls: &[Call]) -> (Vec<String>, String) {
     let left = format!(
-        "run {} {} {}",
+        "going {} {} {}",
         text::list(calls.iter().map(|&call| text::call(call))),
         text::state(&moment.state),
         text::numbers(&moment.words)
