@@ -18,7 +18,7 @@ use Rattle.embed.specs.declared.asking.Asked.the-variants.{Known, Unknow
 use Rattle.embed.specs.Asked.{askedBy}
 use Rattle.embed.specs.Told.{told, badKind}
 use Rattle.embed.proofs.Refusals.{make-stays, step-stays, begin-stays}
-use Rattle.embed.specs.Statements.{beginTold, beginLeaves, MakeTells, BeginTells, StepTells, ReportTells}
+use Rattle.embed.specs.Statements.{beginTold, beginLeaves, beginNext, MakeTells, BeginTells, StepTells, ReportTells}
 
 -- answers that are heard alike are told alike
 pub told-heard : (a b : Answer) → heard a ≡ heard b → told a ≡ told b
@@ -30,6 +30,7 @@ make-tells k n ws r cells′ after heard′ says e =
     let t : heard′ ≡ told (made k n ws .answer) = e ∙ told-heard r (made k n ws .answer) (says .answer) in
     record {
       answer = t;
+      state = says .state;
       all = says .all;
       words = says .words;
       kept = λ h. let both = make-stays k n ws heard′ t h in (says .all ∙ both .0, says .words ∙ both .1);
@@ -41,6 +42,7 @@ step-tells cells ws s r cells′ after heard′ says e =
     let t : heard′ ≡ told (stepped (stateOf cells) ws s .answer) = e ∙ told-heard r (stepped (stateOf cells) ws s .answer) (says .answer) in
     record {
       answer = t;
+      state = says .state;
       all = says .all;
       words = says .words;
       kept = λ h. let both = step-stays cells ws s heard′ t h in (says .all ∙ both .0, says .words ∙ both .1);
@@ -51,10 +53,11 @@ report-tells cells p r heard′ says e = record { answer = e ∙ told-heard r (r
 
 -- a beginning, by what was asked
 begins-asked : (cells : List ℕ) (s kind key information : ℕ) (asked : Asked) (cells′ heard′ : List ℕ) → askedBy kind key information ≡ asked
-    → heard′ ≡ beginTold cells s asked → cells′ ≡ beginLeaves cells s asked → BeginTells cells s kind key information cells′ heard′
-begins-asked cells s kind key information asked cells′ heard′ was t all =
+    → heard′ ≡ beginTold cells s asked → stateOf cells′ ≡ beginNext cells s asked → cells′ ≡ beginLeaves cells s asked → BeginTells cells s kind key information cells′ heard′
+begins-asked cells s kind key information asked cells′ heard′ was t next all =
     record {
       answer = t ∙ sym (ap (beginTold cells s) was);
+      state = next ∙ sym (ap (beginNext cells s) was);
       all = all ∙ sym (ap (beginLeaves cells s) was);
       kept = λ h. all ∙ begin-stays cells s asked heard′ t h;
     }
@@ -63,8 +66,8 @@ pub begin-tells : (cells : List ℕ) (s kind key information : ℕ) (op : Op) (r
     → askedBy kind key information ≡ Known op → BeginSays cells s op r cells′ → heard′ ≡ told r
     → BeginTells cells s kind key information cells′ heard′
 begin-tells cells s kind key information op r cells′ heard′ known says e =
-    begins-asked cells s kind key information (Known op) cells′ heard′ known (e ∙ told-heard r (begun (stateOf cells) s op .answer) (says .answer)) (says .all)
+    begins-asked cells s kind key information (Known op) cells′ heard′ known (e ∙ told-heard r (begun (stateOf cells) s op .answer) (says .answer)) (says .state) (says .all)
 
 pub begin-unknown : (cells : List ℕ) (s kind key information : ℕ) (heard′ : List ℕ)
     → askedBy kind key information ≡ Unknown → heard′ ≡ badKind → BeginTells cells s kind key information cells heard′
-begin-unknown cells s kind key information heard′ unknown e = begins-asked cells s kind key information Unknown cells heard′ unknown e refl
+begin-unknown cells s kind key information heard′ unknown e = begins-asked cells s kind key information Unknown cells heard′ unknown e refl refl

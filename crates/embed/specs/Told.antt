@@ -21,6 +21,7 @@ abbrev pub badKind : List ℕ
 badKind = 31 ∷ 0 ∷ 0 ∷ 0 ∷ []
 
 -- The number that is told is one after which all is as given: a refusal's (01's table, and the one above), or Waiting.
+-- (A refused making leaves the pool as given and empties the state.)
 abbrev pub leavesAll : List ℕ → Bool
 leavesAll heard′ = leb (getD heard′ 0 0) 32
 

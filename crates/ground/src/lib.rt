@@ -11,11 +11,6 @@ pub const TALLEST: u32 = 10;
 // There are 16 slots.
 pub const SLOTS: usize = 16;
 
-// A search holds at most 1 page, a deletion at most 9 siblings beside its path.
-pub const SEARCH_HOLDS: usize = 1;
-
-pub const SIBLING_HOLDS: usize = 9;
-
 // A path has at most 10 pages. Siblings, of which a slot holds fewer, stand in arrays of the same length.
 pub const HELD: usize = 10;
 

@@ -39,7 +39,7 @@ use Rattle.slots.specs.Begin.{begun}
 use Rattle.slots.proofs.SoundFacts.{facts-sound}
 use Rattle.slots.proofs.Clashes.{no-two-locks-clash}
 use Rattle.slots.proofs.GrantLaws.{holder-open}
-use Rattle.slots.proofs.OrderLaws.{order-has-room, waiting-begins, waiting-requeued, waiting-closes}
+use Rattle.slots.proofs.OrderLaws.{order-has-room, leaving-between, waiting-begins, waiting-requeued, waiting-closes}
 use Rattle.slots.proofs.Keeping.{slot-here, slot-other, path-new, siblings-new, held-new}
 use Rattle.footing.specs.Granted.{isSafe}
 use Rattle.index.specs.Step.{Left, left, stepped}
@@ -296,6 +296,7 @@ words-pinned k = record {
   left = λ x F h. cond-false (pointer (suc (place x (F .entries))) F) (pointer (place x (F .entries) - 1) F) (le-ltb (place x (F .entries)) (μ F) h);
   clashes = clashes-is;
   older = λ s t order d w. ((λ m. older-before s t order w m), (λ b. before-older s t order d b));
+  leaves = leaving-between;
 }
 
 -- ---- the demand

@@ -147,6 +147,8 @@ pub record Words (k : ℕ) : Type 0 where
   pub clashes : (op op′ : Op) → Exactly (clash (lockOf (Open op)) (lockOf (Open op′)) ≡ false) ((isSearch op ≡ true) × (isSearch op′ ≡ true))
   -- "Wants stand in a waiting order, oldest first."
   pub older : (s t : ℕ) (order : List ℕ) → distinct order ≡ true → member s order ≡ true → Exactly (member t (olderThan s order) ≡ true) (Before t s order)
+  -- a slot taken out of the order: those before it and those behind it stand as they stood
+  pub leaves : (s : ℕ) (front behind : List ℕ) → member s front ≡ false → leaving s (front ++ s ∷ behind) ≡ front ++ behind
 
 -- ---- the demand
 

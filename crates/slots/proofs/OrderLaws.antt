@@ -70,6 +70,14 @@ pub leaving-there : (s t : ℕ) (ts : List ℕ) → t ≢ s → leaving s (t ∷
 unfolding leaving
 leaving-there s t ts n = cond-false ts (t ∷ leaving s ts) (ne-eqb t s n)
 
+-- those before it and those behind it stand as they stood
+pub leaving-between : (s : ℕ) (front behind : List ℕ) → member s front ≡ false → leaving s (front ++ s ∷ behind) ≡ front ++ behind
+leaving-between s [] behind m = leaving-here s s behind refl
+leaving-between s (t ∷ front) behind m =
+    let other : t ≢ s = λ e. not-both (subst (λ (x : ℕ). member s (x ∷ front) ≡ true) (sym e) (member-here s front)) m in
+    leaving-there s t (front ++ s ∷ behind) other
+    ∙ ap (λ (l : List ℕ). t ∷ l) (leaving-between s front behind (member-other t s front (λ e. other (sym e)) ∙ m))
+
 -- it is one shorter
 pub length-leaving : (s : ℕ) (xs : List ℕ) → member s xs ≡ true → suc (length (leaving s xs)) ≡ length xs
 length-leaving s [] m = not-both m (member-none s)

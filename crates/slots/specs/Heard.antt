@@ -46,6 +46,6 @@ numberOf a = getD (heard a) 0 0
 abbrev pub refuses : Answer → Bool
 refuses a = leb (numberOf a) 7
 
--- after a refusal, and after Waiting, everything is as given
+-- after a refusal, and after Waiting, everything is as given (of a making: the pool)
 abbrev pub changesNothing : Answer → Bool
 changesNothing a = leb (numberOf a) 32
