@@ -1,4 +1,4 @@
-// The words of a state, one by one. Where a row lies is said here and nowhere else.
+// The words of a state, one by one. Where a row lies is said here, and for the three rows of a task in `lifting::lay_task`.
 use crate::BESIDE;
 use crate::DEPTH;
 use crate::KIND;

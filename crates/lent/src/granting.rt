@@ -62,7 +62,7 @@ pub fn is_top(t: u32, s: u32, least: u32, kind: u32, depth: u32, top: u32, p: u3
     (t != s) & (least <= kind) & ((0 < depth) & (p == top))
 }
 
-// Page p is on top of another slot's path.
+// Another slot than s, whose kind is not below `least`, has page p on top of its path.
 pub fn tops_hold(cells: &[u32; STATE], s: usize, least: u32, p: u32) -> bool
     requires { ⌜ s < 16 ⌝ }
     ensures { λ r. ⌜ r ≡ anyBelow 16 (topHolds (now (cells .entry)) s least p) ⌝ }
@@ -106,7 +106,7 @@ pub fn some_deep(cells: &[u32; STATE]) -> bool
     found
 }
 
-// Slot t is another one than s, holds more than one page, and page p is among them.
+// Slot t is another one than s, its kind is not below `least`, it holds more than one page, and page p is among them.
 pub fn deep_holds(cells: &[u32; STATE], s: usize, least: u32, p: u32, t: usize) -> bool
     requires { ⌜ (t < 16) × Short (now cells) ⌝ }
     ensures { λ r. ⌜ r ≡ deepHolds (now (cells .entry)) s least p t ⌝ }
@@ -152,7 +152,8 @@ pub fn others_hold(cells: &[u32; STATE], s: usize, least: u32, p: u32) -> bool
     some_deep_holds(cells, s, least, p)
 }
 
-// The lowest kind whose lock clashes with that of this kind: two ρ on a page go together, ξ goes with nothing.
+// The lowest kind whose lock clashes with that of this kind: two ρ on a page go together, ξ goes with nothing,
+// and a closed slot has no lock.
 pub fn least_clash(kind: u32) -> u32
     ensures { λ r. ⌜ r ≡ leastClash kind ⌝ }
 {

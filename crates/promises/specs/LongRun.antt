@@ -1,7 +1,6 @@
 -- A long run on the bench: 219 calls by three slots, k = 1, N = 18. The tree rises from one leaf to four levels, loses
 -- them again and ends as the fresh pool. On the way pages split, move over and join on levels 1, 2 and 3, with right and
--- with left neighbours, and every answer of a step is heard. The answers come from a second program, written from
--- document 01 alone (`rust/twin`).
+-- with left neighbours, and every answer of a step is heard. The answers come from a second program (`rust/twin`).
 use Prim.Native.Nat.{ℕ, zero, suc}
 use mathlib.Core.List.{List, [], _∷_, _++_}
 use Rattle.pool.specs.Pool.{fresh}

@@ -1,5 +1,4 @@
--- Laws for the test of one slot: its path and its siblings are put into a list one after the other, and what its task
--- allows it to hold.
+-- Laws for the test of one slot: its path and then its siblings, page by page, and what its task allows it to hold.
 use Prim.Native.Nat.{ℕ, _≤_, _<_}
 use mathlib.Core.Bool.{Bool, true, false, not, _&&_, _||_}
 use mathlib.Core.List.{List, [], _∷_, _++_}

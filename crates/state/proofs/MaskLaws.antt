@@ -1,4 +1,5 @@
--- The numbers that pass a test, as a mask: as many ones as pass, and below the lowest one as many zeros as fail.
+-- The numbers that pass a test, as a mask: as many ones as pass, and below the lowest one as many zeros as its number. Then a walk over
+-- a mask, from its lowest number on.
 use Prim.Native.Nat.{ℕ, zero, suc, _+_, _*_, _/_, _%_, _^_, _≤_, _<_}
 use mathlib.Core.Bool.{Bool, true, false, cond, _&&_}
 use mathlib.Core.Path.{_≡_, refl, sym, ap, ap₂, _∙_, subst}
@@ -55,7 +56,7 @@ module _ (p : ℕ → Bool) where
   unfolding maskBelow
   mask-skips n h = cond-false (2 ^ n + maskBelow n p) (maskBelow n p) h
 
-  -- a mask of n numbers has n digits
+  -- a mask of n numbers has at most n digits
   pub mask-fits : (n : ℕ) → maskBelow n p < 2 ^ n
   mask-fits zero = omega (arith, mask-none)
   mask-fits (suc n) =

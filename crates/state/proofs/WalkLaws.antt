@@ -15,7 +15,7 @@ use Rattle.slots.specs.Report.{maskBelow}
 use Rattle.state.specs.Checking.{updates, aloneIn, xiAlone}
 use Rattle.state.proofs.MaskLaws.{mask-same, mask-empty, from, Next, next-of}
 
--- the slots below `at` have been looked at, and the mask has the others
+-- the slots below `at` have been looked at, and the mask has those of the others that update
 pub record Walked (ws : List ℕ) (left : ℕ) : Type 0 where
   pub at : ℕ
   pub alone : allBelow at (xiAlone ws) ≡ true

@@ -1,5 +1,5 @@
-// Whether a state is sound. The slots are tested row by row: kinds, numbers of pages held, wants and the tops of paths, with
-// no way out in between. Then the waiting order is held against the open slots; then the slots that hold more than one page
+// Whether a state is sound. First kind, numbers of pages held, want and top of the path of every slot, with no way out in between,
+// so that several slots are looked at in one go. Then the waiting order is held against the open slots; then the slots that hold more than one page
 // are looked at; then each page held under ξ is looked for in the other slots.
 use ground::LARGEST_K;
 use ground::LARGEST_N;
@@ -134,7 +134,7 @@ fn pages_fine(cells: &[u32; STATE], s: usize, n: u32) -> bool
     may_enter(cells, s, n, SIBLINGS, beside, depth)
 }
 
-// So do all slots that hold more than one page.
+// The same of every slot that holds more than one page.
 fn deep_fine(cells: &[u32; STATE], n: u32) -> bool
     requires { ⌜ Short (now cells) ⌝ }
     ensures { λ r. ⌜ r ≡ allBelow 16 (deepFine (now (cells .entry)) n) ⌝ }
