@@ -1,6 +1,7 @@
 // Whether a state is sound. First kind, numbers of pages held, want and top of the path of every slot, with no way out in between,
 // so that several slots are looked at in one go. Then the waiting order is held against the open slots; then the slots that hold more than one page
 // are looked at; then each page held under ξ is looked for in the other slots.
+use ground::HELD;
 use ground::LARGEST_K;
 use ground::LARGEST_N;
 use ground::SLOTS;
@@ -39,7 +40,7 @@ ghost use Rattle.lent.specs.Holds.{Short, othersHold};
 ghost use Rattle.state.specs.Checking.{mayEnter, namesEach, fineRow, rowFine, deepFine, openKind, aloneIn, updates, xiAlone};
 
 // The longest path, as the words have it.
-const DEPTH_LIMIT: u32 = 10;
+const DEPTH_LIMIT: u32 = HELD as u32;
 
 // k and N are in range.
 pub fn numbers_in_range(k: usize, n: usize) -> bool
