@@ -2,3 +2,4 @@ pub mod Script
 pub mod Heard
 pub mod Reading
 pub mod Promises
+pub mod Library

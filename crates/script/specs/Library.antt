@@ -1,0 +1,103 @@
+-- Calls of the library, one after the other, each lent the words that the last one left, are a run. So the demands on runs are
+-- demands on the library: on the words that it leaves and the numbers that it tells.
+use Prim.Native.Nat.{ℕ, _<_}
+use mathlib.Core.Bool.{Bool, true, not}
+use mathlib.Core.List.{List, [], _∷_, map}
+use mathlib.Core.Path.{_≡_}
+use lib.ListN.{getD}
+use Rattle.ground.specs.Limits.{wordRange}
+use Rattle.ground.specs.Tests.{all, member}
+use Rattle.slots.specs.declared.Answer.the-variants.{Made, BadState, BadPool, Damaged}
+use Rattle.slots.specs.Heard.{numberOf}
+use Rattle.lent.specs.Words.{stateOf}
+use Rattle.embed.specs.declared.asking.Asked.{Asked}
+use Rattle.embed.specs.declared.asking.Asked.the-variants.{Known, Unknown}
+use Rattle.embed.specs.Asked.{askedBy}
+use Rattle.embed.specs.Told.{told}
+use Rattle.embed.specs.Statements.{MakeTells, BeginTells, StepTells, ReportTells}
+use Rattle.runs.specs.Run.{Call, begin, step, report, runFrom, Run}
+use Rattle.promises.specs.Demand2.{AfterEveryCall, Demand2}
+use Rattle.promises.specs.Demand3.{Demand3}
+
+-- ---- calls of the library
+
+-- A call as it went: the numbers handed in, the words that it left where it may write, and the four numbers told.
+pub data Went : Type 0 where
+  begins : (slot kind key information : ℕ) (cells′ four : List ℕ) → Went
+  steps : (slot : ℕ) (cells′ ws′ four : List ℕ) → Went
+  reports : (page : ℕ) (four : List ℕ) → Went
+
+-- "each call given what the last one left": the first is lent the state's words `cells` and the pool's words `ws`, the last leaves
+-- `last` and `lastWs`, and each keeps its promise. "Keys and information are any 32-bit unsigned numbers."
+abbrev pub Follow : List ℕ → List ℕ → List Went → List ℕ → List ℕ → Type 0
+Follow cells ws [] last lastWs = (last ≡ cells) × (lastWs ≡ ws)
+Follow cells ws (begins s kind key information cells′ four ∷ rest) last lastWs =
+    (key < wordRange) × (information < wordRange) × BeginTells cells s kind key information cells′ four × Follow cells′ ws rest last lastWs
+Follow cells ws (steps s cells′ ws′ four ∷ rest) last lastWs = StepTells cells ws s cells′ ws′ four × Follow cells′ ws′ rest last lastWs
+Follow cells ws (reports p four ∷ rest) last lastWs = ReportTells cells p four × Follow cells ws rest last lastWs
+
+-- "From a fresh pool": a making that succeeds, in words of any content, then the calls.
+pub record Served (k n : ℕ) (ws : List ℕ) (calls : List Went) (last lastWs : List ℕ) : Type 0 where
+  pub cells : List ℕ
+  pub after : List ℕ
+  pub four : List ℕ
+  pub making : MakeTells k n ws cells after four
+  pub succeeds : four ≡ told Made
+  pub follow : Follow cells after calls last lastWs
+
+-- ---- the run
+
+-- An operation begun; a kind that does not exist is told so, changes nothing, and is passed over.
+abbrev pub beginsWith : ℕ → Asked → List Call → List Call
+beginsWith s (Known op) rest = begin s op ∷ rest
+beginsWith s Unknown rest = rest
+
+-- the calls of the rules
+unfoldable pub callsIn : List Went → List Call
+callsIn [] = []
+callsIn (begins s kind key information cells′ four ∷ rest) = beginsWith s (askedBy kind key information) (callsIn rest)
+callsIn (steps s cells′ ws′ four ∷ rest) = step s ∷ callsIn rest
+callsIn (reports p four ∷ rest) = report p ∷ callsIn rest
+
+abbrev pub toldFirst : List ℕ → Asked → List (List ℕ) → List (List ℕ)
+toldFirst four (Known op) rest = four ∷ rest
+toldFirst four Unknown rest = rest
+
+-- the four numbers told to each of them
+unfoldable pub toldIn : List Went → List (List ℕ)
+toldIn [] = []
+toldIn (begins s kind key information cells′ four ∷ rest) = toldFirst four (askedBy kind key information) (toldIn rest)
+toldIn (steps s cells′ ws′ four ∷ rest) = four ∷ toldIn rest
+toldIn (reports p four ∷ rest) = four ∷ toldIn rest
+
+-- It is a run, as the demands speak of runs; the state that the last words read as, the pool's words and the numbers told are its.
+pub record IsRun (k n : ℕ) (ws : List ℕ) (calls : List Went) (last lastWs : List ℕ) : Type 0 where
+  pub run : Run k n ws (callsIn calls)
+  pub state : stateOf last ≡ runFrom k n ws (callsIn calls) .state
+  pub words : lastWs ≡ runFrom k n ws (callsIn calls) .words
+  pub answers : toldIn calls ≡ map told (runFrom k n ws (callsIn calls) .answers)
+
+abbrev pub LibraryRuns : Type 0
+LibraryRuns = (k n : ℕ) (ws : List ℕ) (calls : List Went) (last lastWs : List ℕ) → Served k n ws calls last lastWs → IsRun k n ws calls last lastWs
+
+-- ---- the demands
+
+-- none of 1, 2 and 6
+abbrev pub quietNumber : ℕ → Bool
+quietNumber x = not (member x (map numberOf (BadState ∷ BadPool ∷ Damaged ∷ [])))
+
+abbrev pub quietFour : List ℕ → Bool
+quietFour four = quietNumber (getD four 0 0)
+
+-- Of every such list of calls, and so after each call of one.
+pub record Kept (k n : ℕ) (ws : List ℕ) (calls : List Went) (last lastWs : List ℕ) : Type 0 where
+  -- demand 2 of the words themselves: tree, free pages, locks, and where every slot stands
+  pub left : AfterEveryCall k n (stateOf last) lastWs
+  -- BadState, BadPool and Damaged were never told
+  pub neverTold : all quietFour (toldIn calls) ≡ true
+  -- the demands whole, of the calls as a run
+  pub second : Demand2 k n ws (callsIn calls)
+  pub third : Demand3 k n ws (callsIn calls)
+
+abbrev pub LibraryPromises : Type 0
+LibraryPromises = (k n : ℕ) (ws : List ℕ) (calls : List Went) (last lastWs : List ℕ) → Served k n ws calls last lastWs → Kept k n ws calls last lastWs
