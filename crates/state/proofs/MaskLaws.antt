@@ -43,6 +43,12 @@ trailing-alone (suc k) zero h = refl
 trailing-alone (suc k) (suc j) h =
     ap₂ (λ (d m : ℕ). under d (trailingZeros k m)) (shifted-even 1 j) (shifted-half 1 j) ∙ ap suc (trailing-alone k j (le-of-suc-le-suc h))
 
+-- a single bit, in a word of w digits
+pub bit-fits : (w n : ℕ) → n < w → 1 * 2 ^ n % 2 ^ w ≡ 1 * 2 ^ n
+bit-fits w n inside =
+    let short : 1 * 2 ^ n < 2 ^ w = omega (arith, one-mul (2 ^ n), pow-lt inside) in
+    mod-eq-of-lt short
+
 module _ (p : ℕ → Bool) where
   pub mask-none : maskBelow 0 p ≡ 0
   unfolding maskBelow
@@ -68,8 +74,7 @@ module _ (p : ℕ → Bool) where
   -- one number more, and it passes: its bit is set, in a word of w digits
   pub mask-sets : (w n : ℕ) → n < w → p n ≡ true → bitOr (maskBelow n p) (1 * 2 ^ n % 2 ^ w) ≡ maskBelow (n + 1) p
   mask-sets w n inside h =
-      let short : 1 * 2 ^ n < 2 ^ w = omega (arith, one-mul (2 ^ n), pow-lt inside) in
-      ap (bitOr (maskBelow n p)) (mod-eq-of-lt short)
+      ap (bitOr (maskBelow n p)) (bit-fits w n inside)
       ∙ or-shifted-r 1 n (maskBelow n p) (mask-fits n)
       ∙ ap (λ (x : ℕ). x + maskBelow n p) (one-mul (2 ^ n))
       ∙ sym (ap (λ (m : ℕ). maskBelow m p) (add-one n) ∙ mask-passes n h)

@@ -1,6 +1,6 @@
 // Whether a state is sound. First kind, numbers of pages held, want and top of the path of every slot, with no way out in between,
-// so that several slots are looked at in one go. Then the waiting order is held against the open slots; then the slots that hold more than one page
-// are looked at; then each page held under ξ is looked for in the other slots.
+// so that several slots are looked at in one go. Then the waiting order is held against the open slots; then the slots that hold
+// more than one page are looked at; then each page held under ξ is looked for in the other slots.
 use ground::HELD;
 use ground::LARGEST_K;
 use ground::LARGEST_N;

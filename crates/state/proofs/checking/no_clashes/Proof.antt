@@ -1,10 +1,10 @@
 -- The slots that update are taken off their mask from the lowest on; each holds its pages alone.
 use Rattle.state.proofs.WalkLaws.{Walked, walk-start, walk-next, walk-on, walk-stops, walk-end}
-use Rattle.state.proofs.MaskLaws.{Next}
+use Rattle.state.proofs.MaskLaws.{bit-fits, Next}
 use Rattle.state.specs.Checking.{updates}
 use borrow.Author.Tests.{not-true, not-false}
-use lib.Pow.{pow-pos, pow-lt}
-use native.Mathlib.Nat.{one-mul, mod-eq-of-lt}
+use lib.Pow.{pow-pos}
+use native.Mathlib.Nat.{one-mul}
 use native.Mathlib.Omega.{arith}
 use mathlib.Core.Path.{_≡_, sym, _∙_}
 use Prim.Native.Nat.{ℕ, _*_, _%_, _^_, _≤_, _<_, _-_}
@@ -52,10 +52,7 @@ shl-left c = next (c .before .before) .inside
 
 -- its bit, as the code makes it
 bit : (s : ℕ) → s < 16 → 1 * 2 ^ s % 65536 ≡ 2 ^ s
-bit s h =
-    let one : 1 * 2 ^ s ≡ 2 ^ s = one-mul (2 ^ s) in
-    let short : 1 * 2 ^ s < 65536 = omega (arith, one, pow-lt h) in
-    mod-eq-of-lt short ∙ one
+bit s h = bit-fits 16 s h ∙ one-mul (2 ^ s)
 
 -- it is in the mask
 there : (c : tie.Else1 Inv-loop μ-loop) → 2 ^ (c .before .before .wide .result) ≤ c .before .before .before .before .loop .left
