@@ -270,7 +270,7 @@ in-range k n ws h = record {
     ns : nInRange n ≡ true
     ns = and-second (kInRange k) (nInRange n) both
 
-range-tested : (k n : ℕ) (ws : List ℕ) → MakingInRange k n ws → kInRange k && nInRange n && eqb (length ws) (poolLength k n) ≡ true
+pub range-tested : (k n : ℕ) (ws : List ℕ) → MakingInRange k n ws → kInRange k && nInRange n && eqb (length ws) (poolLength k n) ≡ true
 range-tested k n ws h =
     and-both
     (and-both (and-both (le-leb 1 k (h .kLeast)) (le-leb k largestK (h .kMost))) (and-both (le-leb 1 n (h .nLeast)) (le-leb n largestN (h .nMost))))

@@ -5,15 +5,14 @@ use mathlib.Core.List.{List, [], _∷_, map}
 use mathlib.Core.Logic.{⊎-elim}
 use mathlib.Core.Path.{_≡_, refl, sym, ap, subst, _∙_}
 use native.Mathlib.Omega.{arith}
-use borrow.Author.Tests.{le-leb}
 use lib.Dec.{eqb}
-use lib.ListN.{getD}
-use Rattle.ground.specs.Limits.{wordRange, largestK, largestN}
+use lib.ListN.{length, getD}
+use Rattle.ground.specs.Limits.{wordRange}
 use Rattle.ground.specs.Tests.{all, member}
-use Rattle.ground.proofs.Bools.{and-both}
+use Rattle.ground.proofs.Bools.{and-first, and-both}
 use Rattle.ground.proofs.Choice.{cond-ind}
 use Rattle.ground.proofs.Tests.{all-member}
-use Rattle.pool.specs.Pool.{kInRange, nInRange}
+use Rattle.pool.specs.Pool.{kInRange, nInRange, poolLength}
 use Rattle.slots.specs.declared.State.{State}
 use Rattle.slots.specs.declared.Answer.{Answer}
 use Rattle.slots.specs.declared.Answer.the-variants.{Made}
@@ -31,7 +30,7 @@ use Rattle.runs.proofs.Invariant.{Invariant}
 use Rattle.runs.proofs.Runs.{call-keeps, holds-after}
 use Rattle.promises.specs.Demand1.{MakingInRange}
 use Rattle.promises.specs.Demand2.{AfterEveryCall, answersOf}
-use Rattle.promises.proofs.Demand1.{make-demand}
+use Rattle.promises.proofs.Demand1.{range-tested, make-demand}
 use Rattle.promises.proofs.Demand2.{call-heard, demand2}
 use Rattle.promises.proofs.Demand3.{demand3}
 use Rattle.script.specs.Library.{Went, begins, steps, reports, Follow, beginsWith, callsIn, toldFirst, toldIn, quietNumber, quietFour, LibraryRuns, LibraryPromises}
@@ -109,10 +108,6 @@ made-in-range k n ws e =
     (make-demand k n ws .makes .0)
     (make-demand k n ws .noOther)
 
-in-range-numbers : (k n : ℕ) (ws : List ℕ) → MakingInRange k n ws → kInRange k && nInRange n ≡ true
-in-range-numbers k n ws h =
-    and-both (and-both (le-leb 1 k (h .kLeast)) (le-leb k largestK (h .kMost))) (and-both (le-leb 1 n (h .nLeast)) (le-leb n largestN (h .nMost)))
-
 pub library-runs : LibraryRuns
 unfolding runFrom
 library-runs k n ws calls last lastWs h =
@@ -121,7 +116,7 @@ library-runs k n ws calls last lastWs h =
     from-here (h .making .state) (h .making .words) (follow-goes calls (h .cells) (h .after) last lastWs (h .follow)) in
     record {
       run = record {
-        numbers = in-range-numbers k n ws range;
+        numbers = and-first (kInRange k && nInRange n) (eqb (length ws) (poolLength k n)) (range-tested k n ws range);
         whole = range .words;
         inWords = follow-in-words calls (h .cells) (h .after) last lastWs (h .follow);
       };
