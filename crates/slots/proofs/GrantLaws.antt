@@ -1,20 +1,23 @@
 -- A granted want clashes with nothing, so a slot that takes it keeps the locks apart.
 use Prim.Native.Nat.{ℕ, _<_}
-use mathlib.Core.Bool.{true, false, not, _&&_, _||_}
+use mathlib.Core.Bool.{Bool, true, false, not, _&&_, _||_}
 use mathlib.Core.Logic.{_≢_, _⊎_, ⊎-elim}
 use mathlib.Core.Path.{_≡_, refl, sym, ap₂, subst}
 use mathlib.Core.List.{List, _++_}
-use lib.Dec.{eqb}
+use lib.Dec.{eqb, leb, ltb}
 use lib.ListN.{take}
-use borrow.Author.Tests.{eqb-true, ne-eqb, not-true}
+use native.Mathlib.Omega.{arith}
+use borrow.Author.Tests.{leb-true, ne-eqb, not-true}
 use Rattle.ground.specs.Limits.{slotCount}
 use Rattle.ground.specs.Tests.{member, apart}
 use Rattle.ground.proofs.Bools.{not-both, false-if-not-true, and-first, and-second, and-both, or-cases}
 use Rattle.ground.proofs.Tests.{member-none, apart-member, apart-from, apart-swap, allBelow-at}
-use Rattle.slots.specs.declared.Op.the-variants.{Search, Insert, Delete}
+use Rattle.slots.specs.declared.Op.the-variants.{Search, Insert, Delete, Next}
 use Rattle.slots.specs.declared.Task.{Task}
 use Rattle.slots.specs.declared.Task.the-variants.{Closed, Open}
 use Rattle.slots.specs.declared.Slot.{Slot}
+use Rattle.slots.specs.declared.Lock.{Lock}
+use Rattle.slots.specs.declared.Lock.the-variants.{None, Rho, Xi}
 use Rattle.slots.specs.declared.State.{State}
 use Rattle.slots.specs.Parts.{isOpen, held, pathOf, siblingsOf, slotAt, openAt, wantAt, holdsAt}
 use Rattle.slots.specs.Locks.{lockOf, lockAt, clash, isXi}
@@ -38,8 +41,10 @@ granted-no-clash st s g t b n h =
 -- a slot that holds a page is open
 holder-task : (task : Task) (depth beside p : ℕ) (path siblings : List ℕ) → withinLimits task depth beside ≡ true → member p (take depth path ++ take beside siblings) ≡ true → isOpen task ≡ true
 holder-task Closed depth beside p path siblings h m =
-    let d : depth ≡ 0 = eqb-true depth 0 (and-first (eqb depth 0) (eqb beside 0) h) in
-    let e : beside ≡ 0 = eqb-true beside 0 (and-second (eqb depth 0) (eqb beside 0) h) in
+    let fewer = eqb beside 0 || ltb beside depth in
+    let most = and-first (leb depth 0 && leb beside 0) fewer h in
+    let d : depth ≡ 0 = omega (arith, leb-true depth 0 (and-first (leb depth 0) (leb beside 0) most)) in
+    let e : beside ≡ 0 = omega (arith, leb-true beside 0 (and-second (leb depth 0) (leb beside 0) most)) in
     not-both (subst (λ (l : List ℕ). member p l ≡ true) (ap₂ (λ (i j : ℕ). take i path ++ take j siblings) d e) m) (member-none p)
 holder-task (Open op) depth beside p path siblings h m = refl
 
@@ -47,21 +52,32 @@ pub holder-open : (n : ℕ) (s : Slot) (p : ℕ) → SoundSlot n s → member p 
 unfolding pathOf siblingsOf
 holder-open n s p f m = holder-task (s .task) (s .depth) (s .beside) p (s .path) (s .siblings) (f .limits) m
 
+-- a lock at all
+abbrev isLock : Lock → Bool
+isLock None = false
+isLock Rho = true
+isLock Xi = true
+
+open-locks : (task : Task) → isOpen task ≡ true → isLock (lockOf task) ≡ true
+open-locks Closed o = not-both o refl
+open-locks (Open (Search x)) o = refl
+open-locks (Open (Insert x v)) o = refl
+open-locks (Open (Delete x)) o = refl
+open-locks (Open (Next x)) o = refl
+
+-- ξ goes with nothing
+xi-clashes : (a b : Lock) → isLock a ≡ true → isLock b ≡ true → isXi b || isXi a ≡ true → clash a b ≡ true
+xi-clashes None b o q x = not-both o refl
+xi-clashes Rho None o q x = not-both q refl
+xi-clashes Rho Rho o q x = not-both x refl
+xi-clashes Rho Xi o q x = refl
+xi-clashes Xi None o q x = not-both q refl
+xi-clashes Xi Rho o q x = refl
+xi-clashes Xi Xi o q x = refl
+
 -- two open slots of which one updates have clashing locks
 open-clash : (a b : Task) → isOpen a ≡ true → isOpen b ≡ true → isXi (lockOf b) || isXi (lockOf a) ≡ true → clash (lockOf a) (lockOf b) ≡ true
-open-clash Closed b o q x = not-both o refl
-open-clash (Open (Search y)) Closed o q x = not-both q refl
-open-clash (Open (Insert y v)) Closed o q x = not-both q refl
-open-clash (Open (Delete y)) Closed o q x = not-both q refl
-open-clash (Open (Search y)) (Open (Search z)) o q x = not-both x refl
-open-clash (Open (Search y)) (Open (Insert z w)) o q x = refl
-open-clash (Open (Search y)) (Open (Delete z)) o q x = refl
-open-clash (Open (Insert y v)) (Open (Search z)) o q x = refl
-open-clash (Open (Insert y v)) (Open (Insert z w)) o q x = refl
-open-clash (Open (Insert y v)) (Open (Delete z)) o q x = refl
-open-clash (Open (Delete y)) (Open (Search z)) o q x = refl
-open-clash (Open (Delete y)) (Open (Insert z w)) o q x = refl
-open-clash (Open (Delete y)) (Open (Delete z)) o q x = refl
+open-clash a b o q = xi-clashes (lockOf a) (lockOf b) (open-locks a o) (open-locks b q)
 
 -- A granted slot that holds from now on pages that it held and the page it wanted holds them apart from every slot with
 -- which its lock clashes: what `goes-on-sound` asks.

@@ -13,7 +13,7 @@ use Rattle.ground.specs.Tests.{member, distinct, apart, padded}
 use Rattle.ground.proofs.Bools.{false-if-not-true, not-both, and-both, or-first, or-second}
 use Rattle.ground.proofs.Tests.{member-none, member-one, member-append, member-inside, member-last, distinct-none, distinct-snoc, apart-from, apart-swap}
 use Rattle.slots.specs.declared.Op.{Op}
-use Rattle.slots.specs.declared.Op.the-variants.{Search, Insert, Delete}
+use Rattle.slots.specs.declared.Op.the-variants.{Search, Insert, Delete, Next}
 use Rattle.slots.specs.declared.Task.the-variants.{Open}
 use Rattle.slots.specs.declared.Slot.{Slot}
 use Rattle.slots.specs.declared.State.{State}
@@ -120,6 +120,7 @@ unfolding searchHolds pathHolds siblingHolds
 begun-limits (Search x) = refl
 begun-limits (Insert x v) = refl
 begun-limits (Delete x) = refl
+begun-limits (Next x) = refl
 
 -- another number behind a list
 member-before : (t s : ℕ) (xs : List ℕ) → t ≢ s → member t (xs ++ s ∷ []) ≡ member t xs

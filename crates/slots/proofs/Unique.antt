@@ -8,7 +8,7 @@ use lib.ListN.{getD}
 use Rattle.slots.specs.declared.Lock.{Lock}
 use Rattle.slots.specs.declared.Lock.the-variants.{None, Rho, Xi}
 use Rattle.slots.specs.declared.Answer.{Answer}
-use Rattle.slots.specs.declared.Answer.the-variants.{Waiting, Moved, Found, NotFound, Inserted, AlreadyThere, Deleted, NoSuchKey, NoRoom, Begun, Made, Reported, BadState, BadPool, BadSlot, SlotBusy, SlotIdle, Damaged, BadPage}
+use Rattle.slots.specs.declared.Answer.the-variants.{Waiting, Moved, Found, NotFound, Inserted, AlreadyThere, Deleted, NoSuchKey, NoRoom, Begun, Made, Reported, BadState, BadPool, BadSlot, SlotBusy, SlotIdle, Damaged, BadPage, Next, None as NoLot}
 use Rattle.slots.specs.Heard.{heard, lockNumber}
 
 -- the lock kind of a number, and the answer of a number with its values
@@ -39,7 +39,9 @@ numbered i vs =
     (cond (eqb i 39) NoSuchKey
     (cond (eqb i 40) NoRoom
     (cond (eqb i 41) Begun
-    (cond (eqb i 42) Made (Reported (lockNamed (getD vs 0 0)) (getD vs 1 0) (getD vs 2 0)))))))))))))))))))
+    (cond (eqb i 42) Made
+    (cond (eqb i 43) (Reported (lockNamed (getD vs 0 0)) (getD vs 1 0) (getD vs 2 0))
+    (cond (eqb i 44) (Next (getD vs 0 0) (getD vs 1 0)) NoLot)))))))))))))))))))
 
 abbrev said : List ℕ → Answer
 said [] = BadState
@@ -65,6 +67,8 @@ said-heard NoRoom = refl
 said-heard Begun = refl
 said-heard Made = refl
 said-heard (Reported l n i) = ap (λ (m : Lock). Reported m n i) (lock-back l)
+said-heard (Next x v) = refl
+said-heard NoLot = refl
 
 -- two answers that are heard alike are the same
 pub heard-once : (a b : Answer) → heard a ≡ heard b → a ≡ b

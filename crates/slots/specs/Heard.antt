@@ -1,5 +1,5 @@
 -- What the caller hears: number and values of each answer. "What the caller hears" of document 01.
--- Refusals have the numbers of 01's table. The other answers are numbered in the order in which 01 names them, from 32.
+-- Refusals have the numbers of 01's table. The other answers are numbered in the order in which 01 and 02 name them, from 32.
 use Prim.Native.Nat.{ℕ}
 use mathlib.Core.Bool.{Bool}
 use mathlib.Core.List.{List, [], _∷_}
@@ -8,7 +8,7 @@ use lib.ListN.{getD}
 use Rattle.slots.specs.declared.Lock.{Lock}
 use Rattle.slots.specs.declared.Lock.the-variants.{None, Rho, Xi}
 use Rattle.slots.specs.declared.Answer.{Answer}
-use Rattle.slots.specs.declared.Answer.the-variants.{Waiting, Moved, Found, NotFound, Inserted, AlreadyThere, Deleted, NoSuchKey, NoRoom, Begun, Made, Reported, BadState, BadPool, BadSlot, SlotBusy, SlotIdle, Damaged, BadPage}
+use Rattle.slots.specs.declared.Answer.the-variants.{Waiting, Moved, Found, NotFound, Inserted, AlreadyThere, Deleted, NoSuchKey, NoRoom, Begun, Made, Reported, BadState, BadPool, BadSlot, SlotBusy, SlotIdle, Damaged, BadPage, Next, None as NoLot}
 
 -- none, ρ, ξ
 abbrev pub lockNumber : Lock → ℕ
@@ -37,6 +37,8 @@ heard NoRoom = 40 ∷ []
 heard Begun = 41 ∷ []
 heard Made = 42 ∷ []
 heard (Reported kind holders lowest) = 43 ∷ lockNumber kind ∷ holders ∷ lowest ∷ []
+heard (Next x v) = 44 ∷ x ∷ v ∷ []
+heard NoLot = 45 ∷ []
 
 -- the number alone
 abbrev pub numberOf : Answer → ℕ

@@ -1,7 +1,7 @@
 -- Kinds of lock and which clash. "Slots, locks and steps" of document 01.
 use Prim.Native.Nat.{ℕ}
 use mathlib.Core.Bool.{Bool, true, false}
-use Rattle.slots.specs.declared.Op.the-variants.{Search, Insert, Delete}
+use Rattle.slots.specs.declared.Op.the-variants.{Search, Insert, Delete, Next}
 use Rattle.slots.specs.declared.Task.{Task}
 use Rattle.slots.specs.declared.Task.the-variants.{Closed, Open}
 use Rattle.slots.specs.declared.Lock.{Lock}
@@ -9,12 +9,13 @@ use Rattle.slots.specs.declared.Lock.the-variants.{None, Rho, Xi}
 use Rattle.slots.specs.declared.State.{State}
 use Rattle.slots.specs.Parts.{slotAt}
 
--- "Searches use ρ-locks, insertions and deletions ξ-locks."
+-- "Searches use ρ-locks, insertions and deletions ξ-locks." Next: "It uses ρ-locks".
 abbrev pub lockOf : Task → Lock
 lockOf Closed = None
 lockOf (Open (Search x)) = Rho
 lockOf (Open (Insert x v)) = Xi
 lockOf (Open (Delete x)) = Xi
+lockOf (Open (Next x)) = Rho
 
 abbrev pub lockAt : State → ℕ → Lock
 lockAt st i = lockOf (slotAt st i .task)

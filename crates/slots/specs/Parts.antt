@@ -6,7 +6,7 @@ use lib.ListN.{length, getD, take, replicate}
 use Rattle.ground.specs.Limits.{pathHolds, slotCount}
 use Rattle.ground.specs.Tests.{member, padded}
 use Rattle.slots.specs.declared.Op.{Op}
-use Rattle.slots.specs.declared.Op.the-variants.{Search, Insert, Delete}
+use Rattle.slots.specs.declared.Op.the-variants.{Search, Insert, Delete, Next}
 use Rattle.slots.specs.declared.Task.{Task}
 use Rattle.slots.specs.declared.Task.the-variants.{Closed, Open}
 use Rattle.slots.specs.declared.Slot.{Slot}
@@ -17,23 +17,33 @@ abbrev pub keyOf : Op → ℕ
 keyOf (Search x) = x
 keyOf (Insert x v) = x
 keyOf (Delete x) = x
+keyOf (Next x) = x
 
-abbrev pub isSearch : Op → Bool
-isSearch (Search x) = true
-isSearch (Insert x v) = false
-isSearch (Delete x) = false
+-- the operations that only read
+abbrev pub onlyReads : Op → Bool
+onlyReads (Search x) = true
+onlyReads (Insert x v) = false
+onlyReads (Delete x) = false
+onlyReads (Next x) = true
 
 abbrev pub isDelete : Op → Bool
 isDelete (Search x) = false
 isDelete (Insert x v) = false
 isDelete (Delete x) = true
+isDelete (Next x) = false
+
+abbrev pub isNext : Op → Bool
+isNext (Search x) = false
+isNext (Insert x v) = false
+isNext (Delete x) = false
+isNext (Next x) = true
 
 abbrev pub isOpen : Task → Bool
 isOpen Closed = false
 isOpen (Open op) = true
 
 -- "An open slot holds pages and wants exactly one more."
--- A slot of this operation, want, path and siblings; cells behind a length are 0.
+-- A slot of this operation, want, path and pages beside it; cells behind a length are 0.
 abbrev pub openSlot : Op → ℕ → List ℕ → List ℕ → Slot
 openSlot op want path siblings = record { task = Open op; want = want; path = padded pathHolds path; depth = length path; siblings = padded pathHolds siblings; beside = length siblings }
 
@@ -41,7 +51,8 @@ openSlot op want path siblings = record { task = Open op; want = want; path = pa
 abbrev pub closedSlot : Slot
 closedSlot = record { task = Closed; want = 0; path = padded pathHolds []; depth = 0; siblings = padded pathHolds []; beside = 0 }
 
--- the pages of a slot's path, from the top downward, its siblings, from the leaf's upward, and all that it holds
+-- the pages of a slot's path, from the top downward, those beside it, and all that it holds. Beside the path stand a deletion's
+-- siblings, from the leaf's upward, or the second way of a Next, from the top downward: both are called siblings here.
 unfoldable pub pathOf : Slot → List ℕ
 pathOf s = take (s .depth) (s .path)
 

@@ -5,7 +5,7 @@ use mathlib.Core.List.{_∷_}
 use lib.Dec.{leb, ltb, eqb}
 use Rattle.ground.specs.Limits.{largestK, largestN, slotCount, searchHolds, pathHolds, siblingHolds}
 use Rattle.ground.specs.Tests.{all, allBelow, member, distinct, apart}
-use Rattle.slots.specs.declared.Op.the-variants.{Search, Insert, Delete}
+use Rattle.slots.specs.declared.Op.the-variants.{Search, Insert, Delete, Next}
 use Rattle.slots.specs.declared.Task.{Task}
 use Rattle.slots.specs.declared.Task.the-variants.{Closed, Open}
 use Rattle.slots.specs.declared.Slot.{Slot}
@@ -25,14 +25,28 @@ orderSound st =
     && distinct (waitingOrder st)
     && allBelow slotCount (λ (s : ℕ). not (openAt st s) || member s (waitingOrder st))
 
--- "a search holds at most 1 page, an insertion at most 10, a deletion at most 10 on its path and 9 siblings, with no
--- siblings or fewer of them than path pages; siblings only in deletions; a closed slot holds nothing"
+-- How many pages a slot may hold: on its path, and beside it.
+pub record Limits : Type 0 where
+  pub onPath : ℕ
+  pub beside : ℕ
+
+abbrev pub atMost : ℕ → ℕ → Limits
+atMost onPath beside = record { onPath = onPath; beside = beside }
+
+-- "a search holds at most 1 page, an insertion at most 10, a deletion at most 10 on its path and 9 siblings ..; siblings only in
+-- deletions; a closed slot holds nothing". Next: "In a sound state it may hold up to 19 pages", 10 on its first way and 9 on
+-- the second.
+abbrev pub limitsOf : Task → Limits
+limitsOf Closed = atMost 0 0
+limitsOf (Open (Search x)) = atMost searchHolds 0
+limitsOf (Open (Insert x v)) = atMost pathHolds 0
+limitsOf (Open (Delete x)) = atMost pathHolds siblingHolds
+limitsOf (Open (Next x)) = atMost pathHolds siblingHolds
+
+-- within these limits, and "with no siblings or fewer of them than path pages"
 abbrev pub withinLimits : Task → ℕ → ℕ → Bool
-withinLimits Closed depth beside = eqb depth 0 && eqb beside 0
-withinLimits (Open (Search x)) depth beside = leb depth searchHolds && eqb beside 0
-withinLimits (Open (Insert x v)) depth beside = leb depth pathHolds && eqb beside 0
-withinLimits (Open (Delete x)) depth beside =
-    leb depth pathHolds && leb beside siblingHolds && (eqb beside 0 || ltb beside depth)
+withinLimits task depth beside =
+    leb depth (limitsOf task .onPath) && leb beside (limitsOf task .beside) && (eqb beside 0 || ltb beside depth)
 
 -- "all pages named are below N; no slot holds a page twice or wants one it holds". A closed slot names none.
 abbrev pub belowAndOnce : ℕ → Slot → Bool

@@ -10,7 +10,7 @@ ghost use Rattle.ground.specs.Tests.{member};
 ghost use Rattle.slots.specs.Parts.{held};
 ghost use Rattle.slots.specs.Locks.{lockOf};
 
-// Searches use ρ-locks, insertions and deletions ξ-locks.
+// Searches and Next use ρ-locks, insertions and deletions ξ-locks.
 pub fn lock_of(task: Task) -> Lock
     ensures { λ r. ⌜ r ≡ lockOf task ⌝ }
 {
@@ -20,6 +20,7 @@ pub fn lock_of(task: Task) -> Lock
             Op::Search(_) => Lock::Rho,
             Op::Insert(_, _) => Lock::Xi,
             Op::Delete(_) => Lock::Xi,
+            Op::Next(_) => Lock::Rho,
         },
     }
 }

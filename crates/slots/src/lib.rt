@@ -11,6 +11,8 @@ pub enum Op {
     // key, information
     Insert(u32, u32),
     Delete(u32),
+    // the first lot at or above this key
+    Next(u32),
 }
 
 // A slot is closed, or open with an operation.
@@ -19,8 +21,9 @@ pub enum Task {
     Open(Op),
 }
 
-// An open slot holds the pages of its path, from the top downward, and siblings, from the leaf's upward,
-// and wants exactly one more page. Cells behind a length are not looked at.
+// An open slot holds the pages of its path, from the top downward, and pages beside it: a deletion's siblings, from the leaf's
+// upward, or the second way of a Next, from the top downward. It wants exactly one more page. Cells behind a length are not
+// looked at.
 pub struct Slot {
     pub task: Task,
     pub want: u32,
@@ -63,6 +66,9 @@ pub enum Answer {
     Made,
     // kind, number of holders, lowest-numbered holder
     Reported(Lock, u32, u32),
+    // key, information
+    Next(u32, u32),
+    None,
     BadState,
     BadPool,
     BadSlot,
