@@ -3,14 +3,16 @@ use Prim.Native.Nat.{ℕ, _+_}
 use mathlib.Core.Bool.{Bool, true, false, cond, not, _&&_, _||_}
 use mathlib.Core.List.{List, [], _∷_, _++_, reverse}
 use lib.Dec.{eqb}
+use lib.ListN.{getD}
 use Rattle.ground.specs.Tests.{all, member}
-use Rattle.page.specs.Words.{Page, μ}
-use Rattle.page.specs.Place.{route, has}
+use Rattle.page.specs.Words.{Entry, Page}
+use Rattle.page.specs.Place.{pointer, route, has, atOrAbove}
+use Rattle.page.specs.Short.{neighbour}
 use Rattle.page.specs.Sound.{soundByItself}
 use Rattle.pool.specs.Pool.{wordsOf, pageAt, freePages}
 use Rattle.change.specs.Deletion.{Need, nothing, sibling, astray, needs}
 use Rattle.slots.specs.declared.Op.{Op}
-use Rattle.slots.specs.Parts.{keyOf, isDelete}
+use Rattle.slots.specs.Parts.{keyOf, isDelete, isNext}
 use Rattle.footing.specs.Granted.{Verdict, broken, goes, ends, isSafe, granted, atItsLeaf}
 
 -- "each held page and the wanted one has level 1 to 10 .., μ in range, rising keys, pointers all different and from 1 to
@@ -33,7 +35,7 @@ descends memory x (p ∷ (q ∷ rest)) = leads memory x p q && descends memory x
 abbrev pub rightlyKept : Op → ℕ → (ℕ → Page) → List ℕ → ℕ → Bool
 rightlyKept op k memory [] want = eqb want 0
 rightlyKept op k memory (top ∷ below) want =
-    (eqb top 0 || isSafe op k (μ (memory top))) && all (λ (p : ℕ). not (isSafe op k (μ (memory p)))) below
+    (eqb top 0 || isSafe op k (memory top)) && all (λ (p : ℕ). not (isSafe op k (memory p))) below
 
 -- each sibling has the level of the page beside it on the path, given upward
 unfoldable pub sameLevels : (ℕ → Page) → List ℕ → List ℕ → Bool
@@ -48,7 +50,7 @@ isSibling (sibling s) want = eqb s want
 isSibling astray want = false
 
 -- A deletion that stands at its leaf: the key is there, the siblings held are those that the rules took so far, and the
--- want is the next one. (Only a deletion goes on from its leaf.)
+-- want is the next one.
 abbrev pub rightlyBeside : Op → ℕ → (ℕ → Page) → List ℕ → List ℕ → ℕ → Bool
 rightlyBeside op k memory [] siblings want = false
 rightlyBeside op k memory (leaf ∷ fathers) siblings want =
@@ -57,16 +59,40 @@ rightlyBeside op k memory (leaf ∷ fathers) siblings want =
     && isSibling (needs k memory (keyOf op) leaf fathers siblings) want
     && sameLevels memory (leaf ∷ fathers) (siblings ++ want ∷ [])
 
-abbrev pub isNone : List ℕ → Bool
+abbrev pub isNone : {A : Type 0} → List A → Bool
 isNone [] = true
 isNone (p ∷ ps) = false
+
+-- a leftmost way: p0 of each page is the one behind it, a level lower
+unfoldable pub leftmost : (ℕ → Page) → List ℕ → Bool
+leftmost memory [] = true
+leftmost memory (p ∷ []) = true
+leftmost memory (p ∷ (q ∷ rest)) =
+    eqb (pointer 0 (memory p)) q && eqb (memory p .level) (memory q .level + 1) && leftmost memory (q ∷ rest)
+
+-- the next child to the right of page top, a level below it, and its leftmost way
+abbrev pub turnsRight : (ℕ → Page) → ℕ → ℕ → List ℕ → Bool
+turnsRight memory x top [] = false
+turnsRight memory x top (p ∷ rest) =
+    eqb (neighbour x (memory top)) p && eqb (memory top .level) (memory p .level + 1) && leftmost memory (p ∷ rest)
+
+-- A Next that goes down its second way: its leaf has no key at or above its own, the top page of its path has a child to the
+-- right, and what it holds beside the path and wants is that child's leftmost way so far. (Only a deletion and a Next go on
+-- from their leaf.)
+abbrev pub rightlyAcross : Op → ℕ → (ℕ → Page) → List ℕ → List ℕ → ℕ → Bool
+rightlyAcross op k memory [] second want = false
+rightlyAcross op k memory (top ∷ below) second want =
+    isNext op
+    && isNone (atOrAbove (keyOf op) (memory (getD (reverse (top ∷ below)) 0 0) .entries))
+    && isSafe op k (memory top)
+    && turnsRight memory (keyOf op) top (second ++ want ∷ [])
 
 -- "and if these pages, read again, are the ones the rules would have this operation hold and want at this point"
 unfoldable pub fitting : Op → ℕ → (ℕ → Page) → List ℕ → List ℕ → ℕ → Bool
 fitting op k memory path siblings want =
     rightlyKept op k memory path want
     && cond (atItsLeaf memory (reverse path))
-    (descends memory (keyOf op) path && rightlyBeside op k memory (reverse path) siblings want)
+    (descends memory (keyOf op) path && (rightlyBeside op k memory (reverse path) siblings want || rightlyAcross op k memory path siblings want))
     (descends memory (keyOf op) (path ++ want ∷ []) && isNone siblings)
 
 -- "and the page it would want next is none that it would then hold"

@@ -1,20 +1,22 @@
 -- What a granted step does, from the pages as they stand. "Slots, locks and steps" of document 01, "On a grant".
--- A slot's path is given from the top downward, its siblings from the leaf's upward.
+-- A slot's path is given from the top downward, its siblings from the leaf's upward, the second way of a Next from the top
+-- downward.
 use Prim.Native.Nat.{ℕ, _*_}
-use mathlib.Core.Bool.{Bool, true, false, cond}
+use mathlib.Core.Bool.{Bool, true, false, cond, not, _&&_}
 use mathlib.Core.List.{List, [], _∷_, _++_, reverse}
 use lib.Dec.{ltb}
 use lib.ListN.{length}
-use Rattle.page.specs.Words.{Page, μ, isLeaf}
-use Rattle.page.specs.Place.{route, has, information}
+use Rattle.page.specs.Words.{Entry, Page, μ, isLeaf}
+use Rattle.page.specs.Place.{pointer, route, has, information, atOrAbove}
+use Rattle.page.specs.Short.{hasRight, neighbour}
 use Rattle.pool.specs.Pool.{Write}
 use Rattle.change.specs.Insertion.{room, insertion}
 use Rattle.change.specs.Deletion.{Need, nothing, sibling, astray, needs, deletion}
 use Rattle.slots.specs.declared.Op.{Op}
-use Rattle.slots.specs.declared.Op.the-variants.{Search, Insert, Delete}
+use Rattle.slots.specs.declared.Op.the-variants.{Search, Insert, Delete, Next}
 use Rattle.slots.specs.declared.Answer.{Answer}
-use Rattle.slots.specs.declared.Answer.the-variants.{Found, NotFound, Inserted, AlreadyThere, Deleted, NoSuchKey, NoRoom}
-use Rattle.slots.specs.Parts.{keyOf}
+use Rattle.slots.specs.declared.Answer.the-variants.{Found, NotFound, Inserted, AlreadyThere, Deleted, NoSuchKey, NoRoom, Next as NextLot, None as NoLot}
+use Rattle.slots.specs.Parts.{keyOf, isNext}
 
 -- What a granted step comes to: the pages are not sound for it; the slot goes on, holding this path and these siblings
 -- and wanting this page; or the operation ends with this answer, and these pages are written.
@@ -24,16 +26,18 @@ pub data Verdict : Type 0 where
   ends : Answer → List Write → Verdict
 
 -- "Search gives up the father." "Insertion: if the page has μ < 2k, all its ancestors are given up." "Deletion: the
--- same with μ > k, for pages other than 0": page 0 has no ancestors. On such a page an operation holds that page alone.
--- It is asked of the page's number μ.
-abbrev pub isSafe : Op → ℕ → ℕ → Bool
-isSafe (Search x) k m = true
-isSafe (Insert x v) k m = ltb m (2 * k)
-isSafe (Delete x) k m = ltb k m
+-- same with μ > k, for pages other than 0": page 0 has no ancestors. Next keeps its locks "from the lowest page on its way that
+-- still has a child to the right of the route (from page 0 if none has)": a leaf has no children.
+-- On such a page an operation holds that page alone.
+abbrev pub isSafe : Op → ℕ → Page → Bool
+isSafe (Search x) k P = true
+isSafe (Insert x v) k P = ltb (μ P) (2 * k)
+isSafe (Delete x) k P = ltb k (μ P)
+isSafe (Next x) k P = not (isLeaf P) && hasRight x P
 
 -- the path after page p is granted
 abbrev pub kept : Op → ℕ → (ℕ → Page) → List ℕ → ℕ → List ℕ
-kept op k memory path p = cond (isSafe op k (μ (memory p))) (p ∷ []) (path ++ p ∷ [])
+kept op k memory path p = cond (isSafe op k (memory p)) (p ∷ []) (path ++ p ∷ [])
 
 -- what a deletion does by what it needs: the whole change, one more page wanted, or nothing at all
 abbrev pub byNeed : List ℕ → List ℕ → Verdict → Need → Verdict
@@ -50,9 +54,27 @@ deletes k memory x path leaf fathers siblings =
     (ends (Deleted (information x (memory leaf .entries))) (deletion k memory x leaf fathers siblings))
     (needs k memory x leaf fathers siblings)
 
+-- "answers Next with the first entry .., or None": of the entries from that one on
+abbrev pub nextAnswer : List Entry → Answer
+nextAnswer [] = NoLot
+nextAnswer (e ∷ es) = NextLot (e .key) (e .value)
+
+-- A Next whose leaf has no such key, by the top page of its path: it goes on to "the next child to the right" of that page,
+-- or there is none at all.
+abbrev pub crosses : Op → ℕ → (ℕ → Page) → List ℕ → Verdict
+crosses op k memory [] = broken
+crosses op k memory (top ∷ below) =
+    cond (isSafe op k (memory top)) (goes (top ∷ below) [] (neighbour (keyOf op) (memory top))) (ends NoLot [])
+
+-- a Next at its leaf, by the leaf's entries at or above the key
+abbrev pub byNearest : Verdict → List Entry → Verdict
+byNearest further [] = further
+byNearest further (e ∷ es) = ends (nextAnswer (e ∷ es)) []
+
 -- At the leaf, with its path upward held: the leaf and its fathers.
 -- "Search .. At a leaf it answers". "Insertion .. At the leaf: a key already there is answered so; then room is counted;
--- then the whole change is made." "Deletion .. At the leaf: a missing key is answered so."
+-- then the whole change is made." "Deletion .. At the leaf: a missing key is answered so." Next: a key at or above is answered
+-- at once.
 unfoldable pub atLeaf : Op → ℕ → (ℕ → Page) → List ℕ → List ℕ → ℕ → List ℕ → Verdict
 atLeaf (Search x) k memory free path leaf fathers =
     ends (cond (has x (memory leaf .entries)) (Found (information x (memory leaf .entries))) NotFound) []
@@ -64,6 +86,7 @@ atLeaf (Insert x v) k memory free path leaf fathers =
     (ends Inserted (insertion k memory x v free leaf fathers)))
 atLeaf (Delete x) k memory free path leaf fathers =
     cond (has x (memory leaf .entries)) (deletes k memory x path leaf fathers []) (ends NoSuchKey [])
+atLeaf (Next x) k memory free path leaf fathers = byNearest (crosses (Next x) k memory path) (atOrAbove x (memory leaf .entries))
 
 -- the lowest page of a path, given upward, and the pages above it
 abbrev pub fromLeaf : (ℕ → List ℕ → Verdict) → List ℕ → Verdict
@@ -78,12 +101,20 @@ comesDown op k memory free path p =
     (fromLeaf (λ (leaf : ℕ) (fathers : List ℕ). atLeaf op k memory free path′ leaf fathers) (reverse path′))
     (goes path′ [] (route (keyOf op) (memory p)))
 
--- Standing at its leaf, a deletion is granted the sibling p.
+-- Standing at its leaf, a Next is granted the page p of its second way: "goes down the leftmost way .., giving nothing up until its
+-- answer".
+unfoldable pub goesLeft : (ℕ → Page) → List ℕ → List ℕ → ℕ → Verdict
+goesLeft memory path second p =
+    cond (isLeaf (memory p)) (ends (nextAnswer (memory p .entries)) []) (goes path (second ++ p ∷ []) (pointer 0 (memory p)))
+
+-- Standing at its leaf, a deletion is granted the sibling p, or a Next a page of its second way.
 unfoldable pub besides : Op → ℕ → (ℕ → Page) → List ℕ → List ℕ → ℕ → Verdict
 besides op k memory path siblings p =
-    fromLeaf
+    cond (isNext op)
+    (goesLeft memory path siblings p)
+    (fromLeaf
     (λ (leaf : ℕ) (fathers : List ℕ). deletes k memory (keyOf op) path leaf fathers (siblings ++ p ∷ []))
-    (reverse path)
+    (reverse path))
 
 -- the lowest page of a path is a leaf
 abbrev pub atItsLeaf : (ℕ → Page) → List ℕ → Bool

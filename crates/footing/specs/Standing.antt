@@ -8,7 +8,7 @@ use mathlib.Core.Path.{_≡_}
 use lib.ListN.{length, getD}
 use Rattle.ground.specs.Limits.{largestK, largestN, pathHolds}
 use Rattle.ground.specs.Tests.{distinct}
-use Rattle.page.specs.Words.{Page, μ}
+use Rattle.page.specs.Words.{Page}
 use Rattle.pool.specs.Pool.{poolLength, pageAt}
 use Rattle.change.specs.Held.{Held}
 use Rattle.slots.specs.declared.Op.{Op}
@@ -60,7 +60,7 @@ pub record Standing (op : Op) (k n : ℕ) (ws path siblings : List ℕ) : Type 0
   pub held : Held k n ws (path ++ siblings)
   pub descends : (i : ℕ) → suc i < length path → pageAt k ws (getD path i 0) .level ≡ pageAt k ws (getD path (suc i) 0) .level + 1
   pub different : distinct (path ++ siblings) ≡ true
-  pub top : (getD path 0 0 ≡ 0) ⊎ (isSafe op k (μ (pageAt k ws (getD path 0 0))) ≡ true)
+  pub top : (getD path 0 0 ≡ 0) ⊎ (isSafe op k (pageAt k ws (getD path 0 0)) ≡ true)
   pub levels : (i j : ℕ) → j < length siblings → i + j + 1 ≡ length path → pageAt k ws (getD path i 0) .level ≡ pageAt k ws (getD siblings j 0) .level
   pub others : (j : ℕ) → j < length siblings → getD siblings j 0 ≢ 0
 

@@ -1,6 +1,6 @@
 -- A step, for every argument. "Slots, locks and steps" and "What the caller hears" of document 01.
 use Prim.Native.Nat.{ℕ}
-use mathlib.Core.Bool.{Bool, cond, not, _&&_}
+use mathlib.Core.Bool.{Bool, cond, not, _&&_, _||_}
 use mathlib.Core.List.{List}
 use lib.Dec.{leb, ltb, eqb}
 use lib.ListN.{length}
@@ -12,7 +12,7 @@ use Rattle.slots.specs.declared.Task.the-variants.{Closed, Open}
 use Rattle.slots.specs.declared.Slot.{Slot}
 use Rattle.slots.specs.declared.State.{State}
 use Rattle.slots.specs.declared.Answer.{Answer}
-use Rattle.slots.specs.declared.Answer.the-variants.{Waiting, Moved, NoRoom, BadState, BadPool, BadSlot, SlotIdle, Damaged}
+use Rattle.slots.specs.declared.Answer.the-variants.{Waiting, Moved, NoRoom, BadState, BadPool, BadSlot, SlotIdle, Damaged, Next}
 use Rattle.slots.specs.Heard.{numberOf}
 use Rattle.slots.specs.Parts.{slotAt, pathOf, siblingsOf}
 use Rattle.slots.specs.Sound.{sound}
@@ -31,9 +31,9 @@ abbrev pub left : Answer → State → List ℕ → Left
 left a st ws = record { answer = a; state = st; words = ws }
 
 -- "Step answers: Waiting, Moved, Found (information), NotFound, Inserted, AlreadyThere, Deleted (information), NoSuchKey,
--- NoRoom." All but Waiting are answers of a granted step. They are numbered in this order.
+-- NoRoom." All but Waiting are answers of a granted step. They are numbered in this order; Next and None stand behind all others.
 abbrev pub ofGranted : Answer → Bool
-ofGranted a = leb (numberOf Moved) (numberOf a) && leb (numberOf a) (numberOf NoRoom)
+ofGranted a = leb (numberOf Moved) (numberOf a) && (leb (numberOf a) (numberOf NoRoom) || leb (numberOf (Next 0 0)) (numberOf a))
 
 -- Moved, with the new holdings and want; an ending answer, with the pages written; or Damaged: "as given, the slot stays
 -- open, the lock is not taken".

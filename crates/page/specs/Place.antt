@@ -29,6 +29,11 @@ unfoldable pub information : ℕ → List Entry → ℕ
 information x [] = 0
 information x (e ∷ es) = cond (eqb (e .key) x) (e .value) (information x es)
 
+-- the entries from the first one on whose key is at or above x
+unfoldable pub atOrAbove : ℕ → List Entry → List Entry
+atOrAbove x [] = []
+atOrAbove x (e ∷ es) = cond (leb x (e .key)) (e ∷ es) (atOrAbove x es)
+
 -- the entries less the key
 unfoldable pub without : ℕ → List Entry → List Entry
 without x [] = []

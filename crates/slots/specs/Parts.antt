@@ -38,6 +38,13 @@ isNext (Insert x v) = false
 isNext (Delete x) = false
 isNext (Next x) = true
 
+-- the operations that may hold pages beside their path: a deletion's siblings, the second way of a Next
+abbrev pub goesBeside : Op → Bool
+goesBeside (Search x) = false
+goesBeside (Insert x v) = false
+goesBeside (Delete x) = true
+goesBeside (Next x) = true
+
 abbrev pub isOpen : Task → Bool
 isOpen Closed = false
 isOpen (Open op) = true

@@ -2,15 +2,16 @@
 -- the pages that are free. The proofs are in files of their own: Search, Ways, Height, SoundPages, Determined, Words.
 use Prim.Native.Nat.{ℕ, zero, suc, _+_, _-_, _^_, _≤_, _<_}
 use mathlib.Core.Path.{_≡_}
-use mathlib.Core.Bool.{true}
+use mathlib.Core.Bool.{true, false}
+use mathlib.Core.Logic.{_≢_}
 use mathlib.Core.List.{List, [], _∷_, _++_}
 use lib.Dec.{eqb}
 use lib.ListN.{length, getD}
 use Rattle.ground.specs.Limits.{tallest, wordRange}
 use Rattle.ground.specs.Tests.{member}
-use Rattle.page.specs.Words.{Page, page, μ}
-use Rattle.page.specs.Place.{pointer, route, has, information}
-use Rattle.page.specs.Short.{neighbour}
+use Rattle.page.specs.Words.{Entry, Page, page, μ}
+use Rattle.page.specs.Place.{pointer, route, has, information, atOrAbove}
+use Rattle.page.specs.Short.{hasRight, neighbour}
 use Rattle.pool.specs.Pool.{isFree, freePages}
 use Rattle.tree.specs.Rows.{total}
 use Rattle.tree.specs.Tree.{Tr, entriesOf, occurs, Stands, way, leafOn}
@@ -33,6 +34,40 @@ pub record WayFacts (memory : ℕ → Page) (x l : ℕ) (t : Tr l) : Type 0 wher
   -- which decides for the whole tree whether the key is there, and what stands with it
   pub decides : has x (leafOn x l t) ≡ has x (entriesOf l t)
   pub tells : information x (leafOn x l t) ≡ information x (entriesOf l t)
+
+-- Two lists begin with the same entry.
+pub record SameFirst (es es′ : List Entry) : Type 0 where
+  pub first : Entry
+  pub rest : List Entry
+  pub rest′ : List Entry
+  pub one : es ≡ first ∷ rest
+  pub other : es′ ≡ first ∷ rest′
+
+-- The page of x's way on level i + 2 has a child to the right of x's route. The leftmost way of that child is the way of the
+-- reference key between the two.
+pub record SecondWay (memory : ℕ → Page) (x l : ℕ) (t : Tr l) (i : ℕ) : Type 0 where
+  pub key : ℕ
+  pub inWords : key < wordRange
+  pub later : x < key
+  -- down to that page it is x's way, and below it no page is
+  pub meets : (j : ℕ) → i < j → j ≤ l → getD (way key l t) j 0 ≡ getD (way x l t) j 0
+  pub parts : (j : ℕ) → j ≤ i → getD (way key l t) j 0 ≢ getD (way x l t) j 0
+  -- "the next child to the right", and from there "the leftmost way", by p0 of each page
+  pub turns : getD (way key l t) i 0 ≡ neighbour x (memory (getD (way x l t) (suc i) 0))
+  pub leftmost : (j : ℕ) → j < i → getD (way key l t) j 0 ≡ pointer 0 (memory (getD (way key l t) (suc j) 0))
+  -- where x's leaf has no entry at or above x, and no lower page of its way a child to the right, the first entry of the
+  -- second leaf is the tree's first at or above x
+  pub nearest : atOrAbove x (leafOn x l t) ≡ [] → ((j : ℕ) → j < i → hasRight x (memory (getD (way x l t) (suc j) 0)) ≡ false)
+      → SameFirst (leafOn key l t) (atOrAbove x (entriesOf l t))
+
+-- "the first entry whose key is at or above a given one, or None"
+pub record NextFacts (memory : ℕ → Page) (x l : ℕ) (t : Tr l) : Type 0 where
+  -- a leaf of the way that has such an entry decides for the whole tree
+  pub here : (e : Entry) (es : List Entry) → atOrAbove x (leafOn x l t) ≡ e ∷ es → SameFirst (atOrAbove x (leafOn x l t)) (atOrAbove x (entriesOf l t))
+  -- it has none, and no page of the way has a child to the right: there is none
+  pub nowhere : atOrAbove x (leafOn x l t) ≡ [] → ((i : ℕ) → i < l → hasRight x (memory (getD (way x l t) (suc i) 0)) ≡ false)
+      → atOrAbove x (entriesOf l t) ≡ []
+  pub second : (i : ℕ) → i < l → hasRight x (memory (getD (way x l t) (suc i) 0)) ≡ true → SecondWay memory x l t i
 
 -- Page q stands somewhere in the tree t.
 pub record Placed (l : ℕ) (t : Tr l) (lo hi q : ℕ) : Type 0 where
