@@ -1,8 +1,9 @@
 -- The rule of a granted step is the rule of where the operation then stands; what the functions of a change may count on there; and
 -- the courses by what was read, as the rule's words.
 use Prim.Native.Nat.{ℕ, suc, _+_, _-_}
-use mathlib.Core.Bool.{Bool, true, false, cond, not, _&&_, false≢true}
+use mathlib.Core.Bool.{Bool, true, false, cond, not, _&&_, _||_, false≢true}
 use mathlib.Core.List.{List, [], _∷_, _++_, reverse, reverse-append}
+use mathlib.Core.Logic.{⊎-elim}
 use mathlib.Core.Path.{_≡_, refl, sym, ap, _∙_, subst}
 use native.Mathlib.Omega.{arith}
 use lib.Dec.{ltb}
@@ -10,10 +11,10 @@ use lib.ListN.{length, take}
 use lib.Seq.{getD-take}
 use Rattle.ground.specs.Limits.{pathHolds}
 use Rattle.ground.specs.Tests.{member}
-use Rattle.ground.proofs.Bools.{and-first, and-second}
+use Rattle.ground.proofs.Bools.{not-both, and-first, and-second, or-cases}
 use Rattle.ground.proofs.Choice.{cond-ind, cond-true, cond-false}
 use Rattle.ground.proofs.Padded.{length-padded}
-use Rattle.page.specs.Words.{Page, μ, isLeaf}
+use Rattle.page.specs.Words.{Page, isLeaf}
 use Rattle.page.specs.Place.{route, has, information}
 use Rattle.page.specs.Reading.{looked}
 use Rattle.page.specs.declared.reading.Lot.{Lot}
@@ -24,17 +25,18 @@ use Rattle.change.specs.Deletion.{Need, nothing, sibling, astray, needs, deleti
 use Rattle.change.specs.Held.{Needing, Holding, leafOf, fathersOf}
 use Rattle.change.proofs.HeldLaws.{Known, held-front, upward-reverse, upward-father, holding-known}
 use Rattle.slots.specs.declared.Op.{Op}
-use Rattle.slots.specs.declared.Op.the-variants.{Search, Insert, Delete}
+use Rattle.slots.specs.declared.Op.the-variants.{Search, Insert, Delete, Next}
 use Rattle.slots.specs.declared.Answer.{Answer}
 use Rattle.slots.specs.declared.Answer.the-variants.{Found, NotFound, Inserted, AlreadyThere, Deleted, NoSuchKey, NoRoom}
 use Rattle.slots.specs.declared.Slot.{Slot}
-use Rattle.slots.specs.Parts.{keyOf, pathOf, siblingsOf, held}
+use Rattle.slots.specs.Parts.{keyOf, isNext, pathOf, siblingsOf, held}
 use Rattle.course.specs.declared.judging.Course.{Course}
 use Rattle.course.specs.declared.judging.Course.the-variants.{Broken, Goes}
-use Rattle.footing.specs.Granted.{Verdict, broken, goes, ends, isSafe, kept, deletes, byNeed, atLeaf, fromLeaf, comesDown, besides, atItsLeaf, granted}
-use Rattle.footing.specs.Fitting.{descends, rightlyKept, rightlyBeside, sameLevels, isSibling, isNone, fitting}
+use Rattle.footing.specs.Granted.{Verdict, broken, goes, ends, isSafe, kept, deletes, byNeed, atLeaf, fromLeaf, comesDown, goesLeft, besides, atItsLeaf, granted}
+use Rattle.footing.specs.Fitting.{descends, rightlyKept, rightlyBeside, sameLevels, isSibling, isNone, rightlyAcross, fitting}
 use Rattle.footing.specs.Standing.{SlotStanding, standPath, standSiblings}
-use Rattle.course.specs.Judged.{judgedAt, judged, ifNew, courseOf, ready, nextCourse, searchCourse, insertCourse, needCourse, deleteCourse, standsLast}
+use Rattle.footing.proofs.AcrossLaws.{across-idle}
+use Rattle.course.specs.Judged.{onSecond, judgedAt, judged, ifNew, courseOf, ready, nextCourse, searchCourse, insertCourse, needCourse, deleteCourse, standsLast}
 
 -- ---- the rule of a granted step
 
@@ -46,20 +48,34 @@ module _ (k : ℕ) (memory : ℕ → Page) (free : List ℕ) where
       (judgedAt op k memory free path siblings leaf fathers)
       (goes path siblings (route (keyOf op) (memory leaf)))
 
-  -- a deletion that stands rightly at its leaf goes on with its siblings
-  beside-acts : (op : Op) (path siblings more up : List ℕ) (want : ℕ) → atItsLeaf memory up ≡ true → rightlyBeside op k memory up siblings want ≡ true
-      → fromLeaf (λ (leaf : ℕ) (fathers : List ℕ). deletes k memory (keyOf op) path leaf fathers more) up ≡ fromLeaf (act op path more) up
-  unfolding act judgedAt
-  beside-acts op path siblings more [] want leaf right = absurd (false≢true leaf)
-  beside-acts (Search x) path siblings more (p ∷ up) want leaf right = absurd (false≢true right)
-  beside-acts (Insert x v) path siblings more (p ∷ up) want leaf right = absurd (false≢true right)
-  beside-acts (Delete x) path siblings more (p ∷ up) want leaf right =
+  -- a deletion that stands rightly at its leaf goes on with its siblings, a Next with its second way
+  beside-acts : (op : Op) (path siblings up : List ℕ) (want : ℕ) → atItsLeaf memory up ≡ true
+      → rightlyBeside op k memory up siblings want || rightlyAcross op k memory path siblings want ≡ true
+      → cond (isNext op)
+      (goesLeft memory path siblings want)
+      (fromLeaf (λ (leaf : ℕ) (fathers : List ℕ). deletes k memory (keyOf op) path leaf fathers (siblings ++ want ∷ [])) up)
+      ≡ fromLeaf (act op path (siblings ++ want ∷ [])) up
+  unfolding act judgedAt goesLeft
+  beside-acts op path siblings [] want leaf right = absurd (false≢true leaf)
+  beside-acts (Search x) path siblings (p ∷ up) want leaf right = not-both right (sym (across-idle (Search x) k memory path siblings want refl))
+  beside-acts (Insert x v) path siblings (p ∷ up) want leaf right = not-both right (sym (across-idle (Insert x v) k memory path siblings want refl))
+  beside-acts (Delete x) path siblings (p ∷ up) want leaf right =
+      let more : List ℕ = siblings ++ want ∷ [] in
       let found : Bool = has x (memory p .entries) in
       let next : Bool = isSibling (needs k memory x p up siblings) want in
-      let there : found ≡ true = and-first found next (and-first (found && next) (sameLevels memory (p ∷ up) (siblings ++ want ∷ [])) right) in
+      let levels : Bool = sameLevels memory (p ∷ up) more in
+      let there : found ≡ true =
+      ⊎-elim (λ beside. and-first found next (and-first (found && next) levels beside))
+      (λ across. not-both across (sym (across-idle (Delete x) k memory path siblings want refl)))
+      (or-cases (found && next && levels) (rightlyAcross (Delete x) k memory path siblings want) right) in
       sym
       (cond-true (judgedAt (Delete x) k memory free path more p up) (goes path more (route x (memory p))) leaf
       ∙ cond-true (deletes k memory x path p up more) (ends NoSuchKey []) there)
+  beside-acts (Next x) path siblings (p ∷ up) want leaf right =
+      let more : List ℕ = siblings ++ want ∷ [] in
+      sym
+      (cond-true (judgedAt (Next x) k memory free path more p up) (goes path more (route x (memory p))) leaf
+      ∙ ap (onSecond (atLeaf (Next x) k memory free path p up) memory path more) (reverse-append siblings (want ∷ [])))
 
   -- without siblings the rule at a leaf is the one for an operation that comes down
   alone-acts : (op : Op) (path : List ℕ) (leaf : ℕ) (fathers : List ℕ) → atLeaf op k memory free path leaf fathers ≡ judgedAt op k memory free path [] leaf fathers
@@ -67,6 +83,7 @@ module _ (k : ℕ) (memory : ℕ → Page) (free : List ℕ) where
   alone-acts (Search x) path leaf fathers = refl
   alone-acts (Insert x v) path leaf fathers = refl
   alone-acts (Delete x) path leaf fathers = refl
+  alone-acts (Next x) path leaf fathers = refl
 
   -- an operation that comes down to page p stands at a path that ends there
   down-acts : (op : Op) (path : List ℕ) (p : ℕ) (fathers : List ℕ) → reverse path ≡ p ∷ fathers
@@ -89,22 +106,22 @@ unfolding granted judged fitting besides comesDown act
 granted-judged op k memory free path siblings want h =
     let leaf : Bool = atItsLeaf memory (reverse path) in
     let below : Bool = descends memory (keyOf op) (path ++ want ∷ []) && isNone siblings in
-    let beside : Bool = descends memory (keyOf op) path && rightlyBeside op k memory (reverse path) siblings want in
+    let beside : Bool = descends memory (keyOf op) path && (rightlyBeside op k memory (reverse path) siblings want || rightlyAcross op k memory path siblings want) in
     let right : cond leaf beside below ≡ true = and-second (rightlyKept op k memory path want) (cond leaf beside below) h in
     split leaf refl right
   where
     split : (b : Bool) → atItsLeaf memory (reverse path) ≡ b
-        → cond b (descends memory (keyOf op) path && rightlyBeside op k memory (reverse path) siblings want) (descends memory (keyOf op) (path ++ want ∷ []) && isNone siblings) ≡ true
+        → cond b (descends memory (keyOf op) path && (rightlyBeside op k memory (reverse path) siblings want || rightlyAcross op k memory path siblings want)) (descends memory (keyOf op) (path ++ want ∷ []) && isNone siblings) ≡ true
         → cond b (besides op k memory path siblings want) (comesDown op k memory free path want)
         ≡ judged op k memory free (cond b path (kept op k memory path want)) (cond b (siblings ++ want ∷ []) [])
     split true leaf right =
-        beside-acts k memory free op path siblings (siblings ++ want ∷ []) (reverse path) want leaf
-        (and-second (descends memory (keyOf op) path) (rightlyBeside op k memory (reverse path) siblings want) right)
+        beside-acts k memory free op path siblings (reverse path) want leaf
+        (and-second (descends memory (keyOf op) path) (rightlyBeside op k memory (reverse path) siblings want || rightlyAcross op k memory path siblings want) right)
     split false above right =
         cond-ind
         (λ (l : List ℕ). cond (isLeaf (memory want)) (fromLeaf (λ (p : ℕ) (up : List ℕ). atLeaf op k memory free l p up) (reverse l)) (goes l [] (route (keyOf op) (memory want)))
         ≡ judged op k memory free l [])
-        (isSafe op k (μ (memory want)))
+        (isSafe op k (memory want))
         (λ safe. down-acts k memory free op (want ∷ []) want [] refl)
         (λ full. down-acts k memory free op (path ++ want ∷ []) want (reverse path) (reverse-append path (want ∷ [])))
 
@@ -166,10 +183,10 @@ module _ {op : Op} {k n : ℕ} {ws : List ℕ} {stand : Slot} (h : SlotStanding 
 -- ---- the courses, as the rule's words
 
 -- the last page of the path, and those above it, upward
-abbrev lowest : Slot → ℕ
+abbrev pub lowest : Slot → ℕ
 lowest stand = leafOf (stand .depth) (stand .path)
 
-abbrev above : Slot → List ℕ
+abbrev pub above : Slot → List ℕ
 above stand = fathersOf (stand .depth) (stand .path)
 
 -- The course is what the rule says of an operation that stands so, and a change may count on what it asks.
@@ -189,7 +206,7 @@ module _ (k : ℕ) (memory : ℕ → Page) (free : List ℕ) (stand : Slot) wher
   said = courseOf k memory free (pathOf stand) (siblingsOf stand)
 
   -- on to a page that is none of those held
-  next-judges : (op : Op) (next : ℕ) → (said (nextCourse stand next) ≡ ifNew (goes (pathOf stand) (siblingsOf stand) next)) × ready op memory (pathOf stand) (nextCourse stand next)
+  pub next-judges : (op : Op) (next : ℕ) → (said (nextCourse stand next) ≡ ifNew (goes (pathOf stand) (siblingsOf stand) next)) × ready op memory (pathOf stand) (nextCourse stand next)
   next-judges op next = split (member next (held stand))
     where
       split : (b : Bool) → (said (cond b Broken (Goes next)) ≡ cond (not b) (goes (pathOf stand) (siblingsOf stand) next) broken) × ready op memory (pathOf stand) (cond b Broken (Goes next))
@@ -205,7 +222,7 @@ module _ (k : ℕ) (memory : ℕ → Page) (free : List ℕ) (stand : Slot) wher
         ap (fromLeaf (act k memory free op (pathOf stand) (siblingsOf stand))) up
         ∙ cond-false (judgedAt op k memory free (pathOf stand) (siblingsOf stand) (lowest stand) (above stand)) (goes (pathOf stand) (siblingsOf stand) (route (keyOf op) (memory (lowest stand)))) high
 
-    judged-leaf : (op : Op) → isLeaf (memory (lowest stand)) ≡ true
+    pub judged-leaf : (op : Op) → isLeaf (memory (lowest stand)) ≡ true
         → judged op k memory free (pathOf stand) (siblingsOf stand) ≡ judgedAt op k memory free (pathOf stand) (siblingsOf stand) (lowest stand) (above stand)
     unfolding judged act
     judged-leaf op low =
@@ -221,73 +238,76 @@ module _ (k : ℕ) (memory : ℕ → Page) (free : List ℕ) (stand : Slot) wher
         subst (Judges op k memory free stand) (sym r)
         (on .0 ∙ ap (λ (p : ℕ). ifNew (goes (pathOf stand) (siblingsOf stand) p)) leads ∙ sym (ap ifNew (judged-above op high)), on .1)
 
+    -- at a leaf the operation does this
+    pub leaf-judges : isLeaf (memory (lowest stand)) ≡ true → (op o : Op) (course done : Course) → op ≡ o → course ≡ done
+        → (said done ≡ ifNew (judgedAt o k memory free (pathOf stand) (siblingsOf stand) (lowest stand) (above stand))) × ready o memory (pathOf stand) done
+        → Judges op k memory free stand course
+    leaf-judges low op o course done told r h =
+        subst (λ (q : Op). Judges q k memory free stand course) (sym told)
+        (subst (Judges o k memory free stand) (sym r) (h .0 ∙ sym (ap ifNew (judged-leaf o low)), h .1))
+
     -- ---- at a leaf, by what stands there under the key
 
-    module _
-        (low : isLeaf (memory (lowest stand)) ≡ true) (op : Op) (key : ℕ) (asked : key ≡ keyOf op)
-        (lot : Lot) (read : lot ≡ looked key (memory (lowest stand) .entries)) (course : Course)
-      where
-        judges-at : (o : Op) (known : Lot → Course) → op ≡ o → course ≡ known lot
-            → (said (known (looked (keyOf o) (memory (lowest stand) .entries))) ≡ ifNew (judgedAt o k memory free (pathOf stand) (siblingsOf stand) (lowest stand) (above stand)))
-            × ready o memory (pathOf stand) (known (looked (keyOf o) (memory (lowest stand) .entries)))
-            → Judges op k memory free stand course
-        judges-at o known told r h =
-            subst (λ (q : Op). Judges q k memory free stand course) (sym told)
-            (subst (Judges o k memory free stand) (sym (r ∙ ap known (read ∙ ap (λ (y : ℕ). looked y (memory (lowest stand) .entries)) (asked ∙ ap keyOf told))))
-            (h .0 ∙ sym (ap ifNew (judged-leaf o low)), h .1))
+    module _ (low : isLeaf (memory (lowest stand)) ≡ true) (op : Op) (lot : Lot) (course : Course) where
+      judges-at : (o : Op) (known : Lot → Course) → lot ≡ looked (keyOf o) (memory (lowest stand) .entries) → op ≡ o → course ≡ known lot
+          → (said (known (looked (keyOf o) (memory (lowest stand) .entries))) ≡ ifNew (judgedAt o k memory free (pathOf stand) (siblingsOf stand) (lowest stand) (above stand)))
+          × ready o memory (pathOf stand) (known (looked (keyOf o) (memory (lowest stand) .entries)))
+          → Judges op k memory free stand course
+      judges-at o known read told r h =
+          leaf-judges low op o course (known (looked (keyOf o) (memory (lowest stand) .entries))) told (r ∙ ap known read) h
 
-        pub search-judges : (x : ℕ) → op ≡ Search x → course ≡ searchCourse lot → Judges op k memory free stand course
-        unfolding judgedAt atLeaf
-        search-judges x told r =
-            judges-at (Search x) searchCourse told r
-            (split (has x (memory (lowest stand) .entries)) (information x (memory (lowest stand) .entries)))
-          where
-            split : (b : Bool) (v : ℕ) → (said (searchCourse (cond b (There v) Missing)) ≡ ends (cond b (Found v) NotFound) [])
-                × ready (Search x) memory (pathOf stand) (searchCourse (cond b (There v) Missing))
-            split true v = (refl, tt)
-            split false v = (refl, tt)
+      pub search-judges : (x : ℕ) → lot ≡ looked x (memory (lowest stand) .entries) → op ≡ Search x → course ≡ searchCourse lot → Judges op k memory free stand course
+      unfolding judgedAt atLeaf
+      search-judges x read told r =
+          judges-at (Search x) searchCourse read told r
+          (split (has x (memory (lowest stand) .entries)) (information x (memory (lowest stand) .entries)))
+        where
+          split : (b : Bool) (v : ℕ) → (said (searchCourse (cond b (There v) Missing)) ≡ ends (cond b (Found v) NotFound) [])
+              × ready (Search x) memory (pathOf stand) (searchCourse (cond b (There v) Missing))
+          split true v = (refl, tt)
+          split false v = (refl, tt)
 
-        pub insert-judges : (x v : ℕ) → op ≡ Insert x v → course ≡ insertCourse lot x v → Judges op k memory free stand course
-        unfolding judgedAt atLeaf
-        insert-judges x v told r =
-            judges-at (Insert x v) (λ (l : Lot). insertCourse l x v) told r
-            (split (has x (memory (lowest stand) .entries)) (information x (memory (lowest stand) .entries)))
-          where
-            -- once the key is known to be new
-            change : ℕ → List ℕ → Verdict
-            change leaf fathers = cond (ltb (length free) (room k memory leaf (pathOf stand))) (ends NoRoom []) (ends Inserted (insertion k memory x v free leaf fathers))
+      pub insert-judges : (x v : ℕ) → lot ≡ looked x (memory (lowest stand) .entries) → op ≡ Insert x v → course ≡ insertCourse lot x v → Judges op k memory free stand course
+      unfolding judgedAt atLeaf
+      insert-judges x v read told r =
+          judges-at (Insert x v) (λ (l : Lot). insertCourse l x v) read told r
+          (split (has x (memory (lowest stand) .entries)) (information x (memory (lowest stand) .entries)))
+        where
+          -- once the key is known to be new
+          change : ℕ → List ℕ → Verdict
+          change leaf fathers = cond (ltb (length free) (room k memory leaf (pathOf stand))) (ends NoRoom []) (ends Inserted (insertion k memory x v free leaf fathers))
 
-            split : (b : Bool) (v′ : ℕ) → (said (insertCourse (cond b (There v′) Missing) x v) ≡ ifNew (cond b (ends AlreadyThere []) (change (lowest stand) (above stand))))
-                × ready (Insert x v) memory (pathOf stand) (insertCourse (cond b (There v′) Missing) x v)
-            split true v′ = (refl, tt)
-            split false v′ = (
-              ap (fromLeaf change) up
-                  ∙ ends-new (ltb (length free) (room k memory (lowest stand) (pathOf stand))) NoRoom Inserted [] (insertion k memory x v free (lowest stand) (above stand)),
-              refl,
-            )
+          split : (b : Bool) (v′ : ℕ) → (said (insertCourse (cond b (There v′) Missing) x v) ≡ ifNew (cond b (ends AlreadyThere []) (change (lowest stand) (above stand))))
+              × ready (Insert x v) memory (pathOf stand) (insertCourse (cond b (There v′) Missing) x v)
+          split true v′ = (refl, tt)
+          split false v′ = (
+            ap (fromLeaf change) up
+                ∙ ends-new (ltb (length free) (room k memory (lowest stand) (pathOf stand))) NoRoom Inserted [] (insertion k memory x v free (lowest stand) (above stand)),
+            refl,
+          )
 
-        pub delete-judges : (x : ℕ) → op ≡ Delete x → course ≡ deleteCourse k memory x lot stand → Judges op k memory free stand course
-        unfolding judgedAt deletes
-        delete-judges x told r =
-            judges-at (Delete x) (λ (l : Lot). deleteCourse k memory x l stand) told r (split (has x (memory (lowest stand) .entries)) refl)
-          where
-            found : ℕ
-            found = information x (memory (lowest stand) .entries)
+      pub delete-judges : (x : ℕ) → lot ≡ looked x (memory (lowest stand) .entries) → op ≡ Delete x → course ≡ deleteCourse k memory x lot stand → Judges op k memory free stand course
+      unfolding judgedAt deletes
+      delete-judges x read told r =
+          judges-at (Delete x) (λ (l : Lot). deleteCourse k memory x l stand) read told r (split (has x (memory (lowest stand) .entries)) refl)
+        where
+          found : ℕ
+          found = information x (memory (lowest stand) .entries)
 
-            -- by what is needed, once the key is known to be there
-            byNeeds : (need : Need) → has x (memory (lowest stand) .entries) ≡ true
-                → (said (needCourse stand x found need) ≡ ifNew (byNeed (pathOf stand) (siblingsOf stand) (ends (Deleted found) (deletion k memory x (lowest stand) (above stand) (siblingsOf stand))) need))
-                × ready (Delete x) memory (pathOf stand) (needCourse stand x found need)
-            byNeeds nothing there = (
-              ap (fromLeaf (λ (leaf : ℕ) (fathers : List ℕ). ends (Deleted found) (deletion k memory x leaf fathers (siblingsOf stand)))) up,
-              subst (standsLast memory x) (sym up) there,
-            )
-            byNeeds (sibling s) there = next-judges (Delete x) s
-            byNeeds astray there = (refl, tt)
+          -- by what is needed, once the key is known to be there
+          byNeeds : (need : Need) → has x (memory (lowest stand) .entries) ≡ true
+              → (said (needCourse stand x found need) ≡ ifNew (byNeed (pathOf stand) (siblingsOf stand) (ends (Deleted found) (deletion k memory x (lowest stand) (above stand) (siblingsOf stand))) need))
+              × ready (Delete x) memory (pathOf stand) (needCourse stand x found need)
+          byNeeds nothing there = (
+            ap (fromLeaf (λ (leaf : ℕ) (fathers : List ℕ). ends (Deleted found) (deletion k memory x leaf fathers (siblingsOf stand)))) up,
+            (refl, subst (standsLast memory x) (sym up) there),
+          )
+          byNeeds (sibling s) there = next-judges (Delete x) s
+          byNeeds astray there = (refl, tt)
 
-            split : (b : Bool) → has x (memory (lowest stand) .entries) ≡ b
-                → (said (deleteCourse k memory x (cond b (There found) Missing) stand)
-                ≡ ifNew (cond b (deletes k memory x (pathOf stand) (lowest stand) (above stand) (siblingsOf stand)) (ends NoSuchKey [])))
-                × ready (Delete x) memory (pathOf stand) (deleteCourse k memory x (cond b (There found) Missing) stand)
-            split true there = byNeeds (needs k memory x (lowest stand) (above stand) (siblingsOf stand)) there
-            split false missing = (refl, tt)
+          split : (b : Bool) → has x (memory (lowest stand) .entries) ≡ b
+              → (said (deleteCourse k memory x (cond b (There found) Missing) stand)
+              ≡ ifNew (cond b (deletes k memory x (pathOf stand) (lowest stand) (above stand) (siblingsOf stand)) (ends NoSuchKey [])))
+              × ready (Delete x) memory (pathOf stand) (deleteCourse k memory x (cond b (There found) Missing) stand)
+          split true there = byNeeds (needs k memory x (lowest stand) (above stand) (siblingsOf stand)) there
+          split false missing = (refl, tt)

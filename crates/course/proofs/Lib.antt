@@ -1,2 +1,3 @@
 pub mod StandLaws
 pub mod JudgeLaws
+pub mod NextLaws

@@ -5,6 +5,7 @@ use mathlib.Core.List.{List, [], _∷_, _++_, reverse, append-nil, append-assoc}
 use mathlib.Core.Logic.{_⊎_, inl, inr, ⊎-elim, _≢_}
 use mathlib.Core.Path.{_≡_, refl, sym, ap, ap₂, _∙_, subst}
 use native.Mathlib.Nat.{le-of-suc-le-suc, not-suc-le-zero}
+use native.Mathlib.Numerals.{add-one}
 use native.Mathlib.Omega.{arith}
 use borrow.Author.Tests.{eqb-true, ne-eqb, ltb-true}
 use lib.Dec.{eqb, ltb}
@@ -17,7 +18,7 @@ use Rattle.ground.proofs.Choice.{cond-ind, cond-true, cond-false}
 use Rattle.ground.proofs.Limits.{path-is-way}
 use Rattle.ground.proofs.Tests.{member-from, distinct-back, distinct-snoc}
 use Rattle.page.specs.Words.{Page, μ, isLeaf}
-use Rattle.page.specs.Place.{place, has}
+use Rattle.page.specs.Place.{place, has, atOrAbove}
 use Rattle.page.specs.Short.{hasRight, neighbour}
 use Rattle.page.proofs.SoundPage.{SoundPage, sound-pointer}
 use Rattle.page.proofs.PlaceLaws.{place-most}
@@ -26,14 +27,15 @@ use Rattle.change.specs.Deletion.{Need, satisfied, needs}
 use Rattle.change.specs.Held.{Held, upward}
 use Rattle.change.proofs.HeldLaws.{Known, held-known, held-front, held-back, held-upper, upward-reverse, upward-father}
 use Rattle.slots.specs.declared.Op.{Op}
+use Rattle.slots.specs.declared.Op.the-variants.{Search, Insert, Delete, Next}
 use Rattle.slots.specs.declared.Slot.{Slot}
-use Rattle.slots.specs.Parts.{keyOf, isDelete, isOpen, openSlot, pathOf, siblingsOf, held}
+use Rattle.slots.specs.Parts.{keyOf, isDelete, isNext, isOpen, openSlot, pathOf, siblingsOf, held}
 use Rattle.slots.proofs.SoundFacts.{sound-slot}
 use Rattle.slots.proofs.Keeping.{path-new, siblings-new}
 use Rattle.footing.specs.Granted.{isSafe, kept, atItsLeaf}
-use Rattle.footing.specs.Fitting.{descends, pagesSound, rightlyKept, sameLevels, isSibling, rightlyBeside, isNone, fitting}
+use Rattle.footing.specs.Fitting.{descends, pagesSound, rightlyKept, sameLevels, isSibling, rightlyBeside, isNone, leftmost, turnsRight, rightlyAcross, fitting}
 use Rattle.footing.specs.Standing.{Asks, fits, stood, standPath, standSiblings, Standing, SlotStanding}
-use Rattle.footing.proofs.LookLaws.{descends-levels, pagesOf, asks-held}
+use Rattle.footing.proofs.LookLaws.{descends-levels, leftmost-levels, pagesOf, asks-held}
 
 -- ---- a way down
 
@@ -68,15 +70,15 @@ way-short {k} {ws = ws} {path = top ∷ below} held falls =
 
 -- it is page 0 or safe
 abbrev Topped : Op → ℕ → (ℕ → Page) → List ℕ → Type 0
-Topped op k memory path = (getD path 0 0 ≡ 0) ⊎ (isSafe op k (μ (memory (getD path 0 0))) ≡ true)
+Topped op k memory path = (getD path 0 0 ≡ 0) ⊎ (isSafe op k (memory (getD path 0 0)) ≡ true)
 
 kept-top : (op : Op) (k : ℕ) (memory : ℕ → Page) (path : List ℕ) (want : ℕ) → 1 ≤ length path
     → rightlyKept op k memory path want ≡ true → Topped op k memory path
 kept-top op k memory [] want some t = absurd (not-suc-le-zero some)
 kept-top op k memory (top ∷ below) want some t =
-    let safe = isSafe op k (μ (memory top)) in
+    let safe = isSafe op k (memory top) in
     ⊎-elim (λ e. inl (eqb-true top 0 e)) (λ s. inr s)
-    (or-cases (eqb top 0) safe (and-first (eqb top 0 || safe) (all (λ (p : ℕ). not (isSafe op k (μ (memory p)))) below) t))
+    (or-cases (eqb top 0) safe (and-first (eqb top 0 || safe) (all (λ (p : ℕ). not (isSafe op k (memory p))) below) t))
 
 -- with the want behind it; nothing is held before page 0 is granted
 longer-top : (op : Op) (k : ℕ) (memory : ℕ → Page) (path : List ℕ) (want : ℕ) → rightlyKept op k memory path want ≡ true
@@ -104,8 +106,8 @@ stands-alone {k = k} {n = n} {ws = ws} {path = path} some held falls different t
       descends = falls;
       different = subst (λ (ps : List ℕ). distinct ps ≡ true) (sym (append-nil path)) different;
       top = top;
-      levels = λ i j h. absurd (not-suc-le-zero h);
-      others = λ j h. absurd (not-suc-le-zero h);
+      levels = λ _ i j h. absurd (not-suc-le-zero h);
+      others = λ _ j h. absurd (not-suc-le-zero h);
     }
 
 -- the want at the end of the path, or alone
@@ -114,7 +116,7 @@ stands-below : {op : Op} {k n : ℕ} {ws : List ℕ} (path : List ℕ) (want : �
     → Standing op k n ws (kept op k (pageAt k ws) path want) []
 stands-below {op} {k} {n} {ws} path want held different falls right =
     let last = distinct-last path want different in
-    cond-ind (λ (now : List ℕ). Standing op k n ws now []) (isSafe op k (μ (pageAt k ws want)))
+    cond-ind (λ (now : List ℕ). Standing op k n ws now []) (isSafe op k (pageAt k ws want))
     (λ safe. stands-alone (omega arith) (held-back path (want ∷ []) held) (λ i h. absurd (not-suc-le-zero (le-of-suc-le-suc h)))
     (distinct-back path (want ∷ []) last) (inr safe))
     (λ unsafe. stands-alone (omega (arith, length-append path (want ∷ []))) held falls last (longer-top op k (pageAt k ws) path want right))
@@ -229,6 +231,31 @@ leaf-some : (memory : ℕ → Page) (path : List ℕ) → atItsLeaf memory (reve
 leaf-some memory [] t = absurd (false≢true t)
 leaf-some memory (p ∷ path) t = omega arith
 
+-- the want behind the pages beside a path
+stands-with : (op : Op) {k n : ℕ} {ws : List ℕ} (path siblings : List ℕ) (want : ℕ) → 1 ≤ length path → Falls (pageAt k ws) path
+    → Held k n ws (path ++ siblings ++ want ∷ [])
+    → distinct (want ∷ (path ++ siblings)) ≡ true
+    → rightlyKept op k (pageAt k ws) path want ≡ true
+    → length (siblings ++ want ∷ []) ≤ length path
+    → (isDelete op ≡ true → (i j : ℕ) → j < length (siblings ++ want ∷ []) → i + j + 1 ≡ length path
+    → pageAt k ws (getD path i 0) .level ≡ pageAt k ws (getD (siblings ++ want ∷ []) j 0) .level)
+    → (isDelete op ≡ true → Others (siblings ++ want ∷ []))
+    → Standing op k n ws path (siblings ++ want ∷ [])
+stands-with op {k} {n} {ws} path siblings want some falls held different above few levels others =
+    let together = append-assoc path siblings (want ∷ []) in
+    let pages : Held k n ws (path ++ (siblings ++ want ∷ [])) = subst (Held k n ws) together held in
+    record {
+      some = some;
+      deep = way-short (held-front path (siblings ++ want ∷ []) pages) falls;
+      few = few;
+      held = pages;
+      descends = falls;
+      different = subst (λ (ps : List ℕ). distinct ps ≡ true) together (distinct-last (path ++ siblings) want different);
+      top = kept-top op k (pageAt k ws) path want some above;
+      levels = levels;
+      others = others;
+    }
+
 -- a father's neighbour is not page 0
 father-names : {k n : ℕ} {ws path : List ℕ} (x : ℕ) → Held k n ws path → Falls (pageAt k ws) path
     → (i : ℕ) → suc i < length path → neighbour x (pageAt k ws (getD path i 0)) ≢ 0
@@ -258,24 +285,81 @@ module _ (op : Op) {k n : ℕ} {ws : List ℕ} (path siblings : List ℕ) (want 
       → rightlyKept op k (pageAt k ws) path want ≡ true → Standing op k n ws path (siblings ++ want ∷ [])
   stands-beside held different above =
       let beside = siblings ++ want ∷ [] in
-      let together = append-assoc path siblings (want ∷ []) in
-      let pages : Held k n ws (path ++ beside) = subst (Held k n ws) together held in
-      let own = held-front path beside pages in
       let levels = beside-levels op k (pageAt k ws) (reverse path) siblings want right in
-      record {
-        some = some;
-        deep = way-short own falls;
-        few = omega (arith, levels-few (pageAt k ws) (reverse path) beside levels, length-reverse path);
-        held = pages;
-        descends = falls;
-        different = subst (λ (ps : List ℕ). distinct ps ≡ true) together (distinct-last (path ++ siblings) want different);
-        top = kept-top op k (pageAt k ws) path want some above;
-        levels = λ i j h e.
-            subst (λ (p : ℕ). pageAt k ws p .level ≡ pageAt k ws (getD beside j 0) .level)
-            (ap (λ (up : List ℕ). getD up j 0) (reverse-upward path) ∙ upward-at (length path) j i path e)
-            (levels-at (pageAt k ws) (reverse path) beside levels j h);
-        others = beside-others own;
-      }
+      stands-with op path siblings want some falls held different above
+      (omega (arith, levels-few (pageAt k ws) (reverse path) beside levels, length-reverse path))
+      (λ _ i j h e.
+      subst (λ (p : ℕ). pageAt k ws p .level ≡ pageAt k ws (getD beside j 0) .level)
+      (ap (λ (up : List ℕ). getD up j 0) (reverse-upward path) ∙ upward-at (length path) j i path e)
+      (levels-at (pageAt k ws) (reverse path) beside levels j h))
+      (λ _. beside-others (held-front path siblings (held-front (path ++ siblings) (want ∷ []) held)))
+
+-- ---- on a second way
+
+-- what a Next on its second way tells: it is no deletion, and its way turns right at its top page
+across-told : (op : Op) (k : ℕ) (memory : ℕ → Page) (path second : List ℕ) (want : ℕ) → rightlyAcross op k memory path second want ≡ true
+    → (isNext op ≡ true) × (turnsRight memory (keyOf op) (getD path 0 0) (second ++ want ∷ []) ≡ true)
+across-told op k memory [] second want t = absurd (false≢true t)
+across-told op k memory (top ∷ below) second want t =
+    let none = isNone (atOrAbove (keyOf op) (memory (getD (reverse (top ∷ below)) 0 0) .entries)) in
+    let safe = isSafe op k (memory top) in
+    let turns = turnsRight memory (keyOf op) top (second ++ want ∷ []) in (
+      and-first (isNext op) none (and-first (isNext op && none) safe (and-first (isNext op && none && safe) turns t)),
+      and-second (isNext op && none && safe) turns t,
+    )
+
+no-deletion : (op : Op) → isNext op ≡ true → isDelete op ≡ true → ⊥
+no-deletion (Search x) t d = absurd (false≢true t)
+no-deletion (Insert x v) t d = absurd (false≢true t)
+no-deletion (Delete x) t d = absurd (false≢true t)
+no-deletion (Next x) t d = absurd (false≢true d)
+
+-- below the top page each page of the way lies a level above the next one
+turn-falls : (memory : ℕ → Page) (x top : ℕ) (way : List ℕ) → turnsRight memory x top way ≡ true → Falls memory (top ∷ way)
+turn-falls memory x top [] t i h = absurd (false≢true t)
+turn-falls memory x top (p ∷ rest) t zero h =
+    let named = eqb (neighbour x (memory top)) p in
+    let level = eqb (memory top .level) (memory p .level + 1) in
+    eqb-true (memory top .level) (memory p .level + 1) (and-second named level (and-first (named && level) (leftmost memory (p ∷ rest)) t))
+turn-falls memory x top (p ∷ rest) t (suc i) h =
+    let turns = eqb (neighbour x (memory top)) p && eqb (memory top .level) (memory p .level + 1) in
+    leftmost-levels memory (p ∷ rest) (and-second turns (leftmost memory (p ∷ rest)) t) i (le-of-suc-le-suc h)
+
+-- a path that ends in a leaf
+leaf-level : (memory : ℕ → Page) (path : List ℕ) → 1 ≤ length path → atItsLeaf memory (reverse path) ≡ true
+    → memory (getD path (length path - 1) 0) .level ≡ 1
+leaf-level memory path some leaf =
+    eqb-true (memory (getD path (length path - 1) 0) .level) 1
+    (subst (λ (up : List ℕ). atItsLeaf memory up ≡ true) (reverse-upward path ∙ upward-father (length path) path some) leaf)
+
+module _ (op : Op) {k n : ℕ} {ws : List ℕ} (path second : List ℕ) (want : ℕ) (some : 1 ≤ length path)
+    (falls : Falls (pageAt k ws) path) (right : rightlyAcross op k (pageAt k ws) path second want ≡ true)
+    (leaf : atItsLeaf (pageAt k ws) (reverse path) ≡ true) where
+  -- the way has fewer pages than the path: both go down from the top page, and the path ends in a leaf
+  across-few : Held k n ws (path ++ (second ++ want ∷ [])) → length (second ++ want ∷ []) ≤ length path
+  across-few held =
+      let memory : ℕ → Page = pageAt k ws in
+      let way : List ℕ = second ++ want ∷ [] in
+      let top : ℕ = getD path 0 0 in
+      let long : length way ≡ length second + 1 = length-append second (want ∷ []) in
+      let down = falls-steps memory path falls (length path - 1) (omega arith) in
+      let low = leaf-level memory path some leaf in
+      let left = turn-falls memory (keyOf op) top way (across-told op k memory path second want right .1) in
+      let across = falls-steps memory (top ∷ way) left (length second + 1) (omega arith) in
+      let last = held-at (held-back path way held) (length second) (omega arith) .facts .lowest in
+      let same : memory (getD (top ∷ way) (length second + 1) 0) .level ≡ memory (getD way (length second) 0) .level =
+      ap (λ (i : ℕ). memory (getD (top ∷ way) i 0) .level) (add-one (length second)) in
+      omega arith
+
+  -- the want behind the second way
+  stands-across : Held k n ws (path ++ second ++ want ∷ []) → distinct (want ∷ (path ++ second)) ≡ true
+      → rightlyKept op k (pageAt k ws) path want ≡ true → Standing op k n ws path (second ++ want ∷ [])
+  stands-across held different above =
+      let next = across-told op k (pageAt k ws) path second want right .0 in
+      stands-with op path second want some falls held different above
+      (across-few (subst (Held k n ws) (append-assoc path second (want ∷ [])) held))
+      (λ d. absurd (no-deletion op next d))
+      (λ d. absurd (no-deletion op next d))
 
 -- ---- the slot
 
@@ -320,9 +404,14 @@ module _ {op : Op} {k n : ℕ} {ws : List ℕ} {slot : Slot} (asks : Asks k n ws
   all-different = sound-slot n slot (asks .sound) .different (ap isOpen (asks .task))
 
   -- they are those that the rules would have it hold and want: by the two ways of the rule
+  abbrev besideTest : Bool
+  besideTest = rightlyBeside op k (pageAt k ws) (reverse (pathOf slot)) (siblingsOf slot) (slot .want)
+
+  abbrev acrossTest : Bool
+  acrossTest = rightlyAcross op k (pageAt k ws) (pathOf slot) (siblingsOf slot) (slot .want)
+
   abbrev atLeafTest : Bool
-  atLeafTest = descends (pageAt k ws) (keyOf op) (pathOf slot)
-      && rightlyBeside op k (pageAt k ws) (reverse (pathOf slot)) (siblingsOf slot) (slot .want)
+  atLeafTest = descends (pageAt k ws) (keyOf op) (pathOf slot) && (besideTest || acrossTest)
 
   abbrev belowTest : Bool
   belowTest = descends (pageAt k ws) (keyOf op) (pathOf slot ++ slot .want ∷ []) && isNone (siblingsOf slot)
@@ -348,13 +437,12 @@ module _ {op : Op} {k n : ℕ} {ws : List ℕ} {slot : Slot} (asks : Asks k n ws
     stood-beside : Standing op k n ws (pathOf slot) (siblingsOf slot ++ slot .want ∷ [])
     stood-beside =
         let way = descends (pageAt k ws) (keyOf op) (pathOf slot) in
-        let beside = rightlyBeside op k (pageAt k ws) (reverse (pathOf slot)) (siblingsOf slot) (slot .want) in
-        stands-beside op (pathOf slot) (siblingsOf slot) (slot .want) (leaf-some (pageAt k ws) (pathOf slot) leaf)
-        (descends-levels (pageAt k ws) (keyOf op) (pathOf slot) (and-first way beside leaf-told))
-        (and-second way beside leaf-told)
-        fits-held
-        all-different
-        fits-kept
+        let some = leaf-some (pageAt k ws) (pathOf slot) leaf in
+        let falls = descends-levels (pageAt k ws) (keyOf op) (pathOf slot) (and-first way (besideTest || acrossTest) leaf-told) in
+        ⊎-elim
+        (λ beside. stands-beside op (pathOf slot) (siblingsOf slot) (slot .want) some falls beside fits-held all-different fits-kept)
+        (λ across. stands-across op (pathOf slot) (siblingsOf slot) (slot .want) some falls across leaf fits-held all-different fits-kept)
+        (or-cases besideTest acrossTest (and-second way (besideTest || acrossTest) leaf-told))
 
   module _ (coming : atItsLeaf (pageAt k ws) (reverse (pathOf slot)) ≡ false) where
     below-told : belowTest ≡ true
@@ -426,11 +514,7 @@ module _ (op : Op) (k : ℕ) (memory : ℕ → Page) (slot : Slot) {leaf : Bool}
       (cond-false (pathOf slot) (kept op k memory (pathOf slot) (slot .want)) (sym told ∙ f))
       (cond-false (siblingsOf slot ++ slot .want ∷ []) [] (sym told ∙ f)))
 
-  module _ {m : ℕ} {safe : Bool} (counted : m ≡ μ (memory (slot .want))) (found : safe ≡ isSafe op k m) where
-    -- what the wanted page was found to be
-    tested : safe ≡ isSafe op k (μ (memory (slot .want)))
-    tested = found ∙ ap (isSafe op k) counted
-
+  module _ {safe : Bool} (tested : safe ≡ isSafe op k (memory (slot .want))) where
     -- coming down to a safe page
     pub stood-on-safe : {r : Slot} → leaf ≡ false → safe ≡ true → r ≡ openSlot op (slot .want) (slot .want ∷ []) []
         → r ≡ stood op k memory slot

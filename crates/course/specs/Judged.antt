@@ -1,28 +1,38 @@
 -- What a granted step comes to, said of the pages that the operation stands at: one rule, whether it came down or stood at its
 -- leaf. `proofs/JudgeLaws.antt` shows that it is the rule of a granted step.
-use Prim.Native.Nat.{ℕ}
+use Prim.Native.Nat.{ℕ, _-_}
 use mathlib.Core.Bool.{true, cond}
 use mathlib.Core.List.{List, [], _∷_, reverse}
 use mathlib.Core.Path.{_≡_}
-use lib.Dec.{ltb}
-use lib.ListN.{length}
+use lib.Dec.{ltb, eqb}
+use lib.ListN.{length, getD}
 use Rattle.ground.specs.Tests.{member}
 use Rattle.page.specs.Words.{Page, isLeaf}
-use Rattle.page.specs.Place.{route, has}
+use Rattle.page.specs.Place.{pointer, route, has, atOrAbove}
+use Rattle.page.specs.Short.{neighbour}
+use Rattle.page.specs.Reading.{nearest}
 use Rattle.page.specs.declared.reading.Lot.{Lot}
 use Rattle.page.specs.declared.reading.Lot.the-variants.{There, Missing}
+use Rattle.page.specs.declared.reading.Nearest.{Nearest}
+use Rattle.page.specs.declared.reading.Nearest.the-variants.{Lot as TheLot, Nothing}
 use Rattle.change.specs.Insertion.{room, insertion}
 use Rattle.change.specs.Deletion.{Need, nothing, sibling, astray, needs, deletion}
 use Rattle.change.specs.Held.{leafOf, fathersOf}
 use Rattle.slots.specs.declared.Op.{Op}
-use Rattle.slots.specs.declared.Op.the-variants.{Search, Insert, Delete}
-use Rattle.slots.specs.declared.Answer.the-variants.{Found, NotFound, Inserted, AlreadyThere, Deleted, NoSuchKey, NoRoom}
+use Rattle.slots.specs.declared.Op.the-variants.{Search, Insert, Delete, Next}
+use Rattle.slots.specs.declared.Answer.the-variants.{Found, NotFound, Inserted, AlreadyThere, Deleted, NoSuchKey, NoRoom, Next as NextLot, None as NoLot}
 use Rattle.slots.specs.declared.Slot.{Slot}
-use Rattle.slots.specs.Parts.{keyOf, siblingsOf, held}
+use Rattle.slots.specs.Parts.{keyOf, isDelete, siblingsOf, held}
 use Rattle.course.specs.declared.judging.Course.{Course}
 use Rattle.course.specs.declared.judging.Course.the-variants.{Broken, Goes, Ends, Inserts, Deletes}
-use Rattle.footing.specs.Granted.{Verdict, broken, goes, ends, deletes, atLeaf, fromLeaf}
+use Rattle.footing.specs.Granted.{Verdict, broken, goes, ends, isSafe, deletes, nextAnswer, atLeaf, fromLeaf}
 use Rattle.footing.specs.Fitting.{nextIsNew}
+
+-- A Next at its first leaf, or on its second way, given upward: there the last page of it tells.
+abbrev pub onSecond : Verdict → (ℕ → Page) → List ℕ → List ℕ → List ℕ → Verdict
+onSecond first memory path second [] = first
+onSecond first memory path second (p ∷ up) =
+    cond (isLeaf (memory p)) (ends (nextAnswer (memory p .entries)) []) (goes path second (pointer 0 (memory p)))
 
 -- at the leaf, with these siblings held
 unfoldable pub judgedAt : Op → ℕ → (ℕ → Page) → List ℕ → List ℕ → List ℕ → ℕ → List ℕ → Verdict
@@ -30,6 +40,8 @@ judgedAt (Search x) k memory free path siblings leaf fathers = atLeaf (Search x)
 judgedAt (Insert x v) k memory free path siblings leaf fathers = atLeaf (Insert x v) k memory free path leaf fathers
 judgedAt (Delete x) k memory free path siblings leaf fathers =
     cond (has x (memory leaf .entries)) (deletes k memory x path leaf fathers siblings) (ends NoSuchKey [])
+judgedAt (Next x) k memory free path siblings leaf fathers =
+    onSecond (atLeaf (Next x) k memory free path leaf fathers) memory path siblings (reverse siblings)
 
 -- the operation stands at this path and these siblings
 unfoldable pub judged : Op → ℕ → (ℕ → Page) → List ℕ → List ℕ → List ℕ → Verdict
@@ -67,13 +79,13 @@ abbrev pub standsLast : (ℕ → Page) → ℕ → List ℕ → Type 0
 standsLast memory x [] = ⊥
 standsLast memory x (leaf ∷ fathers) = has x (memory leaf .entries) ≡ true
 
--- what a change may count on: an insertion comes of an insertion, and what is taken out is there
+-- what a change may count on: an insertion comes of an insertion, a deletion of a deletion, and what is taken out is there
 abbrev pub ready : Op → (ℕ → Page) → List ℕ → Course → Type 0
 ready op memory path Broken = Unit {0}
 ready op memory path (Goes next) = Unit {0}
 ready op memory path (Ends a) = Unit {0}
 ready op memory path (Inserts x v) = op ≡ Insert x v
-ready op memory path (Deletes x v) = standsLast memory x (reverse path)
+ready op memory path (Deletes x v) = (isDelete op ≡ true) × standsLast memory x (reverse path)
 
 -- The courses by what was read: on to this page, if it is not held; and, at the leaf, by what stands there under the key.
 abbrev pub nextCourse : Slot → ℕ → Course
@@ -96,3 +108,26 @@ abbrev pub deleteCourse : ℕ → (ℕ → Page) → ℕ → Lot → Slot → Co
 deleteCourse k memory x Missing stand = Ends NoSuchKey
 deleteCourse k memory x (There v) stand =
     needCourse stand x v (needs k memory x (leafOf (stand .depth) (stand .path)) (fathersOf (stand .depth) (stand .path)) (siblingsOf stand))
+
+-- A Next by the first entry that was read; without one it goes this further.
+abbrev pub nearCourse : Course → Nearest → Course
+nearCourse further (TheLot y v) = Ends (NextLot y v)
+nearCourse further Nothing = further
+
+-- its first leaf has none: by the top page of its path
+abbrev pub crossCourse : ℕ → (ℕ → Page) → ℕ → Slot → Course
+crossCourse k memory x stand =
+    cond (isSafe (Next x) k (memory (getD (stand .path) 0 0))) (nextCourse stand (neighbour x (memory (getD (stand .path) 0 0)))) (Ends NoLot)
+
+abbrev pub firstCourse : ℕ → (ℕ → Page) → ℕ → Slot → Course
+firstCourse k memory x stand =
+    nearCourse (crossCourse k memory x stand) (nearest (atOrAbove x (memory (leafOf (stand .depth) (stand .path)) .entries)))
+
+-- page p of its second way was granted
+abbrev pub leftCourse : (ℕ → Page) → Slot → ℕ → Course
+leftCourse memory stand p =
+    cond (isLeaf (memory p)) (nearCourse (Ends NoLot) (nearest (memory p .entries))) (nextCourse stand (pointer 0 (memory p)))
+
+abbrev pub secondCourse : ℕ → (ℕ → Page) → ℕ → Slot → Course
+secondCourse k memory x stand =
+    cond (eqb (stand .beside) 0) (firstCourse k memory x stand) (leftCourse memory stand (getD (stand .siblings) (stand .beside - 1) 0))

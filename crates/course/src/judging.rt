@@ -1,21 +1,28 @@
 // What an operation does from where it stands.
 use change::needing::Need;
 use change::needing::needs;
+use footing::looking::has_child_right;
 use footing::looking::key_asked;
 use page::reading::Lot;
+use page::reading::Nearest;
+use pool::pages::at_or_above_of;
 use pool::pages::is_leaf_of;
 use pool::pages::look_of;
+use pool::pages::neighbour_of;
+use pool::pages::pointer_of;
 use pool::pages::route_of;
 use slots::Answer;
 use slots::Op;
 use slots::Slot;
 use slots::granting::holds;
 ghost use mathlib.Core.Path.{_≡_};
-ghost use Rattle.pool.specs.Pool.{pageAt, freePages};
-ghost use Rattle.slots.specs.declared.Op.the-variants.{Delete};
+ghost use Rattle.page.specs.Reading.{Readable};
+ghost use Rattle.pool.specs.Pool.{wordsOf, pageAt, freePages};
+ghost use Rattle.pool.specs.Wrapped.{InPool};
+ghost use Rattle.slots.specs.declared.Op.the-variants.{Delete, Next};
 ghost use Rattle.slots.specs.Parts.{pathOf, siblingsOf};
 ghost use Rattle.footing.specs.Standing.{SlotStanding};
-ghost use Rattle.course.specs.Judged.{judged, ifNew, courseOf, ready, nextCourse, searchCourse, insertCourse, deleteCourse};
+ghost use Rattle.course.specs.Judged.{judged, ifNew, courseOf, ready, nextCourse, searchCourse, insertCourse, deleteCourse, crossCourse, firstCourse, leftCourse, secondCourse};
 
 // The pages are not sound for the step; the slot goes on and wants this page; the operation ends, and no page is written; or it
 // makes the whole change of an insertion (key, information) or of a deletion (key, information that it answers).
@@ -74,6 +81,59 @@ pub fn deletes(words: &[u32], k: usize, n: usize, x: u32, lot: Lot, stand: Slot)
     }
 }
 
+// A Next whose first leaf has no key at or above its own: on to the next child to the right of its top page, or there is none.
+pub fn crosses(words: &[u32], k: usize, n: usize, x: u32, stand: Slot) -> Course
+    requires { ⌜ SlotStanding (Next x) k n (now words) stand ⌝ }
+    ensures { λ r. ⌜ r ≡ crossCourse k (pageAt k (now (words .entry))) x stand ⌝ }
+{
+    let path = stand.path;
+    let top = path[0];
+    if !has_child_right(words, k, n, x, top) {
+        return Course::Ends(Answer::None);
+    }
+    goes(stand, neighbour_of(words, k, n, top, x))
+}
+
+// A Next at its first leaf.
+pub fn nexts_first(words: &[u32], k: usize, n: usize, x: u32, stand: Slot) -> Course
+    requires { ⌜ SlotStanding (Next x) k n (now words) stand ⌝ }
+    ensures { λ r. ⌜ r ≡ firstCourse k (pageAt k (now (words .entry))) x stand ⌝ }
+{
+    let path = stand.path;
+    match at_or_above_of(words, k, n, path[stand.depth - 1], x) {
+        Nearest::Lot(y, v) => Course::Ends(Answer::Next(y, v)),
+        Nearest::Nothing => crosses(words, k, n, x, stand),
+    }
+}
+
+// A Next that was granted page p of its second way: down by p0, or, at the leaf, its first entry. Every key is at or above 0.
+pub fn nexts_left(words: &[u32], k: usize, n: usize, p: u32, stand: Slot) -> Course
+    requires { ⌜ InPool k n p (now words) ⌝ }
+    requires { ⌜ Readable (wordsOf k p (now words)) ⌝ }
+    ensures { λ r. ⌜ r ≡ leftCourse (pageAt k (now (words .entry))) stand p ⌝ }
+{
+    if !is_leaf_of(words, k, n, p) {
+        return goes(stand, pointer_of(words, k, n, p, 0));
+    }
+    match at_or_above_of(words, k, n, p, 0) {
+        Nearest::Lot(y, v) => Course::Ends(Answer::Next(y, v)),
+        Nearest::Nothing => Course::Ends(Answer::None),
+    }
+}
+
+// A Next at its leaf, by whether it holds pages of a second way.
+pub fn nexts(words: &[u32], k: usize, n: usize, x: u32, stand: Slot) -> Course
+    requires { ⌜ SlotStanding (Next x) k n (now words) stand ⌝ }
+    ensures { λ r. ⌜ r ≡ secondCourse k (pageAt k (now (words .entry))) x stand ⌝ }
+{
+    let beside = stand.beside;
+    if beside == 0 {
+        return nexts_first(words, k, n, x, stand);
+    }
+    let second = stand.siblings;
+    nexts_left(words, k, n, second[beside - 1], stand)
+}
+
 // What the operation does from where it stands.
 pub fn judge(words: &[u32], k: usize, n: usize, op: Op, stand: Slot) -> Course
     requires { ⌜ SlotStanding op k n (now words) stand ⌝ }
@@ -85,10 +145,10 @@ pub fn judge(words: &[u32], k: usize, n: usize, op: Op, stand: Slot) -> Course
     if !is_leaf_of(words, k, n, leaf) {
         return goes(stand, route_of(words, k, n, leaf, key_asked(op)));
     }
-    let lot = look_of(words, k, n, leaf, key_asked(op));
     match op {
-        Op::Search(_) => found(lot),
-        Op::Insert(x, v) => inserts(lot, x, v),
-        Op::Delete(x) => deletes(words, k, n, x, lot, stand),
+        Op::Search(x) => found(look_of(words, k, n, leaf, x)),
+        Op::Insert(x, v) => inserts(look_of(words, k, n, leaf, x), x, v),
+        Op::Delete(x) => deletes(words, k, n, x, look_of(words, k, n, leaf, x), stand),
+        Op::Next(x) => nexts(words, k, n, x, stand),
     }
 }

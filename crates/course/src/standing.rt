@@ -1,7 +1,6 @@
 // Where an operation stands once its want is granted.
 use footing::looking::at_leaf;
 use footing::looking::is_safe;
-use pool::pages::count_of;
 use slots::Op;
 use slots::Slot;
 use slots::book::holding_beside;
@@ -12,7 +11,7 @@ ghost use mathlib.Core.Bool.{true};
 ghost use Rattle.pool.specs.Pool.{pageAt};
 ghost use Rattle.footing.specs.Standing.{Asks, fits, stood};
 
-// At its leaf it holds one more sibling. Coming down, it holds the page alone, if that is safe, or one more on its path.
+// At its leaf it holds one more page beside its path. Coming down, it holds the page alone, if that is safe, or one more on its path.
 pub fn stands(words: &[u32], k: usize, n: usize, op: Op, slot: Slot) -> Slot
     requires { ⌜ Asks k n (now words) op slot ⌝ }
     requires { ⌜ fits op k n (now words) slot ≡ true ⌝ }
@@ -23,7 +22,7 @@ pub fn stands(words: &[u32], k: usize, n: usize, op: Op, slot: Slot) -> Slot
     if at_leaf(words, k, n, path, slot.depth) {
         return holding_beside(op, want, slot, want);
     }
-    if is_safe(op, k, count_of(words, k, n, want)) {
+    if is_safe(words, k, n, op, want) {
         return holding_one(op, want, want);
     }
     holding_more(op, want, slot, want)

@@ -144,6 +144,13 @@ module _ (memory : ℕ → Page) where
   leftmost-chain (p ∷ []) = refl
   leftmost-chain (p ∷ (q ∷ rest)) = ap (λ (b : Bool). leadsLeft p q && b) (leftmost-chain (q ∷ rest))
 
+  -- each page of it lies a level above the one behind it
+  pub leftmost-levels : (way : List ℕ) → leftmost memory way ≡ true → (i : ℕ) → suc i < length way
+      → memory (getD way i 0) .level ≡ memory (getD way (suc i) 0) .level + 1
+  leftmost-levels way t i h =
+      below-level memory (λ (p : ℕ). pointer 0 (memory p)) (getD way i 0) (getD way (suc i) 0)
+      (chain-at leadsLeft way (sym (leftmost-chain way) ∙ t) i h)
+
 -- ---- a way down by a key
 
 module _ (memory : ℕ → Page) (x : ℕ) where

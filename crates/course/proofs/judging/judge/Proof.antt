@@ -8,6 +8,7 @@ use Rattle.pool.specs.Pool.{pageAt, freePages}
 use Rattle.slots.specs.declared.Op.{Op}
 use Rattle.footing.specs.Standing.{SlotStanding}
 use Rattle.course.proofs.JudgeLaws.{standing-needing, stand-upward, stand-known, goes-judges, search-judges, insert-judges, delete-judges}
+use Rattle.course.proofs.NextLaws.{next-does}
 use Rattle.course.proofs.judging.judge.Statement.{statement}
 use Rattle.course.proofs.judging.judge.Tie as tie
 
@@ -44,53 +45,72 @@ returns c =
     (sym (c .before .before .before .before .is-leaf-of .ensures) ∙ not-true (c .before .before .before .before .is-leaf-of .result) (c .before .before .before .if1 .taken))
     (c .before .before .key-asked .ensures) (c .before .route-of .ensures) (c .goes .ensures)
 
-key-asked-requires-2 : tie.Need-key-asked-requires-2
-key-asked-requires-2 c κs = search needs
+enum-known-op : tie.Need-enum-known-op
+enum-known-op c = search needs
 
 look-of-requires : tie.Need-look-of-requires
-look-of-requires c κs = let known = stand-known (c .before .before .before .before .before .before .pre) in (known .inPool, (known .readable, known .facts .rising))
-
-enum-told : tie.Need-enum-told
-enum-told c = search needs
+look-of-requires c κs = let known = stand-known (c .before .before .before .before .before .before .before .before .pre) in (known .inPool, (known .readable, known .facts .rising))
 
 found-requires : tie.Need-found-requires
 found-requires c κs = search needs
 
-enum-known-op : tie.Need-enum-known-op
-enum-known-op c = search needs
+enum-known-op-2 : tie.Need-enum-known-op-2
+enum-known-op-2 c = search needs
+
+look-of-requires-2 : tie.Need-look-of-requires-2
+look-of-requires-2 c κs = let known = stand-known (c .before .before .before .before .before .before .before .before .pre) in (known .inPool, (known .readable, known .facts .rising))
 
 inserts-requires : tie.Need-inserts-requires
 inserts-requires c κs = search needs
 
-enum-known-op-2 : tie.Need-enum-known-op-2
-enum-known-op-2 c = search needs
+enum-known-op-3 : tie.Need-enum-known-op-3
+enum-known-op-3 c = search needs
+
+look-of-requires-3 : tie.Need-look-of-requires-3
+look-of-requires-3 c κs = let known = stand-known (c .before .before .before .before .before .before .before .before .pre) in (known .inPool, (known .readable, known .facts .rising))
 
 deletes-requires : tie.Need-deletes-requires
-deletes-requires c κs = let was = c .before .before .before .before .before .before .before .before .before .before .args in subst (λ (o : Op). SlotStanding o (was .k) (was .n) (was .words .now) (was .stand)) (c .before .op2 .given .1) (c .before .before .before .before .before .before .before .before .before .before .pre)
+deletes-requires c κs =
+    let start = c .before .before .before .before .before .before .before .before .before in
+    let was = start .args in
+    subst (λ (o : Op). SlotStanding o (was .k) (was .n) (was .words .now) (was .stand)) (c .before .before .op3 .given .1) (start .pre)
+
+enum-known-op-4 : tie.Need-enum-known-op-4
+enum-known-op-4 c = search needs
+
+nexts-requires : tie.Need-nexts-requires
+nexts-requires c κs =
+    let start = c .before .before .before .before .before .before .before .before in
+    let was = start .args in
+    subst (λ (o : Op). SlotStanding o (was .k) (was .n) (was .words .now) (was .stand)) (c .before .op4 .given .1) (start .pre)
 
 returns-2 : tie.Need-returns-2
 returns-2 c =
     let was = c .before .before .before .before .before .before .before .before .before .before .args in
     search-judges (was .k) (pageAt (was .k) (was .words .now)) (freePages (was .k) (was .n) (was .words .now)) (was .stand) (stand-upward (c .before .before .before .before .before .before .before .before .before .before .pre))
     (sym (c .before .before .before .before .before .before .is-leaf-of .ensures) ∙ not-false (c .before .before .before .before .before .before .is-leaf-of .result) (c .before .before .before .before .before .if1 .left))
-    (was .op) (c .before .before .before .before .key-asked2 .result) (c .before .before .before .before .key-asked2 .ensures) (c .before .before .before .look-of .result) (c .before .before .before .look-of .ensures) (c .found .result)
-    _ (c .before .enum-told .given .1) (c .found .ensures)
+    (was .op) (c .before .look-of .result) (c .found .result) _ (c .before .look-of .ensures) (c .before .before .before .op .given .1) (c .found .ensures)
 
 returns-3 : tie.Need-returns-3
 returns-3 c =
-    let was = c .before .before .before .before .before .before .before .before .before .before .before .args in
-    insert-judges (was .k) (pageAt (was .k) (was .words .now)) (freePages (was .k) (was .n) (was .words .now)) (was .stand) (stand-upward (c .before .before .before .before .before .before .before .before .before .before .before .pre))
-    (sym (c .before .before .before .before .before .before .before .is-leaf-of .ensures) ∙ not-false (c .before .before .before .before .before .before .before .is-leaf-of .result) (c .before .before .before .before .before .before .if1 .left))
-    (was .op) (c .before .before .before .before .before .key-asked2 .result) (c .before .before .before .before .before .key-asked2 .ensures) (c .before .before .before .before .look-of .result) (c .before .before .before .before .look-of .ensures) (c .inserts .result)
-    _ _ (c .before .before .op .given .1) (c .inserts .ensures)
+    let was = c .before .before .before .before .before .before .before .before .before .before .args in
+    insert-judges (was .k) (pageAt (was .k) (was .words .now)) (freePages (was .k) (was .n) (was .words .now)) (was .stand) (stand-upward (c .before .before .before .before .before .before .before .before .before .before .pre))
+    (sym (c .before .before .before .before .before .before .is-leaf-of .ensures) ∙ not-false (c .before .before .before .before .before .before .is-leaf-of .result) (c .before .before .before .before .before .if1 .left))
+    (was .op) (c .before .look-of2 .result) (c .inserts .result) _ _ (c .before .look-of2 .ensures) (c .before .before .before .op2 .given .1) (c .inserts .ensures)
 
 returns-4 : tie.Need-returns-4
 returns-4 c =
-    let was = c .before .before .before .before .before .before .before .before .before .before .before .args in
-    delete-judges (was .k) (pageAt (was .k) (was .words .now)) (freePages (was .k) (was .n) (was .words .now)) (was .stand) (stand-upward (c .before .before .before .before .before .before .before .before .before .before .before .pre))
-    (sym (c .before .before .before .before .before .before .before .is-leaf-of .ensures) ∙ not-false (c .before .before .before .before .before .before .before .is-leaf-of .result) (c .before .before .before .before .before .before .if1 .left))
-    (was .op) (c .before .before .before .before .before .key-asked2 .result) (c .before .before .before .before .before .key-asked2 .ensures) (c .before .before .before .before .look-of .result) (c .before .before .before .before .look-of .ensures) (c .deletes .result)
-    _ (c .before .before .op2 .given .1) (c .deletes .ensures)
+    let was = c .before .before .before .before .before .before .before .before .before .before .args in
+    delete-judges (was .k) (pageAt (was .k) (was .words .now)) (freePages (was .k) (was .n) (was .words .now)) (was .stand) (stand-upward (c .before .before .before .before .before .before .before .before .before .before .pre))
+    (sym (c .before .before .before .before .before .before .is-leaf-of .ensures) ∙ not-false (c .before .before .before .before .before .before .is-leaf-of .result) (c .before .before .before .before .before .if1 .left))
+    (was .op) (c .before .look-of3 .result) (c .deletes .result) _ (c .before .look-of3 .ensures) (c .before .before .before .op3 .given .1) (c .deletes .ensures)
+
+returns-5 : tie.Need-returns-5
+returns-5 c =
+    let was = c .before .before .before .before .before .before .before .before .before .args in
+    next-does (was .op) _ (pageAt (was .k) (was .words .now)) (freePages (was .k) (was .n) (was .words .now)) (c .nexts .result) (c .before .before .before .before .before .before .before .before .before .pre)
+    (sym (c .before .before .before .before .before .is-leaf-of .ensures) ∙ not-false (c .before .before .before .before .before .is-leaf-of .result) (c .before .before .before .before .if1 .left))
+    (c .before .before .op4 .given .1) (c .nexts .ensures)
 
 pub judge-spec : {M : Type 1} → statement M
 judge-spec =
@@ -104,14 +124,18 @@ judge-spec =
     route-of-requires
     goes-requires
     returns
-    key-asked-requires-2
-    look-of-requires
-    enum-told
-    found-requires
     enum-known-op
-    inserts-requires
+    look-of-requires
+    found-requires
     enum-known-op-2
+    look-of-requires-2
+    inserts-requires
+    enum-known-op-3
+    look-of-requires-3
     deletes-requires
+    enum-known-op-4
+    nexts-requires
     returns-2
     returns-3
-    returns-4)
+    returns-4
+    returns-5)

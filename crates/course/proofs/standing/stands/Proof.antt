@@ -28,14 +28,11 @@ returns c =
     stood-at-leaf (was .op) (was .k) (pageAt (was .k) (was .words .now)) (was .slot) (c .before .before .at-leaf .ensures)
     (c .before .if1 .taken) (c .holding-beside .ensures)
 
-count-of-requires : tie.Need-count-of-requires
-count-of-requires c κs =
+is-safe-requires : tie.Need-is-safe-requires
+is-safe-requires c κs =
     let pre = c .before .before .before .before .pre in
     let want = want-known (pre .0) (pre .1) in
-    (want .inPool, want .readable)
-
-is-safe-requires : tie.Need-is-safe-requires
-is-safe-requires c κs = c .before .before .before .before .before .pre .0 .width
+    (want .inPool, (want .readable, want .facts .rising))
 
 holding-one-requires : tie.Need-holding-one-requires
 holding-one-requires c κs = search needs
@@ -43,25 +40,23 @@ holding-one-requires c κs = search needs
 returns-2 : tie.Need-returns-2
 unfolding pathOf
 returns-2 c =
-    let was = c .before .before .before .before .before .before .before .before .args in
-    stood-on-safe (was .op) (was .k) (pageAt (was .k) (was .words .now)) (was .slot) (c .before .before .before .before .before .at-leaf .ensures)
-    (c .before .before .before .count-of .ensures) (c .before .before .is-safe .ensures)
-    (c .before .before .before .before .if1 .left) (c .before .if2 .taken) (c .holding-one .ensures)
+    let was = c .before .before .before .before .before .before .before .args in
+    stood-on-safe (was .op) (was .k) (pageAt (was .k) (was .words .now)) (was .slot) (c .before .before .before .before .at-leaf .ensures) (c .before .before .is-safe .ensures)
+    (c .before .before .before .if1 .left) (c .before .if2 .taken) (c .holding-one .ensures)
 
 holding-more-requires : tie.Need-holding-more-requires
 unfolding pathHolds pathOf
 holding-more-requires c κs =
-    let start = c .before .before .before .before .before .before .before in
+    let start = c .before .before .before .before .before .before in
     let cells : length (start .args .slot .path) ≡ 10 = search needs in
-    deep-enough (start .pre .0) (start .pre .1) (c .before .before .before .before .at-leaf .ensures) (c .before .before .before .if1 .left) cells
+    deep-enough (start .pre .0) (start .pre .1) (c .before .before .before .at-leaf .ensures) (c .before .before .if1 .left) cells
 
 returns-3 : tie.Need-returns-3
 unfolding pathOf
 returns-3 c =
-    let was = c .before .before .before .before .before .before .before .before .args in
-    stood-on-other (was .op) (was .k) (pageAt (was .k) (was .words .now)) (was .slot) (c .before .before .before .before .before .at-leaf .ensures)
-    (c .before .before .before .count-of .ensures) (c .before .before .is-safe .ensures)
-    (c .before .before .before .before .if1 .left) (c .before .if2 .left) (c .holding-more .ensures)
+    let was = c .before .before .before .before .before .before .before .args in
+    stood-on-other (was .op) (was .k) (pageAt (was .k) (was .words .now)) (was .slot) (c .before .before .before .before .at-leaf .ensures) (c .before .before .is-safe .ensures)
+    (c .before .before .before .if1 .left) (c .before .if2 .left) (c .holding-more .ensures)
 
 pub stands-spec : {M : Type 1} → statement M
 stands-spec =
@@ -70,7 +65,6 @@ stands-spec =
     at-leaf-requires
     holding-beside-requires
     returns
-    count-of-requires
     is-safe-requires
     holding-one-requires
     returns-2
