@@ -1,0 +1,69 @@
+-- The first entry at or above a key, by its leaf: the leaf on x's way decides where it has one, or where no page of the way has a
+-- child to the right. And the lowest key of a tree's range: its way is the leftmost one, and its leaf has the tree's first entry.
+use Prim.Native.Nat.{ℕ, zero, suc, _+_, _*_, _≤_, _<_}
+use mathlib.Core.Bool.{true, false}
+use mathlib.Core.Path.{_≡_, refl, sym, ap, _∙_, subst, subst₂}
+use mathlib.Core.List.{List, [], _∷_, _++_, append-nil}
+use native.Mathlib.Omega.{arith}
+use borrow.Author.Tests.{ltb-true, ltb-false}
+use lib.Dec.{ltb}
+use lib.ListN.{length, getD}
+use Rattle.ground.proofs.Bools.{not-both}
+use Rattle.ground.proofs.Choice.{by-test}
+use Rattle.page.specs.Words.{Keyed, Entry, Page}
+use Rattle.page.specs.Place.{pointer, atOrAbove}
+use Rattle.page.specs.Short.{hasRight}
+use Rattle.tree.specs.Rows.{headKey, Span, gathered, rowPage}
+use Rattle.tree.specs.Tree.{Tr, pageNumber, entriesOf, InRange, Holds, way, leafOn}
+use Rattle.tree.specs.Facts.{SameFirst}
+use Rattle.tree.proofs.Rows.{middle-before}
+use Rattle.tree.proofs.Sorted.{Within, within-gathered, atOrAbove-behind, atOrAbove-second, atOrAbove-first}
+use Rattle.tree.proofs.Pages.{right-hasRight}
+use Rattle.tree.proofs.Search.{Down, down, down-at, each-here, within-entries, entries-parts, way-lower, way-top}
+
+-- a first entry at or above x stays the first where more entries come behind
+pub nearest-append : (x : ℕ) (es front back : List Entry) → SameFirst es (atOrAbove x front) → SameFirst es (atOrAbove x (front ++ back))
+nearest-append x es front back s = record {
+  first = s .first;
+  rest = s .rest;
+  rest′ = s .rest′ ++ back;
+  one = s .one;
+  other = atOrAbove-first x front back (s .first) (s .rest′) (s .other);
+}
+
+-- The way of y through the child to which y belongs,
+module _ (k m M y l : ℕ) (t : Tr (suc l)) (lo hi : ℕ) (r : InRange k m M (suc l) t lo hi)
+    (before : List (Keyed (Tr l))) (here : Keyed (Tr l)) (after : List (Keyed (Tr l))) (whole : t .row ≡ before ++ here ∷ after)
+    (from : here .key ≤ y) (to : y < headKey after hi) where
+  -- page by page,
+  pub way-through : (j : ℕ) → j ≤ l → getD (way y (suc l) t) j 0 ≡ getD (way y l (here .value)) j 0
+  unfolding down-at
+  way-through j h = way-lower k y l t hi (down-at k m M y l t lo hi r before here after whole from to) j h
+
+  -- and its leaf
+  pub leaf-through : leafOn y (suc l) t ≡ leafOn y l (here .value)
+  unfolding down-at
+  leaf-through = down-at k m M y l t lo hi r before here after whole from to .leafOf
+
+module _ (k x : ℕ) where
+  -- the entries before the child to which x belongs are all below x
+  pub nearest-below : (l : ℕ) (t : Tr (suc l)) (hi : ℕ) (d : Down k x l t hi)
+      → atOrAbove x (entriesOf (suc l) t) ≡ atOrAbove x (entriesOf l (d .here .value) ++ gathered (entriesOf l) (d .after))
+  nearest-below l t hi d =
+      let P : Tr l → ℕ → ℕ → Type 0 = InRange k k (2 * k) l in
+      let inner : (c : Tr l) (a b : ℕ) → a < b → P c a b → Within a (entriesOf l c) b = λ c a b h s. within-entries k k (2 * k) l c a b s in
+      let low = within-gathered P (entriesOf l) (d .before) (d .here .key) inner (middle-before P (d .before) (d .here) (d .after) hi (d .span)) in
+      ap (atOrAbove x) (entries-parts k x l t hi d)
+      ∙ atOrAbove-second x (gathered (entriesOf l) (d .before)) (entriesOf l (d .here .value) ++ gathered (entriesOf l) (d .after))
+      (atOrAbove-behind x (d .here .key) (gathered (entriesOf l) (d .before)) (low .1) (d .from))
+
+  -- a leaf of x's way with an entry at or above x has the tree's first
+  pub leaf-nearest : (m M l : ℕ) (t : Tr l) (lo hi : ℕ) → InRange k m M l t lo hi → lo ≤ x → x < hi
+      → (e : Entry) (es : List Entry) → atOrAbove x (leafOn x l t) ≡ e ∷ es → SameFirst (atOrAbove x (leafOn x l t)) (atOrAbove x (entriesOf l t))
+  leaf-nearest m M zero t lo hi r low high e es some = record { first = e; rest = es; rest′ = es; one = some; other = some }
+  leaf-nearest m M (suc l) t lo hi r low high e es some =
+      let d = down k m M x l t lo hi r low high in
+      let leaf : atOrAbove x (leafOn x (suc l) t) ≡ atOrAbove x (leafOn x l (d .here .value)) = ap (atOrAbove x) (d .leafOf) in
+      let ih = leaf-nearest k (2 * k) l (d .here .value) (d .here .key) (headKey (d .after) hi) (d .child) (d .from) (d .to) e es (sym leaf ∙ some) in
+      subst₂ SameFirst (sym leaf) (sym (nearest-below l t hi d))
+      (nearest-append x (atOrAbove x (leafOn x l (d .here .value))) (entriesOf l (d .here .value)) (gathered (entriesOf l) (d .after)) ih)
