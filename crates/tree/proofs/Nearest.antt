@@ -17,7 +17,7 @@ use Rattle.tree.specs.Rows.{headKey, Span, gathered, rowPage}
 use Rattle.tree.specs.Tree.{Tr, pageNumber, entriesOf, InRange, Holds, way, leafOn}
 use Rattle.tree.specs.Facts.{SameFirst}
 use Rattle.tree.proofs.Rows.{middle-before}
-use Rattle.tree.proofs.Sorted.{Within, within-gathered, atOrAbove-behind, atOrAbove-second, atOrAbove-first}
+use Rattle.tree.proofs.Sorted.{Within, within-gathered, atOrAbove-from, atOrAbove-behind, atOrAbove-second, atOrAbove-first}
 use Rattle.tree.proofs.Pages.{right-hasRight}
 use Rattle.tree.proofs.Search.{Down, down, down-at, each-here, within-entries, entries-parts, way-lower, way-top}
 
@@ -30,6 +30,12 @@ nearest-append x es front back s = record {
   one = s .one;
   other = atOrAbove-first x front back (s .first) (s .rest′) (s .other);
 }
+
+-- a child that has none to its right is the last one
+last-child : {C : Type 0} (P : C → ℕ → ℕ → Type 0) (lv : ℕ) (at : C → ℕ) (xs : List (Keyed C)) (d : Keyed C) (ys : List (Keyed C)) (hi x : ℕ)
+    → Span P (xs ++ d ∷ ys) hi → d .key ≤ x → x < headKey ys hi → hasRight x (rowPage lv at (xs ++ d ∷ ys)) ≡ false → ys ≡ []
+last-child P lv at xs d [] hi x span low high none = refl
+last-child P lv at xs d (s ∷ ys) hi x span low high none = not-both (right-hasRight P lv at xs d s ys hi x span low high) none
 
 -- The way of y through the child to which y belongs,
 module _ (k m M y l : ℕ) (t : Tr (suc l)) (lo hi : ℕ) (r : InRange k m M (suc l) t lo hi)
@@ -67,3 +73,30 @@ module _ (k x : ℕ) where
       let ih = leaf-nearest k (2 * k) l (d .here .value) (d .here .key) (headKey (d .after) hi) (d .child) (d .from) (d .to) e es (sym leaf ∙ some) in
       subst₂ SameFirst (sym leaf) (sym (nearest-below l t hi d))
       (nearest-append x (atOrAbove x (leafOn x l (d .here .value))) (entriesOf l (d .here .value)) (gathered (entriesOf l) (d .after)) ih)
+
+  module _ (memory : ℕ → Page) where
+    -- the root page, as x's way meets it
+    pub top-page : (m M l : ℕ) (t : Tr (suc l)) (lo hi : ℕ) → InRange k m M (suc l) t lo hi → Holds memory (suc l) t → lo ≤ x → x < hi
+        → (row : List (Keyed (Tr l))) → t .row ≡ row → memory (getD (way x (suc l) t) (suc l) 0) ≡ rowPage (suc (suc l)) (pageNumber l) row
+    top-page m M l t lo hi r h low high row whole =
+        ap memory (way-top k x m M (suc l) t lo hi r low high) ∙ h .0 ∙ ap (rowPage (suc (suc l)) (pageNumber l)) whole
+
+    -- a leaf without, at the end of a way without a child to the right: there is none
+    pub none-nearest : (m M l : ℕ) (t : Tr l) (lo hi : ℕ) → InRange k m M l t lo hi → Holds memory l t → lo ≤ x → x < hi
+        → atOrAbove x (leafOn x l t) ≡ [] → ((i : ℕ) → i < l → hasRight x (memory (getD (way x l t) (suc i) 0)) ≡ false)
+        → atOrAbove x (entriesOf l t) ≡ []
+    none-nearest m M zero t lo hi r h low high none last = none
+    none-nearest m M (suc l) t lo hi r h low high none last =
+        let d = down k m M x l t lo hi r low high in
+        let row : List (Keyed (Tr l)) = d .before ++ d .here ∷ d .after in
+        let end : d .after ≡ []
+        = last-child (InRange k k (2 * k) l) (suc (suc l)) (pageNumber l) (d .before) (d .here) (d .after) hi x (d .span) (d .from) (d .to)
+        (ap (hasRight x) (sym (top-page m M l t lo hi r h low high row (d .whole))) ∙ last l (omega arith)) in
+        let ih = none-nearest k (2 * k) l (d .here .value) (d .here .key) (headKey (d .after) hi) (d .child)
+        (each-here (Holds memory l) (d .before) (d .here) (d .after) (t .row) (d .whole) (h .1)) (d .from) (d .to)
+        (sym (ap (atOrAbove x) (d .leafOf)) ∙ none)
+        (λ i b. ap (λ (q : ℕ). hasRight x (memory q)) (sym (way-lower k x l t hi d (suc i) b)) ∙ last i (omega arith)) in
+        nearest-below l t hi d
+        ∙ atOrAbove-second x (entriesOf l (d .here .value)) (gathered (entriesOf l) (d .after)) ih
+        ∙ ap (λ (ds : List (Keyed (Tr l))). atOrAbove x (gathered (entriesOf l) ds)) end
+        ∙ atOrAbove-from x x [] (omega arith)
