@@ -3,14 +3,14 @@
 use Prim.Native.Nat.{ℕ, zero, suc, _+_, _*_, _≤_, _<_}
 use mathlib.Core.Bool.{true, false}
 use mathlib.Core.Path.{_≡_, refl, sym, ap, _∙_, subst, subst₂}
-use mathlib.Core.List.{List, [], _∷_, _++_, append-nil}
+use mathlib.Core.List.{List, [], _∷_, _++_}
 use native.Mathlib.Omega.{arith}
 use borrow.Author.Tests.{ltb-true, ltb-false}
 use lib.Dec.{ltb}
 use lib.ListN.{length, getD}
 use Rattle.ground.proofs.Bools.{not-both}
 use Rattle.ground.proofs.Choice.{by-test}
-use Rattle.page.specs.Words.{Keyed, Entry, Page}
+use Rattle.page.specs.Words.{Keyed, keyed, Entry, Page}
 use Rattle.page.specs.Place.{pointer, atOrAbove}
 use Rattle.page.specs.Short.{hasRight}
 use Rattle.tree.specs.Rows.{headKey, Span, gathered, rowPage}
@@ -100,3 +100,62 @@ module _ (k x : ℕ) where
         ∙ atOrAbove-second x (entriesOf l (d .here .value)) (gathered (entriesOf l) (d .after)) ih
         ∙ ap (λ (ds : List (Keyed (Tr l))). atOrAbove x (gathered (entriesOf l) ds)) end
         ∙ atOrAbove-from x x [] (omega arith)
+
+-- ---- the leftmost way
+
+-- a list with entries has a first one
+first-of : (es : List Entry) → 1 ≤ length es → SameFirst es es
+first-of [] h = absurd (omega arith)
+first-of (e ∷ es) h = record { first = e; rest = es; rest′ = es; one = refl; other = refl }
+
+-- The first child of a row, where the row begins at lo.
+record Leading (k l : ℕ) (row : List (Keyed (Tr l))) (lo hi : ℕ) : Type 0 where
+  child : Tr l
+  after : List (Keyed (Tr l))
+  whole : row ≡ keyed lo child ∷ after
+  rises : lo < headKey after hi
+  inRange : InRange k k (2 * k) l child lo (headKey after hi)
+
+leading-row : (k l : ℕ) (row : List (Keyed (Tr l))) (hi : ℕ) → 1 ≤ length row → Span (InRange k k (2 * k) l) row hi → Leading k l row (headKey row hi) hi
+leading-row k l [] hi h s = absurd (omega arith)
+leading-row k l (d ∷ ds) hi h s = record { child = d .value; after = ds; whole = refl; rises = s .0; inRange = s .1 }
+
+leading : (k m M l : ℕ) (t : Tr (suc l)) (lo hi : ℕ) → InRange k m M (suc l) t lo hi → Leading k l (t .row) lo hi
+leading k m M l t lo hi r =
+    let some : m + 1 ≤ length (t .row) = r .least in
+    subst (λ (a : ℕ). Leading k l (t .row) a hi) (r .low) (leading-row k l (t .row) hi (omega arith) (r .children))
+
+-- the leaf on the way of the lowest key of the range has the tree's first entry
+pub leftmost-first : (k : ℕ) → 1 ≤ k → (m M l : ℕ) (t : Tr l) (lo hi : ℕ) → 1 ≤ m → InRange k m M l t lo hi → SameFirst (leafOn lo l t) (entriesOf l t)
+leftmost-first k some m M zero t lo hi full r =
+    let least : m ≤ length (t .entries) = r .least in
+    first-of (t .entries) (omega arith)
+leftmost-first k some m M (suc l) t lo hi full r =
+    let c = leading k m M l t lo hi r in
+    let ih = leftmost-first k some k (2 * k) l (c .child) lo (headKey (c .after) hi) some (c .inRange) in
+    record {
+      first = ih .first;
+      rest = ih .rest;
+      rest′ = ih .rest′ ++ gathered (entriesOf l) (c .after);
+      one = leaf-through k m M lo l t lo hi r [] (keyed lo (c .child)) (c .after) (c .whole) (omega arith) (c .rises) ∙ ih .one;
+      other = ap (gathered (entriesOf l)) (c .whole) ∙ ap (λ (es : List Entry). es ++ gathered (entriesOf l) (c .after)) (ih .other);
+    }
+
+-- and that way goes by p0 of each page
+pub leftmost-way : (k : ℕ) (memory : ℕ → Page) (m M l : ℕ) (t : Tr l) (lo hi : ℕ) → InRange k m M l t lo hi → Holds memory l t → lo < hi
+    → (j : ℕ) → j < l → getD (way lo l t) j 0 ≡ pointer 0 (memory (getD (way lo l t) (suc j) 0))
+leftmost-way k memory m M zero t lo hi r h rising j b = absurd (omega arith)
+leftmost-way k memory m M (suc l) t lo hi r h rising j b =
+    let c = leading k m M l t lo hi r in
+    let through = way-through k m M lo l t lo hi r [] (keyed lo (c .child)) (c .after) (c .whole) (omega arith) (c .rises) in
+    let ih = leftmost-way k memory k (2 * k) l (c .child) lo (headKey (c .after) hi) (c .inRange)
+    (each-here (Holds memory l) [] (keyed lo (c .child)) (c .after) (t .row) (c .whole) (h .1)) (c .rises) in
+    by-test (ltb j l)
+    (λ y. let under = ltb-true j l y in
+    through j (omega arith) ∙ ih j under ∙ ap (λ (q : ℕ). pointer 0 (memory q)) (sym (through (suc j) under)))
+    (λ n. let over = ltb-false j l n in
+    let e : j ≡ l = omega arith in
+    rw (e)
+    (through l (omega arith)
+    ∙ way-top k lo k (2 * k) l (c .child) lo (headKey (c .after) hi) (c .inRange) (omega arith) (c .rises)
+    ∙ ap (pointer 0) (sym (top-page k lo memory m M l t lo hi r h (omega arith) rising (keyed lo (c .child) ∷ c .after) (c .whole)))))
