@@ -1,7 +1,7 @@
 -- The first entry at or above a key, by its leaf: the leaf on x's way decides where it has one, or where no page of the way has a
 -- child to the right. And the lowest key of a tree's range: its way is the leftmost one, and its leaf has the tree's first entry.
 use Prim.Native.Nat.{ℕ, zero, suc, _+_, _*_, _≤_, _<_}
-use mathlib.Core.Bool.{true, false}
+use mathlib.Core.Bool.{false}
 use mathlib.Core.Path.{_≡_, refl, sym, ap, _∙_, subst, subst₂}
 use mathlib.Core.List.{List, [], _∷_, _++_}
 use native.Mathlib.Omega.{arith}

@@ -19,9 +19,9 @@ use Rattle.tree.specs.Rows.{headKey, Span, gathered, total, rowPage}
 use Rattle.tree.specs.Tree.{Tr, pageNumber, entriesOf, occurs, rootLeast, InRange, Holds, way, leafOn, Forms}
 use Rattle.tree.specs.Facts.{SameFirst, SecondWay, NextFacts}
 use Rattle.tree.proofs.Rows.{headKey-most, middle-has, middle-rises, middle-after, total-append}
-use Rattle.tree.proofs.Sorted.{Within, within-gathered, within-append, atOrAbove-from, atOrAbove-second}
+use Rattle.tree.proofs.Sorted.{Within, within-gathered, atOrAbove-from, atOrAbove-second}
 use Rattle.tree.proofs.Pages.{rowPage-place, rowPage-μ-around, right-neighbour}
-use Rattle.tree.proofs.Search.{Down, down, down-at, each-here, within-entries, way-top}
+use Rattle.tree.proofs.Search.{Down, down, down-at, each-here, within-entries, way-lower, way-top}
 use Rattle.tree.proofs.Memory.{stands-occurs}
 use Rattle.tree.proofs.Ways.{way-stands}
 use Rattle.tree.proofs.Nearest.{nearest-append, nearest-below, way-through, leaf-through, leaf-nearest, top-page, none-nearest, leftmost-first, leftmost-way}
@@ -52,10 +52,7 @@ page-occurs k y m M l t lo hi r low high j b =
 child-once : (l : ℕ) (t : Tr (suc l)) (before : List (Keyed (Tr l))) (here : Keyed (Tr l)) (after : List (Keyed (Tr l)))
     → t .row ≡ before ++ here ∷ after → ((q : ℕ) → occurs q (suc l) t ≤ 1) → (q : ℕ) → occurs q l (here .value) ≤ 1
 child-once l t before here after whole once q =
-    let row : total (occurs q l) (t .row) ≡ total (occurs q l) (before ++ here ∷ after) = ap (total (occurs q l)) whole in
-    let sum = total-append (occurs q l) before (here ∷ after) in
-    let most = once q in
-    omega arith
+    omega (arith, once q, ap (total (occurs q l)) whole, total-append (occurs q l) before (here ∷ after))
 
 -- Where x belongs to the child `here` of the root page, and `next` is the child to the right of it.
 module _ (k x : ℕ) (memory : ℕ → Page) (m M l : ℕ) (t : Tr (suc l)) (lo hi : ℕ) (r : InRange k m M (suc l) t lo hi)
@@ -109,10 +106,7 @@ module _ (k x : ℕ) (memory : ℕ → Page) (m M l : ℕ) (t : Tr (suc l)) (lo 
       let other : 1 ≤ occurs q l (next .value)
       = subst (λ (p : ℕ). 1 ≤ occurs p l (next .value)) same
       (page-occurs k (next .key) k (2 * k) l (next .value) (next .key) (headKey after hi) next-inRange (omega arith) next-rises j b) in
-      let row : total (occurs q l) (t .row) ≡ total (occurs q l) (before ++ here ∷ next ∷ after) = ap (total (occurs q l)) whole in
-      let sum = total-append (occurs q l) before (here ∷ next ∷ after) in
-      let most = once q in
-      omega arith
+      omega (arith, once q, ap (total (occurs q l)) whole, total-append (occurs q l) before (here ∷ next ∷ after))
 
   -- the root page is on both,
   next-meets : getD (way (next .key) (suc l) t) (suc l) 0 ≡ getD (way x (suc l) t) (suc l) 0
@@ -195,7 +189,7 @@ module _ (k x : ℕ) (memory : ℕ → Page) (m M l : ℕ) (t : Tr (suc l)) (lo 
       omega (arith, s .within)
 
   x-through : (j : ℕ) → j ≤ l → getD (way x (suc l) t) j 0 ≡ getD (way x l (d .here .value)) j 0
-  x-through = way-through k m M x l t lo hi r (d .before) (d .here) (d .after) (d .whole) (d .from) (d .to)
+  x-through = way-lower k x l t hi d
 
   y-through : (j : ℕ) → j ≤ l → getD (way y (suc l) t) j 0 ≡ getD (way y l (d .here .value)) j 0
   y-through = way-through k m M y l t lo hi r (d .before) (d .here) (d .after) (d .whole) y-from (s .within)
@@ -249,7 +243,7 @@ module _ (k x : ℕ) (memory : ℕ → Page) (some : 1 ≤ k) where
       (each-here (Holds memory l) (d .before) (d .here) (d .after) (t .row) (d .whole) (h .1))
       (child-once l t (d .before) (d .here) (d .after) (d .whole) once)
       (omega arith) (d .from) (d .to) i under
-      (ap (λ (q : ℕ). hasRight x (memory q)) (sym (way-through k m M x l t lo hi r (d .before) (d .here) (d .after) (d .whole) (d .from) (d .to) (suc i) under)) ∙ right)))
+      (ap (λ (q : ℕ). hasRight x (memory q)) (sym (way-lower k x l t hi d (suc i) under)) ∙ right)))
       (λ n. let over = ltb-false i l n in
       let e : i ≡ l = omega arith in
       let row : List (Keyed (Tr l)) = d .before ++ d .here ∷ d .after in
