@@ -280,7 +280,6 @@ module _ (es : List Entry) (r : rises es ≡ true) where
       (λ t. ap (λ (p : Reply). rises (p .entries)) (delete-there x es t) ∙ rises-without x es r)
       (λ f. ap (λ (p : Reply). rises (p .entries)) (delete-missing x es f) ∙ r)
       (true-or-false (has x es))
-
   rising (Next x) = ap rises (next-keeps x es) ∙ r
 
   found : (x v : ℕ) → plain (Search x) es .answer ≡ Found v → Among x v es
@@ -360,7 +359,6 @@ module _ (es : List Entry) (r : rises es ≡ true) where
       ∙ search-same y (without x es) es (has-without-other x y es n) (information-without-other x y es n))
       (λ f. ap (λ (p : Reply). plain (Search y) (p .entries) .answer) (delete-missing x es f))
       (true-or-false (has x es))
-
   others (Next x) y n = ap (λ (l : List Entry). plain (Search y) l .answer) (next-keeps x es)
 
   -- The plain list's laws hold of every list whose keys rise.
