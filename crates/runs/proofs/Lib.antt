@@ -2,6 +2,7 @@ pub mod Invariant
 pub mod PlainLaws
 pub mod Paths
 pub mod HeldPath
+pub mod Across
 pub mod Needing
 pub mod Placing
 pub mod Others
