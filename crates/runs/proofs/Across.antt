@@ -19,9 +19,10 @@ use Rattle.slots.specs.declared.Op.the-variants.{Search, Insert, Delete, Next}
 use Rattle.slots.specs.Parts.{keyOf, isNext}
 use Rattle.footing.specs.Granted.{isSafe}
 use Rattle.tree.specs.Tree.{Tr, occurs, way, Forms}
-use Rattle.tree.specs.Facts.{WayFacts, SecondWay, NextFacts, PlacedFor}
+use Rattle.tree.specs.Facts.{WayFacts, SecondWay, PlacedFor}
 use Rattle.tree.proofs.Search.{way-facts}
 use Rattle.tree.proofs.Ways.{place-facts}
+use Rattle.tree.proofs.Next.{next-facts}
 use Rattle.runs.specs.Stance.{Crossing}
 use Rattle.runs.proofs.Paths.{member-reverse}
 
@@ -53,8 +54,8 @@ next-right (Insert x v) k P asks safe = absurd (false≢true asks)
 next-right (Delete x) k P asks safe = absurd (false≢true asks)
 next-right (Next x) k P asks safe = and-second (not (isLeaf P)) (hasRight x P) safe
 
-module _ (op : Op) (k n : ℕ) (memory : ℕ → Page) (l : ℕ) (t : Tr l) (forms : Forms k n memory l t) (key : keyOf op < wordRange)
-    (nexts : NextFacts memory (keyOf op) l t) (path second : List ℕ) (want : ℕ) (c : Crossing op k memory l t path second want) where
+module _ (op : Op) (k n : ℕ) (memory : ℕ → Page) (l : ℕ) (t : Tr l) (one : 1 ≤ k) (forms : Forms k n memory l t)
+    (key : keyOf op < wordRange) (path second : List ℕ) (want : ℕ) (c : Crossing op k memory l t path second want) where
   abbrev x : ℕ
   x = keyOf op
 
@@ -76,7 +77,7 @@ module _ (op : Op) (k n : ℕ) (memory : ℕ → Page) (l : ℕ) (t : Tr l) (for
 
   turning : SecondWay memory x l t i
   turning =
-      nexts .second i path-inside
+      next-facts k n memory l t one forms x key .second i path-inside
       (ap (λ (p : ℕ). hasRight x (memory p)) top-page ∙ next-right op k (memory (getD path 0 0)) (c .asksNext) (c .right))
 
   -- each page is what the one before it leads to, in the slot and on the second way

@@ -246,7 +246,7 @@ module _ (k n : ℕ) (ws : List ℕ) (l : ℕ) (t : Tr l) (pool : PoolForms k n 
       by-need : (d : Need) → needs k memory x leaf fathers siblings ≡ d
           → Does (Delete x) k n ws l t path₀ siblings₀ want (byNeed path siblings change d)
       by-need nothing e = done (Deleted (information x (memory leaf .entries))) (deletion k memory x leaf fathers siblings) refl (deletion-ends e)
-      by-need (sibling s) e = on path siblings s refl (inr (inr (leaf-goes at s e))) takes
+      by-need (sibling s) e = on path siblings s refl (inr (inr (inl (leaf-goes at s e)))) takes
       by-need astray e = absurd (leaf-on-course at e)
 
       pub delete-does : Does (Delete x) k n ws l t path₀ siblings₀ want (deletes k memory x path leaf fathers siblings)
