@@ -13,7 +13,7 @@ use lib.Seq.{append-snoc, getD-at, getD-append-seam}
 use Rattle.ground.proofs.Tests.{all-from}
 use Rattle.ground.proofs.Bools.{and-both, or-first, or-second, not-of-false}
 use Rattle.ground.proofs.Choice.{cond-ind, cond-false}
-use Rattle.page.specs.Words.{Page, μ, isLeaf}
+use Rattle.page.specs.Words.{Page, isLeaf}
 use Rattle.page.specs.Place.{route}
 use Rattle.slots.specs.declared.Op.{Op}
 use Rattle.slots.specs.Parts.{keyOf}

@@ -8,6 +8,7 @@ pub mod Placing
 pub mod Others
 pub mod Granting
 pub mod Landing
+pub mod NextSteps
 pub mod Stepping
 pub mod Fathers
 pub mod Progress

@@ -28,7 +28,7 @@ use Rattle.tree.proofs.Height.{height-facts}
 use Rattle.runs.specs.Stance.{Rightly, Starting, Coming, WantsSibling, Crossing}
 use Rattle.runs.specs.Step.{Scene}
 use Rattle.runs.proofs.Paths.{times-reverse}
-use Rattle.runs.proofs.Across.{Across, across, second-pages, second-new, second-different}
+use Rattle.runs.proofs.Across.{across, second-pages, second-new, second-different}
 use Rattle.runs.proofs.Needing.{leaf-needed, beside-leaf}
 
 -- What an open slot holds and wants: "all pages named are below N; no slot holds a page twice or wants one it holds".
