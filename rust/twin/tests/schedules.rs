@@ -23,10 +23,11 @@ fn operation(random: &mut Random, keys: u64, grows: bool) -> Op {
         1 => u32::MAX,
         _ => random.below(keys) as u32,
     };
-    let (inserts, deletes) = if grows { (60, 15) } else { (15, 65) };
+    let (inserts, deletes) = if grows { (55, 15) } else { (15, 55) };
     match random.below(100) {
         drawn if drawn < inserts => Op::Insert(key, random.bits() as u32),
         drawn if drawn < inserts + deletes => Op::Delete(key),
+        drawn if drawn % 2 == 0 => Op::Next(key),
         _ => Op::Search(key),
     }
 }
@@ -121,10 +122,12 @@ fn large_pools() {
 fn every_kind_of_answer() {
     let mut random = Random(3);
     let mut run = Run::new(1, 12);
-    for _ in 0..20_000 {
+    for call in 0..20_000 {
         let slot = random.below(16) as usize;
         if random.percent(40) {
-            run.begin(slot, operation(&mut random, 30, true));
+            // the largest key has to go now and then, or there is always a next one
+            let grows = call / 2000 % 2 == 0;
+            run.begin(slot, operation(&mut random, 30, grows));
         } else {
             run.step(slot);
         }
@@ -139,6 +142,8 @@ fn every_kind_of_answer() {
         "Deleted",
         "NoSuchKey",
         "NoRoom",
+        "Next",
+        "None",
         "SlotIdle",
     ];
     for name in heard {
