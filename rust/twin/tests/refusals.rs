@@ -13,11 +13,11 @@ fn middle(random: &mut Random, k: u32, n: u32) -> Run {
     for _ in 0..200 + random.below(100) {
         let slot = random.below(16) as usize;
         let key = random.below(40) as u32;
-        match random.below(8) {
+        match random.below(9) {
             0 | 1 => run.begin(slot, Op::Insert(key, key)),
             2 => run.begin(slot, Op::Delete(key)),
-            3 if key % 2 == 0 => run.begin(slot, Op::Search(key)),
-            3 => run.begin(slot, Op::Next(key)),
+            3 => run.begin(slot, Op::Search(key)),
+            4 => run.begin(slot, Op::Next(key)),
             _ => run.step(slot),
         };
     }

@@ -27,6 +27,8 @@ fn operation(random: &mut Random, keys: u64, grows: bool) -> Op {
     match random.below(100) {
         drawn if drawn < inserts => Op::Insert(key, random.bits() as u32),
         drawn if drawn < inserts + deletes => Op::Delete(key),
+        // often beyond the last lot
+        drawn if drawn % 6 == 0 => Op::Next(u32::MAX),
         drawn if drawn % 2 == 0 => Op::Next(key),
         _ => Op::Search(key),
     }
@@ -122,12 +124,14 @@ fn large_pools() {
 fn every_kind_of_answer() {
     let mut random = Random(3);
     let mut run = Run::new(1, 12);
-    for call in 0..20_000 {
+    for _ in 0..20_000 {
         let slot = random.below(16) as usize;
         if random.percent(40) {
-            // the largest key has to go now and then, or there is always a next one
-            let grows = call / 2000 % 2 == 0;
-            run.begin(slot, operation(&mut random, 30, grows));
+            let op = operation(&mut random, 30, true);
+            // with the largest key there would always be a next one
+            if op.key() < u32::MAX || matches!(op, Op::Next(_)) {
+                run.begin(slot, op);
+            }
         } else {
             run.step(slot);
         }
