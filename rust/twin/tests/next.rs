@@ -4,7 +4,7 @@
 mod common;
 
 use common::Run;
-use twin::{is_sound, page_words, report, step, Answer, Op, Slot, State};
+use twin::{is_sound, make, page_words, report, step, Answer, Op, Slot, State};
 
 const NONE: &[u32] = &[];
 
@@ -407,6 +407,46 @@ fn beside_is_that_child_and_then_each_first_one() {
     assert_eq!(Stage::new(&[0, 5, 2], &[6], 4).says(), Answer::Damaged);
     // behind a leaf nothing follows
     assert_eq!(Stage::new(&[0, 5, 2], &[6, 3], 4).says(), Answer::Damaged);
+}
+
+/// Four levels, and a `Next` from 80 that holds 0, 1, 4, 6 and beside them 2 and 7, and wants 9.
+fn four_levels() -> Stage {
+    let mut words = vec![0; 12 * page_words(1)];
+    let (_, mut state) = make(1, 12, &mut words);
+    state.slots[0] = Slot::open(Op::Next(80), 9, &[0, 1, 4, 6], &[2, 7]);
+    state.waiting = 1;
+    Stage { state, words }
+        .with(0, [4, 1, 1, 100, 2, 0, 0])
+        .with(1, [3, 1, 3, 50, 4, 0, 0])
+        .with(4, [2, 1, 5, 70, 6, 0, 0])
+        .with(6, [1, 1, 70, 7, 0, 0, 0])
+        .with(2, [3, 1, 7, 150, 8, 0, 0])
+        .with(7, [2, 1, 9, 120, 10, 0, 0])
+        .with(9, [1, 1, 100, 7, 0, 0, 0])
+}
+
+#[test]
+fn each_page_beside_is_the_first_child_of_the_one_before() {
+    assert_eq!(four_levels().says(), Answer::Next(100, 7));
+    for (page, words) in [
+        (0, [4, 1, 1, 100, 8, 0, 0]),
+        (2, [3, 1, 8, 150, 7, 0, 0]),
+        (7, [2, 1, 10, 120, 9, 0, 0]),
+        (2, [2, 1, 7, 150, 8, 0, 0]),
+        (7, [3, 1, 9, 120, 10, 0, 0]),
+        (9, [2, 1, 3, 120, 5, 0, 0]),
+    ] {
+        let stage = four_levels().with(page, words);
+        assert_eq!(stage.says(), Answer::Damaged, "page {page}: {words:?}");
+    }
+    for (beside, want) in [(&[2][..], 9), (&[7, 2], 9), (&[2, 8], 9), (&[2, 7], 10)] {
+        let mut stage = four_levels();
+        stage.state.slots[0] = Slot::open(Op::Next(80), want, &[0, 1, 4, 6], beside);
+        assert_eq!(stage.says(), Answer::Damaged, "{beside:?} {want}");
+    }
+    let mut sooner = four_levels();
+    sooner.state.slots[0] = Slot::open(Op::Next(80), 7, &[0, 1, 4, 6], &[2]);
+    assert_eq!(sooner.says(), Answer::Moved);
 }
 
 #[test]
