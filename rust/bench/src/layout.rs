@@ -384,8 +384,7 @@ impl Layout for Columns {
             left &= left - 1;
             let word = |row: usize| self.words[at(row, s)];
             let path = (0..depths[s] as usize).map(|i| word(PATH + i));
-            let siblings = (0..besides[s] as usize).map(|i| word(SIBLINGS + i));
-            let pages = path.chain(siblings);
+            let pages = path.chain((0..besides[s] as usize).map(|i| word(SIBLINGS + i)));
             for page in pages.clone() {
                 bad |= (page >= n) | (page == wants[s]);
                 if reads(kinds[s]) {

@@ -286,9 +286,14 @@ fn place_slot(random: &mut Random, build: &mut Build, op: Op) -> Option<Slot> {
         write(random, build, 0, level, count, None);
         return Some(Slot::open(op, 0, &[], &[]));
     }
-    if let Op::Next(key) = op {
-        return place_next(random, build, key);
+    match op {
+        Op::Next(key) => place_next(random, build, key),
+        _ => place_held(random, build, op),
     }
+}
+
+/// The same for an operation that holds something and is no `Next`.
+fn place_held(random: &mut Random, build: &mut Build, op: Op) -> Option<Slot> {
     let is_beside = matches!(op, Op::Delete(_)) && random.percent(65);
     let held = match op {
         Op::Search(_) => 1,

@@ -79,7 +79,7 @@ fn operation(random: &mut Random, kind: &Kind, grows: bool) -> Op {
         0 => random.one(&[0, 1, u32::MAX - 1, u32::MAX]),
         _ => random.below(kind.keys) as u32,
     };
-    let weights = if grows { [10, 25, 75] } else { [10, 25, 35] };
+    let weights = if grows { [8, 20, 78] } else { [8, 20, 30] };
     match random.below(100) {
         drawn if drawn < weights[0] => Op::Search(key),
         drawn if drawn < weights[1] => Op::Next(key),
