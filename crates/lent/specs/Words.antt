@@ -3,7 +3,7 @@
 use Prim.Native.Nat.{ℕ, zero, suc, _+_, _*_, _/_, _%_}
 use mathlib.Core.Bool.{Bool, cond}
 use mathlib.Core.List.{List, [], _∷_, _++_}
-use lib.Dec.{eqb, ltb}
+use lib.Dec.{eqb, leb}
 use lib.ListN.{getD, take, drop, set}
 use Rattle.ground.specs.Limits.{slotCount}
 use Rattle.ground.specs.Tests.{allBelow}
@@ -35,10 +35,16 @@ cell ws r s = getD ws (address r s) 0
 unfoldable pub column : List ℕ → ℕ → ℕ → List ℕ
 column ws r s = listOf 10 (λ (j : ℕ). cell ws (r + j) s)
 
--- "closed, or open with an operation enum carrying key and information": kinds 0 to 3
+-- the highest kind of task
+abbrev pub highestKind : ℕ
+highestKind = 4
+
+-- "closed, or open with an operation enum carrying key and information": kinds 0 to 4
 abbrev pub taskFrom : ℕ → ℕ → ℕ → Task
 taskFrom kind key information =
-    cond (eqb kind 1) (Open (Search key)) (cond (eqb kind 2) (Open (Insert key information)) (cond (eqb kind 3) (Open (Delete key)) Closed))
+    cond (eqb kind 1)
+    (Open (Search key))
+    (cond (eqb kind 2) (Open (Insert key information)) (cond (eqb kind 3) (Open (Delete key)) (cond (eqb kind 4) (Open (Next key)) Closed)))
 
 -- slot s of these words
 abbrev pub slotIn : List ℕ → ℕ → Slot
@@ -61,7 +67,7 @@ asRead ws = record { k = getD ws 0 0; n = getD ws 1 0; slots = listOf 16 (slotIn
 
 -- every kind exists
 unfoldable pub known : List ℕ → Bool
-known ws = allBelow slotCount (λ (s : ℕ). ltb (cell ws 0 s) 4)
+known ws = allBelow slotCount (λ (s : ℕ). leb (cell ws 0 s) highestKind)
 
 -- The state of these words. A kind that does not exist makes them no state: they count as the empty one, "which is itself
 -- BadState".
