@@ -1,6 +1,6 @@
 -- A refused call, and one answered Waiting, leaves state and words as given, and no call changes the pool's length.
 use Prim.Native.Nat.{ℕ}
-use mathlib.Core.Bool.{true, false, not, _&&_, false≢true}
+use mathlib.Core.Bool.{true, false, not, _&&_, _||_, false≢true}
 use mathlib.Core.Path.{_≡_, refl, sym, _∙_}
 use mathlib.Core.List.{List, [], _∷_, _++_, reverse}
 use lib.Dec.{leb, ltb, eqb}
@@ -11,27 +11,27 @@ use Rattle.ground.proofs.Bools.{not-both, and-first, and-second}
 use Rattle.ground.proofs.Choice.{cond-ind, cond-true}
 use Rattle.pool.proofs.WriteLaws.{length-applied}
 use Rattle.pool.proofs.FreshLaws.{length-fresh}
-use Rattle.page.specs.Words.{Page, isLeaf}
-use Rattle.page.specs.Place.{has}
+use Rattle.page.specs.Words.{Entry, Page, isLeaf}
+use Rattle.page.specs.Place.{has, atOrAbove}
 use Rattle.pool.specs.Pool.{poolLength, kInRange, nInRange, pageAt, freePages}
 use Rattle.change.specs.Insertion.{room}
 use Rattle.change.specs.Deletion.{Need, nothing, sibling, astray, needs}
 use Rattle.slots.specs.declared.Op.{Op}
-use Rattle.slots.specs.declared.Op.the-variants.{Search, Insert, Delete}
+use Rattle.slots.specs.declared.Op.the-variants.{Search, Insert, Delete, Next}
 use Rattle.slots.specs.declared.Task.{Task}
 use Rattle.slots.specs.declared.Task.the-variants.{Closed, Open}
 use Rattle.slots.specs.declared.Slot.{Slot}
 use Rattle.slots.specs.declared.State.{State}
 use Rattle.slots.specs.declared.Answer.{Answer}
-use Rattle.slots.specs.declared.Answer.the-variants.{Waiting, Moved, NoRoom}
+use Rattle.slots.specs.declared.Answer.the-variants.{Waiting, Moved, NoRoom, Next as NextLot}
 use Rattle.slots.specs.Heard.{numberOf, refuses, changesNothing}
 use Rattle.slots.specs.Begin.{begun}
-use Rattle.slots.specs.Parts.{keyOf, slotAt, idleState, pathOf, siblingsOf}
+use Rattle.slots.specs.Parts.{keyOf, isNext, slotAt, idleState, pathOf, siblingsOf}
 use Rattle.slots.specs.Sound.{sound}
 use Rattle.slots.specs.Grant.{grants}
 use Rattle.lent.specs.Words.{stateOf, lentAfter}
 use Rattle.lent.specs.Statements.{BeginSays}
-use Rattle.footing.specs.Granted.{Verdict, broken, goes, ends, kept, byNeed, deletes, atLeaf, fromLeaf, comesDown, besides, atItsLeaf, granted}
+use Rattle.footing.specs.Granted.{Verdict, broken, goes, ends, isSafe, kept, byNeed, deletes, nextAnswer, crosses, byNearest, atLeaf, fromLeaf, comesDown, goesLeft, besides, atItsLeaf, granted}
 use Rattle.footing.specs.Fitting.{soundForStep, verdict}
 use Rattle.index.specs.Step.{Left, left, ofGranted, acted, steppedTask, stepped}
 use Rattle.index.specs.Make.{made}
@@ -52,6 +52,18 @@ deletes-answers : (k : ℕ) (memory : ℕ → Page) (x : ℕ) (path : List ℕ) 
 unfolding deletes
 deletes-answers k memory x path leaf fathers siblings = by-need path siblings _ (needs k memory x leaf fathers siblings) refl
 
+next-answers : (es : List Entry) → ofGranted (nextAnswer es) ≡ true
+next-answers [] = refl
+next-answers (e ∷ es) = refl
+
+crosses-answers : (op : Op) (k : ℕ) (memory : ℕ → Page) (path : List ℕ) → Answers (crosses op k memory path)
+crosses-answers op k memory [] = tt
+crosses-answers op k memory (top ∷ below) = cond-ind Answers (isSafe op k (memory top)) (λ _. tt) (λ _. refl)
+
+by-nearest : (further : Verdict) (es : List Entry) → Answers further → Answers (byNearest further es)
+by-nearest further [] h = h
+by-nearest further (e ∷ es) h = next-answers (e ∷ es)
+
 leaf-answers : (op : Op) (k : ℕ) (memory : ℕ → Page) (free path : List ℕ) (leaf : ℕ) (fathers : List ℕ) → Answers (atLeaf op k memory free path leaf fathers)
 unfolding atLeaf
 leaf-answers (Search x) k memory free path leaf fathers = cond-ind (λ (a : Answer). ofGranted a ≡ true) (has x (memory leaf .entries)) (λ _. refl) (λ _. refl)
@@ -60,16 +72,24 @@ leaf-answers (Insert x v) k memory free path leaf fathers =
     (λ _. cond-ind Answers (ltb (length free) (room k memory leaf path)) (λ _. refl) (λ _. refl))
 leaf-answers (Delete x) k memory free path leaf fathers =
     cond-ind Answers (has x (memory leaf .entries)) (λ _. deletes-answers k memory x path leaf fathers []) (λ _. refl)
+leaf-answers (Next x) k memory free path leaf fathers =
+    by-nearest (crosses (Next x) k memory path) (atOrAbove x (memory leaf .entries)) (crosses-answers (Next x) k memory path)
 
 from-leaf : (act : ℕ → List ℕ → Verdict) → ((leaf : ℕ) (fathers : List ℕ) → Answers (act leaf fathers)) → (up : List ℕ) → Answers (fromLeaf act up)
 from-leaf act h [] = tt
 from-leaf act h (leaf ∷ fathers) = h leaf fathers
 
+left-answers : (memory : ℕ → Page) (path second : List ℕ) (p : ℕ) → Answers (goesLeft memory path second p)
+unfolding goesLeft
+left-answers memory path second p = cond-ind Answers (isLeaf (memory p)) (λ _. next-answers (memory p .entries)) (λ _. tt)
+
 pub granted-answers : (op : Op) (k : ℕ) (memory : ℕ → Page) (free path siblings : List ℕ) (want : ℕ) → Answers (granted op k memory free path siblings want)
 unfolding granted comesDown besides
 granted-answers op k memory free path siblings want =
     cond-ind Answers (atItsLeaf memory (reverse path))
-    (λ _. from-leaf _ (λ leaf fathers. deletes-answers k memory (keyOf op) path leaf fathers (siblings ++ want ∷ [])) (reverse path))
+    (λ _. cond-ind Answers (isNext op)
+    (λ _. left-answers memory path siblings want)
+    (λ _. from-leaf _ (λ leaf fathers. deletes-answers k memory (keyOf op) path leaf fathers (siblings ++ want ∷ [])) (reverse path)))
     (λ _. cond-ind Answers (isLeaf (memory want)) (λ _. from-leaf _ (λ leaf fathers. leaf-answers op k memory free (kept op k memory path want) leaf fathers) (reverse (kept op k memory path want))) (λ _. tt))
 
 pub verdict-answers : (op : Op) (k n : ℕ) (ws path siblings : List ℕ) (want : ℕ) → Answers (verdict op k n ws path siblings want)
@@ -79,7 +99,7 @@ verdict-answers op k n ws path siblings want =
 
 -- an answer of a granted step is none that leaves all as given
 pub changes : (a : Answer) → ofGranted a ≡ true → changesNothing a ≡ false
-changes a h = lt-leb (numberOf a) (numberOf Waiting) (leb-true (numberOf Moved) (numberOf a) (and-first (leb (numberOf Moved) (numberOf a)) (leb (numberOf a) (numberOf NoRoom)) h))
+changes a h = lt-leb (numberOf a) (numberOf Waiting) (leb-true (numberOf Moved) (numberOf a) (and-first (leb (numberOf Moved) (numberOf a)) (leb (numberOf a) (numberOf NoRoom) || leb (numberOf (NextLot 0 0)) (numberOf a)) h))
 
 -- state and words are as they were given
 pub record AsGiven (st : State) (ws : List ℕ) (after : Left) : Type 0 where

@@ -7,7 +7,7 @@ use lib.Dec.{eqb, ltb}
 use lib.ListN.{getD, take, drop, set}
 use Rattle.ground.specs.Limits.{slotCount}
 use Rattle.ground.specs.Tests.{allBelow}
-use Rattle.slots.specs.declared.Op.the-variants.{Search, Insert, Delete}
+use Rattle.slots.specs.declared.Op.the-variants.{Search, Insert, Delete, Next}
 use Rattle.slots.specs.declared.Task.{Task}
 use Rattle.slots.specs.declared.Task.the-variants.{Closed, Open}
 use Rattle.slots.specs.declared.Slot.{Slot}
@@ -75,6 +75,7 @@ kindOf Closed = 0
 kindOf (Open (Search x)) = 1
 kindOf (Open (Insert x v)) = 2
 kindOf (Open (Delete x)) = 3
+kindOf (Open (Next x)) = 4
 
 -- a task's key, and its information; where it has none, 0
 abbrev pub keyIn : Task → ℕ
@@ -82,12 +83,14 @@ keyIn Closed = 0
 keyIn (Open (Search x)) = x
 keyIn (Open (Insert x v)) = x
 keyIn (Open (Delete x)) = x
+keyIn (Open (Next x)) = x
 
 abbrev pub informationIn : Task → ℕ
 informationIn Closed = 0
 informationIn (Open (Search x)) = 0
 informationIn (Open (Insert x v)) = v
 informationIn (Open (Delete x)) = 0
+informationIn (Open (Next x)) = 0
 
 -- the numbers of a slot, row by row
 abbrev pub rowsOf : Slot → List ℕ

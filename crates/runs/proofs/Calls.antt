@@ -23,7 +23,7 @@ use Rattle.slots.specs.declared.Slot.{Slot}
 use Rattle.slots.specs.declared.State.{State}
 use Rattle.slots.specs.declared.Answer.{Answer}
 use Rattle.slots.specs.declared.Answer.the-variants.{Waiting, Moved, BadState, BadPool, BadSlot, SlotIdle}
-use Rattle.slots.specs.Parts.{isOpen, isSearch, held, keyOf, slotAt, openAt, wantAt, holdsAt, pathOf, siblingsOf, openSlot, closedSlot}
+use Rattle.slots.specs.Parts.{isOpen, onlyReads, held, keyOf, slotAt, openAt, wantAt, holdsAt, pathOf, siblingsOf, openSlot, closedSlot}
 use Rattle.slots.specs.Locks.{lockOf, lockAt, isXi}
 use Rattle.slots.specs.Grant.{grants}
 use Rattle.slots.specs.Book.{rewritten, begins, goesOn, closes}
@@ -59,7 +59,7 @@ pub closed-open : {op : Op} → Closed ≡ Open op → ⊥
 closed-open e = false≢true (ap isOpen e)
 
 -- only a search has no ξ-lock
-reader-task : (op : Op) → isXi (lockOf (Open op)) ≡ false → isSearch op ≡ true
+reader-task : (op : Op) → isXi (lockOf (Open op)) ≡ false → onlyReads op ≡ true
 reader-task (Search x) e = refl
 reader-task (Insert x v) e = not-both refl e
 reader-task (Delete x) e = not-both refl e

@@ -85,7 +85,7 @@ module _ (k n : ℕ) (memory : ℕ → Page) (l : ℕ) (t : Tr l) (forms : Forms
 pub held-way : (op : Op) (k n : ℕ) (memory : ℕ → Page) (l : ℕ) (t : Tr l) (path : List ℕ) (leaf : ℕ) (fathers upper : List ℕ)
     → Forms k n memory l t → keyOf op < wordRange → Rightly op k memory path → reverse path ≡ leaf ∷ fathers
     → way (keyOf op) l t ≡ reverse path ++ upper
-    → HeldWay (λ (p : ℕ). isSafe op k (μ (memory p))) (keyOf op) l t leaf fathers
+    → HeldWay (λ (p : ℕ). isSafe op k (memory p)) (keyOf op) l t leaf fathers
 held-way op k n memory l t [] leaf fathers upper forms key rightly upward whole = absurd (omega (arith, rightly .some))
 held-way op k n memory l t (top ∷ below) leaf fathers upper forms key rightly upward whole =
     let turned : reverse (top ∷ below) ≡ reverse below ++ top ∷ [] = reverse-cons top below in
@@ -99,13 +99,13 @@ held-way op k n memory l t (top ∷ below) leaf fathers upper forms key rightly 
           ⊎-elim
           (λ e. inl (root-last k n memory l t forms (keyOf op) key (reverse below) upper
           (above ∙ ap (λ (p : ℕ). reverse below ++ p ∷ upper) e)))
-          (λ s. inr (ap (λ (p : ℕ). isSafe op k (μ (memory p))) (ends .0) ∙ s))
+          (λ s. inr (ap (λ (p : ℕ). isSafe op k (memory p)) (ends .0) ∙ s))
           (rightly .top);
       unsafe =
-          subst (λ (ps : List ℕ). all (λ (p : ℕ). not (isSafe op k (μ (memory p)))) ps ≡ true) (sym (ends .1))
-          (all-from-members (λ (p : ℕ). not (isSafe op k (μ (memory p)))) (reverse below)
+          subst (λ (ps : List ℕ). all (λ (p : ℕ). not (isSafe op k (memory p))) ps ≡ true) (sym (ends .1))
+          (all-from-members (λ (p : ℕ). not (isSafe op k (memory p))) (reverse below)
           (λ q m.
           let found = member-at q below 0 (sym (member-reverse q below) ∙ m) in
-          subst (λ (p : ℕ). not (isSafe op k (μ (memory p))) ≡ true) (found .2)
+          subst (λ (p : ℕ). not (isSafe op k (memory p)) ≡ true) (found .2)
           (not-of-false (rightly .unsafe (found .0) (omega (arith, found .1))))));
     }

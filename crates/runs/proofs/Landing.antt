@@ -22,7 +22,7 @@ use Rattle.slots.specs.declared.Op.{Op}
 use Rattle.slots.specs.declared.Op.the-variants.{Search, Insert, Delete}
 use Rattle.slots.specs.declared.Answer.{Answer}
 use Rattle.slots.specs.declared.Answer.the-variants.{Found, NotFound, Inserted, AlreadyThere, Deleted, NoSuchKey, NoRoom}
-use Rattle.slots.specs.Parts.{keyOf, isSearch, isDelete}
+use Rattle.slots.specs.Parts.{keyOf, onlyReads, isDelete}
 use Rattle.footing.specs.Granted.{Verdict, goes, ends, byNeed, deletes, atLeaf}
 use Rattle.tree.specs.Tree.{Tr, entriesOf, way, leafOn, Forms, PoolForms}
 use Rattle.tree.specs.Sorted.{inserted}
@@ -123,7 +123,7 @@ module _ (k n : ℕ) (ws : List ℕ) (l : ℕ) (t : Tr l) (pool : PoolForms k n 
         done (cond (has x es) (Found (information x es)) NotFound) []
         (ap₂ (λ (b : Bool) (v : ℕ). ends (cond b (Found v) NotFound) []) there-is told-is)
         (nothing-ends (Search x) (cond (has x es) (Found (information x es)) NotFound)
-        (inl (record { answer = refl; entries = refl; room = λ y v e m. absurd (true≢false (ap isSearch e)) })))
+        (inl (record { answer = refl; entries = refl; room = λ y v e m. absurd (true≢false (ap onlyReads e)) })))
 
     -- ---- an insertion
 

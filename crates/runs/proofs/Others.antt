@@ -124,9 +124,9 @@ module _ (op : Op) (k n : ℕ) (memory : ℕ → Page) (l : ℕ) (t : Tr l) (wri
     some = r .some;
     top =
         ⊎-elim inl
-        (λ s. inr (ap (λ (P : Page). isSafe op k (μ P)) (path-same 0 (r .some)) ∙ s))
+        (λ s. inr (ap (λ (P : Page). isSafe op k P) (path-same 0 (r .some)) ∙ s))
         (r .top);
-    unsafe = λ i h. ap (λ (P : Page). isSafe op k (μ P)) (path-same (suc i) h) ∙ r .unsafe i h;
+    unsafe = λ i h. ap (λ (P : Page). isSafe op k P) (path-same (suc i) h) ∙ r .unsafe i h;
   }
 
   -- and its path is a stretch of the way, as far from the leaf as it was

@@ -18,7 +18,7 @@ use Rattle.pool.specs.Pool.{pageAt}
 use Rattle.slots.specs.declared.Op.{Op}
 use Rattle.slots.specs.declared.Op.the-variants.{Search, Insert, Delete}
 use Rattle.slots.specs.declared.Task.the-variants.{Open}
-use Rattle.slots.specs.Parts.{keyOf, isSearch}
+use Rattle.slots.specs.Parts.{keyOf, onlyReads}
 use Rattle.slots.specs.Sound.{withinLimits}
 use Rattle.tree.specs.Tree.{Tr, pageNumber, once, occurs, way, Forms}
 use Rattle.ground.proofs.Choice.{by-test}
@@ -41,14 +41,14 @@ pub record WellHeld (op : Op) (n l : ℕ) (t : Tr l) (path siblings : List ℕ) 
 -- ---- as many as the rules allow
 
 -- "a search holds at most 1 page, an insertion at most 10, a deletion at most 10 on its path": with no siblings
-limits-alone : (op : Op) (depth : ℕ) → (isSearch op ≡ true → depth ≤ searchHolds) → depth ≤ pathHolds → withinLimits (Open op) depth 0 ≡ true
+limits-alone : (op : Op) (depth : ℕ) → (onlyReads op ≡ true → depth ≤ searchHolds) → depth ≤ pathHolds → withinLimits (Open op) depth 0 ≡ true
 limits-alone (Search x) depth few deep = and-both (le-leb depth searchHolds (few refl)) (eq-eqb 0 0 refl)
 limits-alone (Insert x v) depth few deep = and-both (le-leb depth pathHolds deep) (eq-eqb 0 0 refl)
 limits-alone (Delete x) depth few deep =
     and-both (and-both (le-leb depth pathHolds deep) (le-leb 0 siblingHolds (omega arith))) (or-first (ltb 0 depth) (eq-eqb 0 0 refl))
 
 -- for a search every page is safe, so it holds one
-search-holds : (op : Op) (k : ℕ) (memory : ℕ → Page) (path : List ℕ) → Rightly op k memory path → isSearch op ≡ true
+search-holds : (op : Op) (k : ℕ) (memory : ℕ → Page) (path : List ℕ) → Rightly op k memory path → onlyReads op ≡ true
     → length path ≤ searchHolds
 unfolding searchHolds
 search-holds (Search x) k memory path rightly e =

@@ -49,7 +49,7 @@ kept-inside : (op : Op) (k : ℕ) (memory : ℕ → Page) (path siblings : List 
     → member q (want ∷ (path ++ siblings)) ≡ true
 unfolding member
 kept-inside op k memory path siblings want q =
-    cond-ind (λ (ps : List ℕ). member q ps ≡ true → member q (want ∷ (path ++ siblings)) ≡ true) (isSafe op k (μ (memory want)))
+    cond-ind (λ (ps : List ℕ). member q ps ≡ true → member q (want ∷ (path ++ siblings)) ≡ true) (isSafe op k (memory want))
     (λ y m. or-first (member q (path ++ siblings)) (sym (or-false (eqb q want)) ∙ m))
     (λ f m. member-wider q want path siblings (member-first q want path m))
 
@@ -189,7 +189,7 @@ module _ (op : Op) (k n : ℕ) (ws : List ℕ) (l : ℕ) (t : Tr l) (path siblin
       ⊎-elim
       (λ y. inl (record { comesDown = above; safe = y; noSiblings = none; holds = cond-true (want ∷ []) (path ++ want ∷ []) y; still = refl }))
       (λ f. inr (inl (record { comesDown = above; unsafe = f; noSiblings = none; holds = cond-false (want ∷ []) (path ++ want ∷ []) f; still = refl })))
-      (true-or-false (isSafe op k (μ (pageAt k ws want))))
+      (true-or-false (isSafe op k (pageAt k ws want)))
 
   reached : Reached op k (pageAt k ws) l t path′ want
   reached = down-reached op k (pageAt k ws) l t (facts op k n ws l t path siblings want scene) path want down
