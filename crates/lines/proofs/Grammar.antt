@@ -40,7 +40,7 @@ digits-split (b ∷ bs) =
     cond-ind (λ (ds : List ℕ). b ∷ bs ≡ ds ++ drop (length ds) (b ∷ bs)) (isDigit b) (λ t. ap (λ (l : List ℕ). b ∷ l) rest) (λ f. refl)
 
 -- digits, and no digit behind them, are the digits at the front
-digits-of : (ds rest : List ℕ) → all isDigit ds ≡ true → digits rest ≡ [] → digits (ds ++ rest) ≡ ds
+pub digits-of : (ds rest : List ℕ) → all isDigit ds ≡ true → digits rest ≡ [] → digits (ds ++ rest) ≡ ds
 unfolding all digits
 digits-of [] rest t e = e
 digits-of (d ∷ ds) rest t e =
