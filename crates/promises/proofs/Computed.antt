@@ -29,6 +29,7 @@ use Rattle.runs.specs.Run.{called, run, runFrom}
 use Rattle.promises.specs.Bench.{Row, RowsHold, bench}
 use Rattle.promises.specs.MoreRows.{more}
 use Rattle.promises.specs.LongRun.{again, longRows}
+use Rattle.promises.specs.NextRows.{nextRows}
 
 -- Everything that a call unfolds to: who unfolds this unfolds all of it.
 calls : Unit {0}
@@ -92,3 +93,7 @@ more-holds = agree-holds more refl
 pub long-holds : RowsHold longRows
 unfolding calls same sames agree again
 long-holds = agree-holds longRows refl
+
+pub next-holds : RowsHold nextRows
+unfolding calls same sames agree
+next-holds = agree-holds nextRows refl
