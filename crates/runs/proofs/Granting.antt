@@ -1,7 +1,7 @@
 -- A slot that comes down its key's way: the step's tests of its pages hold, and once its want is granted it holds a stretch
 -- of the way again, with the granted page as its lowest.
 use Prim.Native.Nat.{ℕ, suc, _+_, _≤_, _<_}
-use mathlib.Core.Bool.{true, false, not, _&&_}
+use mathlib.Core.Bool.{true, false, not, _&&_, _||_}
 use mathlib.Core.List.{List, [], _∷_, _++_, reverse, reverse-append, reverse-cons, append-assoc}
 use mathlib.Core.Logic.{_⊎_, inl, inr, ⊎-elim}
 use mathlib.Core.Path.{_≡_, refl, sym, ap, ap₂, _∙_, subst}
@@ -13,12 +13,12 @@ use lib.Seq.{append-snoc, getD-at, getD-append-seam}
 use Rattle.ground.proofs.Tests.{all-from}
 use Rattle.ground.proofs.Bools.{and-both, or-first, or-second, not-of-false}
 use Rattle.ground.proofs.Choice.{cond-ind, cond-false}
-use Rattle.page.specs.Words.{Page, μ, isLeaf}
+use Rattle.page.specs.Words.{Page, isLeaf}
 use Rattle.page.specs.Place.{route}
 use Rattle.slots.specs.declared.Op.{Op}
 use Rattle.slots.specs.Parts.{keyOf}
 use Rattle.footing.specs.Granted.{isSafe, kept, atItsLeaf}
-use Rattle.footing.specs.Fitting.{descends, rightlyKept, rightlyBeside, isNone, fitting}
+use Rattle.footing.specs.Fitting.{descends, rightlyKept, rightlyBeside, rightlyAcross, isNone, fitting}
 use Rattle.tree.specs.Tree.{Tr, way}
 use Rattle.tree.specs.Facts.{WayFacts}
 use Rattle.ground.proofs.Choice.{by-test}
@@ -166,7 +166,8 @@ module _ (op : Op) (k : ℕ) (memory : ℕ → Page) where
           and-both
           (kept-test path want (down .held))
           (cond-false
-          (descends memory (keyOf op) path && rightlyBeside op k memory (reverse path) siblings want)
+          (descends memory (keyOf op) path
+          && (rightlyBeside op k memory (reverse path) siblings want || rightlyAcross op k memory path siblings want))
           (descends memory (keyOf op) (path ++ want ∷ []) && isNone siblings)
           down-above
           ∙ and-both

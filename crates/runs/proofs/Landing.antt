@@ -1,4 +1,5 @@
 -- At its leaf: a search answers, an insertion answers, lacks room or is made, a deletion answers, wants a sibling or is made.
+-- (A Next at its leaf is in `NextSteps.antt`.)
 use Prim.Native.Nat.{ℕ, _+_, _*_, _≤_, _<_}
 use mathlib.Core.Bool.{Bool, true, false, cond, _&&_, true≢false, false≢true}
 use mathlib.Core.List.{List, [], _∷_, _++_, reverse}
@@ -74,7 +75,7 @@ room-reverse k memory leaf path =
 -- ---- what the leaf tells
 
 module _ (memory : ℕ → Page) (x l : ℕ) (t : Tr l) (facts : WayFacts memory x l t) (leaf : ℕ) (rest : List ℕ) (whole : way x l t ≡ leaf ∷ rest) where
-  leaf-page : memory leaf ≡ page 1 0 (leafOn x l t)
+  pub leaf-page : memory leaf ≡ page 1 0 (leafOn x l t)
   leaf-page = ap memory (sym (ap (λ (w : List ℕ). getD w 0 0) whole)) ∙ facts .leaf
 
   pub leaf-is : isLeaf (memory leaf) ≡ true
@@ -97,7 +98,7 @@ module _ (k n : ℕ) (ws : List ℕ) (l : ℕ) (t : Tr l) (pool : PoolForms k n 
   es = entriesOf l t
 
   -- an operation that writes nothing ends so
-  nothing-ends : (op : Op) (a : Answer) → AsPlain op k n ws l t a es ⊎ (NoRoomLeft op k n ws l t a [] × (es ≡ es))
+  pub nothing-ends : (op : Op) (a : Answer) → AsPlain op k n ws l t a es ⊎ (NoRoomLeft op k n ws l t a [] × (es ≡ es))
       → Ended op k n ws l t path₀ siblings₀ want a []
   nothing-ends op a how = record {
     entries = es;
@@ -246,7 +247,7 @@ module _ (k n : ℕ) (ws : List ℕ) (l : ℕ) (t : Tr l) (pool : PoolForms k n 
       by-need : (d : Need) → needs k memory x leaf fathers siblings ≡ d
           → Does (Delete x) k n ws l t path₀ siblings₀ want (byNeed path siblings change d)
       by-need nothing e = done (Deleted (information x (memory leaf .entries))) (deletion k memory x leaf fathers siblings) refl (deletion-ends e)
-      by-need (sibling s) e = on path siblings s refl (inr (inr (leaf-goes at s e))) takes
+      by-need (sibling s) e = on path siblings s refl (inr (inr (inl (leaf-goes at s e)))) takes
       by-need astray e = absurd (leaf-on-course at e)
 
       pub delete-does : Does (Delete x) k n ws l t path₀ siblings₀ want (deletes k memory x path leaf fathers siblings)
