@@ -59,7 +59,8 @@ use Rattle.runs.proofs.Progress.{barred, barred-waits}
 use Rattle.runs.proofs.Older.{older-before, before-older}
 use Rattle.runs.proofs.Agreement.{plain-counted}
 use Rattle.promises.specs.Demand1.{Exactly}
-use Rattle.promises.specs.Demand2.{Opened, Reader, AfterEveryCall, ending, StepLocks, CallLocks, answersOf, Words, Demand2Holds}
+use Rattle.promises.specs.Demand2.{Opened, Reader, AfterEveryCall, Seen, ending, StepLocks, CallLocks, answersOf, Words, Demand2Holds}
+use Rattle.promises.proofs.Seen.{step-seen}
 
 -- ---- after every call
 
@@ -215,9 +216,10 @@ module _ (st : State) (ws : List ℕ) (inv : Invariant st ws) where
 
   ended : (s : ℕ) (b : s < slotCount) (op : Op) (a : Answer) (writes : List Write) → Opened st s op → grants st s ≡ true
       → Ended op (st .k) (st .n) ws (inv .height) (inv .tree) (pathOf (slotAt st s)) (siblingsOf (slotAt st s)) (wantAt st s) a writes
+      → stepped st ws s ≡ left a (closes st s) (applied (st .k) writes ws)
       → StepLocks st ws s (left a (closes st s) (applied (st .k) writes ws))
   unfolding closes pathOf siblingsOf padded applied
-  ended s b op a writes runs g e = record {
+  ended s b op a writes runs g e told = record {
     itself = inr (inr (record {
       op = op;
       opened = runs;
@@ -227,6 +229,7 @@ module _ (st : State) (ws : List ℕ) (inv : Invariant st ws) where
       order = waiting-closes st s order-long (inv .sound .orderNames s b (ap isOpen runs));
       writes = untouched s op a writes e;
       reads = λ other. ap (λ (W : List Write). applied (st .k) W ws) (e .writers other);
+      seen = subst (λ (r : Left). Seen (pageAt (st .k) ws (wantAt st s)) (r .answer)) told (step-seen st ws inv s op b runs g);
     }));
     others = λ u n. slot-other st (inv .shaped) s b closedSlot [] 0 u n;
     waits = not-waiting s a (closes st s) (applied (st .k) writes ws) (ends-waiting op s a writes e) (λ w. not-both g (barred-waits st s (w .2)));
@@ -241,7 +244,7 @@ module _ (st : State) (ws : List ℕ) (inv : Invariant st ws) where
   step-locks s (idle b c e) = unchanged s SlotIdle refl (not-waiting s SlotIdle st ws refl (λ w. not-both (w .1) c)) e
   step-locks s (waits op b runs g e) = unchanged s Waiting refl (λ _. (b, ap isOpen runs, barred st s g), λ _. refl) e
   step-locks s (onward op path siblings want b runs g e stance takes) = subst (StepLocks st ws s) (sym e) (moved s b op path siblings want runs takes g)
-  step-locks s (over op a writes b runs g e ends) = subst (StepLocks st ws s) (sym e) (ended s b op a writes runs g ends)
+  step-locks s (over op a writes b runs g e ends) = subst (StepLocks st ws s) (sym e) (ended s b op a writes runs g ends e)
 
   begin-locks : (s : ℕ) (op : Op) → BeginOf st s op → CallLocks st ws (begin s op) (called st ws (begin s op))
   unfolding called begins

@@ -19,7 +19,7 @@ use Rattle.slots.specs.declared.Task.the-variants.{Open}
 use Rattle.slots.specs.declared.State.{State}
 use Rattle.slots.specs.declared.Lock.the-variants.{None}
 use Rattle.slots.specs.declared.Answer.{Answer}
-use Rattle.slots.specs.declared.Answer.the-variants.{Waiting, Moved, NoRoom, Begun, Reported, BadSlot, SlotBusy, SlotIdle, BadPage}
+use Rattle.slots.specs.declared.Answer.the-variants.{Waiting, Moved, NoRoom, Begun, Reported, BadSlot, SlotBusy, SlotIdle, BadPage, Next as NextLot}
 use Rattle.slots.specs.Parts.{held, pathOf, siblingsOf, slotAt, openAt, wantAt, holdsAt, waitingOrder}
 use Rattle.slots.specs.Locks.{lockOf, clash}
 use Rattle.slots.specs.Grant.{olderThan}
@@ -33,6 +33,7 @@ use Rattle.runs.specs.Run.{Call, begin, step, report, called, runFrom, CallInWo
 use Rattle.runs.specs.Stance.{Safe, Stance, Takes}
 use Rattle.runs.specs.Waits.{Barred, Before}
 use Rattle.runs.specs.Done.{countedAnswers, writing, isOneOf}
+use Rattle.runs.specs.PlainFacts.{Among}
 use Rattle.promises.specs.Demand1.{Exactly}
 
 -- ---- after every call
@@ -96,6 +97,10 @@ pub record MovesOn (st : State) (ws : List ℕ) (s : ℕ) (after : Left) : Type 
 abbrev pub ending : List Answer
 ending = NoRoom ∷ countedAnswers
 
+-- the lot that is answered, if it is one, stands on this leaf
+abbrev pub Seen : Page → Answer → Type 0
+Seen P answer = (y v : ℕ) → answer ≡ NextLot y v → (P .level ≡ 1) × Among y v (P .entries)
+
 -- "An answer that ends the operation gives up every lock and closes the slot."
 pub record Ends (st : State) (ws : List ℕ) (s : ℕ) (after : Left) : Type 0 where
   pub op : Op
@@ -109,6 +114,8 @@ pub record Ends (st : State) (ws : List ℕ) (s : ℕ) (after : Left) : Type 0 w
       → wordsOf (st .k) q (after .words) ≡ wordsOf (st .k) q ws
   -- and only where a lot was inserted or deleted does it write at all
   pub reads : isOneOf (after .answer) writing ≡ false → after .words ≡ ws
+  -- the lot that a Next answers it reads on the leaf that this step was granted, not on one without its lock
+  pub seen : Seen (pageAt (st .k) ws (wantAt st s)) (after .answer)
 
 -- "each step takes and gives up just the locks the rules name"
 pub record StepLocks (st : State) (ws : List ℕ) (s : ℕ) (after : Left) : Type 0 where

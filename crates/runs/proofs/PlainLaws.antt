@@ -32,7 +32,7 @@ use Rattle.runs.specs.PlainFacts.{Among, Missing, FirstFrom, AllBelow, P
 -- ---- an entry stands where `has` and `information` say so
 
 -- one entry further on
-among-later : (x v : ℕ) (e : Entry) (es : List Entry) → Among x v es → Among x v (e ∷ es)
+pub among-later : (x v : ℕ) (e : Entry) (es : List Entry) → Among x v es → Among x v (e ∷ es)
 among-later x v e es a = record { before = e ∷ a .before; after = a .after; whole = ap (λ (l : List Entry). e ∷ l) (a .whole) }
 
 -- a key that stands does so with its information
