@@ -16,7 +16,7 @@ use Rattle.ground.specs.Tests.{all, padded}
 use Rattle.ground.proofs.Bools.{and-both, and-first-fails, and-second-fails, not-of-false, not-of-true}
 use Rattle.ground.proofs.Tests.{member-from}
 use Rattle.ground.proofs.Padded.{next-cell, no-cell}
-use Rattle.page.specs.Words.{Entry, Page, μ}
+use Rattle.page.specs.Words.{Entry, Page}
 use Rattle.page.specs.Place.{has, information}
 use Rattle.page.specs.Reading.{looked}
 use Rattle.page.specs.declared.reading.Lot.{Lot}
@@ -57,7 +57,7 @@ last-first path depth long some = sym (upward-reverse depth path long) ∙ upwar
 
 -- the page is not safe for the operation
 abbrev pub unsafe : Op → ℕ → (ℕ → Page) → ℕ → Bool
-unsafe op k memory p = not (isSafe op k (μ (memory p)))
+unsafe op k memory p = not (isSafe op k (memory p))
 
 module _ (op : Op) (k : ℕ) (memory : ℕ → Page) (path : List ℕ) (depth : ℕ) (long : depth ≤ length path) where
   -- none of the pages from index i on is safe
@@ -71,16 +71,16 @@ module _ (op : Op) (k : ℕ) (memory : ℕ → Page) (path : List ℕ) (depth : 
   -- the top page and the others
   by-top : (want : ℕ) → 0 < depth
       → rightlyKept op k memory (take depth path) want
-      ≡ (eqb (getD path 0 0) 0 || isSafe op k (μ (memory (getD path 0 0)))) && unsafeFrom 1
+      ≡ (eqb (getD path 0 0) 0 || isSafe op k (memory (getD path 0 0))) && unsafeFrom 1
   by-top want some = ap (λ (pages : List ℕ). rightlyKept op k memory pages want) (next-cell path depth 0 long some)
 
   -- the top page is page 0 or safe: it is the others that count
-  pub kept-top : (want : ℕ) → 0 < depth → eqb (getD path 0 0) 0 || isSafe op k (μ (memory (getD path 0 0))) ≡ true
+  pub kept-top : (want : ℕ) → 0 < depth → eqb (getD path 0 0) 0 || isSafe op k (memory (getD path 0 0)) ≡ true
       → rightlyKept op k memory (take depth path) want ≡ unsafeFrom 1
   kept-top want some t = by-top want some ∙ ap (λ (b : Bool). b && unsafeFrom 1) t
 
   -- it is neither
-  pub kept-stops-top : (want : ℕ) → 0 < depth → eqb (getD path 0 0) 0 || isSafe op k (μ (memory (getD path 0 0))) ≡ false
+  pub kept-stops-top : (want : ℕ) → 0 < depth → eqb (getD path 0 0) 0 || isSafe op k (memory (getD path 0 0)) ≡ false
       → false ≡ rightlyKept op k memory (take depth path) want
   kept-stops-top want some f = sym (by-top want some ∙ ap (λ (b : Bool). b && unsafeFrom 1) f)
 
@@ -90,11 +90,11 @@ module _ (op : Op) (k : ℕ) (memory : ℕ → Page) (path : List ℕ) (depth : 
   by-next i h = ap (all (unsafe op k memory)) (next-cell path depth i long h)
 
   -- it is not safe
-  pub kept-more : (i : ℕ) → i < depth → isSafe op k (μ (memory (getD path i 0))) ≡ false → unsafeFrom i ≡ unsafeFrom (i + 1)
+  pub kept-more : (i : ℕ) → i < depth → isSafe op k (memory (getD path i 0)) ≡ false → unsafeFrom i ≡ unsafeFrom (i + 1)
   kept-more i h f = by-next i h ∙ ap (λ (b : Bool). b && unsafeFrom (i + 1)) (not-of-false f)
 
   -- it is
-  pub kept-stops : (i : ℕ) → i < depth → isSafe op k (μ (memory (getD path i 0))) ≡ true → unsafeFrom i ≡ false
+  pub kept-stops : (i : ℕ) → i < depth → isSafe op k (memory (getD path i 0)) ≡ true → unsafeFrom i ≡ false
   kept-stops i h t = by-next i h ∙ ap (λ (b : Bool). b && unsafeFrom (i + 1)) (not-of-true t)
 
   -- there is none left
@@ -165,7 +165,7 @@ module _ (memory : ℕ → Page) (path : List ℕ) (depth : ℕ) (siblings : Lis
 -- ---- a deletion at its leaf
 
 -- a path that ends in a leaf has a page
-leaf-some : (memory : ℕ → Page) (path : List ℕ) (depth : ℕ) → atItsLeaf memory (reverse (take depth path)) ≡ true → 1 ≤ depth
+pub leaf-some : (memory : ℕ → Page) (path : List ℕ) (depth : ℕ) → atItsLeaf memory (reverse (take depth path)) ≡ true → 1 ≤ depth
 leaf-some memory path zero e = absurd (false≢true e)
 leaf-some memory path (suc depth) e = omega arith
 

@@ -1,3 +1,4 @@
 pub mod SmallRows
 pub mod LookLaws
 pub mod KeepLaws
+pub mod AcrossLaws

@@ -18,71 +18,147 @@ use Rattle.ground.proofs.Bools.{not-both, and-first, and-second, and-both, and-
 use Rattle.ground.proofs.Choice.{cond-ind, cond-true, cond-false}
 use Rattle.ground.proofs.Tests.{all-none, all-append, all-more, all-stops, all-member, below-or-at, member-append, member-from}
 use Rattle.page.specs.Words.{Page, isLeaf}
-use Rattle.page.specs.Place.{route}
+use Rattle.page.specs.Place.{pointer, route}
 use Rattle.page.specs.Sound.{soundByItself}
 use Rattle.pool.specs.Pool.{wordsOf, pageAt}
 use Rattle.change.specs.Held.{Held}
 use Rattle.change.proofs.HeldLaws.{Known, held-known, held-some, held-front, on-path, among-siblings, upward-father, upward-reverse}
 use Rattle.slots.specs.declared.Op.{Op}
-use Rattle.slots.specs.declared.Op.the-variants.{Search, Insert, Delete}
+use Rattle.slots.specs.declared.Op.the-variants.{Search, Insert, Delete, Next}
 use Rattle.slots.specs.declared.Task.{Task}
 use Rattle.slots.specs.declared.Task.the-variants.{Open}
 use Rattle.slots.specs.declared.Slot.{Slot}
 use Rattle.slots.specs.Parts.{keyOf, isOpen, pathOf, siblingsOf, held}
-use Rattle.slots.specs.Sound.{withinLimits}
+use Rattle.slots.specs.Sound.{limitsOf, withinLimits}
 use Rattle.slots.proofs.SoundFacts.{SoundSlot, sound-slot}
 use Rattle.footing.specs.Granted.{atItsLeaf}
-use Rattle.footing.specs.Fitting.{pagesSound, leads, descends, rightlyKept, rightlyBeside, isNone, fitting}
+use Rattle.footing.specs.Fitting.{pagesSound, leads, descends, rightlyKept, rightlyBeside, isNone, leftmost, rightlyAcross, fitting}
 use Rattle.footing.specs.Standing.{Asks, fits, lastLeads}
 
 -- what a branch on a test's opposite tells of the test
-told-true : {answer test : Bool} → answer ≡ test → not answer ≡ false → test ≡ true
+pub told-true : {answer test : Bool} → answer ≡ test → not answer ≡ false → test ≡ true
 told-true {answer} e f = sym e ∙ not-false answer f
 
-told-false : {answer test : Bool} → answer ≡ test → not answer ≡ true → test ≡ false
+pub told-false : {answer test : Bool} → answer ≡ test → not answer ≡ true → test ≡ false
 told-false {answer} e t = sym e ∙ not-true answer t
 
+-- ---- one page below another
+
+-- page p names page q, by its route, its p0 or as a neighbour, and q lies a level below
+abbrev pub namesBelow : (ℕ → Page) → (ℕ → ℕ) → ℕ → ℕ → Bool
+namesBelow memory names p q = eqb (names p) q && eqb (memory p .level) (memory q .level + 1)
+
+module _ (memory : ℕ → Page) (names : ℕ → ℕ) (p q : ℕ) where
+  -- the test of the levels
+  abbrev level-below : Bool
+  level-below = eqb (memory p .level) (memory q .level + 1)
+
+  module _ {answer : Bool} (said : answer ≡ level-below) where
+    -- where the levels are wrong it is not so
+    pub below-astray : not answer ≡ true → false ≡ namesBelow memory names p q
+    below-astray f = sym (and-second-fails (eqb (names p) q) (told-false said f))
+
+    -- where they are right the page that is named tells
+    pub below-named : not answer ≡ false → {named : ℕ} → named ≡ names p → eqb named q ≡ namesBelow memory names p q
+    below-named t e =
+        ap (λ (r : ℕ). eqb r q) e
+        ∙ sym (ap (λ (b : Bool). eqb (names p) q && b) (told-true said t) ∙ and-true (eqb (names p) q))
+
+  pub below-level : namesBelow memory names p q ≡ true → memory p .level ≡ memory q .level + 1
+  below-level t = eqb-true (memory p .level) (memory q .level + 1) (and-second (eqb (names p) q) level-below t)
+
+  pub below-name : namesBelow memory names p q ≡ true → names p ≡ q
+  below-name t = eqb-true (names p) q (and-first (eqb (names p) q) level-below t)
+
+-- ---- a way, link by link
+
+-- each page is linked to the one behind it
+unfoldable pub chain : (ℕ → ℕ → Bool) → List ℕ → Bool
+chain link [] = true
+chain link (p ∷ []) = true
+chain link (p ∷ (q ∷ rest)) = link p q && chain link (q ∷ rest)
+
+module _ (link : ℕ → ℕ → Bool) where
+  pub chain-at : (path : List ℕ) → chain link path ≡ true → (i : ℕ) → suc i < length path → link (getD path i 0) (getD path (suc i) 0) ≡ true
+  unfolding chain
+  chain-at [] t i h = absurd (not-suc-le-zero h)
+  chain-at (p ∷ []) t i h = absurd (not-suc-le-zero (le-of-suc-le-suc h))
+  chain-at (p ∷ (q ∷ rest)) t zero h = and-first (link p q) (chain link (q ∷ rest)) t
+  chain-at (p ∷ (q ∷ rest)) t (suc i) h = chain-at (q ∷ rest) (and-second (link p q) (chain link (q ∷ rest)) t) i (le-of-suc-le-suc h)
+
+  chain-from : (path : List ℕ) → ((i : ℕ) → suc i < length path → link (getD path i 0) (getD path (suc i) 0) ≡ true) → chain link path ≡ true
+  unfolding chain
+  chain-from [] f = refl
+  chain-from (p ∷ []) f = refl
+  chain-from (p ∷ (q ∷ rest)) f = and-both (f 0 (omega arith)) (chain-from (q ∷ rest) (λ i h. f (suc i) (omega arith)))
+
+  -- each of the first i pages of an array is linked to the one behind it
+  abbrev pub Links : List ℕ → ℕ → Type 0
+  Links path i = (j : ℕ) → suc j < i → link (getD path j 0) (getD path (suc j) 0) ≡ true
+
+  -- one page has none behind it
+  pub links-one : (path : List ℕ) → Links path 1
+  links-one path j h = absurd (not-suc-le-zero (le-of-suc-le-suc h))
+
+  -- one link more
+  pub links-more : (path : List ℕ) (i : ℕ) {answer : Bool} → 1 ≤ i → Links path i
+      → answer ≡ link (getD path (i - 1) 0) (getD path i 0) → not answer ≡ false → Links path (i + 1)
+  links-more path i one f said t =
+      let next : i ≡ suc (i - 1) = omega arith in
+      λ j h. below-or-at (λ (a : ℕ). link (getD path a 0) (getD path (suc a) 0) ≡ true) {i = j} {n = i - 1}
+      (omega arith)
+      (λ l. f j (omega arith))
+      (subst (λ (a : ℕ). link (getD path (i - 1) 0) (getD path a 0) ≡ true) next (told-true said t))
+
+  -- all links are there
+  pub links-all : (path : List ℕ) (depth i : ℕ) → depth ≤ length path → depth ≤ i → Links path i → chain link (take depth path) ≡ true
+  links-all path depth i long done f =
+      let len : length (take depth path) ≡ depth = length-take-le depth path long in
+      chain-from (take depth path)
+      (λ j h. ap₂ (λ (p q : ℕ). link p q) (getD-take depth path j 0 (omega arith)) (getD-take depth path (suc j) 0 (omega arith))
+      ∙ f j (omega arith))
+
+  -- one link is missing
+  pub links-stop : (path : List ℕ) (depth i : ℕ) {answer : Bool} → depth ≤ length path → 1 ≤ i → i < depth
+      → answer ≡ link (getD path (i - 1) 0) (getD path i 0) → not answer ≡ true → chain link (take depth path) ≡ false
+  links-stop path depth i long one h said f =
+      let len : length (take depth path) ≡ depth = length-take-le depth path long in
+      let next : suc (i - 1) ≡ i = omega arith in
+      false-if-not-true (chain link (take depth path))
+      (λ t. not-both
+      (sym (ap₂ (λ (p q : ℕ). link p q) (getD-take depth path (i - 1) 0 (omega arith)) (getD-take depth path i 0 h))
+      ∙ subst (λ (a : ℕ). link (getD (take depth path) (i - 1) 0) (getD (take depth path) a 0) ≡ true) next
+      (chain-at (take depth path) t (i - 1) (omega arith)))
+      (told-false said f))
+
+-- ---- a way by p0
+
+module _ (memory : ℕ → Page) where
+  -- p0 of page p is page q, a level below
+  abbrev pub leadsLeft : ℕ → ℕ → Bool
+  leadsLeft = namesBelow memory (λ (p : ℕ). pointer 0 (memory p))
+
+  pub leftmost-chain : (way : List ℕ) → leftmost memory way ≡ chain leadsLeft way
+  unfolding leftmost chain
+  leftmost-chain [] = refl
+  leftmost-chain (p ∷ []) = refl
+  leftmost-chain (p ∷ (q ∷ rest)) = ap (λ (b : Bool). leadsLeft p q && b) (leftmost-chain (q ∷ rest))
+
+-- ---- a way down by a key
+
 module _ (memory : ℕ → Page) (x : ℕ) where
-  -- ---- one page leads to another
+  pub descends-chain : (path : List ℕ) → descends memory x path ≡ chain (leads memory x) path
+  unfolding descends chain
+  descends-chain [] = refl
+  descends-chain (p ∷ []) = refl
+  descends-chain (p ∷ (q ∷ rest)) = ap (λ (b : Bool). leads memory x p q && b) (descends-chain (q ∷ rest))
 
-  -- where the levels are wrong it does not lead there
-  pub leads-astray : (p q : ℕ) → memory p .level ≢ memory q .level + 1 → leads memory x p q ≡ false
-  leads-astray p q ne = and-second-fails (eqb (route x (memory p)) q) (ne-eqb (memory p .level) (memory q .level + 1) ne)
-
-  -- where they are right the route tells
-  pub leads-route : (p q : ℕ) → memory p .level ≡ memory q .level + 1 → leads memory x p q ≡ eqb (route x (memory p)) q
-  leads-route p q e =
-      ap (λ (b : Bool). eqb (route x (memory p)) q && b) (eq-eqb (memory p .level) (memory q .level + 1) e)
-      ∙ and-true (eqb (route x (memory p)) q)
-
-  -- ---- a way down
-
-  -- each page of a way down leads to the one behind it
-  pub descends-at : (path : List ℕ) → descends memory x path ≡ true → (i : ℕ) → suc i < length path
-      → leads memory x (getD path i 0) (getD path (suc i) 0) ≡ true
-  unfolding descends
-  descends-at [] t i h = absurd (not-suc-le-zero h)
-  descends-at (p ∷ []) t i h = absurd (not-suc-le-zero (le-of-suc-le-suc h))
-  descends-at (p ∷ (q ∷ rest)) t zero h = and-first (leads memory x p q) (descends memory x (q ∷ rest)) t
-  descends-at (p ∷ (q ∷ rest)) t (suc i) h =
-      descends-at (q ∷ rest) (and-second (leads memory x p q) (descends memory x (q ∷ rest)) t) i (le-of-suc-le-suc h)
-
-  -- and lies a level above it
+  -- each page of it lies a level above the one behind it
   pub descends-levels : (path : List ℕ) → descends memory x path ≡ true → (i : ℕ) → suc i < length path
       → memory (getD path i 0) .level ≡ memory (getD path (suc i) 0) .level + 1
   descends-levels path t i h =
-      let p : ℕ = getD path i 0 in
-      let q : ℕ = getD path (suc i) 0 in
-      eqb-true (memory p .level) (memory q .level + 1)
-      (and-second (eqb (route x (memory p)) q) (eqb (memory p .level) (memory q .level + 1)) (descends-at path t i h))
-
-  -- where each leads to the one behind it, it is a way down
-  pub descends-from : (path : List ℕ)
-      → ((i : ℕ) → suc i < length path → leads memory x (getD path i 0) (getD path (suc i) 0) ≡ true) → descends memory x path ≡ true
-  unfolding descends
-  descends-from [] f = refl
-  descends-from (p ∷ []) f = refl
-  descends-from (p ∷ (q ∷ rest)) f = and-both (f 0 (omega arith)) (descends-from (q ∷ rest) (λ i h. f (suc i) (omega arith)))
+      below-level memory (λ (p : ℕ). route x (memory p)) (getD path i 0) (getD path (suc i) 0)
+      (chain-at (leads memory x) path (sym (descends-chain path) ∙ t) i h)
 
   -- the last page does not depend on those above it
   last-same : (rest above above′ : List ℕ) (q want : ℕ)
@@ -102,47 +178,6 @@ module _ (memory : ℕ → Page) (x : ℕ) where
       ap (λ (b : Bool). link && b) (descends-snoc (q ∷ rest) want)
       ∙ sym (and-assoc link below (lastLeads memory x (reverse (q ∷ rest)) want))
       ∙ ap (λ (b : Bool). link && below && b) (last-same rest [] (p ∷ []) q want)
-
-  -- ---- the first pages of a path's array
-
-  -- each of the first i leads to the one behind it
-  abbrev pub Links : List ℕ → ℕ → Type 0
-  Links path i = (j : ℕ) → suc j < i → leads memory x (getD path j 0) (getD path (suc j) 0) ≡ true
-
-  -- one page has none behind it
-  pub links-one : (path : List ℕ) → Links path 1
-  links-one path j h = absurd (not-suc-le-zero (le-of-suc-le-suc h))
-
-  -- one link more
-  pub links-more : (path : List ℕ) (i : ℕ) {answer : Bool} → 1 ≤ i → Links path i
-      → answer ≡ leads memory x (getD path (i - 1) 0) (getD path i 0) → not answer ≡ false → Links path (i + 1)
-  links-more path i one f said t =
-      let next : i ≡ suc (i - 1) = omega arith in
-      λ j h. below-or-at (λ (a : ℕ). leads memory x (getD path a 0) (getD path (suc a) 0) ≡ true) {i = j} {n = i - 1}
-      (omega arith)
-      (λ l. f j (omega arith))
-      (subst (λ (a : ℕ). leads memory x (getD path (i - 1) 0) (getD path a 0) ≡ true) next (told-true said t))
-
-  -- all links are there
-  pub links-all : (path : List ℕ) (depth i : ℕ) → depth ≤ length path → depth ≤ i → Links path i → descends memory x (take depth path) ≡ true
-  links-all path depth i long done f =
-      let len : length (take depth path) ≡ depth = length-take-le depth path long in
-      descends-from (take depth path)
-      (λ j h. ap₂ (λ (p q : ℕ). leads memory x p q) (getD-take depth path j 0 (omega arith)) (getD-take depth path (suc j) 0 (omega arith))
-      ∙ f j (omega arith))
-
-  -- a link that is missing makes it no way down
-  pub links-stop : (path : List ℕ) (depth i : ℕ) {answer : Bool} → depth ≤ length path → 1 ≤ i → i < depth
-      → answer ≡ leads memory x (getD path (i - 1) 0) (getD path i 0) → not answer ≡ true → descends memory x (take depth path) ≡ false
-  links-stop path depth i long one h said f =
-      let len : length (take depth path) ≡ depth = length-take-le depth path long in
-      let next : suc (i - 1) ≡ i = omega arith in
-      false-if-not-true (descends memory x (take depth path))
-      (λ t. not-both
-      (sym (ap₂ (λ (p q : ℕ). leads memory x p q) (getD-take depth path (i - 1) 0 (omega arith)) (getD-take depth path i 0 h))
-      ∙ subst (λ (a : ℕ). leads memory x (getD (take depth path) (i - 1) 0) (getD (take depth path) a 0) ≡ true) next
-      (descends-at (take depth path) t (i - 1) (omega arith)))
-      (told-false said f))
 
 -- ---- pages held
 
@@ -233,21 +268,22 @@ module _ (k n : ℕ) (ws : List ℕ) where
 -- ---- a sound slot
 
 -- how many pages it holds
-limits : (op : Op) (depth beside : ℕ) → withinLimits (Open op) depth beside ≡ true → (depth ≤ pathHolds) × (beside < pathHolds)
+within-table : (op : Op) → (limitsOf (Open op) .onPath ≤ pathHolds) × (limitsOf (Open op) .beside < pathHolds)
 unfolding searchHolds pathHolds siblingHolds
-limits (Search x) depth beside t =
-    let deep : depth ≤ 1 = leb-true depth 1 (and-first (leb depth 1) (eqb beside 0) t) in
-    let none : beside ≡ 0 = eqb-true beside 0 (and-second (leb depth 1) (eqb beside 0) t) in
-    (omega arith, omega arith)
-limits (Insert x v) depth beside t =
-    let deep : depth ≤ 10 = leb-true depth 10 (and-first (leb depth 10) (eqb beside 0) t) in
-    let none : beside ≡ 0 = eqb-true beside 0 (and-second (leb depth 10) (eqb beside 0) t) in
-    (omega arith, omega arith)
-limits (Delete x) depth beside t =
-    let both : leb depth 10 && leb beside 9 ≡ true = and-first (leb depth 10 && leb beside 9) (eqb beside 0 || ltb beside depth) t in
-    let deep : depth ≤ 10 = leb-true depth 10 (and-first (leb depth 10) (leb beside 9) both) in
-    let few : beside ≤ 9 = leb-true beside 9 (and-second (leb depth 10) (leb beside 9) both) in
-    (omega arith, omega arith)
+within-table (Search x) = (omega arith, omega arith)
+within-table (Insert x v) = (omega arith, omega arith)
+within-table (Delete x) = (omega arith, omega arith)
+within-table (Next x) = (omega arith, omega arith)
+
+limits : (op : Op) (depth beside : ℕ) → withinLimits (Open op) depth beside ≡ true → (depth ≤ pathHolds) × (beside < pathHolds)
+limits op depth beside t =
+    let table = within-table op in
+    let onPath = leb depth (limitsOf (Open op) .onPath) in
+    let few = leb beside (limitsOf (Open op) .beside) in
+    let both : onPath && few ≡ true = and-first (onPath && few) (eqb beside 0 || ltb beside depth) t in
+    let d = leb-true depth (limitsOf (Open op) .onPath) (and-first onPath few both) in
+    let b = leb-true beside (limitsOf (Open op) .beside) (and-second onPath few both) in
+    (omega (arith, table .0), omega (arith, table .1))
 
 -- all that it holds and wants
 abbrev pub pagesOf : Slot → List ℕ
@@ -382,12 +418,15 @@ module _ (op : Op) (k n : ℕ) (ws : List ℕ) (slot : Slot) where
   abbrev besideTest : Bool
   besideTest = rightlyBeside op k memory (reverse (pathOf slot)) (siblingsOf slot) (slot .want)
 
+  abbrev acrossTest : Bool
+  acrossTest = rightlyAcross op k memory (pathOf slot) (siblingsOf slot) (slot .want)
+
   abbrev lastTest : ℕ → Bool
   lastTest x = lastLeads memory x (reverse (pathOf slot)) (slot .want)
 
   -- the two that the leaf chooses from
   abbrev atLeafTest : Bool
-  atLeafTest = wayTest (keyOf op) && besideTest
+  atLeafTest = wayTest (keyOf op) && (besideTest || acrossTest)
 
   abbrev comingTest : Bool
   comingTest = descends memory (keyOf op) (pathOf slot ++ slot .want ∷ []) && isNone (siblingsOf slot)
@@ -408,7 +447,7 @@ module _ (op : Op) (k n : ℕ) (ws : List ℕ) (slot : Slot) where
         let none : wayTest (keyOf op) ≡ false = sym (ap wayTest key) ∙ told-false way f in
         and-second-fails (pagesSound k n ws (pagesOf slot))
         (and-second-fails keptTest
-        (cond-ind (λ (b : Bool). b ≡ false) (atItsLeaf memory (reverse (pathOf slot))) (λ leaf. and-first-fails besideTest none)
+        (cond-ind (λ (b : Bool). b ≡ false) (atItsLeaf memory (reverse (pathOf slot))) (λ leaf. and-first-fails (besideTest || acrossTest) none)
         (λ upper. and-first-fails (isNone (siblingsOf slot))
         (descends-snoc memory (keyOf op) (pathOf slot) (slot .want) ∙ and-first-fails (lastTest (keyOf op)) none))))
 
@@ -422,11 +461,17 @@ module _ (op : Op) (k n : ℕ) (ws : List ℕ) (slot : Slot) where
       unfolding fits fitting
       whichever = both-hold (cond (atItsLeaf memory (reverse (pathOf slot))) atLeafTest comingTest) (told-true pages p) (told-true rightly q)
 
-      -- where they hold, it is the siblings that count at the leaf
-      pub fits-at-leaf : {answer : Bool} → leaf ≡ true → answer ≡ besideTest → answer ≡ fits op k n ws slot
-      fits-at-leaf there said =
-          said
-          ∙ sym (whichever ∙ cond-true atLeafTest comingTest (sym at ∙ there) ∙ ap (λ (t : Bool). t && besideTest) (way-down d))
+      -- where they hold, it is the pages beside the path that count at the leaf: a deletion's siblings, or a second way
+      at-the-leaf : leaf ≡ true → fits op k n ws slot ≡ besideTest || acrossTest
+      at-the-leaf there =
+          whichever ∙ cond-true atLeafTest comingTest (sym at ∙ there) ∙ ap (λ (t : Bool). t && (besideTest || acrossTest)) (way-down d)
+
+      module _ {beside : Bool} (sibling : beside ≡ besideTest) where
+        pub fits-beside : leaf ≡ true → beside ≡ true → true ≡ fits op k n ws slot
+        fits-beside there t = sym (at-the-leaf there ∙ or-first acrossTest (sym sibling ∙ t))
+
+        pub fits-across : {answer : Bool} → leaf ≡ true → beside ≡ false → answer ≡ acrossTest → answer ≡ fits op k n ws slot
+        fits-across there f said = said ∙ sym (at-the-leaf there ∙ ap (λ (t : Bool). t || acrossTest) (sym sibling ∙ f))
 
       -- and the last page of the path above it
       pub fits-coming : {answer : Bool} {y : ℕ} → leaf ≡ false → y ≡ keyOf op → answer ≡ lastTest y && isNone (siblingsOf slot) → answer ≡ fits op k n ws slot

@@ -5,11 +5,12 @@ use mathlib.Core.List.{[], _∷_}
 use lib.ListN.{getD}
 use Rattle.ground.specs.Tests.{count}
 use Rattle.page.specs.Words.{Page, entry, page, freePage}
-use Rattle.page.specs.Place.{place, has}
+use Rattle.page.specs.Place.{place, has, atOrAbove}
 use Rattle.page.specs.Short.{neighbour}
 use Rattle.change.specs.Deletion.{needs}
-use Rattle.slots.specs.declared.Op.the-variants.{Search, Insert, Delete}
-use Rattle.footing.specs.Granted.{goes, deletes, atLeaf, comesDown}
+use Rattle.slots.specs.declared.Op.the-variants.{Search, Insert, Delete, Next}
+use Rattle.slots.specs.declared.Answer.the-variants.{Next as NextLot, None as NoLot}
+use Rattle.footing.specs.Granted.{goes, ends, deletes, atLeaf, comesDown, goesLeft, besides, granted}
 
 -- case E, k = 1
 caseE : ℕ → Page
@@ -29,3 +30,23 @@ deletion-keeps = refl
 insertion-gives-up : comesDown (Insert 15 7) 1 caseE [] [] 0 ≡ goes (0 ∷ []) [] 1
 unfolding caseE place count comesDown
 insertion-gives-up = refl
+
+-- a Next whose leaf has no key at or above its own keeps what it holds, and wants the next child to the right
+next-crosses : comesDown (Next 15) 1 caseE [] (0 ∷ []) 1 ≡ goes (0 ∷ 1 ∷ []) [] 2
+unfolding caseE place count atOrAbove neighbour atLeaf comesDown
+next-crosses = refl
+
+-- it answers the first entry of the second leaf
+next-answers : granted (Next 15) 1 caseE [] (0 ∷ 1 ∷ []) [] 2 ≡ ends (NextLot 20 7) []
+unfolding caseE goesLeft besides granted
+next-answers = refl
+
+-- a key that is there is at or above itself
+next-there : comesDown (Next 10) 1 caseE [] (0 ∷ []) 1 ≡ ends (NextLot 10 7) []
+unfolding caseE place count atOrAbove atLeaf comesDown
+next-there = refl
+
+-- without a child to the right there is none
+next-none : comesDown (Next 31) 1 caseE [] (0 ∷ []) 2 ≡ ends NoLot []
+unfolding caseE place count atOrAbove atLeaf comesDown
+next-none = refl

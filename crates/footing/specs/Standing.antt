@@ -14,7 +14,7 @@ use Rattle.change.specs.Held.{Held}
 use Rattle.slots.specs.declared.Op.{Op}
 use Rattle.slots.specs.declared.Task.the-variants.{Open}
 use Rattle.slots.specs.declared.Slot.{Slot}
-use Rattle.slots.specs.Parts.{pathOf, siblingsOf, openSlot}
+use Rattle.slots.specs.Parts.{isDelete, pathOf, siblingsOf, openSlot}
 use Rattle.slots.specs.Sound.{slotSound}
 use Rattle.footing.specs.Granted.{isSafe, kept, atItsLeaf}
 use Rattle.footing.specs.Fitting.{leads, pagesSound, fitting}
@@ -52,7 +52,8 @@ stood op k memory slot =
     openSlot op (slot .want) (standPath op k memory (pathOf slot) (slot .want)) (standSiblings memory (pathOf slot) (siblingsOf slot) (slot .want))
 
 -- What is known of the pages held once a want is granted: they are sound by themselves and all different; each page of the
--- path lies a level above the next one, and the top one is page 0 or safe; a sibling lies beside its page, and is not page 0.
+-- path lies a level above the next one, and the top one is page 0 or safe; a deletion's sibling lies beside its page, and is not
+-- page 0.
 pub record Standing (op : Op) (k n : ℕ) (ws path siblings : List ℕ) : Type 0 where
   pub some : 1 ≤ length path
   pub deep : length path ≤ pathHolds
@@ -61,8 +62,8 @@ pub record Standing (op : Op) (k n : ℕ) (ws path siblings : List ℕ) : Type 0
   pub descends : (i : ℕ) → suc i < length path → pageAt k ws (getD path i 0) .level ≡ pageAt k ws (getD path (suc i) 0) .level + 1
   pub different : distinct (path ++ siblings) ≡ true
   pub top : (getD path 0 0 ≡ 0) ⊎ (isSafe op k (pageAt k ws (getD path 0 0)) ≡ true)
-  pub levels : (i j : ℕ) → j < length siblings → i + j + 1 ≡ length path → pageAt k ws (getD path i 0) .level ≡ pageAt k ws (getD siblings j 0) .level
-  pub others : (j : ℕ) → j < length siblings → getD siblings j 0 ≢ 0
+  pub levels : isDelete op ≡ true → (i j : ℕ) → j < length siblings → i + j + 1 ≡ length path → pageAt k ws (getD path i 0) .level ≡ pageAt k ws (getD siblings j 0) .level
+  pub others : isDelete op ≡ true → (j : ℕ) → j < length siblings → getD siblings j 0 ≢ 0
 
 -- The slot holds just these pages, and so much is known of them.
 pub record SlotStanding (op : Op) (k n : ℕ) (ws : List ℕ) (stand : Slot) : Type 0 where

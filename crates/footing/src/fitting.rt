@@ -2,13 +2,17 @@
 use crate::looking::all_sound;
 use crate::looking::at_leaf;
 use crate::looking::descends;
+use crate::looking::has_child_right;
 use crate::looking::key_asked;
 use crate::looking::leads;
 use crate::looking::rightly_kept;
 use crate::looking::same_levels;
+use crate::looking::turns_right;
 use change::needing::Need;
 use change::needing::needs;
 use page::reading::Lot;
+use page::reading::Nearest;
+use pool::pages::at_or_above_of;
 use pool::pages::look_of;
 use pool::pages::sound_of;
 use slots::Op;
@@ -94,6 +98,37 @@ pub fn fits_beside(words: &[u32], k: usize, n: usize, op: Op, slot: Slot) -> boo
     )
 }
 
+// A Next on its second way: its leaf has no key at or above its own, the top page of its path has a child to the right, and what
+// it holds beside the path and wants is the way down from there.
+pub fn fits_across(words: &[u32], k: usize, n: usize, op: Op, slot: Slot) -> bool
+    requires { ⌜ (slot .depth ≤ pathHolds) × (slot .beside < pathHolds) × (Held k n (now words) (pathOf slot ++ siblingsOf slot ++ slot .want ∷ [])) ⌝ }
+    requires { ⌜ atItsLeaf (pageAt k (now words)) (reverse (pathOf slot)) ≡ true ⌝ }
+    ensures { λ r. ⌜ r ≡ rule.rightlyAcross op k (pageAt k (now (words .entry))) (pathOf slot) (siblingsOf slot) (slot .want) ⌝ }
+{
+    let Op::Next(x) = op else {
+        return false;
+    };
+    let path = slot.path;
+    let Nearest::Nothing = at_or_above_of(words, k, n, path[slot.depth - 1], x) else {
+        return false;
+    };
+    let top = path[0];
+    if !has_child_right(words, k, n, x, top) {
+        return false;
+    }
+    let second = slot.siblings;
+    let beside = slot.beside;
+    turns_right(
+        words,
+        k,
+        n,
+        x,
+        top,
+        with_page(second, beside, slot.want),
+        beside + 1,
+    )
+}
+
 // All of these together.
 pub fn fits(words: &[u32], k: usize, n: usize, op: Op, slot: Slot) -> bool
     requires { ⌜ Asks k n (now words) op slot ⌝ }
@@ -111,7 +146,10 @@ pub fn fits(words: &[u32], k: usize, n: usize, op: Op, slot: Slot) -> bool
         return false;
     }
     if at_leaf(words, k, n, path, depth) {
-        return fits_beside(words, k, n, op, slot);
+        if fits_beside(words, k, n, op, slot) {
+            return true;
+        }
+        return fits_across(words, k, n, op, slot);
     }
     fits_below(words, k, n, key_asked(op), slot)
 }

@@ -1,18 +1,29 @@
-// The pages of a slot, read again one by one. A path is given from the top downward, siblings from the leaf's upward.
+// The pages of a slot, read again one by one. A path is given from the top downward, siblings from the leaf's upward, a second
+// way from the top downward.
 use ground::HELD;
 use pool::pages::count_of;
+use pool::pages::has_right_of;
 use pool::pages::is_leaf_of;
 use pool::pages::level_of;
+use pool::pages::neighbour_of;
+use pool::pages::pointer_of;
 use pool::pages::route_of;
 use pool::pages::sound_of;
 use slots::Op;
 ghost use mathlib.Core.Path.{_≡_};
-ghost use mathlib.Core.Bool.{_&&_};
+ghost use mathlib.Core.Bool.{true, not, _&&_};
 ghost use mathlib.Core.List.{[], _∷_, _++_, reverse};
-ghost use Prim.Native.Nat.{ℕ, _≤_, _<_};
+ghost use Prim.Native.Nat.{ℕ, _+_, _≤_, _<_};
+ghost use lib.Dec.{eqb};
 ghost use lib.ListN.{length, getD, take};
 ghost use Rattle.ground.specs.Limits.{largestK, largestN, pathHolds};
-ghost use Rattle.pool.specs.Pool.{poolLength, pageAt};
+ghost use Rattle.page.specs.Words.{isLeaf};
+ghost use Rattle.page.specs.Place.{pointer};
+ghost use Rattle.page.specs.Sound.{rises};
+ghost use Rattle.page.specs.Short.{hasRight, neighbour};
+ghost use Rattle.page.specs.Reading.{Readable};
+ghost use Rattle.pool.specs.Pool.{poolLength, wordsOf, pageAt};
+ghost use Rattle.pool.specs.Wrapped.{InPool};
 ghost use Rattle.change.specs.Held.{Held};
 ghost use Rattle.slots.specs.Parts.{keyOf};
 ghost use Rattle.footing.specs.Granted.{isSafe, atItsLeaf};
@@ -26,18 +37,35 @@ pub fn key_asked(op: Op) -> u32
         Op::Search(x) => x,
         Op::Insert(x, _) => x,
         Op::Delete(x) => x,
+        Op::Next(x) => x,
     }
 }
 
-// On a page with m pairs the operation gives up all others on its path.
-pub fn is_safe(op: Op, k: usize, m: usize) -> bool
-    requires { ⌜ k ≤ largestK ⌝ }
-    ensures { λ r. ⌜ r ≡ isSafe op k m ⌝ }
+// Page p is above the leaves and has a child to the right of the route of x.
+pub fn has_child_right(words: &[u32], k: usize, n: usize, x: u32, p: u32) -> bool
+    requires { ⌜ InPool k n p (now words) ⌝ }
+    requires { ⌜ Readable (wordsOf k p (now words)) ⌝ }
+    requires { ⌜ rises (pageAt k (now words) p .entries) ≡ true ⌝ }
+    ensures { λ r. ⌜ r ≡ not (isLeaf (pageAt k (now (words .entry)) p)) && hasRight x (pageAt k (now (words .entry)) p) ⌝ }
+{
+    if is_leaf_of(words, k, n, p) {
+        return false;
+    }
+    has_right_of(words, k, n, p, x)
+}
+
+// On page p the operation gives up all others on its path. A search does so on every page: it reads nothing.
+pub fn is_safe(words: &[u32], k: usize, n: usize, op: Op, p: u32) -> bool
+    requires { ⌜ InPool k n p (now words) ⌝ }
+    requires { ⌜ Readable (wordsOf k p (now words)) ⌝ }
+    requires { ⌜ rises (pageAt k (now words) p .entries) ≡ true ⌝ }
+    ensures { λ r. ⌜ r ≡ isSafe op k (pageAt k (now (words .entry)) p) ⌝ }
 {
     match op {
         Op::Search(_) => true,
-        Op::Insert(_, _) => m < 2 * k,
-        Op::Delete(_) => k < m,
+        Op::Insert(_, _) => count_of(words, k, n, p) < 2 * k,
+        Op::Delete(_) => k < count_of(words, k, n, p),
+        Op::Next(x) => has_child_right(words, k, n, x, p),
     }
 }
 
@@ -68,12 +96,20 @@ pub fn at_leaf(words: &[u32], k: usize, n: usize, path: [u32; HELD], depth: usiz
     is_leaf_of(words, k, n, path[depth - 1])
 }
 
-// Page p routes x to page q, a level below. Levels go first: no leaf is routed through.
+// Page q lies a level below page p.
+pub fn lies_below(words: &[u32], k: usize, n: usize, p: u32, q: u32) -> bool
+    requires { ⌜ Held k n (now words) (p ∷ q ∷ []) ⌝ }
+    ensures { λ r. ⌜ r ≡ eqb (pageAt k (now (words .entry)) p .level) (pageAt k (now (words .entry)) q .level + 1) ⌝ }
+{
+    level_of(words, k, n, p) == level_of(words, k, n, q) + 1
+}
+
+// Page p routes x to page q, a level below. Levels go first: no pointer is read off a leaf.
 pub fn leads(words: &[u32], k: usize, n: usize, x: u32, p: u32, q: u32) -> bool
     requires { ⌜ Held k n (now words) (p ∷ q ∷ []) ⌝ }
     ensures { λ r. ⌜ r ≡ rule.leads (pageAt k (now (words .entry))) x p q ⌝ }
 {
-    if level_of(words, k, n, p) != level_of(words, k, n, q) + 1 {
+    if !lies_below(words, k, n, p, q) {
         return false;
     }
     route_of(words, k, n, p, x) == q
@@ -111,12 +147,12 @@ pub fn rightly_kept(
         return want == 0;
     }
     let top = path[0];
-    if top != 0 && !is_safe(op, k, count_of(words, k, n, top)) {
+    if top != 0 && !is_safe(words, k, n, op, top) {
         return false;
     }
     let mut i = 1;
     while i < depth {
-        if is_safe(op, k, count_of(words, k, n, path[i])) {
+        if is_safe(words, k, n, op, path[i]) {
             return false;
         }
         i += 1;
@@ -148,4 +184,60 @@ pub fn same_levels(
         j += 1;
     }
     true
+}
+
+// p0 of page p is page q, a level below.
+pub fn leads_left(words: &[u32], k: usize, n: usize, p: u32, q: u32) -> bool
+    requires { ⌜ Held k n (now words) (p ∷ q ∷ []) ⌝ }
+    ensures { λ r. ⌜ r ≡ eqb (pointer 0 (pageAt k (now (words .entry)) p)) q && eqb (pageAt k (now (words .entry)) p .level) (pageAt k (now (words .entry)) q .level + 1) ⌝ }
+{
+    if !lies_below(words, k, n, p, q) {
+        return false;
+    }
+    pointer_of(words, k, n, p, 0) == q
+}
+
+// Page q, a level below page p, is the neighbour of the page to which p routes x.
+pub fn leads_across(words: &[u32], k: usize, n: usize, x: u32, p: u32, q: u32) -> bool
+    requires { ⌜ Held k n (now words) (p ∷ q ∷ []) ⌝ }
+    ensures { λ r. ⌜ r ≡ eqb (neighbour x (pageAt k (now (words .entry)) p)) q && eqb (pageAt k (now (words .entry)) p .level) (pageAt k (now (words .entry)) q .level + 1) ⌝ }
+{
+    if !lies_below(words, k, n, p, q) {
+        return false;
+    }
+    neighbour_of(words, k, n, p, x) == q
+}
+
+// Each of the first `count` pages of a way leads to the one below it by p0.
+pub fn leftmost(words: &[u32], k: usize, n: usize, way: [u32; HELD], count: usize) -> bool
+    requires { ⌜ (count ≤ pathHolds) × (Held k n (now words) (take count way)) ⌝ }
+    ensures { λ r. ⌜ r ≡ rule.leftmost (pageAt k (now (words .entry))) (take count way) ⌝ }
+{
+    let mut i = 1;
+    while i < count {
+        if !leads_left(words, k, n, way[i - 1], way[i]) {
+            return false;
+        }
+        i += 1;
+    }
+    true
+}
+
+// The way begins with the next child to the right of page top, and goes down by p0.
+pub fn turns_right(
+    words: &[u32],
+    k: usize,
+    n: usize,
+    x: u32,
+    top: u32,
+    way: [u32; HELD],
+    count: usize,
+) -> bool
+    requires { ⌜ (1 ≤ count) × (count ≤ pathHolds) × (Held k n (now words) (top ∷ take count way)) ⌝ }
+    ensures { λ r. ⌜ r ≡ rule.turnsRight (pageAt k (now (words .entry))) x top (take count way) ⌝ }
+{
+    if !leads_across(words, k, n, x, top, way[0]) {
+        return false;
+    }
+    leftmost(words, k, n, way, count)
 }

@@ -5,13 +5,14 @@ use mathlib.Core.List.{List, [], _∷_}
 use mathlib.Core.Path.{_≡_, refl, sym, ap, _∙_}
 use native.Mathlib.Nat.{not-suc-le-zero}
 use native.Mathlib.Omega.{arith}
-use borrow.Author.Tests.{lt-ltb, le-ltb}
-use lib.ListN.{length, getD, drop, length-drop, length-map, List·getD-map}
-use lib.Seq.{getD-drop}
+use native.Mathlib.Numerals.{add-one}
+use borrow.Author.Tests.{lt-ltb, le-ltb, le-leb, lt-leb}
+use lib.ListN.{length, getD, drop, length-drop, length-map, List·getD-map, drop-of-length-le}
+use lib.Seq.{getD-drop, drop-cons}
 use Rattle.ground.proofs.Bools.{false-if-not-true}
 use Rattle.ground.proofs.Choice.{cond-true, cond-false}
 use Rattle.page.specs.Words.{Entry, Page, entry, keyOf, valueOf, μ, isLeaf, pointers, pairs, pairsFrom, view, size}
-use Rattle.page.specs.Place.{place, pointer, has, information}
+use Rattle.page.specs.Place.{place, pointer, has, information, atOrAbove}
 use Rattle.page.specs.Splits.{entryAt}
 use Rattle.page.specs.Sound.{rises, soundByItself}
 use Rattle.page.specs.Reading.{Readable, looked}
@@ -140,6 +141,41 @@ module _ (x i : ℕ) (es : List Entry) (e : i ≡ place x es) (t : rises es ≡ 
       let within : i - 1 < length es = omega arith in
       ap There (sym (information-at x es t (i - 1) within same))
       ∙ sym (cond-true (There (information x es)) Missing (has-from x es (i - 1) within same))
+
+-- ---- a walk to the first entry at or above x
+
+module _ (x : ℕ) (es : List Entry) (i : ℕ) where
+  abbrev from-here : List Entry
+  from-here = atOrAbove x (drop i es)
+
+  next-entry : i < length es → drop i es ≡ entryAt i es ∷ drop (suc i) es
+  next-entry h = drop-cons es i (entry 0 0) h
+
+  -- the entry at index i is at or above x
+  pub above-found : i < length es → x ≤ keyAt i es → from-here ≡ entryAt i es ∷ drop (suc i) es
+  unfolding atOrAbove
+  above-found h above =
+      ap (atOrAbove x) (next-entry h)
+      ∙ cond-true (entryAt i es ∷ drop (suc i) es) (atOrAbove x (drop (suc i) es)) (le-leb x (keyAt i es) above)
+
+  -- it is below
+  pub above-more : i < length es → keyAt i es < x → from-here ≡ atOrAbove x (drop (i + 1) es)
+  unfolding atOrAbove
+  above-more h below =
+      ap (atOrAbove x) (next-entry h)
+      ∙ cond-false (entryAt i es ∷ drop (suc i) es) (atOrAbove x (drop (suc i) es)) (lt-leb x (keyAt i es) below)
+      ∙ ap (λ (j : ℕ). atOrAbove x (drop j es)) (sym (add-one i))
+
+  -- there is none left
+  pub above-none : length es ≤ i → from-here ≡ []
+  unfolding atOrAbove
+  above-none h = ap (atOrAbove x) (drop-of-length-le es h)
+
+-- every key is at or above 0
+pub above-all : (es : List Entry) → atOrAbove 0 es ≡ es
+unfolding atOrAbove
+above-all [] = refl
+above-all (e ∷ es) = cond-true (e ∷ es) (atOrAbove 0 es) (le-leb 0 (e .key) (omega arith))
 
 -- ---- the neighbour of the page to which a father F of m reference keys routes x, at place i
 

@@ -1,12 +1,14 @@
 -- What reading and testing a page's words asks and answers.
 use Prim.Native.Nat.{ℕ, _+_, _*_, _≤_}
 use mathlib.Core.Bool.{Bool, cond, _&&_}
-use mathlib.Core.List.{List}
+use mathlib.Core.List.{List, [], _∷_}
 use lib.Dec.{leb}
 use lib.ListN.{length, getD}
 use Rattle.ground.specs.Limits.{tallest}
 use Rattle.page.specs.declared.reading.Lot.{Lot}
 use Rattle.page.specs.declared.reading.Lot.the-variants.{There, Missing}
+use Rattle.page.specs.declared.reading.Nearest.{Nearest}
+use Rattle.page.specs.declared.reading.Nearest.the-variants.{Lot as TheLot, Nothing}
 use Rattle.page.specs.Words.{Entry, isLeaf, pairsFrom, view}
 use Rattle.page.specs.Place.{has, information}
 use Rattle.page.specs.Sound.{inRange}
@@ -19,6 +21,11 @@ pub record Readable (ws : List ℕ) : Type 0 where
 -- what stands under a key: its information, if the key is there
 abbrev pub looked : ℕ → List Entry → Lot
 looked x es = cond (has x es) (There (information x es)) Missing
+
+-- the first of some entries
+abbrev pub nearest : List Entry → Nearest
+nearest [] = Nothing
+nearest (e ∷ es) = TheLot (e .key) (e .value)
 
 -- "level 1 to 10 .., μ in range"
 unfoldable pub inShape : ℕ → ℕ → List ℕ → Bool

@@ -1,11 +1,11 @@
-// Reading a page's words: its level, its number of pairs, where a key stands in it and where it leads.
+// Reading a page's words: its level, its number of pairs, where a key stands in it, what is at or above it and where it leads.
 // Each function asks only that the words it reads are there, and `place` that the keys rise.
 ghost use Prim.Native.Nat.{_<_, _≤_};
 ghost use lib.ListN.{length, getD};
 ghost use mathlib.Core.Bool.{true, false};
 ghost use mathlib.Core.Path.{_≡_};
-ghost use Rattle.page.specs.Place.{place as placeOf, pointer as pointerOf, route as routeOf};
-ghost use Rattle.page.specs.Reading.{Readable, looked};
+ghost use Rattle.page.specs.Place.{place as placeOf, pointer as pointerOf, route as routeOf, atOrAbove};
+ghost use Rattle.page.specs.Reading.{Readable, looked, nearest};
 ghost use Rattle.page.specs.Short.{neighbour as neighbourOf, hasRight, betweenAt};
 ghost use Rattle.page.specs.Sound.{rises};
 ghost use Rattle.page.specs.Splits.{entryAt};
@@ -15,6 +15,12 @@ ghost use Rattle.page.specs.Words.{view, isLeaf, pairsFrom};
 pub enum Lot {
     There(u32),
     Missing,
+}
+
+// The first entry at or above a key: its key and what stands behind it.
+pub enum Nearest {
+    Lot(u32, u32),
+    Nothing,
 }
 
 // A word as an index or a number of words.
@@ -108,6 +114,23 @@ pub fn look(w: &[u32], x: u32) -> Lot
         return Lot::Missing;
     }
     Lot::There(value_at(w, i - 1))
+}
+
+// The first entry whose key is at or above x.
+pub fn at_or_above(w: &[u32], x: u32) -> Nearest
+    requires { ⌜ Readable (now w) ⌝ }
+    ensures { λ r. ⌜ r ≡ nearest (atOrAbove x (view (now (w .entry)) .entries)) ⌝ }
+{
+    let m = count(w);
+    let mut i = 0;
+    while i < m {
+        let key = key_at(w, i);
+        if x <= key {
+            return Nearest::Lot(key, value_at(w, i));
+        }
+        i += 1;
+    }
+    Nearest::Nothing
 }
 
 // pi, above the leaves.

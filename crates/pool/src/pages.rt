@@ -4,6 +4,7 @@ use crate::lying::start_of;
 use page::checking;
 use page::reading;
 use page::reading::Lot;
+use page::reading::Nearest;
 use sheet::sheets;
 use sheet::sheets::Sheet;
 use sheet::writing;
@@ -13,11 +14,11 @@ ghost use mathlib.Core.Bool.{true, false};
 ghost use Prim.Native.Nat.{_+_, _*_, _≤_, _<_};
 ghost use Rattle.ground.specs.Limits.{largestK, largestN, wordRange};
 ghost use Rattle.page.specs.Words.{entry, page, μ, isLeaf, freePage};
-ghost use Rattle.page.specs.Place.{place, pointer, route};
+ghost use Rattle.page.specs.Place.{place, pointer, route, atOrAbove};
 ghost use Rattle.page.specs.Sound.{rises, soundByItself};
 ghost use Rattle.page.specs.Splits.{entryAt, put, split};
 ghost use Rattle.page.specs.Short.{hasRight, neighbour, betweenAt, joined, lessKey, rekeyed};
-ghost use Rattle.page.specs.Reading.{Readable, looked};
+ghost use Rattle.page.specs.Reading.{Readable, looked, nearest};
 ghost use Rattle.page.specs.Exact.{Exact};
 ghost use Rattle.sheet.specs.Sheets.{OnSheet, sheetPage};
 ghost use Rattle.pool.specs.Pool.{wordsOf, pageAt, write, written};
@@ -106,6 +107,15 @@ pub fn place_of(words: &[u32], k: usize, n: usize, p: u32, x: u32) -> usize
     ensures { λ r. ⌜ r ≤ μ (pageAt k (now (words .entry)) p) ⌝ }
 {
     reading::place(page_words(words, k, n, p), x)
+}
+
+// The first entry whose key is at or above x.
+pub fn at_or_above_of(words: &[u32], k: usize, n: usize, p: u32, x: u32) -> Nearest
+    requires { ⌜ InPool k n p (now words) ⌝ }
+    requires { ⌜ Readable (wordsOf k p (now words)) ⌝ }
+    ensures { λ r. ⌜ r ≡ nearest (atOrAbove x (pageAt k (now (words .entry)) p .entries)) ⌝ }
+{
+    reading::at_or_above(page_words(words, k, n, p), x)
 }
 
 // The information under x in a leaf.

@@ -2,7 +2,7 @@
 use mathlib.Core.Path.{sym, _∙_}
 use native.Mathlib.Omega.{arith}
 use Rattle.slots.specs.Parts.{pathOf}
-use Rattle.footing.proofs.LookLaws.{asks-deep, asks-few, asks-held, asks-path-held, fits-unsound, fits-not-kept, fits-no-way, way-down, fits-at-leaf, fits-coming}
+use Rattle.footing.proofs.LookLaws.{asks-deep, asks-few, asks-held, asks-path-held, fits-unsound, fits-not-kept, fits-no-way, way-down, fits-beside, fits-across, fits-coming}
 use Rattle.footing.proofs.fitting.fits.Statement.{statement}
 use Rattle.footing.proofs.fitting.fits.Tie as tie
 
@@ -56,9 +56,22 @@ fits-beside-requires c κs =
 returns-4 : tie.Need-returns-4
 unfolding pathOf
 returns-4 c =
-    let was = c .before .before .before .before .before .before .before .before .before .before .before .before .args in
-    fits-at-leaf (was .op) (was .k) (was .n) (was .words .now) (was .slot) (c .before .before .before .before .before .key-asked .ensures) (c .before .before .before .before .descends .ensures) (c .before .before .before .before .before .before .before .before .before .before .pages-sound .ensures) (c .before .before .before .before .before .before .before .before .before .if1 .left)
-    (c .before .before .before .before .before .before .before .rightly-kept .ensures) (c .before .before .before .before .before .before .if2 .left) (c .before .before .before .if3 .left) (c .before .before .at-leaf .ensures) (c .before .if4 .taken) (c .fits-beside .ensures)
+    let was = c .before .before .before .before .before .before .before .before .before .before .before .before .before .args in
+    fits-beside (was .op) (was .k) (was .n) (was .words .now) (was .slot) (c .before .before .before .before .before .before .key-asked .ensures) (c .before .before .before .before .before .descends .ensures) (c .before .before .before .before .before .before .before .before .before .before .before .pages-sound .ensures) (c .before .before .before .before .before .before .before .before .before .before .if1 .left)
+    (c .before .before .before .before .before .before .before .before .rightly-kept .ensures) (c .before .before .before .before .before .before .before .if2 .left) (c .before .before .before .before .if3 .left) (c .before .before .before .at-leaf .ensures) (c .before .fits-beside .ensures) (c .before .before .if4 .taken) (c .if5 .taken)
+
+fits-across-requires : tie.Need-fits-across-requires
+unfolding pathOf
+fits-across-requires c κs =
+    let asked = c .before .before .before .before .before .before .before .before .before .before .before .before .before .pre in
+    ((asks-deep asked, asks-few asked, asks-held asked (c .before .before .before .before .before .before .before .before .before .before .before .pages-sound .ensures) (c .before .before .before .before .before .before .before .before .before .before .if1 .left)), sym (c .before .before .before .at-leaf .ensures) ∙ c .before .before .if4 .taken)
+
+returns-5 : tie.Need-returns-5
+unfolding pathOf
+returns-5 c =
+    let was = c .before .before .before .before .before .before .before .before .before .before .before .before .before .before .args in
+    fits-across (was .op) (was .k) (was .n) (was .words .now) (was .slot) (c .before .before .before .before .before .before .before .key-asked .ensures) (c .before .before .before .before .before .before .descends .ensures) (c .before .before .before .before .before .before .before .before .before .before .before .before .pages-sound .ensures) (c .before .before .before .before .before .before .before .before .before .before .before .if1 .left)
+    (c .before .before .before .before .before .before .before .before .before .rightly-kept .ensures) (c .before .before .before .before .before .before .before .before .if2 .left) (c .before .before .before .before .before .if3 .left) (c .before .before .before .before .at-leaf .ensures) (c .before .before .fits-beside .ensures) (c .before .before .before .if4 .taken) (c .before .if5 .left) (c .fits-across .ensures)
 
 key-asked-requires-2 : tie.Need-key-asked-requires-2
 key-asked-requires-2 c κs = tt
@@ -68,9 +81,9 @@ fits-below-requires c κs =
     let asked = c .before .before .before .before .before .before .before .before .before .before .before .before .pre in
     (asks-deep asked, omega (arith, asks-few asked), asks-held asked (c .before .before .before .before .before .before .before .before .before .before .pages-sound .ensures) (c .before .before .before .before .before .before .before .before .before .if1 .left))
 
-returns-5 : tie.Need-returns-5
+returns-6 : tie.Need-returns-6
 unfolding pathOf
-returns-5 c =
+returns-6 c =
     let was = c .before .before .before .before .before .before .before .before .before .before .before .before .before .args in
     fits-coming (was .op) (was .k) (was .n) (was .words .now) (was .slot) (c .before .before .before .before .before .before .key-asked .ensures) (c .before .before .before .before .before .descends .ensures) (c .before .before .before .before .before .before .before .before .before .before .before .pages-sound .ensures) (c .before .before .before .before .before .before .before .before .before .before .if1 .left)
     (c .before .before .before .before .before .before .before .before .rightly-kept .ensures) (c .before .before .before .before .before .before .before .if2 .left) (c .before .before .before .before .if3 .left) (c .before .before .before .at-leaf .ensures) (c .before .before .if4 .left) (c .before .key-asked2 .ensures) (c .fits-below .ensures)
@@ -89,6 +102,8 @@ fits-spec =
     at-leaf-requires
     fits-beside-requires
     returns-4
+    fits-across-requires
+    returns-5
     key-asked-requires-2
     fits-below-requires
-    returns-5)
+    returns-6)

@@ -1,17 +1,18 @@
 -- The pages passed lead each to the next one. A page that does not lead to the next one ends the walk.
 use Prim.Native.Nat.{_-_, _≤_}
-use mathlib.Core.Path.{_≡_, sym}
+use mathlib.Core.Path.{_≡_, sym, _∙_}
 use native.Mathlib.Omega.{arith}
 use borrow.Author.Needs.{needs}
-use lib.ListN.{length}
+use lib.ListN.{length, take}
 use Rattle.ground.specs.Limits.{pathHolds}
 use Rattle.pool.specs.Pool.{pageAt}
-use Rattle.footing.proofs.LookLaws.{Links, links-one, links-more, links-all, links-stop, held-link}
+use Rattle.footing.specs.Fitting.{leads}
+use Rattle.footing.proofs.LookLaws.{Links, links-one, links-more, links-all, links-stop, descends-chain, held-link}
 use Rattle.footing.proofs.looking.descends.Statement.{statement}
 use Rattle.footing.proofs.looking.descends.Tie as tie
 
 abbrev Inv-loop : tie.InvT-loop
-Inv-loop words k n x depth path i₀ i = (1 ≤ i) × (length path ≡ 10) × Links (pageAt k words) x path i
+Inv-loop words k n x depth path i₀ i = (1 ≤ i) × (length path ≡ 10) × Links (leads (pageAt k words) x) path i
 
 abbrev μ-loop : tie.MeasureT-loop
 μ-loop words k n x depth path i₀ i = depth - i
@@ -19,7 +20,7 @@ abbrev μ-loop : tie.MeasureT-loop
 loop-holds : tie.Need-loop-holds Inv-loop μ-loop
 loop-holds c =
     let was = c .before .args in
-    (omega arith, search needs, links-one (pageAt (was .k) (was .words .now)) (was .x) (was .t5))
+    (omega arith, search needs, links-one (leads (pageAt (was .k) (was .words .now)) (was .x)) (was .t5))
 
 sub-leads : tie.Need-sub-leads Inv-loop μ-loop
 sub-leads c = omega arith
@@ -53,7 +54,7 @@ returns c =
     let was = c .before .before .before .before .before .args in
     let inv = c .before .before .before .loop .inv in
     let said = c .before .leads in
-    sym (links-stop (pageAt (was .k) (was .words .now)) (was .x) (was .t5) (was .depth) (c .before .before .before .loop .i) (omega (arith, c .before .before .before .before .before .pre .0)) (inv .0) (omega arith)
+    sym (descends-chain (pageAt (was .k) (was .words .now)) (was .x) (take (was .depth) (was .t5)) ∙ links-stop (leads (pageAt (was .k) (was .words .now)) (was .x)) (was .t5) (was .depth) (c .before .before .before .loop .i) (omega (arith, c .before .before .before .before .before .pre .0)) (inv .0) (omega arith)
     (said .ensures) (c .if1 .taken))
 
 add-i : tie.Need-add-i Inv-loop μ-loop
@@ -70,7 +71,7 @@ loop-again c =
     let said = c .before .leads in (
       omega arith,
       inv .1,
-      links-more (pageAt (was .k) (was .words .now)) (was .x) (was .t5) (c .before .before .before .loop .i) (inv .0) (inv .2)
+      links-more (leads (pageAt (was .k) (was .words .now)) (was .x)) (was .t5) (c .before .before .before .loop .i) (inv .0) (inv .2)
           (said .ensures) (c .if1 .left),
     )
 
@@ -79,7 +80,7 @@ unfolding pathHolds
 returns-2 c =
     let was = c .before .before .before .args in
     let inv = c .before .loop .inv in
-    sym (links-all (pageAt (was .k) (was .words .now)) (was .x) (was .t5) (was .depth) (c .before .loop .i) (omega (arith, c .before .before .before .pre .0)) (omega arith) (inv .2))
+    sym (descends-chain (pageAt (was .k) (was .words .now)) (was .x) (take (was .depth) (was .t5)) ∙ links-all (leads (pageAt (was .k) (was .words .now)) (was .x)) (was .t5) (was .depth) (c .before .loop .i) (omega (arith, c .before .before .before .pre .0)) (omega arith) (inv .2))
 
 pub descends-spec : {M : Type 1} → statement M
 descends-spec =

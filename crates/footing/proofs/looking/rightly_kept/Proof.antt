@@ -1,7 +1,7 @@
 -- The loop's invariant: the pages are rightly kept if none of those from index i on is safe.
 use Prim.Native.Nat.{_-_, _≤_}
 use mathlib.Core.Logic.{⊎-elim}
-use mathlib.Core.Path.{_≡_, sym, ap, _∙_}
+use mathlib.Core.Path.{_≡_, sym, _∙_}
 use native.Mathlib.Omega.{arith}
 use borrow.Author.Needs.{needs}
 use borrow.Author.Tests.{eq-eqb, ne-eqb, not-true, not-false}
@@ -10,7 +10,6 @@ use lib.ListN.{length, getD, take, drop}
 use Rattle.ground.specs.Limits.{pathHolds}
 use Rattle.ground.specs.Tests.{all}
 use Rattle.ground.proofs.Bools.{or-first, or-second, or-none}
-use Rattle.page.specs.Words.{μ}
 use Rattle.pool.specs.Pool.{pageAt}
 use Rattle.footing.specs.Granted.{isSafe}
 use Rattle.footing.specs.Fitting.{rightlyKept}
@@ -37,28 +36,22 @@ returns c =
 array-read-top : tie.Need-array-read-top Inv-loop μ-loop
 array-read-top c = search needs
 
-count-of-requires : tie.Need-count-of-requires Inv-loop μ-loop
+is-safe-requires : tie.Need-is-safe-requires Inv-loop μ-loop
 unfolding pathHolds
-count-of-requires c κs =
+is-safe-requires c κs =
     let was = c .before .before .before .args in
     let cells : length (was .t5) ≡ 10 = search needs in
     let known = cell-known (was .t5) (was .depth) (omega arith) (c .before .before .before .pre .1) 0 (omega arith) in
-    (known .inPool, known .readable)
-
-is-safe-requires : tie.Need-is-safe-requires Inv-loop μ-loop
-is-safe-requires c κs = c .before .before .before .before .pre .1 .width
+    (known .inPool, (known .readable, known .facts .rising))
 
 returns-2 : tie.Need-returns-2 Inv-loop μ-loop
 unfolding pathHolds
 returns-2 c =
-    let start = c .before .before .before .before .before .before in
-    let was = start .args in
+    let was = c .before .before .before .before .before .args in
     let cells : length (was .t5) ≡ 10 = search needs in
     kept-stops-top (was .op) (was .k) (pageAt (was .k) (was .words .now)) (was .t5) (was .depth) (omega arith) (was .want) (omega arith)
-    (or-none (ne-eqb (getD (was .t5) 0 0) 0 (c .before .before .before .if2 .taken))
-    (sym (ap (isSafe (was .op) (was .k)) (c .before .before .count-of .ensures))
-    ∙ sym (c .before .is-safe .ensures)
-    ∙ not-true (c .before .is-safe .result) (c .if3 .taken)))
+    (or-none (ne-eqb (getD (was .t5) 0 0) 0 (c .before .before .if2 .taken))
+    (sym (c .before .is-safe .ensures) ∙ not-true (c .before .is-safe .result) (c .if3 .taken)))
 
 loop-holds : tie.Need-loop-holds Inv-loop μ-loop
 unfolding pathHolds
@@ -71,40 +64,34 @@ loop-holds c =
       long,
       kept-top (was .op) (was .k) (pageAt (was .k) (was .words .now)) (was .t5) (was .depth) long (was .want) some
           (⊎-elim
-          (λ w. or-second (eqb (getD (was .t5) 0 0) 0)
-          (sym (ap (isSafe (was .op) (was .k)) (w .1 .ensures)) ∙ sym (w .2 .ensures) ∙ not-false (w .2 .result) (w .3 .left)))
-          (λ w. or-first (isSafe (was .op) (was .k) (μ (pageAt (was .k) (was .words .now) (getD (was .t5) 0 0)))) (eq-eqb (getD (was .t5) 0 0) 0 (w .left)))
+          (λ w. or-second (eqb (getD (was .t5) 0 0) 0) (sym (w .1 .ensures) ∙ not-false (w .1 .result) (w .2 .left)))
+          (λ w. or-first (isSafe (was .op) (was .k) (pageAt (was .k) (was .words .now) (getD (was .t5) 0 0))) (eq-eqb (getD (was .t5) 0 0) 0 (w .left)))
           (c .if2 .came)),
     )
 
-mul-count-of : tie.Need-mul-count-of Inv-loop μ-loop
+mul-is-safe : tie.Need-mul-is-safe Inv-loop μ-loop
 unfolding pathHolds
-mul-count-of c = search needs
+mul-is-safe c = search needs
 
-array-read-count-of : tie.Need-array-read-count-of Inv-loop μ-loop
+array-read-is-safe : tie.Need-array-read-is-safe Inv-loop μ-loop
 unfolding pathHolds
-array-read-count-of c = search needs
+array-read-is-safe c = search needs
 
-count-of-requires-2 : tie.Need-count-of-requires-2 Inv-loop μ-loop
-count-of-requires-2 c κs =
+is-safe-requires-2 : tie.Need-is-safe-requires-2 Inv-loop μ-loop
+is-safe-requires-2 c κs =
     let start = c .before .before .before .before .before in
     let was = start .args in
     let known = cell-known (was .t5) (was .depth) (c .before .loop .inv .1) (start .pre .1) (c .before .loop .i) (c .loop-test .taken) in
-    (known .inPool, known .readable)
-
-is-safe-requires-2 : tie.Need-is-safe-requires-2 Inv-loop μ-loop
-is-safe-requires-2 c κs = c .before .before .before .before .before .before .pre .1 .width
+    (known .inPool, (known .readable, known .facts .rising))
 
 returns-3 : tie.Need-returns-3 Inv-loop μ-loop
 returns-3 c =
-    let start = c .before .before .before .before .before .before .before .before in
-    let was = start .args in
-    let at = c .before .before .before .before .loop in
+    let was = c .before .before .before .before .before .before .before .args in
+    let at = c .before .before .before .loop in
     sym
     (at .inv .2
-    ∙ kept-stops (was .op) (was .k) (pageAt (was .k) (was .words .now)) (was .t5) (was .depth) (at .inv .1) (at .i)
-    (c .before .before .before .loop-test .taken)
-    (sym (ap (isSafe (was .op) (was .k)) (c .before .before .count-of2 .ensures)) ∙ sym (c .before .is-safe2 .ensures) ∙ c .if4 .taken))
+    ∙ kept-stops (was .op) (was .k) (pageAt (was .k) (was .words .now)) (was .t5) (was .depth) (at .inv .1) (at .i) (c .before .before .loop-test .taken)
+    (sym (c .before .is-safe2 .ensures) ∙ c .if4 .taken))
 
 add-i : tie.Need-add-i Inv-loop μ-loop
 unfolding pathHolds
@@ -115,15 +102,13 @@ loop-less c = search needs
 
 loop-again : tie.Need-loop-again Inv-loop μ-loop
 loop-again c =
-    let start = c .before .before .before .before .before .before .before .before in
-    let was = start .args in
-    let at = c .before .before .before .before .loop in (
+    let was = c .before .before .before .before .before .before .before .args in
+    let at = c .before .before .before .loop in (
       omega arith,
       at .inv .1,
       at .inv .2
-          ∙ kept-more (was .op) (was .k) (pageAt (was .k) (was .words .now)) (was .t5) (was .depth) (at .inv .1) (at .i)
-          (c .before .before .before .loop-test .taken)
-          (sym (ap (isSafe (was .op) (was .k)) (c .before .before .count-of2 .ensures)) ∙ sym (c .before .is-safe2 .ensures) ∙ c .if4 .left),
+          ∙ kept-more (was .op) (was .k) (pageAt (was .k) (was .words .now)) (was .t5) (was .depth) (at .inv .1) (at .i) (c .before .before .loop-test .taken)
+          (sym (c .before .is-safe2 .ensures) ∙ c .if4 .left),
     )
 
 returns-4 : tie.Need-returns-4 Inv-loop μ-loop
@@ -142,13 +127,11 @@ rightly-kept-spec =
     μ-loop
     returns
     array-read-top
-    count-of-requires
     is-safe-requires
     returns-2
     loop-holds
-    mul-count-of
-    array-read-count-of
-    count-of-requires-2
+    mul-is-safe
+    array-read-is-safe
     is-safe-requires-2
     returns-3
     add-i
