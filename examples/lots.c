@@ -17,6 +17,7 @@ static void say(const char *what, const uint32_t *answer) {
     case GHAZFULIT_MOVED: printf("%s: Moved\n", what); break;
     case GHAZFULIT_INSERTED: printf("%s: Inserted\n", what); break;
     case GHAZFULIT_FOUND: printf("%s: Found %u\n", what, (unsigned)answer[1]); break;
+    case GHAZFULIT_NEXT_LOT: printf("%s: Next %u %u\n", what, (unsigned)answer[1], (unsigned)answer[2]); break;
     case GHAZFULIT_REPORTED:
         printf("%s: lock %u, holders %u, lowest %u\n", what, (unsigned)answer[1], (unsigned)answer[2],
                (unsigned)answer[3]);
@@ -28,7 +29,7 @@ static void say(const char *what, const uint32_t *answer) {
 static void begin(uint32_t slot, uint32_t kind, uint32_t key, uint32_t information) {
     uint32_t answer[GHAZFULIT_ANSWER];
     ghazfulit_begin(state, slot, kind, key, information, answer);
-    say(kind == GHAZFULIT_SEARCH ? "a buyer looks for a lot" : "the house enters a lot", answer);
+    say(kind == GHAZFULIT_INSERT ? "the house enters a lot" : "a buyer looks for a lot", answer);
 }
 
 static void step(uint32_t slot) {
@@ -48,6 +49,8 @@ int main(void) {
     begin(1, GHAZFULIT_SEARCH, 12, 0);
     step(1);
     step(0);
+    step(1);
+    begin(1, GHAZFULIT_NEXT, 10, 0);
     step(1);
     ghazfulit_report(state, 0, answer);
     say("page 0", answer);

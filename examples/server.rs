@@ -67,7 +67,7 @@ impl Server {
     }
 }
 
-/// The house enters fourteen lots; then it enters one more while buyers look for the last of them.
+/// The house enters fourteen lots; then it enters one more while buyers look for the last of them, and one for what follows.
 fn main() -> Result<(), Refusal> {
     let enter = |who, key, information| Request {
         who,
@@ -79,14 +79,18 @@ fn main() -> Result<(), Refusal> {
     };
     let mut server = Server::new((1..15).map(|i| enter("house", 10 * i, 5)))?;
     server.run(1)?;
-    println!("three buyers come");
+    println!("four buyers come");
     server.requests.extend([
         enter("house", 150, 1),
         look("first buyer", 140),
         look("second buyer", 140),
         look("third buyer", 999),
+        Request {
+            who: "fourth buyer",
+            op: Op::Next { key: 141 },
+        },
     ]);
-    server.run(4)?;
+    server.run(5)?;
     if let Err(refusal) = server.index.step(0) {
         println!("slot 0 again: {refusal}");
     }

@@ -32,7 +32,8 @@ extern "C" {
 enum {
     GHAZFULIT_SEARCH = 1,
     GHAZFULIT_INSERT = 2,
-    GHAZFULIT_DELETE = 3
+    GHAZFULIT_DELETE = 3,
+    GHAZFULIT_NEXT = 4            /* the first lot at or above a key */
 };
 
 /* Answers. Below 32 are refusals. */
@@ -56,7 +57,9 @@ enum {
     GHAZFULIT_NO_ROOM = 40,
     GHAZFULIT_BEGUN = 41,
     GHAZFULIT_MADE = 42,
-    GHAZFULIT_REPORTED = 43       /* with the kind of lock, the number of holders, the lowest holder (16 for none) */
+    GHAZFULIT_REPORTED = 43,      /* with the kind of lock, the number of holders, the lowest holder (16 for none) */
+    GHAZFULIT_NEXT_LOT = 44,      /* Next, with the key and the information */
+    GHAZFULIT_NO_LOT = 45         /* None: no lot at or above the key */
 };
 
 /* Kinds of lock, as a report has them. */
@@ -73,8 +76,8 @@ void ghazfulit_make(uint32_t k, uint32_t n, uint32_t *state, uint32_t *words, si
  * counts for an insertion only. */
 void ghazfulit_begin(uint32_t *state, uint32_t slot, uint32_t kind, uint32_t key, uint32_t information, uint32_t *answer);
 
-/* Takes one lock more, if it is to be had, and does what follows: the answers 32 to 40, or BadState, BadPool, BadSlot,
- * SlotIdle, Damaged. An answer from Found to NoRoom closes the slot. */
+/* Takes one lock more, if it is to be had, and does what follows: the answers 32 to 40, 44 and 45, or BadState, BadPool,
+ * BadSlot, SlotIdle, Damaged. An answer from Found to NoRoom, Next and None close the slot. */
 void ghazfulit_step(uint32_t *state, uint32_t *words, size_t length, uint32_t slot, uint32_t *answer);
 
 /* Says who holds a page: Reported, or BadState, BadPage. */

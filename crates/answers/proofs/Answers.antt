@@ -1,11 +1,11 @@
 -- Writing the line of an answer's case writes the line of the answer; and no line of an answer is longer than 32 bytes.
 use Prim.Native.Nat.{ℕ, _+_, _^_, _≤_, _<_}
-use mathlib.Core.List.{List, [], _∷_}
-use mathlib.Core.Path.{_≡_, subst⁻¹}
+use mathlib.Core.List.{List, [], _∷_, _++_, append-assoc}
+use mathlib.Core.Path.{_≡_, sym, ap, _∙_, subst⁻¹}
 use native.Mathlib.Omega.{arith}
 use lib.ListN.{length, length-append}
 use Rattle.slots.specs.declared.Answer.{Answer}
-use Rattle.slots.specs.declared.Answer.the-variants.{Found, Deleted}
+use Rattle.slots.specs.declared.Answer.the-variants.{Found, Deleted, Next}
 use Rattle.lines.specs.Text.{laid}
 use Rattle.lines.specs.Decimal.{decimal}
 use Rattle.lines.specs.Names.{answerLine}
@@ -25,6 +25,24 @@ found-short v h = omega (arith, word-short v h, length-append (decimal v) (10 �
 
 pub deleted-short : (v : ℕ) → v < 2 ^ 32 → length (answerLine (Deleted v)) ≤ 32
 deleted-short v h = omega (arith, word-short v h, length-append (decimal v) (10 ∷ []))
+
+-- with a key in front of it
+pub next-short : (x v : ℕ) → x < 2 ^ 32 → v < 2 ^ 32 → length (answerLine (Next x v)) ≤ 32
+next-short x v g h =
+    omega (
+      arith,
+      word-short x g,
+      word-short v h,
+      length-append (decimal x ++ (32 ∷ []) ++ decimal v) (10 ∷ []),
+      length-append (decimal x ++ (32 ∷ [])) (decimal v),
+      length-append (decimal x) (32 ∷ []),
+    )
+
+-- a word, and behind it a space, a number and a line feed: one word
+pub value-behind : (word spelt : List ℕ) → word ++ ((32 ∷ []) ++ spelt ++ (10 ∷ [])) ≡ word ++ (32 ∷ []) ++ spelt ++ (10 ∷ [])
+value-behind word spelt =
+    sym (append-assoc word ((32 ∷ []) ++ spelt) (10 ∷ []))
+    ∙ ap (λ (l : List ℕ). l ++ (10 ∷ [])) (sym (append-assoc word (32 ∷ []) spelt))
 
 -- where there is room for 32 bytes, there is room for fewer
 pub room : (at n : ℕ) {long : ℕ} → at + 32 ≤ long → n ≤ 32 → at + n ≤ long

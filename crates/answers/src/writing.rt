@@ -1,4 +1,5 @@
-// How an answer is written: its name, for Found and Deleted a space and the information, and a line feed.
+// How an answer is written: its name, for Found and Deleted a space and the information, for Next the key in front of it, and a
+// line feed.
 use slots::Answer;
 ghost use mathlib.Core.List.{_++_};
 ghost use mathlib.Core.Path.{_≡_};
@@ -61,6 +62,16 @@ fn write_value(out: &mut [u8], at: usize, word: &[u8], n: u32) -> usize
     write_word(out, end, b"\n")
 }
 
+// Writes a word, a key, a space, information and a line feed.
+fn write_lot(out: &mut [u8], at: usize, word: &[u8], key: u32, information: u32) -> usize
+    requires { ⌜ at + length (now word) + 22 ≤ length (now out) ⌝ }
+    ensures { λ r. ⌜ (now (out .exit) ≡ laid (now (out .entry)) at (now (word .entry) ++ decimal key ++ bytes " " ++ decimal information ++ bytes "\n")) × (r ≡ at + length (now (word .entry) ++ decimal key ++ bytes " " ++ decimal information ++ bytes "\n")) ⌝ }
+{
+    let behind = write_word(out, at, word);
+    let end = write_number(out, behind, key);
+    write_value(out, end, b" ", information)
+}
+
 // Writes the line of an answer, and gives back the position behind it.
 pub fn write_answer(out: &mut [u8], at: usize, a: Answer) -> usize
     requires { ⌜ at + 32 ≤ length (now out) ⌝ }
@@ -79,6 +90,8 @@ pub fn write_answer(out: &mut [u8], at: usize, a: Answer) -> usize
         Answer::Begun => write_word(out, at, b"Begun\n"),
         Answer::Made => write_word(out, at, b"Made\n"),
         Answer::Reported(_, _, _) => write_word(out, at, b"Reported\n"),
+        Answer::Next(key, information) => write_lot(out, at, b"Next ", key, information),
+        Answer::None => write_word(out, at, b"None\n"),
         Answer::BadState => write_word(out, at, b"BadState\n"),
         Answer::BadPool => write_word(out, at, b"BadPool\n"),
         Answer::BadSlot => write_word(out, at, b"BadSlot\n"),

@@ -2,7 +2,7 @@
 use Prim.Native.Nat.{ℕ}
 use mathlib.Core.Bool.{cond}
 use lib.Dec.{eqb}
-use Rattle.slots.specs.declared.Op.the-variants.{Search, Insert, Delete}
+use Rattle.slots.specs.declared.Op.the-variants.{Search, Insert, Delete, Next}
 use Rattle.embed.specs.declared.asking.Asked.{Asked}
 use Rattle.embed.specs.declared.asking.Asked.the-variants.{Known, Unknown}
 
@@ -11,4 +11,6 @@ abbrev pub askedBy : ℕ → ℕ → ℕ → Asked
 askedBy kind key information =
     cond (eqb kind 1)
     (Known (Search key))
-    (cond (eqb kind 2) (Known (Insert key information)) (cond (eqb kind 3) (Known (Delete key)) Unknown))
+    (cond (eqb kind 2)
+    (Known (Insert key information))
+    (cond (eqb kind 3) (Known (Delete key)) (cond (eqb kind 4) (Known (Next key)) Unknown)))

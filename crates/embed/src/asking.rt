@@ -9,7 +9,7 @@ pub enum Asked {
     Unknown,
 }
 
-// 1 is a search, 2 an insertion, 3 a deletion. Only an insertion looks at the information.
+// 1 is a search, 2 an insertion, 3 a deletion, 4 a Next. Only an insertion looks at the information.
 pub fn read_asked(kind: u32, key: u32, information: u32) -> Asked
     ensures { λ r. ⌜ r ≡ askedBy kind key information ⌝ }
 {
@@ -21,6 +21,9 @@ pub fn read_asked(kind: u32, key: u32, information: u32) -> Asked
     }
     if kind == 3 {
         return Asked::Known(Op::Delete(key));
+    }
+    if kind == 4 {
+        return Asked::Known(Op::Next(key));
     }
     Asked::Unknown
 }

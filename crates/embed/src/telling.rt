@@ -52,6 +52,8 @@ fn numbers(answer: Answer) -> Four
         Answer::Begun => Four(41, 0, 0, 0),
         Answer::Made => Four(42, 0, 0, 0),
         Answer::Reported(kind, holders, lowest) => Four(43, lock_number(kind), holders, lowest),
+        Answer::Next(key, information) => Four(44, key, information, 0),
+        Answer::None => Four(45, 0, 0, 0),
         Answer::BadState => Four(1, 0, 0, 0),
         Answer::BadPool => Four(2, 0, 0, 0),
         Answer::BadSlot => Four(3, 0, 0, 0),

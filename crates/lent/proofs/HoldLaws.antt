@@ -1,25 +1,30 @@
 -- Laws of looking for a page in the other slots: tops first, then the slots that hold more; and that this is the rule's test of
 -- clashing locks.
 use Prim.Native.Nat.{ℕ, zero, suc, _+_, _≤_, _<_}
-use mathlib.Core.Bool.{Bool, true, false, not, _&&_, _||_, false≢true}
+use mathlib.Core.Bool.{Bool, true, false, cond, not, _&&_, _||_, false≢true}
 use mathlib.Core.Path.{_≡_, refl, sym, ap, ap₂, _∙_, subst}
 use mathlib.Core.List.{List, [], _∷_, _++_}
 use native.Mathlib.Omega.{arith}
 use native.Mathlib.Numerals.{add-one}
 use lib.Dec.{eqb, leb, ltb}
 use lib.ListN.{length, getD, take}
-use borrow.Author.Tests.{ltb-false, ltb-true, lt-leb, eq-eqb, le-leb}
+use borrow.Author.Tests.{ltb-false, leb-true, eq-eqb, ne-eqb, eqb-true}
 use Rattle.ground.specs.Limits.{slotCount}
 use Rattle.ground.specs.Tests.{allBelow, anyBelow, member}
-use Rattle.ground.proofs.Bools.{and-second, and-first-fails, and-second-fails, or-first, or-first-fails, or-second-fails, not-of-true}
-use Rattle.ground.proofs.Tests.{anyBelow-more, anyBelow-same, anyBelow-fails, anyBelow-false-at, allBelow-same, allBelow-more, allBelow-at}
+use Rattle.ground.proofs.Bools.{and-second, and-first-fails, and-second-fails, not-both, or-first, or-first-fails, or-second-fails, not-of-true}
+use Rattle.ground.proofs.Choice.{cond-false}
+use Rattle.ground.proofs.Tests.{member-none, anyBelow-more, anyBelow-same, anyBelow-fails, anyBelow-false-at, allBelow-same, allBelow-more, allBelow-at}
+use Rattle.slots.specs.declared.Op.{Op}
+use Rattle.slots.specs.declared.Task.the-variants.{Open}
+use Rattle.slots.specs.declared.Lock.{Lock}
+use Rattle.slots.specs.declared.Lock.the-variants.{None, Rho, Xi}
 use Rattle.slots.specs.declared.Slot.{Slot}
-use Rattle.slots.specs.Parts.{held, pathOf, siblingsOf, slotAt, wantAt, holdsAt, waitingOrder}
+use Rattle.slots.specs.Parts.{isOpen, held, pathOf, siblingsOf, slotAt, wantAt, holdsAt, waitingOrder}
 use Rattle.slots.specs.Locks.{lockOf, lockAt, clash}
 use Rattle.slots.specs.Grant.{noClash, noOlder}
 use Rattle.slots.proofs.GrantingLaws.{noOlderFrom, older-end, older-here, older-stops, older-more, order-names}
-use Rattle.lent.specs.Words.{cell, column, taskFrom, slotIn, orderIn, asRead, known}
-use Rattle.lent.specs.Holds.{counts, otherHolds, topHolds, isDeep, deepHolds, othersHold, leastClash}
+use Rattle.lent.specs.Words.{cell, column, highestKind, taskFrom, slotIn, orderIn, asRead, known}
+use Rattle.lent.specs.Holds.{Short, updatesKind, counts, otherHolds, topHolds, isDeep, deepHolds, othersHold}
 use Rattle.lent.proofs.StateLaws.{slot-read, length-column, column-cell, length-order, order-cell}
 
 -- ---- some number below a bound
@@ -98,113 +103,145 @@ joins true false true m f g = refl
 joins true true false m f g = f refl
 joins true false false m f g = f refl
 
-module _ (ws : List ℕ) (s least p : ℕ) where
-  top-or-deep : (t : ℕ) → topHolds ws s least p t || deepHolds ws s least p t ≡ otherHolds ws s least p t
+module _ (ws : List ℕ) (s : ℕ) (any : Bool) (p : ℕ) where
+  top-or-deep : (t : ℕ) → topHolds ws s any p t || deepHolds ws s any p t ≡ otherHolds ws s any p t
   unfolding pathOf siblingsOf
   top-or-deep t =
       let path : List ℕ = column ws 6 t in
       let siblings : List ℕ = column ws 16 t in
       let first : getD path 0 0 ≡ cell ws 6 t = column-cell ws 6 t 0 (omega arith) in
-      joins (counts ws s least t) (ltb 0 (cell ws 4 t) && eqb p (cell ws 6 t)) (isDeep ws t) (member p (held (slotIn ws t)))
+      joins (counts ws s any t) (ltb 0 (cell ws 4 t) && eqb p (cell ws 6 t)) (isDeep ws t) (member p (held (slotIn ws t)))
       (λ e. ap (λ (x : ℕ). ltb 0 (cell ws 4 t) && eqb p x) (sym first)
       ∙ shallow p (cell ws 4 t) (cell ws 5 t) path siblings (length-column ws 6 t) e)
       (λ e. top-held p (cell ws 4 t) path (take (cell ws 5 t) siblings) (length-column ws 6 t)
       (ap (λ (x : ℕ). ltb 0 (cell ws 4 t) && eqb p x) first ∙ e))
 
-  both-ways : anyBelow 16 (topHolds ws s least p) || anyBelow 16 (deepHolds ws s least p) ≡ othersHold ws s least p
+  both-ways : anyBelow 16 (topHolds ws s any p) || anyBelow 16 (deepHolds ws s any p) ≡ othersHold ws s any p
   unfolding othersHold
-  both-ways = any-or (topHolds ws s least p) (deepHolds ws s least p) 16 ∙ anyBelow-same _ _ 16 (λ t _. top-or-deep t)
+  both-ways = any-or (topHolds ws s any p) (deepHolds ws s any p) 16 ∙ anyBelow-same _ _ 16 (λ t _. top-or-deep t)
 
-  pub others-top : {r : Bool} → r ≡ anyBelow 16 (topHolds ws s least p) → r ≡ true → true ≡ othersHold ws s least p
-  others-top e t = sym (sym both-ways ∙ or-first (anyBelow 16 (deepHolds ws s least p)) (sym e ∙ t))
+  pub others-top : {r : Bool} → r ≡ anyBelow 16 (topHolds ws s any p) → r ≡ true → true ≡ othersHold ws s any p
+  others-top e t = sym (sym both-ways ∙ or-first (anyBelow 16 (deepHolds ws s any p)) (sym e ∙ t))
 
-  pub others-deep : {r q : Bool} → r ≡ anyBelow 16 (topHolds ws s least p) → r ≡ false → q ≡ anyBelow 16 (deepHolds ws s least p) → q ≡ othersHold ws s least p
-  others-deep e f d = d ∙ sym (ap (λ (b : Bool). b || anyBelow 16 (deepHolds ws s least p)) (sym e ∙ f)) ∙ both-ways
+  pub others-deep : {r q : Bool} → r ≡ anyBelow 16 (topHolds ws s any p) → r ≡ false → q ≡ anyBelow 16 (deepHolds ws s any p) → q ≡ othersHold ws s any p
+  others-deep e f d = d ∙ sym (ap (λ (b : Bool). b || anyBelow 16 (deepHolds ws s any p)) (sym e ∙ f)) ∙ both-ways
 
   -- where no slot holds more than one page
-  pub others-shallow : {r q : Bool} → r ≡ anyBelow 16 (topHolds ws s least p) → r ≡ false → q ≡ anyBelow 16 (isDeep ws) → q ≡ false → false ≡ othersHold ws s least p
+  pub others-shallow : {r q : Bool} → r ≡ anyBelow 16 (topHolds ws s any p) → r ≡ false → q ≡ anyBelow 16 (isDeep ws) → q ≡ false → false ≡ othersHold ws s any p
   others-shallow e f d n =
       others-deep e f
-      (sym (anyBelow-fails (deepHolds ws s least p) 16
-      (λ t b. and-first-fails (member p (held (slotIn ws t))) (and-second-fails (counts ws s least t) (anyBelow-false-at (isDeep ws) 16 (sym d ∙ n) t b)))))
+      (sym (anyBelow-fails (deepHolds ws s any p) 16
+      (λ t b. and-first-fails (member p (held (slotIn ws t))) (and-second-fails (counts ws s any t) (anyBelow-false-at (isDeep ws) 16 (sym d ∙ n) t b)))))
 
   -- a slot that holds more than one page, by its tests
   module _ (t : ℕ) where
-    pub deep-not : isDeep ws t ≡ false → false ≡ deepHolds ws s least p t
-    deep-not e = sym (and-first-fails (member p (held (slotIn ws t))) (and-second-fails (counts ws s least t) e))
+    pub deep-not : isDeep ws t ≡ false → false ≡ deepHolds ws s any p t
+    deep-not e = sym (and-first-fails (member p (held (slotIn ws t))) (and-second-fails (counts ws s any t) e))
 
-    pub deep-own : t ≡ s → false ≡ deepHolds ws s least p t
+    pub deep-own : t ≡ s → false ≡ deepHolds ws s any p t
     deep-own e =
         sym
         (and-first-fails (member p (held (slotIn ws t)))
-        (and-first-fails (isDeep ws t) (and-first-fails (leb least (cell ws 0 t)) (not-of-true (eq-eqb t s e)))))
+        (and-first-fails (isDeep ws t) (and-first-fails (any || updatesKind (cell ws 0 t)) (not-of-true (eq-eqb t s e)))))
 
-    pub deep-low : cell ws 0 t < least → false ≡ deepHolds ws s least p t
-    deep-low h =
-        sym
-        (and-first-fails (member p (held (slotIn ws t)))
-        (and-first-fails (isDeep ws t) (and-second-fails (not (eqb t s)) (lt-leb least (cell ws 0 t) h))))
+    -- whether its lock counts, as found
+    module _ {found : Bool} (said : found ≡ any || updatesKind (cell ws 0 t)) where
+      pub deep-passed : found ≡ false → false ≡ deepHolds ws s any p t
+      deep-passed f =
+          sym
+          (and-first-fails (member p (held (slotIn ws t)))
+          (and-first-fails (isDeep ws t) (and-second-fails (not (eqb t s)) (sym said ∙ f))))
 
-    pub deep-is : {b : Bool} → isDeep ws t ≡ true → eqb t s ≡ false → least ≤ cell ws 0 t → b ≡ member p (held (slotIn ws t)) → b ≡ deepHolds ws s least p t
-    deep-is d n k e =
-        e
-        ∙ sym
-        (ap (λ (x : Bool). not x && leb least (cell ws 0 t) && isDeep ws t && member p (held (slotIn ws t))) n
-        ∙ ap₂ (λ (x y : Bool). x && y && member p (held (slotIn ws t))) (le-leb least (cell ws 0 t) k) d)
+      pub deep-is : {b : Bool} → isDeep ws t ≡ true → eqb t s ≡ false → found ≡ true → b ≡ member p (held (slotIn ws t)) → b ≡ deepHolds ws s any p t
+      deep-is d n c e =
+          e
+          ∙ sym
+          (ap (λ (x : Bool). not x && (any || updatesKind (cell ws 0 t)) && isDeep ws t && member p (held (slotIn ws t))) n
+          ∙ ap₂ (λ (x y : Bool). x && y && member p (held (slotIn ws t))) (sym said ∙ c) d)
 
 -- ---- locks by kind
 
-pub by-kind : (P : ℕ → Type 0) → P 0 → P 1 → P 2 → P 3 → (a : ℕ) → a < 4 → P a
-by-kind P a b c d zero h = a
-by-kind P a b c d (suc zero) h = b
-by-kind P a b c d (suc (suc zero)) h = c
-by-kind P a b c d (suc (suc (suc zero))) h = d
-by-kind P a b c d (suc (suc (suc (suc n)))) h = absurd (omega arith)
+pub by-kind : (P : ℕ → Type 0) → P 0 → P 1 → P 2 → P 3 → P 4 → (a : ℕ) → a ≤ highestKind → P a
+by-kind P a b c d e zero h = a
+by-kind P a b c d e (suc zero) h = b
+by-kind P a b c d e (suc (suc zero)) h = c
+by-kind P a b c d e (suc (suc (suc zero))) h = d
+by-kind P a b c d e (suc (suc (suc (suc zero)))) h = e
+by-kind P a b c d e (suc (suc (suc (suc (suc n))))) h = absurd (omega arith)
 
-abbrev Clashes : ℕ → ℕ → ℕ → ℕ → ℕ → ℕ → Type 0
-Clashes x v y w b a = clash (lockOf (taskFrom a x v)) (lockOf (taskFrom b y w)) ≡ leb (leastClash b) a
-
-clash-kind : (x v y w a b : ℕ) → a < 4 → b < 4 → Clashes x v y w b a
-clash-kind x v y w a b h k =
-    by-kind (λ (q : ℕ). Clashes x v y w q a)
-    (by-kind (Clashes x v y w 0) refl refl refl refl a h)
-    (by-kind (Clashes x v y w 1) refl refl refl refl a h)
-    (by-kind (Clashes x v y w 2) refl refl refl refl a h)
-    (by-kind (Clashes x v y w 3) refl refl refl refl a h)
-    b k
-
-pub kind-known : (ws : List ℕ) → known ws ≡ true → (t : ℕ) → t < 16 → cell ws 0 t < 4
+pub kind-known : (ws : List ℕ) → known ws ≡ true → (t : ℕ) → t < 16 → cell ws 0 t ≤ highestKind
 unfolding known slotCount
-kind-known ws e t h = ltb-true (cell ws 0 t) 4 (allBelow-at (λ (s : ℕ). ltb (cell ws 0 s) 4) 16 e t h)
+kind-known ws e t h = leb-true (cell ws 0 t) highestKind (allBelow-at (λ (s : ℕ). leb (cell ws 0 s) highestKind) 16 e t h)
 
-swap : (q c m : Bool) → q || not (m && c) ≡ not (not q && c && m)
-swap true c m = refl
-swap false true true = refl
-swap false true false = refl
-swap false false true = refl
-swap false false false = refl
+-- the kind of a slot with an operation is not 0
+pub kind-of-open : (kind key information : ℕ) {op : Op} → taskFrom kind key information ≡ Open op → 0 < kind
+kind-of-open zero key information e = absurd (false≢true (ap isOpen e))
+kind-of-open (suc kind) key information e = omega arith
 
--- no other slot holds a clashing lock on the wanted page
-pub no-clash-words : (ws : List ℕ) (s : ℕ) → known ws ≡ true → s < 16 → {least want : ℕ} {r : Bool} → least ≡ leastClash (cell ws 0 s) → want ≡ cell ws 3 s
-    → r ≡ othersHold ws s least want → not r ≡ noClash (asRead ws) s
-unfolding noClash slotCount othersHold
-no-clash-words ws s e h {least} {want} {r} l w said =
-    ap not (said ∙ ap₂ (λ (a b : ℕ). othersHold ws s a b) l w)
-    ∙ sym (any-not (otherHolds ws s (leastClash (cell ws 0 s)) (cell ws 3 s)) 16)
-    ∙ allBelow-same _ _ 16 each
-  where
-    here : slotAt (asRead ws) s ≡ slotIn ws s
-    here = slot-read ws s h
+-- the lock of an open slot, and of any
+abbrev openLock : Bool → Lock
+openLock xi = cond xi Xi Rho
 
-    each : (t : ℕ) → t < 16
-        → not (otherHolds ws s (leastClash (cell ws 0 s)) (cell ws 3 s) t) ≡ eqb t s || not (holdsAt (asRead ws) t (wantAt (asRead ws) s) && clash (lockAt (asRead ws) t) (lockAt (asRead ws) s))
-    each t b =
-        let there : slotAt (asRead ws) t ≡ slotIn ws t = slot-read ws t b in
-        let m : Bool = member (cell ws 3 s) (held (slotIn ws t)) in
-        sym
-        (ap₂ (λ (x y : Slot). eqb t s || not (member (y .want) (held x) && clash (lockOf (x .task)) (lockOf (y .task)))) there here
-        ∙ ap (λ (c : Bool). eqb t s || not (m && c)) (clash-kind (cell ws 1 t) (cell ws 2 t) (cell ws 1 s) (cell ws 2 s) (cell ws 0 t) (cell ws 0 s) (kind-known ws e t b) (kind-known ws e s h))
-        ∙ swap (eqb t s) (leb (leastClash (cell ws 0 s)) (cell ws 0 t)) m)
+abbrev kindLock : ℕ → Lock
+kindLock kind = cond (eqb kind 0) None (openLock (updatesKind kind))
+
+lock-kind : (key information kind : ℕ) → kind ≤ highestKind → lockOf (taskFrom kind key information) ≡ kindLock kind
+lock-kind key information = by-kind (λ (k : ℕ). lockOf (taskFrom k key information) ≡ kindLock k) refl refl refl refl refl
+
+-- it clashes with that of an open slot if one of the two is ξ
+clash-open : (shut a b : Bool) → clash (cond shut None (openLock a)) (openLock b) ≡ not shut && (b || a)
+clash-open true a true = refl
+clash-open true a false = refl
+clash-open false true true = refl
+clash-open false true false = refl
+clash-open false false true = refl
+clash-open false false false = refl
+
+-- a slot that is closed has no lock, and holds nothing
+swap : (own shut c m : Bool) → (shut ≡ true → m ≡ false) → own || not (m && (not shut && c)) ≡ not (not own && c && m)
+swap true shut c m none = refl
+swap false true true true none = not-both refl (none refl)
+swap false true true false none = refl
+swap false true false true none = refl
+swap false true false false none = refl
+swap false false true true none = refl
+swap false false true false none = refl
+swap false false false true none = refl
+swap false false false false none = refl
+
+-- no other slot holds a clashing lock on the page that an open slot wants
+module _ (ws : List ℕ) (s : ℕ) (e : known ws ≡ true) (h : s < 16) (short : Short ws) (opened : 0 < cell ws 0 s) where
+  here : slotAt (asRead ws) s ≡ slotIn ws s
+  here = slot-read ws s h
+
+  abbrev any-lock : Bool
+  any-lock = updatesKind (cell ws 0 s)
+
+  own-lock : lockOf (slotIn ws s .task) ≡ openLock any-lock
+  own-lock = lock-kind (cell ws 1 s) (cell ws 2 s) (cell ws 0 s) (kind-known ws e s h) ∙ cond-false None (openLock any-lock) (ne-eqb (cell ws 0 s) 0 (λ z. omega arith))
+
+  shut-holds : (t : ℕ) → t < 16 → eqb (cell ws 0 t) 0 ≡ true → member (cell ws 3 s) (held (slotIn ws t)) ≡ false
+  unfolding pathOf siblingsOf
+  shut-holds t b z =
+      let none = short .closed t b (eqb-true (cell ws 0 t) 0 z) in
+      ap₂ (λ (d n : ℕ). member (cell ws 3 s) (take d (column ws 6 t) ++ take n (column ws 16 t))) (none .0) (none .1) ∙ member-none (cell ws 3 s)
+
+  each : (t : ℕ) → t < 16
+      → not (otherHolds ws s any-lock (cell ws 3 s) t) ≡ eqb t s || not (holdsAt (asRead ws) t (wantAt (asRead ws) s) && clash (lockAt (asRead ws) t) (lockAt (asRead ws) s))
+  each t b =
+      let m : Bool = member (cell ws 3 s) (held (slotIn ws t)) in
+      sym
+      (ap₂ (λ (x y : Slot). eqb t s || not (member (y .want) (held x) && clash (lockOf (x .task)) (lockOf (y .task)))) (slot-read ws t b) here
+      ∙ ap₂ (λ (x y : Lock). eqb t s || not (m && clash x y)) (lock-kind (cell ws 1 t) (cell ws 2 t) (cell ws 0 t) (kind-known ws e t b)) own-lock
+      ∙ ap (λ (c : Bool). eqb t s || not (m && c)) (clash-open (eqb (cell ws 0 t) 0) (updatesKind (cell ws 0 t)) any-lock)
+      ∙ swap (eqb t s) (eqb (cell ws 0 t) 0) (any-lock || updatesKind (cell ws 0 t)) m (shut-holds t b))
+
+  pub no-clash-words : {any : Bool} {want : ℕ} {r : Bool} → any ≡ any-lock → want ≡ cell ws 3 s → r ≡ othersHold ws s any want → not r ≡ noClash (asRead ws) s
+  unfolding noClash slotCount othersHold
+  no-clash-words {any} {want} {r} a w said =
+      ap not (said ∙ ap₂ (λ (x : Bool) (y : ℕ). othersHold ws s x y) a w)
+      ∙ sym (any-not (otherHolds ws s any-lock (cell ws 3 s)) 16)
+      ∙ allBelow-same _ _ 16 each
 
 -- ---- the walk over older wants, on the words
 

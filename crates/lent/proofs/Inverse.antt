@@ -6,10 +6,10 @@ use mathlib.Core.Path.{_≡_, refl, sym, ap, ap₂, _∙_, subst}
 use mathlib.Core.List.{List, _∷_, _++_}
 use mathlib.Core.Logic.{_≢_, _⊎_, inl, inr, ⊎-elim}
 use native.Mathlib.Omega.{arith}
-use lib.Dec.{ltb}
+use lib.Dec.{leb, ltb}
 use lib.ListN.{length, getD, take, drop, set, replicate, length-drop, getD-replicate, take-append-drop, List·getD-append}
 use lib.Seq.{ext-getD, getD-append-add, getD-drop, take-at}
-use borrow.Author.Tests.{lt-ltb, ltb-true, ltb-false}
+use borrow.Author.Tests.{le-leb, ltb-true, ltb-false}
 use Rattle.ground.specs.Limits.{slotCount, pathHolds}
 use Rattle.ground.specs.Tests.{padded}
 use Rattle.ground.proofs.Bools.{true-or-false}
@@ -17,7 +17,7 @@ use Rattle.ground.proofs.Tests.{allBelow-from}
 use Rattle.slots.specs.declared.Slot.{Slot}
 use Rattle.slots.specs.declared.State.{State}
 use Rattle.slots.specs.Parts.{closedSlot, slotAt, idleState}
-use Rattle.lent.specs.Words.{listOf, address, cell, column, taskFrom, slotIn, orderIn, asRead, known, stateOf, kindOf, keyIn, informationIn, rowsOf, stateWords}
+use Rattle.lent.specs.Words.{listOf, address, cell, column, highestKind, taskFrom, slotIn, orderIn, asRead, known, stateOf, kindOf, keyIn, informationIn, rowsOf, stateWords}
 use Rattle.lent.proofs.ListLaws.{length-listOf, getD-listOf, listOf-same, listOf-getD}
 use Rattle.lent.proofs.StateLaws.{by-front, slot-read, state-known, rows-read, rows-kind, length-column, column-cell}
 use Rattle.lent.proofs.HoldLaws.{by-kind}
@@ -77,8 +77,8 @@ module _ (st : State) (sized : Sized st) where
   known-words : known (stateWords st) ≡ true
   unfolding known slotCount
   known-words =
-      allBelow-from (λ (s : ℕ). ltb (cell (stateWords st) 0 s) 4) 16
-      (λ s h. lt-ltb (cell (stateWords st) 0 s) 4 (rows-kind (stateWords st) s (slotAt st s) (sized .path s h) (sized .siblings s h) (words-cell s h)))
+      allBelow-from (λ (s : ℕ). leb (cell (stateWords st) 0 s) highestKind) 16
+      (λ s h. le-leb (cell (stateWords st) 0 s) highestKind (rows-kind (stateWords st) s (slotAt st s) (sized .path s h) (sized .siblings s h) (words-cell s h)))
 
   -- the words of a state read as that state
   pub state-back : stateOf (stateWords st) ≡ st
@@ -105,21 +105,21 @@ idle-sized k n = record {
 -- Clean words: as many as a state has, every kind exists, and no key or information stands where the task has none.
 pub record Clean (ws : List ℕ) : Type 0 where
   pub long : length ws ≡ 435
-  pub exist : (s : ℕ) → s < 16 → cell ws 0 s < 4
+  pub exist : (s : ℕ) → s < 16 → cell ws 0 s ≤ highestKind
   pub key : (s : ℕ) → s < 16 → cell ws 0 s ≡ 0 → cell ws 1 s ≡ 0
   pub information : (s : ℕ) → s < 16 → cell ws 0 s ≢ 2 → cell ws 2 s ≡ 0
 
-kind-back : (key information kind : ℕ) → kind < 4 → kindOf (taskFrom kind key information) ≡ kind
-kind-back key information = by-kind (λ (k : ℕ). kindOf (taskFrom k key information) ≡ k) refl refl refl refl
+kind-back : (key information kind : ℕ) → kind ≤ highestKind → kindOf (taskFrom kind key information) ≡ kind
+kind-back key information = by-kind (λ (k : ℕ). kindOf (taskFrom k key information) ≡ k) refl refl refl refl refl
 
-key-back : (key information kind : ℕ) → kind < 4 → (kind ≡ 0 → key ≡ 0) → keyIn (taskFrom kind key information) ≡ key
+key-back : (key information kind : ℕ) → kind ≤ highestKind → (kind ≡ 0 → key ≡ 0) → keyIn (taskFrom kind key information) ≡ key
 key-back key information =
-    by-kind (λ (k : ℕ). (k ≡ 0 → key ≡ 0) → keyIn (taskFrom k key information) ≡ key) (λ e. sym (e refl)) (λ _. refl) (λ _. refl) (λ _. refl)
+    by-kind (λ (k : ℕ). (k ≡ 0 → key ≡ 0) → keyIn (taskFrom k key information) ≡ key) (λ e. sym (e refl)) (λ _. refl) (λ _. refl) (λ _. refl) (λ _. refl)
 
-information-back : (key information kind : ℕ) → kind < 4 → (kind ≢ 2 → information ≡ 0) → informationIn (taskFrom kind key information) ≡ information
+information-back : (key information kind : ℕ) → kind ≤ highestKind → (kind ≢ 2 → information ≡ 0) → informationIn (taskFrom kind key information) ≡ information
 information-back key information =
     by-kind (λ (k : ℕ). (k ≢ 2 → information ≡ 0) → informationIn (taskFrom k key information) ≡ information)
-    (λ e. sym (e (λ q. absurd (omega arith)))) (λ e. sym (e (λ q. absurd (omega arith)))) (λ _. refl) (λ e. sym (e (λ q. absurd (omega arith))))
+    (λ e. sym (e (λ q. absurd (omega arith)))) (λ e. sym (e (λ q. absurd (omega arith)))) (λ _. refl) (λ e. sym (e (λ q. absurd (omega arith)))) (λ e. sym (e (λ q. absurd (omega arith))))
 
 module _ (ws : List ℕ) (clean : Clean ws) (s : ℕ) (h : s < 16) where
   -- behind the six numbers
@@ -178,5 +178,5 @@ read-back ws clean =
 pub words-back : (ws : List ℕ) → Clean ws → stateWords (stateOf ws) ≡ ws
 unfolding known slotCount
 words-back ws clean =
-    ap stateWords (state-known ws (allBelow-from (λ (s : ℕ). ltb (cell ws 0 s) 4) 16 (λ s h. lt-ltb (cell ws 0 s) 4 (clean .exist s h))))
+    ap stateWords (state-known ws (allBelow-from (λ (s : ℕ). leb (cell ws 0 s) highestKind) 16 (λ s h. le-leb (cell ws 0 s) highestKind (clean .exist s h))))
     ∙ read-back ws clean

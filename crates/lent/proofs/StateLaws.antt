@@ -6,22 +6,22 @@ use mathlib.Core.List.{List, [], _∷_, _++_, append-nil}
 use mathlib.Core.Logic.{_≢_, ⊎-elim}
 use native.Mathlib.Omega.{arith}
 use native.Mathlib.Nat.{not-suc-le-zero, le-of-suc-le-suc}
-use lib.Dec.{ltb}
+use lib.Dec.{leb}
 use lib.ListN.{length, getD, take, drop, set, length-append, length-drop, replicate, List·getD-append}
 use lib.Seq.{ext-getD, take-all, getD-take, getD-drop, getD-append-add, take-at, length-take-le, getD-set-same}
-use borrow.Author.Tests.{lt-ltb}
+use borrow.Author.Tests.{le-leb}
 use Rattle.ground.specs.Limits.{slotCount, pathHolds}
 use Rattle.ground.specs.Tests.{padded}
 use Rattle.ground.proofs.Choice.{cond-true}
 use Rattle.ground.proofs.Tests.{allBelow-at, allBelow-from}
-use Rattle.slots.specs.declared.Op.the-variants.{Search, Insert, Delete}
+use Rattle.slots.specs.declared.Op.the-variants.{Search, Insert, Delete, Next}
 use Rattle.slots.specs.declared.Task.{Task}
 use Rattle.slots.specs.declared.Task.the-variants.{Closed, Open}
 use Rattle.slots.specs.declared.Slot.{Slot}
 use Rattle.slots.specs.Parts.{closedSlot, slotAt}
 use Rattle.slots.specs.Book.{rewritten}
 use Rattle.slots.proofs.OrderLaws.{same-or-not}
-use Rattle.lent.specs.Words.{listOf, address, cell, column, taskFrom, slotIn, orderIn, asRead, known, stateOf, kindOf, keyIn, informationIn, rowsOf, spread, slotLaid, orderLaid, laidInto}
+use Rattle.lent.specs.Words.{listOf, address, cell, column, highestKind, taskFrom, slotIn, orderIn, asRead, known, stateOf, kindOf, keyIn, informationIn, rowsOf, spread, slotLaid, orderLaid, laidInto}
 use Rattle.lent.proofs.ListLaws.{length-listOf, getD-listOf, listOf-same, listOf-getD, listOf-set}
 use Rattle.lent.proofs.SpreadLaws.{length-spread, spread-beside, spread-front, spread-at}
 
@@ -54,12 +54,14 @@ task-back Closed = refl
 task-back (Open (Search x)) = refl
 task-back (Open (Insert x v)) = refl
 task-back (Open (Delete x)) = refl
+task-back (Open (Next x)) = refl
 
-kind-exists : (t : Task) → kindOf t < 4
+kind-exists : (t : Task) → kindOf t ≤ highestKind
 kind-exists Closed = omega arith
 kind-exists (Open (Search x)) = omega arith
 kind-exists (Open (Insert x v)) = omega arith
 kind-exists (Open (Delete x)) = omega arith
+kind-exists (Open (Next x)) = omega arith
 
 -- A slot whose numbers stand in these rows.
 module _ (ws : List ℕ) (s : ℕ) (slot : Slot) (path : length (slot .path) ≡ 10) (beside : length (slot .siblings) ≡ 10)
@@ -107,8 +109,8 @@ module _ (ws : List ℕ) (s : ℕ) (slot : Slot) (path : length (slot .path) ≡
       }
 
   -- and its kind exists
-  pub rows-kind : cell ws 0 s < 4
-  rows-kind = subst (λ (a : ℕ). a < 4) (sym (rows 0 (omega arith))) (kind-exists (slot .task))
+  pub rows-kind : cell ws 0 s ≤ highestKind
+  rows-kind = subst (λ (a : ℕ). a ≤ highestKind) (sym (rows 0 (omega arith))) (kind-exists (slot .task))
 
 module _ (ws : List ℕ) (s : ℕ) (slot : Slot) (long : length ws ≡ 435) (inside : s < 16) (path : length (slot .path) ≡ 10) (beside : length (slot .siblings) ≡ 10) where
   rows-long : length (rowsOf slot) ≡ 26
@@ -126,7 +128,7 @@ module _ (ws : List ℕ) (s : ℕ) (slot : Slot) (long : length ws ≡ 435) (ins
   slot-laid = rows-read (slotLaid ws s slot) s slot path beside row-laid
 
   -- its kind exists
-  laid-kind : cell (slotLaid ws s slot) 0 s < 4
+  laid-kind : cell (slotLaid ws s slot) 0 s ≤ highestKind
   laid-kind = rows-kind (slotLaid ws s slot) s slot path beside row-laid
 
   -- the cells of the others stay
@@ -273,11 +275,11 @@ module _ (ws : List ℕ) (s : ℕ) (slot : Slot) (order : List ℕ) (waiting : �
     known-after : known ws ≡ true → known after ≡ true
     unfolding known slotCount after
     known-after e =
-        allBelow-from (λ (t : ℕ). ltb (cell after 0 t) 4) 16
+        allBelow-from (λ (t : ℕ). leb (cell after 0 t) highestKind) 16
         (λ t b.
         ⊎-elim
-        (λ q. subst (λ (u : ℕ). ltb (cell after 0 u) 4 ≡ true) (sym q) (lt-ltb (cell after 0 s) 4 (laid-kind mid s slot mid-long inside path beside)))
-        (λ n. ap (λ (x : ℕ). ltb x 4) (others t b n 0) ∙ allBelow-at (λ (u : ℕ). ltb (cell ws 0 u) 4) 16 e t b)
+        (λ q. subst (λ (u : ℕ). leb (cell after 0 u) highestKind ≡ true) (sym q) (le-leb (cell after 0 s) highestKind (laid-kind mid s slot mid-long inside path beside)))
+        (λ n. ap (λ (x : ℕ). leb x highestKind) (others t b n 0) ∙ allBelow-at (λ (u : ℕ). leb (cell ws 0 u) highestKind) 16 e t b)
         (same-or-not t s))
 
     -- the words written are those of the next state

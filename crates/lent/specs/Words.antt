@@ -3,11 +3,11 @@
 use Prim.Native.Nat.{ℕ, zero, suc, _+_, _*_, _/_, _%_}
 use mathlib.Core.Bool.{Bool, cond}
 use mathlib.Core.List.{List, [], _∷_, _++_}
-use lib.Dec.{eqb, ltb}
+use lib.Dec.{eqb, leb}
 use lib.ListN.{getD, take, drop, set}
 use Rattle.ground.specs.Limits.{slotCount}
 use Rattle.ground.specs.Tests.{allBelow}
-use Rattle.slots.specs.declared.Op.the-variants.{Search, Insert, Delete}
+use Rattle.slots.specs.declared.Op.the-variants.{Search, Insert, Delete, Next}
 use Rattle.slots.specs.declared.Task.{Task}
 use Rattle.slots.specs.declared.Task.the-variants.{Closed, Open}
 use Rattle.slots.specs.declared.Slot.{Slot}
@@ -35,10 +35,16 @@ cell ws r s = getD ws (address r s) 0
 unfoldable pub column : List ℕ → ℕ → ℕ → List ℕ
 column ws r s = listOf 10 (λ (j : ℕ). cell ws (r + j) s)
 
--- "closed, or open with an operation enum carrying key and information": kinds 0 to 3
+-- the highest kind of task
+abbrev pub highestKind : ℕ
+highestKind = 4
+
+-- "closed, or open with an operation enum carrying key and information": kinds 0 to 4
 abbrev pub taskFrom : ℕ → ℕ → ℕ → Task
 taskFrom kind key information =
-    cond (eqb kind 1) (Open (Search key)) (cond (eqb kind 2) (Open (Insert key information)) (cond (eqb kind 3) (Open (Delete key)) Closed))
+    cond (eqb kind 1)
+    (Open (Search key))
+    (cond (eqb kind 2) (Open (Insert key information)) (cond (eqb kind 3) (Open (Delete key)) (cond (eqb kind 4) (Open (Next key)) Closed)))
 
 -- slot s of these words
 abbrev pub slotIn : List ℕ → ℕ → Slot
@@ -61,7 +67,7 @@ asRead ws = record { k = getD ws 0 0; n = getD ws 1 0; slots = listOf 16 (slotIn
 
 -- every kind exists
 unfoldable pub known : List ℕ → Bool
-known ws = allBelow slotCount (λ (s : ℕ). ltb (cell ws 0 s) 4)
+known ws = allBelow slotCount (λ (s : ℕ). leb (cell ws 0 s) highestKind)
 
 -- The state of these words. A kind that does not exist makes them no state: they count as the empty one, "which is itself
 -- BadState".
@@ -75,6 +81,7 @@ kindOf Closed = 0
 kindOf (Open (Search x)) = 1
 kindOf (Open (Insert x v)) = 2
 kindOf (Open (Delete x)) = 3
+kindOf (Open (Next x)) = 4
 
 -- a task's key, and its information; where it has none, 0
 abbrev pub keyIn : Task → ℕ
@@ -82,12 +89,14 @@ keyIn Closed = 0
 keyIn (Open (Search x)) = x
 keyIn (Open (Insert x v)) = x
 keyIn (Open (Delete x)) = x
+keyIn (Open (Next x)) = x
 
 abbrev pub informationIn : Task → ℕ
 informationIn Closed = 0
 informationIn (Open (Search x)) = 0
 informationIn (Open (Insert x v)) = v
 informationIn (Open (Delete x)) = 0
+informationIn (Open (Next x)) = 0
 
 -- the numbers of a slot, row by row
 abbrev pub rowsOf : Slot → List ℕ

@@ -3,7 +3,6 @@
 use crate::DELETES;
 use crate::INSERTS;
 use crate::PATH;
-use crate::SEARCHES;
 use crate::SIBLINGS;
 use crate::STATE;
 use crate::cells::beside_at;
@@ -18,16 +17,16 @@ use crate::cells::wide;
 use crate::cells::word_at;
 use ground::SLOTS;
 ghost use mathlib.Core.Path.{_≡_};
-ghost use mathlib.Core.Bool.{true, not, _&&_};
+ghost use mathlib.Core.Bool.{true, not, _&&_, _||_};
 ghost use Prim.Native.Nat.{ℕ, _≤_, _<_};
-ghost use lib.Dec.{leb, ltb, eqb};
+ghost use lib.Dec.{ltb, eqb};
 ghost use lib.ListN.{getD, take};
 ghost use Rattle.ground.specs.Limits.{slotCount};
 ghost use Rattle.ground.specs.Tests.{anyBelow, member};
 ghost use Rattle.slots.specs.Parts.{held, waitingOrder};
 ghost use Rattle.slots.specs.Grant as rule;
-ghost use Rattle.lent.specs.Words.{column, slotIn, asRead, known};
-ghost use Rattle.lent.specs.Holds.{Short, topHolds, deepHolds, isDeep, othersHold, leastClash};
+ghost use Rattle.lent.specs.Words.{cell, column, slotIn, asRead, known};
+ghost use Rattle.lent.specs.Holds.{Short, updatesKind, topHolds, deepHolds, isDeep, othersHold};
 
 // Page p stands in one of the first `count` rows from `row` on, of slot s.
 pub fn column_has(cells: &[u32; STATE], row: usize, count: usize, s: usize, p: u32) -> bool
@@ -55,17 +54,24 @@ pub fn holds_at(cells: &[u32; STATE], s: usize, p: u32) -> bool
     column_has(cells, SIBLINGS, wide(beside_at(cells, s)), s, p)
 }
 
-// Slot t is another one than s, its kind is not below `least`, and page p is the top of its path.
-pub fn is_top(t: u32, s: u32, least: u32, kind: u32, depth: u32, top: u32, p: u32) -> bool
-    ensures { λ r. ⌜ r ≡ (not (eqb t s) && leb least kind) && (ltb 0 depth && eqb p top) ⌝ }
+// The lock of this kind is ξ. No way out in between: the rows ask this of several slots in one go.
+pub fn is_update(kind: u32) -> bool
+    ensures { λ r. ⌜ r ≡ updatesKind kind ⌝ }
 {
-    (t != s) & (least <= kind) & ((0 < depth) & (p == top))
+    (kind == INSERTS) | (kind == DELETES)
 }
 
-// Another slot than s, whose kind is not below `least`, has page p on top of its path.
-pub fn tops_hold(cells: &[u32; STATE], s: usize, least: u32, p: u32) -> bool
+// Slot t is another one than s, its lock counts (any lock, or ξ alone), and page p is the top of its path.
+pub fn is_top(t: u32, s: u32, any: bool, kind: u32, depth: u32, top: u32, p: u32) -> bool
+    ensures { λ r. ⌜ r ≡ (not (eqb t s) && (any || updatesKind kind)) && (ltb 0 depth && eqb p top) ⌝ }
+{
+    (t != s) & (any | is_update(kind)) & ((0 < depth) & (p == top))
+}
+
+// Another slot than s, whose lock counts, has page p on top of its path.
+pub fn tops_hold(cells: &[u32; STATE], s: usize, any: bool, p: u32) -> bool
     requires { ⌜ s < 16 ⌝ }
-    ensures { λ r. ⌜ r ≡ anyBelow 16 (topHolds (now (cells .entry)) s least p) ⌝ }
+    ensures { λ r. ⌜ r ≡ anyBelow 16 (topHolds (now (cells .entry)) s any p) ⌝ }
 {
     let mut found = false;
     let mut t = 0;
@@ -74,7 +80,7 @@ pub fn tops_hold(cells: &[u32; STATE], s: usize, least: u32, p: u32) -> bool
             | is_top(
                 t as u32,
                 s as u32,
-                least,
+                any,
                 kind_at(cells, t),
                 depth_at(cells, t),
                 top_at(cells, t),
@@ -106,10 +112,10 @@ pub fn some_deep(cells: &[u32; STATE]) -> bool
     found
 }
 
-// Slot t is another one than s, its kind is not below `least`, it holds more than one page, and page p is among them.
-pub fn deep_holds(cells: &[u32; STATE], s: usize, least: u32, p: u32, t: usize) -> bool
+// Slot t is another one than s, its lock counts, it holds more than one page, and page p is among them.
+pub fn deep_holds(cells: &[u32; STATE], s: usize, any: bool, p: u32, t: usize) -> bool
     requires { ⌜ (t < 16) × Short (now cells) ⌝ }
-    ensures { λ r. ⌜ r ≡ deepHolds (now (cells .entry)) s least p t ⌝ }
+    ensures { λ r. ⌜ r ≡ deepHolds (now (cells .entry)) s any p t ⌝ }
 {
     if !is_deep(cells, t) {
         return false;
@@ -117,20 +123,21 @@ pub fn deep_holds(cells: &[u32; STATE], s: usize, least: u32, p: u32, t: usize) 
     if t == s {
         return false;
     }
-    if kind_at(cells, t) < least {
+    let counts = any | is_update(kind_at(cells, t));
+    if !counts {
         return false;
     }
     holds_at(cells, t, p)
 }
 
 // Such a slot is there.
-pub fn some_deep_holds(cells: &[u32; STATE], s: usize, least: u32, p: u32) -> bool
+pub fn some_deep_holds(cells: &[u32; STATE], s: usize, any: bool, p: u32) -> bool
     requires { ⌜ Short (now cells) ⌝ }
-    ensures { λ r. ⌜ r ≡ anyBelow 16 (deepHolds (now (cells .entry)) s least p) ⌝ }
+    ensures { λ r. ⌜ r ≡ anyBelow 16 (deepHolds (now (cells .entry)) s any p) ⌝ }
 {
     let mut t = 0;
     while t < SLOTS {
-        if deep_holds(cells, s, least, p, t) {
+        if deep_holds(cells, s, any, p, t) {
             return true;
         }
         t += 1;
@@ -138,41 +145,28 @@ pub fn some_deep_holds(cells: &[u32; STATE], s: usize, least: u32, p: u32) -> bo
     false
 }
 
-// Another slot than s, whose kind is not below `least`, holds page p.
-pub fn others_hold(cells: &[u32; STATE], s: usize, least: u32, p: u32) -> bool
+// Another slot than s, whose lock counts, holds page p.
+pub fn others_hold(cells: &[u32; STATE], s: usize, any: bool, p: u32) -> bool
     requires { ⌜ (s < 16) × Short (now cells) ⌝ }
-    ensures { λ r. ⌜ r ≡ othersHold (now (cells .entry)) s least p ⌝ }
+    ensures { λ r. ⌜ r ≡ othersHold (now (cells .entry)) s any p ⌝ }
 {
-    if tops_hold(cells, s, least, p) {
+    if tops_hold(cells, s, any, p) {
         return true;
     }
     if !some_deep(cells) {
         return false;
     }
-    some_deep_holds(cells, s, least, p)
+    some_deep_holds(cells, s, any, p)
 }
 
-// The lowest kind whose lock clashes with that of this kind: two ρ on a page go together, ξ goes with nothing,
-// and a closed slot has no lock.
-pub fn least_clash(kind: u32) -> u32
-    ensures { λ r. ⌜ r ≡ leastClash kind ⌝ }
-{
-    if kind == SEARCHES {
-        return INSERTS;
-    }
-    if kind == 0 {
-        return DELETES + 1;
-    }
-    SEARCHES
-}
-
-// No other slot holds a clashing lock on the page that slot s wants.
+// No other slot holds a clashing lock on the page that slot s wants. Two ρ on a page go together, ξ goes with nothing: an
+// update asks for any lock, a reader for ξ. A closed slot has no lock, and holds no page either.
 pub fn no_clash(cells: &[u32; STATE], s: usize) -> bool
-    requires { ⌜ (s < 16) × (known (now cells) ≡ true) × Short (now cells) ⌝ }
+    requires { ⌜ (s < 16) × (known (now cells) ≡ true) × Short (now cells) × (0 < cell (now cells) 0 s) ⌝ }
     ensures { λ r. ⌜ r ≡ rule.noClash (asRead (now (cells .entry))) s ⌝ }
 {
-    let least = least_clash(kind_at(cells, s));
-    !others_hold(cells, s, least, want_at(cells, s))
+    let any = is_update(kind_at(cells, s));
+    !others_hold(cells, s, any, want_at(cells, s))
 }
 
 // No older want is for the same page.
@@ -201,7 +195,7 @@ pub fn no_older(cells: &[u32; STATE], s: usize) -> bool
 
 // A step grants the want of slot s.
 pub fn grants(cells: &[u32; STATE], s: usize) -> bool
-    requires { ⌜ (s < 16) × (known (now cells) ≡ true) × Short (now cells) ⌝ }
+    requires { ⌜ (s < 16) × (known (now cells) ≡ true) × Short (now cells) × (0 < cell (now cells) 0 s) ⌝ }
     requires { ⌜ (getD (now cells) 2 0 ≤ 16) × ((t : ℕ) → member t (waitingOrder (asRead (now cells))) ≡ true → t < slotCount) ⌝ }
     ensures { λ r. ⌜ r ≡ rule.grants (asRead (now (cells .entry))) s ⌝ }
 {

@@ -46,3 +46,7 @@ pub const SEARCHES: u32 = 1;
 pub const INSERTS: u32 = 2;
 
 pub const DELETES: u32 = 3;
+
+pub const NEXTS: u32 = 4;
+
+pub const HIGHEST_KIND: u32 = NEXTS;

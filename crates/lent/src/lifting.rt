@@ -5,6 +5,7 @@ use crate::DEPTH;
 use crate::INFORMATION;
 use crate::INSERTS;
 use crate::KEY;
+use crate::NEXTS;
 use crate::PATH;
 use crate::ROWS_FROM;
 use crate::SEARCHES;
@@ -40,6 +41,9 @@ pub fn task_of(kind: u32, key: u32, information: u32) -> Task
     }
     if kind == DELETES {
         return Task::Open(Op::Delete(key));
+    }
+    if kind == NEXTS {
+        return Task::Open(Op::Next(key));
     }
     Task::Closed
 }
@@ -97,6 +101,7 @@ pub fn kind_of(task: Task) -> u32
             Op::Search(_) => SEARCHES,
             Op::Insert(_, _) => INSERTS,
             Op::Delete(_) => DELETES,
+            Op::Next(_) => NEXTS,
         },
     }
 }
@@ -110,6 +115,7 @@ pub fn key_of(task: Task) -> u32
             Op::Search(x) => x,
             Op::Insert(x, _) => x,
             Op::Delete(x) => x,
+            Op::Next(x) => x,
         },
     }
 }
@@ -123,6 +129,7 @@ pub fn information_of(task: Task) -> u32
             Op::Search(_) => 0,
             Op::Insert(_, v) => v,
             Op::Delete(_) => 0,
+            Op::Next(_) => 0,
         },
     }
 }

@@ -14,12 +14,12 @@ use lib.Seq.{drop-append-seam}
 use Rattle.ground.specs.Tests.{all}
 use Rattle.ground.proofs.Bools.{and-first, and-second, and-both}
 use Rattle.ground.proofs.Choice.{cond-ind, cond-true}
-use Rattle.slots.specs.declared.Op.the-variants.{Search, Insert, Delete}
+use Rattle.slots.specs.declared.Op.the-variants.{Search, Insert, Delete, Next}
 use Rattle.lines.specs.declared.Command.{Command}
 use Rattle.lines.specs.declared.Command.the-variants.{Begin, Step, Bad}
 use Rattle.lines.specs.Text.{bytes, startsWith}
-use Rattle.lines.specs.Meaning.{isDigit, digits, value, largest, Front, noNumber, number, counted, front, alone, numbered, after, stepping, searching, deleting, informing, inserting, asking, beginning, meaning}
-use Rattle.lines.specs.Forms.{Numeral, Good, toSearch, toInsert, toDelete, toStep}
+use Rattle.lines.specs.Meaning.{isDigit, digits, value, largest, Front, noNumber, number, counted, front, alone, numbered, after, stepping, searching, deleting, askingNext, informing, inserting, asking, beginning, meaning}
+use Rattle.lines.specs.Forms.{Numeral, Good, toSearch, toInsert, toDelete, toNext, toStep}
 
 -- ---- a number at the front
 
@@ -40,7 +40,7 @@ digits-split (b ∷ bs) =
     cond-ind (λ (ds : List ℕ). b ∷ bs ≡ ds ++ drop (length ds) (b ∷ bs)) (isDigit b) (λ t. ap (λ (l : List ℕ). b ∷ l) rest) (λ f. refl)
 
 -- digits, and no digit behind them, are the digits at the front
-digits-of : (ds rest : List ℕ) → all isDigit ds ≡ true → digits rest ≡ [] → digits (ds ++ rest) ≡ ds
+pub digits-of : (ds rest : List ℕ) → all isDigit ds ≡ true → digits rest ≡ [] → digits (ds ++ rest) ≡ ds
 unfolding all digits
 digits-of [] rest t e = e
 digits-of (d ∷ ds) rest t e =
@@ -63,7 +63,7 @@ alone-numeral {ds} {n} h = ap (λ (l : List ℕ). alone (front l)) (sym (append-
 -- ---- a good line means its command
 
 pub good-means : (line : List ℕ) {c : Command} → Good line c → meaning line ≡ c
-unfolding startsWith digits stepping searching deleting informing inserting asking beginning meaning
+unfolding startsWith digits stepping searching deleting askingNext informing inserting asking beginning meaning
 good-means line (toSearch {slot = slot} ss ks hs hk e) =
     ap meaning e
     ∙ ap (λ (f : Front). numbered f asking) (front-numeral (bytes " s " ++ ks) hs refl)
@@ -77,6 +77,10 @@ good-means line (toDelete {slot = slot} ss ks hs hk e) =
     ap meaning e
     ∙ ap (λ (f : Front). numbered f asking) (front-numeral (bytes " d " ++ ks) hs refl)
     ∙ ap (λ (f : Front). numbered f (λ key rest. Begin slot (Delete key))) (alone-numeral hk)
+good-means line (toNext {slot = slot} ss ks hs hk e) =
+    ap meaning e
+    ∙ ap (λ (f : Front). numbered f asking) (front-numeral (bytes " n " ++ ks) hs refl)
+    ∙ ap (λ (f : Front). numbered f (λ key rest. Begin slot (Next key))) (alone-numeral hk)
 good-means line (toStep ss hs e) = ap meaning e ∙ ap (λ (f : Front). numbered f (λ slot rest. Step slot)) (alone-numeral hs)
 
 -- ---- a line that means a command is good
@@ -155,6 +159,12 @@ module _ (line : List ℕ) where
         numbered-ind (Meant line) (alone (front ks)) (λ key rest. Begin slot (Delete key)) (inl refl)
         (λ key rest f. inr (toDelete ss ks hs (last-numeral ks f) e))
 
+    next-meant : (ks : List ℕ) → line ≡ bytes "b " ++ (ss ++ (bytes " n " ++ ks)) → Meant line (askingNext slot ks)
+    unfolding askingNext
+    next-meant ks e =
+        numbered-ind (Meant line) (alone (front ks)) (λ key rest. Begin slot (Next key)) (inl refl)
+        (λ key rest f. inr (toNext ss ks hs (last-numeral ks f) e))
+
     informing-meant : {key : ℕ} (ks is : List ℕ) → Numeral ks key
         → line ≡ bytes "b " ++ (ss ++ (bytes " i " ++ (ks ++ (bytes " " ++ is)))) → Meant line (informing slot key is)
     unfolding informing
@@ -178,7 +188,8 @@ module _ (line : List ℕ) where
         let behind : (word : List ℕ) → startsWith word bs ≡ true → line ≡ bytes "b " ++ (ss ++ (word ++ drop (length word) bs)) = λ word t. e ∙ ap (λ (l : List ℕ). bytes "b " ++ (ss ++ l)) (begins-split word bs t) in
         cond-ind (Meant line) (startsWith (bytes " s ") bs) (λ t. searching-meant (drop 3 bs) (behind (bytes " s ") t))
         (λ n. cond-ind (Meant line) (startsWith (bytes " i ") bs) (λ t. inserting-meant (drop 3 bs) (behind (bytes " i ") t))
-        (λ m. cond-ind (Meant line) (startsWith (bytes " d ") bs) (λ t. deleting-meant (drop 3 bs) (behind (bytes " d ") t)) (λ k. inl refl)))
+        (λ m. cond-ind (Meant line) (startsWith (bytes " d ") bs) (λ t. deleting-meant (drop 3 bs) (behind (bytes " d ") t))
+        (λ k. cond-ind (Meant line) (startsWith (bytes " n ") bs) (λ t. next-meant (drop 3 bs) (behind (bytes " n ") t)) (λ l. inl refl))))
 
   beginning-meant : (bs : List ℕ) → line ≡ bytes "b " ++ bs → Meant line (beginning bs)
   unfolding beginning

@@ -7,7 +7,7 @@ use lib.Dec.{leb, ltb}
 use lib.ListN.{length, drop}
 use Rattle.lines.specs.declared.Command.{Command}
 use Rattle.lines.specs.declared.Command.the-variants.{Begin, Step, Bad}
-use Rattle.slots.specs.declared.Op.the-variants.{Search, Insert, Delete}
+use Rattle.slots.specs.declared.Op.the-variants.{Search, Insert, Delete, Next}
 use Rattle.lines.specs.Text.{bytes, startsWith}
 
 -- ---- "Numbers are decimal"
@@ -48,7 +48,7 @@ alone noNumber = noNumber
 alone (number n []) = number n []
 alone (number n (b ∷ bs)) = noNumber
 
--- ---- the four forms of a line: "Another line .. gives BadLine"
+-- ---- the five forms of a line: "Another line .. gives BadLine"
 
 -- what a number means, with the bytes behind it; where there is none, the line is bad
 abbrev pub numbered : Front → (ℕ → List ℕ → Command) → Command
@@ -71,6 +71,10 @@ searching slot bs = numbered (alone (front bs)) (λ key rest. Begin slot (Search
 unfoldable pub deleting : ℕ → List ℕ → Command
 deleting slot bs = numbered (alone (front bs)) (λ key rest. Begin slot (Delete key))
 
+-- `b SLOT n KEY`
+unfoldable pub askingNext : ℕ → List ℕ → Command
+askingNext slot bs = numbered (alone (front bs)) (λ key rest. Begin slot (Next key))
+
 -- `b SLOT i KEY INFO`, "one space between"
 unfoldable pub informing : ℕ → ℕ → List ℕ → Command
 informing slot key bs = numbered (alone (front bs)) (λ information rest. Begin slot (Insert key information))
@@ -78,9 +82,11 @@ informing slot key bs = numbered (alone (front bs)) (λ information rest. Begin 
 unfoldable pub inserting : ℕ → List ℕ → Command
 inserting slot bs = numbered (front bs) (λ key rest. after " " rest (informing slot key) Bad)
 
--- `b SLOT s KEY`, `b SLOT i KEY INFO`, `b SLOT d KEY`
+-- `b SLOT s KEY`, `b SLOT i KEY INFO`, `b SLOT d KEY`, `b SLOT n KEY`
 unfoldable pub asking : ℕ → List ℕ → Command
-asking slot bs = after " s " bs (searching slot) (after " i " bs (inserting slot) (after " d " bs (deleting slot) Bad))
+asking slot bs =
+    after " s " bs (searching slot)
+    (after " i " bs (inserting slot) (after " d " bs (deleting slot) (after " n " bs (askingNext slot) Bad)))
 
 unfoldable pub beginning : List ℕ → Command
 beginning bs = numbered (front bs) asking

@@ -1,10 +1,10 @@
 -- How an answer is written. "Each line is answered by one: the answer's or refusal's name, and for Found and Deleted a
--- space and the information." The line feed is written with it.
+-- space and the information." Next has its key in front of the information. The line feed is written with it.
 use Prim.Native.Nat.{ℕ}
 use Prim.Native.String.{String}
 use mathlib.Core.List.{List, _++_}
 use Rattle.slots.specs.declared.Answer.{Answer}
-use Rattle.slots.specs.declared.Answer.the-variants.{Waiting, Moved, Found, NotFound, Inserted, AlreadyThere, Deleted, NoSuchKey, NoRoom, Begun, Made, Reported, BadState, BadPool, BadSlot, SlotBusy, SlotIdle, Damaged, BadPage}
+use Rattle.slots.specs.declared.Answer.the-variants.{Waiting, Moved, Found, NotFound, Inserted, AlreadyThere, Deleted, NoSuchKey, NoRoom, Begun, Made, Reported, Next, None, BadState, BadPool, BadSlot, SlotBusy, SlotIdle, Damaged, BadPage}
 use Rattle.lines.specs.Text.{bytes}
 use Rattle.lines.specs.Decimal.{decimal}
 
@@ -15,6 +15,10 @@ nameLine name = bytes name ++ bytes "\n"
 -- a name, a space and the information
 abbrev pub informed : String → ℕ → List ℕ
 informed name information = bytes name ++ bytes " " ++ decimal information ++ bytes "\n"
+
+-- a name, a space, the key, a space and the information
+abbrev pub lotLine : String → ℕ → ℕ → List ℕ
+lotLine name key information = bytes name ++ bytes " " ++ decimal key ++ bytes " " ++ decimal information ++ bytes "\n"
 
 -- The program makes no lock report, so that it never writes `Reported`: of that answer the name alone stands here.
 abbrev pub answerLine : Answer → List ℕ
@@ -30,6 +34,8 @@ answerLine NoRoom = nameLine "NoRoom"
 answerLine Begun = nameLine "Begun"
 answerLine Made = nameLine "Made"
 answerLine (Reported kind holders lowest) = nameLine "Reported"
+answerLine (Next key information) = lotLine "Next" key information
+answerLine None = nameLine "None"
 answerLine BadState = nameLine "BadState"
 answerLine BadPool = nameLine "BadPool"
 answerLine BadSlot = nameLine "BadSlot"

@@ -6,7 +6,7 @@ ghost use mathlib.Core.Path.{_≡_};
 ghost use Prim.Native.Nat.{_≤_, max};
 ghost use lib.ListN.{length, drop};
 ghost use Rattle.lines.specs.Text.{startsWith};
-ghost use Rattle.lines.specs.Meaning.{isDigit, front, alone, stepping, searching, deleting, informing, inserting, asking, beginning, meaning};
+ghost use Rattle.lines.specs.Meaning.{isDigit, front, alone, stepping, searching, deleting, askingNext, informing, inserting, asking, beginning, meaning};
 ghost use Rattle.lines.specs.Ends.{lineEnd};
 ghost use Rattle.lines.specs.Positions.{frontOf, behind, Capped, Counted};
 
@@ -156,6 +156,17 @@ fn read_delete(line: &[u8], at: usize, slot: u32) -> Command
     Command::Begin(slot, Op::Delete(key))
 }
 
+// `b SLOT n KEY`
+fn read_next(line: &[u8], at: usize, slot: u32) -> Command
+    requires { ⌜ at ≤ length (now line) ⌝ }
+    ensures { λ r. ⌜ r ≡ askingNext slot (drop at (now (line .entry))) ⌝ }
+{
+    let Number::Read(key, _) = read_last(line, at) else {
+        return Command::Bad;
+    };
+    Command::Begin(slot, Op::Next(key))
+}
+
 // `b SLOT i KEY INFO`, from the information on
 fn read_information(line: &[u8], at: usize, slot: u32, key: u32) -> Command
     requires { ⌜ at ≤ length (now line) ⌝ }
@@ -194,6 +205,9 @@ fn read_asked(line: &[u8], at: usize, slot: u32) -> Command
     }
     if goes_on(line, at, b" d ") {
         return read_delete(line, at + 3, slot);
+    }
+    if goes_on(line, at, b" n ") {
+        return read_next(line, at + 3, slot);
     }
     Command::Bad
 }

@@ -8,7 +8,7 @@ use borrow.Author.Tests.{eqb-true}
 use Rattle.ground.specs.Limits.{largestK, largestN, tallest, slotCount, searchHolds, pathHolds, siblingHolds}
 use Rattle.ground.specs.Tests.{all, count, member, distinct, apart, allBelow, anyBelow, countBelow, listBelow, firstBelow, padded}
 use Rattle.page.specs.Words.{flat, encode, pairs, view}
-use Rattle.page.specs.Place.{place, has, information, without}
+use Rattle.page.specs.Place.{place, has, information, atOrAbove, without}
 use Rattle.page.specs.Sound.{risesFrom, rises, soundByItself}
 use Rattle.page.specs.Splits.{put, split}
 use Rattle.page.specs.Short.{neighbour, betweenAt, fromRight, fromLeft, joined, lessKey, rekeyed}
@@ -21,18 +21,19 @@ use Rattle.slots.specs.Book.{leaving, begins, goesOn, closes}
 use Rattle.slots.specs.Sound.{orderSound, slotSound, noClashingHolds, sound}
 use Rattle.slots.specs.Begin.{begun}
 use Rattle.slots.specs.Report.{reported}
-use Rattle.footing.specs.Granted.{deletes, atLeaf, comesDown, besides, granted}
-use Rattle.footing.specs.Fitting.{pagesSound, descends, sameLevels, fitting, soundForStep, verdict}
+use Rattle.footing.specs.Granted.{deletes, atLeaf, comesDown, goesLeft, besides, granted}
+use Rattle.footing.specs.Fitting.{pagesSound, descends, sameLevels, leftmost, fitting, soundForStep, verdict}
 use Rattle.index.specs.Step.{stepped}
 use Rattle.index.specs.Make.{made}
 use Rattle.runs.specs.Run.{called, run, runFrom}
 use Rattle.promises.specs.Bench.{Row, RowsHold, bench}
 use Rattle.promises.specs.MoreRows.{more}
 use Rattle.promises.specs.LongRun.{again, longRows}
+use Rattle.promises.specs.NextRows.{nextRows}
 
 -- Everything that a call unfolds to: who unfolds this unfolds all of it.
 calls : Unit {0}
-unfolding largestK largestN tallest slotCount searchHolds pathHolds siblingHolds all count member distinct apart allBelow anyBelow countBelow listBelow firstBelow padded flat encode pairs view place has information without risesFrom rises soundByItself put split neighbour betweenAt fromRight fromLeft joined lessKey rekeyed poolLength start wordsOf pageAt written applied isFree freePages fresh room settled insertion needs shares shrunk deletion pathOf siblingsOf waitingOrder olderThan noClash noOlder leaving begins goesOn closes orderSound slotSound noClashingHolds sound begun reported deletes atLeaf comesDown besides granted pagesSound descends sameLevels fitting soundForStep verdict stepped made called run runFrom
+unfolding largestK largestN tallest slotCount searchHolds pathHolds siblingHolds all count member distinct apart allBelow anyBelow countBelow listBelow firstBelow padded flat encode pairs view place has information atOrAbove without risesFrom rises soundByItself put split neighbour betweenAt fromRight fromLeft joined lessKey rekeyed poolLength start wordsOf pageAt written applied isFree freePages fresh room settled insertion needs shares shrunk deletion pathOf siblingsOf waitingOrder olderThan noClash noOlder leaving begins goesOn closes orderSound slotSound noClashingHolds sound begun reported deletes atLeaf comesDown goesLeft besides granted pagesSound descends sameLevels leftmost fitting soundForStep verdict stepped made called run runFrom
 calls = tt
 
 -- Two lists are compared number by number, so that the prover computes a test and compares no terms.
@@ -92,3 +93,7 @@ more-holds = agree-holds more refl
 pub long-holds : RowsHold longRows
 unfolding calls same sames agree again
 long-holds = agree-holds longRows refl
+
+pub next-holds : RowsHold nextRows
+unfolding calls same sames agree
+next-holds = agree-holds nextRows refl

@@ -1,6 +1,6 @@
 -- Demand 1 holds of every call. What an answer tells is read off a table, and the answer that a condition leads to off the rule.
 use Prim.Native.Nat.{ℕ, _≤_, _<_}
-use mathlib.Core.Bool.{Bool, true, false, cond, _&&_, true≢false, false≢true}
+use mathlib.Core.Bool.{Bool, true, false, cond, _&&_, _||_, true≢false, false≢true}
 use mathlib.Core.List.{List, [], _∷_, _++_}
 use mathlib.Core.Logic.{_⊎_, inl, inr, _≢_}
 use mathlib.Core.Path.{_≡_, refl, ap, _∙_, subst, transport, transport⁻¹}
@@ -18,7 +18,7 @@ use Rattle.slots.specs.declared.Task.the-variants.{Closed, Open}
 use Rattle.slots.specs.declared.Slot.{Slot}
 use Rattle.slots.specs.declared.State.{State}
 use Rattle.slots.specs.declared.Answer.{Answer}
-use Rattle.slots.specs.declared.Answer.the-variants.{Waiting, Moved, NoRoom, Begun, Made, BadState, BadPool, BadSlot, SlotBusy, SlotIdle, Damaged, BadPage}
+use Rattle.slots.specs.declared.Answer.the-variants.{Waiting, Moved, NoRoom, Begun, Made, BadState, BadPool, BadSlot, SlotBusy, SlotIdle, Damaged, BadPage, Next}
 use Rattle.slots.specs.Heard.{numberOf, refuses}
 use Rattle.slots.specs.Parts.{isOpen, slotAt, openAt, pathOf, siblingsOf}
 use Rattle.slots.specs.Sound.{sound}
@@ -103,7 +103,7 @@ no-row (r ∷ rows) other a l h =
     differ : numberOf a ≢ numberOf (r .answer)
     differ e =
         let below : numberOf (r .answer) < numberOf Moved = ltb-true (numberOf (r .answer)) (numberOf Moved) (and-first (ltb (numberOf (r .answer)) (numberOf Moved)) (low rows) l) in
-        let above : numberOf Moved ≤ numberOf a = leb-true (numberOf Moved) (numberOf a) (and-first (leb (numberOf Moved) (numberOf a)) (leb (numberOf a) (numberOf NoRoom)) h) in
+        let above : numberOf Moved ≤ numberOf a = leb-true (numberOf Moved) (numberOf a) (and-first (leb (numberOf Moved) (numberOf a)) (leb (numberOf a) (numberOf NoRoom) || leb (numberOf (Next 0 0)) (numberOf a)) h) in
         omega arith
 
 -- what step's answers tell, by the slot and its task

@@ -1,34 +1,35 @@
 -- Demand 2 holds: it is read off what holds after every call of a run.
 use Prim.Native.Nat.{ℕ, suc, _-_, _*_, _≤_, _<_}
-use mathlib.Core.Bool.{true, false, false≢true}
-use mathlib.Core.Logic.{inl, inr, ⊎-elim, _≢_}
+use mathlib.Core.Bool.{true, false, not, _&&_, _||_, false≢true}
+use mathlib.Core.Logic.{_⊎_, inl, inr, ⊎-elim, _≢_}
 use mathlib.Core.List.{List, [], _∷_, _++_, map}
 use mathlib.Core.Path.{_≡_, refl, sym, ap, ap₂, subst, _∙_}
 use native.Mathlib.Omega.{arith}
-use lib.Dec.{eqb}
+use lib.Dec.{leb, ltb, eqb}
 use lib.ListN.{length, take}
-use borrow.Author.Tests.{eqb-true, ltb-true, lt-ltb, le-ltb}
+use borrow.Author.Tests.{leb-true, eqb-true, eqb-false, ne-eqb, ltb-true, lt-ltb, le-ltb, not-true}
 use Rattle.ground.specs.Limits.{slotCount}
 use Rattle.ground.specs.Tests.{member, padded}
-use Rattle.ground.proofs.Bools.{not-both, false-if-not-true, and-first, and-second, or-first, or-second, or-cases}
+use Rattle.ground.proofs.Bools.{not-both, false-if-not-true, and-first, and-second, and-both, not-of-false, or-first, or-second, or-cases}
 use Rattle.ground.proofs.Choice.{cond-true, cond-false}
 use Rattle.ground.proofs.Tests.{member-here, member-cases, member-append, member-inside}
-use Rattle.page.specs.Words.{Page, μ, encode}
+use Rattle.page.specs.Words.{Page, μ, isLeaf, encode}
 use Rattle.page.specs.Place.{place, pointer}
-use Rattle.page.specs.Short.{neighbour}
+use Rattle.page.specs.Short.{hasRight, neighbour}
 use Rattle.page.proofs.WordLaws.{encode-free}
 use Rattle.pool.specs.Pool.{Write, wordsOf, applied, pageAt}
 use Rattle.pool.proofs.WriteLaws.{wordsOf-applied-other}
 use Rattle.slots.specs.declared.Op.{Op}
-use Rattle.slots.specs.declared.Op.the-variants.{Search, Insert, Delete}
+use Rattle.slots.specs.declared.Op.the-variants.{Search, Insert, Delete, Next}
 use Rattle.slots.specs.declared.Task.{Task}
 use Rattle.slots.specs.declared.Task.the-variants.{Closed, Open}
 use Rattle.slots.specs.declared.Slot.{Slot}
 use Rattle.slots.specs.declared.State.{State}
+use Rattle.slots.specs.declared.Lock.the-variants.{Rho, Xi}
 use Rattle.slots.specs.declared.Outcome.{Outcome}
 use Rattle.slots.specs.declared.Answer.{Answer}
 use Rattle.slots.specs.declared.Answer.the-variants.{Waiting, Moved, NoRoom, BadSlot, SlotIdle}
-use Rattle.slots.specs.Parts.{isSearch, isOpen, held, pathOf, siblingsOf, slotAt, openAt, wantAt, holdsAt, openSlot, closedSlot}
+use Rattle.slots.specs.Parts.{isOpen, held, pathOf, siblingsOf, slotAt, openAt, wantAt, holdsAt, openSlot, closedSlot}
 use Rattle.slots.specs.Locks.{lockOf, clash}
 use Rattle.slots.specs.Sound.{withinLimits}
 use Rattle.slots.specs.Heard.{numberOf, changesNothing}
@@ -58,39 +59,54 @@ use Rattle.runs.proofs.Progress.{barred, barred-waits}
 use Rattle.runs.proofs.Older.{older-before, before-older}
 use Rattle.runs.proofs.Agreement.{plain-counted}
 use Rattle.promises.specs.Demand1.{Exactly}
-use Rattle.promises.specs.Demand2.{Opened, AfterEveryCall, ending, StepLocks, CallLocks, answersOf, Words, Demand2Holds}
+use Rattle.promises.specs.Demand2.{Opened, Reader, AfterEveryCall, Seen, ending, StepLocks, CallLocks, answersOf, Words, Demand2Holds}
+use Rattle.promises.proofs.Seen.{step-seen}
 
 -- ---- after every call
 
--- the locks of two open slots go together just if both search
-clashes-is : (op op′ : Op) → Exactly (clash (lockOf (Open op)) (lockOf (Open op′)) ≡ false) ((isSearch op ≡ true) × (isSearch op′ ≡ true))
-clashes-is (Search x) (Search y) = ((λ _. (refl, refl)), (λ _. refl))
-clashes-is (Search x) (Insert y v) = ((λ c. not-both refl c), (λ b. not-both (b .1) refl))
-clashes-is (Search x) (Delete y) = ((λ c. not-both refl c), (λ b. not-both (b .1) refl))
-clashes-is (Insert x w) (Search y) = ((λ c. not-both refl c), (λ b. not-both (b .0) refl))
-clashes-is (Insert x w) (Insert y v) = ((λ c. not-both refl c), (λ b. not-both (b .0) refl))
-clashes-is (Insert x w) (Delete y) = ((λ c. not-both refl c), (λ b. not-both (b .0) refl))
-clashes-is (Delete x) (Search y) = ((λ c. not-both refl c), (λ b. not-both (b .0) refl))
-clashes-is (Delete x) (Insert y v) = ((λ c. not-both refl c), (λ b. not-both (b .0) refl))
-clashes-is (Delete x) (Delete y) = ((λ c. not-both refl c), (λ b. not-both (b .0) refl))
+-- An operation's lock: ρ if it only reads, ξ otherwise.
+data LockSays (op : Op) : Type 0 where
+  shares : lockOf (Open op) ≡ Rho → Reader op → LockSays op
+  excludes : lockOf (Open op) ≡ Xi → (Reader op → ⊥) → LockSays op
 
-searching : (op : Op) → isSearch op ≡ true → (x : ℕ) × (Open op ≡ Open (Search x))
-searching (Search x) h = (x, refl)
-searching (Insert x v) h = not-both h refl
-searching (Delete x) h = not-both h refl
+lock-says : (op : Op) → LockSays op
+lock-says (Search x) = shares refl tt
+lock-says (Insert x v) = excludes refl (λ r. r)
+lock-says (Delete x) = excludes refl (λ r. r)
+lock-says (Next x) = shares refl tt
 
-both-search : (a b : Task) → isOpen a ≡ true → isOpen b ≡ true → clash (lockOf a) (lockOf b) ≡ false
-    → ((x : ℕ) × (a ≡ Open (Search x))) × ((x : ℕ) × (b ≡ Open (Search x)))
-both-search Closed b o q c = not-both o refl
-both-search (Open op) Closed o q c = not-both q refl
-both-search (Open op) (Open op′) o q c = let (one, other) = clashes-is op op′ .0 c in (searching op one, searching op′ other)
+-- the locks of two open slots go together just if both read only
+clashes-so : (op op′ : Op) → LockSays op → LockSays op′ → Exactly (clash (lockOf (Open op)) (lockOf (Open op′)) ≡ false) (Reader op × Reader op′)
+clashes-so op op′ (shares e r) (shares f q) = ((λ _. (r, q)), (λ _. ap₂ clash e f))
+clashes-so op op′ (shares e r) (excludes f never) = ((λ c. not-both (ap₂ clash e f) c), (λ b. absurd (never (b .1))))
+clashes-so op op′ (excludes e never) (shares f q) = ((λ c. not-both (ap₂ clash e f) c), (λ b. absurd (never (b .0))))
+clashes-so op op′ (excludes e never) (excludes f _) = ((λ c. not-both (ap₂ clash e f) c), (λ b. absurd (never (b .0))))
+
+clashes-is : (op op′ : Op) → Exactly (clash (lockOf (Open op)) (lockOf (Open op′)) ≡ false) (Reader op × Reader op′)
+clashes-is op op′ = clashes-so op op′ (lock-says op) (lock-says op′)
+
+-- a task that is a search, or asks for the next lot
+abbrev ReadsTask : Task → Type 0
+ReadsTask task = (x : ℕ) × ((task ≡ Open (Search x)) ⊎ (task ≡ Open (Next x)))
+
+reading : (op : Op) → Reader op → ReadsTask (Open op)
+reading (Search x) r = (x, inl refl)
+reading (Insert x v) r = absurd r
+reading (Delete x) r = absurd r
+reading (Next x) r = (x, inr refl)
+
+both-read : (a b : Task) → isOpen a ≡ true → isOpen b ≡ true → clash (lockOf a) (lockOf b) ≡ false → ReadsTask a × ReadsTask b
+both-read Closed b o q c = not-both o refl
+both-read (Open op) Closed o q c = not-both q refl
+both-read (Open op) (Open op′) o q c = let (one, other) = clashes-is op op′ .0 c in (reading op one, reading op′ other)
 
 -- "a closed slot holds nothing"
 closed-empty : (task : Task) (depth beside : ℕ) (path siblings : List ℕ) → withinLimits task depth beside ≡ true → isOpen task ≡ false → take depth path ++ take beside siblings ≡ []
 closed-empty Closed depth beside path siblings h c =
-    ap₂ (λ (i j : ℕ). take i path ++ take j siblings)
-    (eqb-true depth 0 (and-first (eqb depth 0) (eqb beside 0) h))
-    (eqb-true beside 0 (and-second (eqb depth 0) (eqb beside 0) h))
+    let most = and-first (leb depth 0 && leb beside 0) (eqb beside 0 || ltb beside depth) h in
+    let d : depth ≡ 0 = omega (arith, leb-true depth 0 (and-first (leb depth 0) (leb beside 0) most)) in
+    let e : beside ≡ 0 = omega (arith, leb-true beside 0 (and-second (leb depth 0) (leb beside 0) most)) in
+    ap₂ (λ (i j : ℕ). take i path ++ take j siblings) d e
 closed-empty (Open op) depth beside path siblings h c = not-both refl c
 
 after-call : (st : State) (ws : List ℕ) → Invariant st ws → AfterEveryCall (st .k) (st .n) st ws
@@ -103,7 +119,7 @@ after-call st ws inv = record {
   forms = inv .forms;
   free = λ q b none. inv .forms .exact q b ∙ ap (encode (st .k)) (inv .forms .forms .others q b none) ∙ encode-free (st .k);
   soundState = facts-sound st (inv .sound);
-  locks = λ s u p b c n hs hu. both-search (slotAt st s .task) (slotAt st u .task)
+  locks = λ s u p b c n hs hu. both-read (slotAt st s .task) (slotAt st u .task)
       (holder-open (st .n) (slotAt st s) p (inv .sound .slot s b) hs)
       (holder-open (st .n) (slotAt st u) p (inv .sound .slot u c) hu)
       (no-two-locks-clash st (inv .sound) s u p b c n hs hu);
@@ -200,9 +216,10 @@ module _ (st : State) (ws : List ℕ) (inv : Invariant st ws) where
 
   ended : (s : ℕ) (b : s < slotCount) (op : Op) (a : Answer) (writes : List Write) → Opened st s op → grants st s ≡ true
       → Ended op (st .k) (st .n) ws (inv .height) (inv .tree) (pathOf (slotAt st s)) (siblingsOf (slotAt st s)) (wantAt st s) a writes
+      → stepped st ws s ≡ left a (closes st s) (applied (st .k) writes ws)
       → StepLocks st ws s (left a (closes st s) (applied (st .k) writes ws))
   unfolding closes pathOf siblingsOf padded applied
-  ended s b op a writes runs g e = record {
+  ended s b op a writes runs g e told = record {
     itself = inr (inr (record {
       op = op;
       opened = runs;
@@ -212,6 +229,7 @@ module _ (st : State) (ws : List ℕ) (inv : Invariant st ws) where
       order = waiting-closes st s order-long (inv .sound .orderNames s b (ap isOpen runs));
       writes = untouched s op a writes e;
       reads = λ other. ap (λ (W : List Write). applied (st .k) W ws) (e .writers other);
+      seen = subst (λ (r : Left). Seen (pageAt (st .k) ws (wantAt st s)) (r .answer)) told (step-seen st ws inv s op b runs g);
     }));
     others = λ u n. slot-other st (inv .shaped) s b closedSlot [] 0 u n;
     waits = not-waiting s a (closes st s) (applied (st .k) writes ws) (ends-waiting op s a writes e) (λ w. not-both g (barred-waits st s (w .2)));
@@ -226,7 +244,7 @@ module _ (st : State) (ws : List ℕ) (inv : Invariant st ws) where
   step-locks s (idle b c e) = unchanged s SlotIdle refl (not-waiting s SlotIdle st ws refl (λ w. not-both (w .1) c)) e
   step-locks s (waits op b runs g e) = unchanged s Waiting refl (λ _. (b, ap isOpen runs, barred st s g), λ _. refl) e
   step-locks s (onward op path siblings want b runs g e stance takes) = subst (StepLocks st ws s) (sym e) (moved s b op path siblings want runs takes g)
-  step-locks s (over op a writes b runs g e ends) = subst (StepLocks st ws s) (sym e) (ended s b op a writes runs g ends)
+  step-locks s (over op a writes b runs g e ends) = subst (StepLocks st ws s) (sym e) (ended s b op a writes runs g ends e)
 
   begin-locks : (s : ℕ) (op : Op) → BeginOf st s op → CallLocks st ws (begin s op) (called st ws (begin s op))
   unfolding called begins
@@ -283,10 +301,17 @@ module _ (st : State) (ws : List ℕ) (inv : Invariant st ws) where
 
 -- ---- the words of the rules
 
-safe-is : (k : ℕ) (op : Op) (m : ℕ) → Exactly (isSafe op k m ≡ true) (Safe op k m)
-safe-is k (Search x) m = (λ _. tt, λ _. refl)
-safe-is k (Insert x v) m = (ltb-true m (2 * k), lt-ltb m (2 * k))
-safe-is k (Delete x) m = (ltb-true k m, lt-ltb k m)
+safe-is : (k : ℕ) (op : Op) (P : Page) → Exactly (isSafe op k P ≡ true) (Safe op k P)
+safe-is k (Search x) P = (λ _. tt, λ _. refl)
+safe-is k (Insert x v) P = (ltb-true (μ P) (2 * k), lt-ltb (μ P) (2 * k))
+safe-is k (Delete x) P = (ltb-true k (μ P), lt-ltb k (μ P))
+safe-is k (Next x) P = (
+  λ h. (
+    eqb-false (P .level) 1 (not-true (isLeaf P) (and-first (not (isLeaf P)) (hasRight x P) h)),
+    ltb-true (place x (P .entries)) (μ P) (and-second (not (isLeaf P)) (hasRight x P) h),
+  ),
+  λ s. and-both (not-of-false (ne-eqb (P .level) 1 (s .0))) (lt-ltb (place x (P .entries)) (μ P) (s .1)),
+)
 
 words-pinned : (k : ℕ) → Words k
 unfolding neighbour

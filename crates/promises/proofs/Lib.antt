@@ -1,5 +1,6 @@
 pub mod Computed
 pub mod Demand1
+pub mod Seen
 pub mod Demand2
 pub mod Room
 pub mod Demand3

@@ -14,13 +14,13 @@ use Rattle.page.specs.Place.{place, pointer}
 use Rattle.page.specs.Short.{neighbour}
 use Rattle.pool.specs.Pool.{wordsOf, pageAt}
 use Rattle.slots.specs.declared.Op.{Op}
-use Rattle.slots.specs.declared.Op.the-variants.{Search}
+use Rattle.slots.specs.declared.Op.the-variants.{Search, Insert, Delete, Next}
 use Rattle.slots.specs.declared.Task.the-variants.{Open}
 use Rattle.slots.specs.declared.State.{State}
 use Rattle.slots.specs.declared.Lock.the-variants.{None}
 use Rattle.slots.specs.declared.Answer.{Answer}
-use Rattle.slots.specs.declared.Answer.the-variants.{Waiting, Moved, NoRoom, Begun, Reported, BadSlot, SlotBusy, SlotIdle, BadPage}
-use Rattle.slots.specs.Parts.{isSearch, held, pathOf, siblingsOf, slotAt, openAt, wantAt, holdsAt, waitingOrder}
+use Rattle.slots.specs.declared.Answer.the-variants.{Waiting, Moved, NoRoom, Begun, Reported, BadSlot, SlotBusy, SlotIdle, BadPage, Next as NextLot}
+use Rattle.slots.specs.Parts.{held, pathOf, siblingsOf, slotAt, openAt, wantAt, holdsAt, waitingOrder}
 use Rattle.slots.specs.Locks.{lockOf, clash}
 use Rattle.slots.specs.Grant.{olderThan}
 use Rattle.slots.specs.Sound.{sound}
@@ -33,6 +33,7 @@ use Rattle.runs.specs.Run.{Call, begin, step, report, called, runFrom, CallInWo
 use Rattle.runs.specs.Stance.{Safe, Stance, Takes}
 use Rattle.runs.specs.Waits.{Barred, Before}
 use Rattle.runs.specs.Done.{countedAnswers, writing, isOneOf}
+use Rattle.runs.specs.PlainFacts.{Among}
 use Rattle.promises.specs.Demand1.{Exactly}
 
 -- ---- after every call
@@ -41,9 +42,16 @@ use Rattle.promises.specs.Demand1.{Exactly}
 abbrev pub Opened : State → ℕ → Op → Type 0
 Opened st s op = slotAt st s .task ≡ Open op
 
--- slot s searches
-abbrev pub Searches : State → ℕ → Type 0
-Searches st s = (x : ℕ) × Opened st s (Search x)
+-- slot s searches, or asks for the next lot
+abbrev pub Reads : State → ℕ → Type 0
+Reads st s = (x : ℕ) × (Opened st s (Search x) ⊎ Opened st s (Next x))
+
+-- the operation is a search, or asks for the next lot
+abbrev pub Reader : Op → Type 0
+Reader (Search x) = Unit {0}
+Reader (Insert x v) = ⊥
+Reader (Delete x) = ⊥
+Reader (Next x) = Unit {0}
 
 -- What a run with this k and N has left.
 pub record AfterEveryCall (k n : ℕ) (st : State) (ws : List ℕ) : Type 0 where
@@ -57,8 +65,8 @@ pub record AfterEveryCall (k n : ℕ) (st : State) (ws : List ℕ) : Type 0 wher
   pub free : (q : ℕ) → q < n → occurs q height tree ≡ 0 → wordsOf k q ws ≡ replicate (size k) 0
   -- the state is sound
   pub soundState : sound st ≡ true
-  -- "no two locks clash": two different slots that hold one page both search
-  pub locks : (s u p : ℕ) → s < slotCount → u < slotCount → s ≢ u → holdsAt st s p ≡ true → holdsAt st u p ≡ true → Searches st s × Searches st u
+  -- "no two locks clash": two different slots that hold one page both read only
+  pub locks : (s u p : ℕ) → s < slotCount → u < slotCount → s ≢ u → holdsAt st s p ≡ true → holdsAt st u p ≡ true → Reads st s × Reads st u
   -- "just the locks the rules name", where everybody stands: an open slot as `Stance` says; a closed one holds nothing
   pub stands : (s : ℕ) (op : Op) → s < slotCount → Opened st s op → Stance op k (pageAt k ws) height tree (pathOf (slotAt st s)) (siblingsOf (slotAt st s)) (wantAt st s)
   pub closed : (s : ℕ) → s < slotCount → openAt st s ≡ false → held (slotAt st s) ≡ []
@@ -89,6 +97,10 @@ pub record MovesOn (st : State) (ws : List ℕ) (s : ℕ) (after : Left) : Type 
 abbrev pub ending : List Answer
 ending = NoRoom ∷ countedAnswers
 
+-- the lot that is answered, if it is one, stands on this leaf
+abbrev pub Seen : Page → Answer → Type 0
+Seen P answer = (y v : ℕ) → answer ≡ NextLot y v → (P .level ≡ 1) × Among y v (P .entries)
+
 -- "An answer that ends the operation gives up every lock and closes the slot."
 pub record Ends (st : State) (ws : List ℕ) (s : ℕ) (after : Left) : Type 0 where
   pub op : Op
@@ -102,6 +114,8 @@ pub record Ends (st : State) (ws : List ℕ) (s : ℕ) (after : Left) : Type 0 w
       → wordsOf (st .k) q (after .words) ≡ wordsOf (st .k) q ws
   -- and only where a lot was inserted or deleted does it write at all
   pub reads : isOneOf (after .answer) writing ≡ false → after .words ≡ ws
+  -- the lot that a Next answers it reads on the leaf that this step was granted, not on one without its lock
+  pub seen : Seen (pageAt (st .k) ws (wantAt st s)) (after .answer)
 
 -- "each step takes and gives up just the locks the rules name"
 pub record StepLocks (st : State) (ws : List ℕ) (s : ℕ) (after : Left) : Type 0 where
@@ -139,12 +153,12 @@ answersOf (report p) = Reported None 0 0 ∷ BadPage ∷ []
 
 pub record Words (k : ℕ) : Type 0 where
   -- a page is safe, as 01 says when ancestors are given up
-  pub safe : (op : Op) (m : ℕ) → Exactly (isSafe op k m ≡ true) (Safe op k m)
+  pub safe : (op : Op) (P : Page) → Exactly (isSafe op k P ≡ true) (Safe op k P)
   -- "its right neighbour under the same father; if it has none, the left one": of the page to which F routes x
   pub right : (x : ℕ) (F : Page) → place x (F .entries) < μ F → neighbour x F ≡ pointer (suc (place x (F .entries))) F
   pub left : (x : ℕ) (F : Page) → μ F ≤ place x (F .entries) → neighbour x F ≡ pointer (place x (F .entries) - 1) F
-  -- "Two ρ on a page go together; ξ goes with nothing.": two open slots' locks go together just if both search
-  pub clashes : (op op′ : Op) → Exactly (clash (lockOf (Open op)) (lockOf (Open op′)) ≡ false) ((isSearch op ≡ true) × (isSearch op′ ≡ true))
+  -- "Two ρ on a page go together; ξ goes with nothing.": two open slots' locks go together just if both read only
+  pub clashes : (op op′ : Op) → Exactly (clash (lockOf (Open op)) (lockOf (Open op′)) ≡ false) (Reader op × Reader op′)
   -- "Wants stand in a waiting order, oldest first."
   pub older : (s t : ℕ) (order : List ℕ) → distinct order ≡ true → member s order ≡ true → Exactly (member t (olderThan s order) ≡ true) (Before t s order)
   -- a slot taken out of the order: those before it and those behind it stand as they stood

@@ -101,7 +101,8 @@ pub record Demand3 (k n : ℕ) (ws : List ℕ) (cs : List Call) : Type 0 where
   -- "and if none is begun, 304 rounds that each step every open slot end them all"
   pub rounds : RoundsClose (runFrom k n ws cs .state) (runFrom k n ws cs .words)
   -- 01: "Granted steps, with h the level of page 0 when it is granted: search and insertion take h, deletion h to 2h-1. So at
-  -- most 19 a slot, and 16 × 19 = 304.", of whatever operation begins here, in whatever calls follow
+  -- most 19 a slot, and 16 × 19 = 304." Next: "It takes at most 2h-1 grants, so 304 stands." Of whatever operation begins
+  -- here, in whatever calls follow
   pub grantCounts : CountsFrom (runFrom k n ws cs .state) (runFrom k n ws cs .words)
   pub roundsOfSlots : roundsEnough ≡ slotCount * slotGrants
 

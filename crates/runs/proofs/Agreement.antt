@@ -9,10 +9,10 @@ use Rattle.ground.specs.Limits.{slotCount}
 use Rattle.ground.specs.Tests.{member}
 use Rattle.ground.proofs.Choice.{cond-ind, cond-true, cond-false}
 use Rattle.page.specs.Words.{Entry}
-use Rattle.page.specs.Place.{has}
+use Rattle.page.specs.Place.{has, atOrAbove}
 use Rattle.pool.specs.Pool.{Write, applied, fresh}
 use Rattle.slots.specs.declared.Op.{Op}
-use Rattle.slots.specs.declared.Op.the-variants.{Search, Insert, Delete}
+use Rattle.slots.specs.declared.Op.the-variants.{Search, Insert, Delete, Next}
 use Rattle.slots.specs.declared.Task.the-variants.{Open}
 use Rattle.slots.specs.declared.Slot.{Slot}
 use Rattle.slots.specs.declared.State.{State}
@@ -23,6 +23,7 @@ use Rattle.slots.specs.Parts.{slotAt, pathOf, siblingsOf, wantAt, openSlot, clo
 use Rattle.slots.specs.Book.{rewritten, begins, goesOn, closes}
 use Rattle.slots.proofs.OrderLaws.{same-or-not}
 use Rattle.slots.proofs.Keeping.{slot-here, slot-other}
+use Rattle.footing.specs.Granted.{nextAnswer}
 use Rattle.index.specs.Step.{Left, left, stepped}
 use Rattle.tree.specs.Tree.{Tr, entriesOf, PoolForms}
 use Rattle.tree.specs.Facts.{AnyTree, emptyTree}
@@ -57,12 +58,19 @@ pub record Agrees (es : List Entry) (ds : List Done) (st : State) (ws : List ℕ
   pub answers : answersIn ds ≡ plainAnswers (opsOf ds) es
   pub entries : (l : ℕ) (t : Tr l) → PoolForms (st .k) (st .n) ws l t → entriesOf l t ≡ plainEntries (opsOf ds) es
 
+-- both answers of a Next count
+next-counted : (es : List Entry) → isOneOf (nextAnswer es) countedAnswers ≡ true
+unfolding member
+next-counted [] = refl
+next-counted (e ∷ es) = refl
+
 -- an operation of the plain list ends with an answer that counts
 pub plain-counted : (op : Op) (es : List Entry) → isOneOf (plain op es .answer) countedAnswers ≡ true
 unfolding plain member
 plain-counted (Search x) es = cond-ind (λ (a : Answer). isOneOf a countedAnswers ≡ true) (has x es) (λ _. refl) (λ _. refl)
 plain-counted (Insert x v) es = cond-ind (λ (r : Reply). isOneOf (r .answer) countedAnswers ≡ true) (has x es) (λ _. refl) (λ _. refl)
 plain-counted (Delete x) es = cond-ind (λ (r : Reply). isOneOf (r .answer) countedAnswers ≡ true) (has x es) (λ _. refl) (λ _. refl)
+plain-counted (Next x) es = next-counted (atOrAbove x es)
 
 -- ---- what was asked stays known
 

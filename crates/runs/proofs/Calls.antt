@@ -16,14 +16,14 @@ use Rattle.ground.proofs.Tests.{member-none, member-there, member-cases, member
 use Rattle.page.specs.Words.{Page}
 use Rattle.pool.specs.Pool.{Write, poolLength, pageAt, applied}
 use Rattle.slots.specs.declared.Op.{Op}
-use Rattle.slots.specs.declared.Op.the-variants.{Search, Insert, Delete}
+use Rattle.slots.specs.declared.Op.the-variants.{Search, Insert, Delete, Next}
 use Rattle.slots.specs.declared.Task.{Task}
 use Rattle.slots.specs.declared.Task.the-variants.{Closed, Open}
 use Rattle.slots.specs.declared.Slot.{Slot}
 use Rattle.slots.specs.declared.State.{State}
 use Rattle.slots.specs.declared.Answer.{Answer}
 use Rattle.slots.specs.declared.Answer.the-variants.{Waiting, Moved, BadState, BadPool, BadSlot, SlotIdle}
-use Rattle.slots.specs.Parts.{isOpen, isSearch, held, keyOf, slotAt, openAt, wantAt, holdsAt, pathOf, siblingsOf, openSlot, closedSlot}
+use Rattle.slots.specs.Parts.{isOpen, onlyReads, held, keyOf, slotAt, openAt, wantAt, holdsAt, pathOf, siblingsOf, openSlot, closedSlot}
 use Rattle.slots.specs.Locks.{lockOf, lockAt, isXi}
 use Rattle.slots.specs.Grant.{grants}
 use Rattle.slots.specs.Book.{rewritten, begins, goesOn, closes}
@@ -58,11 +58,12 @@ same-op {op = op} e = ap (λ (task : Task). opOf task op) e
 pub closed-open : {op : Op} → Closed ≡ Open op → ⊥
 closed-open e = false≢true (ap isOpen e)
 
--- only a search has no ξ-lock
-reader-task : (op : Op) → isXi (lockOf (Open op)) ≡ false → isSearch op ≡ true
+-- only what reads has no ξ-lock
+reader-task : (op : Op) → isXi (lockOf (Open op)) ≡ false → onlyReads op ≡ true
 reader-task (Search x) e = refl
 reader-task (Insert x v) e = not-both refl e
 reader-task (Delete x) e = not-both refl e
+reader-task (Next x) e = refl
 
 -- One slot is written anew, the words may change: what has to be shown of that slot, and of the others.
 module _ (st : State) (ws : List ℕ) (inv : Invariant st ws) (s : ℕ) (b : s < slotCount) where
@@ -147,7 +148,7 @@ module _ (st : State) (ws : List ℕ) (inv : Invariant st ws) (s : ℕ) (b : s <
       here = subst (λ (ss : List ℕ). Stance op (st .k) (pageAt (st .k) ws) (inv .height) (inv .tree) (pathOf slot) ss want) (sym (siblings-new op want path siblings))
           (subst (λ (ps : List ℕ). Stance op (st .k) (pageAt (st .k) ws) (inv .height) (inv .tree) ps siblings want) (sym (path-new op want path siblings)) stance)
 
-  -- What an operation writes as it ends no other slot holds: where one of the two updates, they hold apart; where both search,
+  -- What an operation writes as it ends no other slot holds: where one of the two updates, they hold apart; where both only read,
   -- nothing is written.
   pub others-unwritten : (op : Op) (a : Answer) (writes : List Write) → Runs st s op → grants st s ≡ true
       → Ended op (st .k) (st .n) ws (inv .height) (inv .tree) (pathOf (slotAt st s)) (siblingsOf (slotAt st s)) (wantAt st s) a writes

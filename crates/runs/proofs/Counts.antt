@@ -1,4 +1,5 @@
--- How many grants an operation takes: its way down takes one a level, and then a deletion one for each sibling.
+-- How many grants an operation takes: its way down takes one a level, and then a deletion one for each sibling, and a Next one for
+-- each page of its second way.
 use Prim.Native.Nat.{ℕ, _+_, _-_, _*_, _≤_, _<_}
 use mathlib.Core.Bool.{true, false, not}
 use mathlib.Core.List.{List, [], _∷_, reverse}
@@ -19,7 +20,7 @@ use Rattle.slots.specs.declared.Slot.{Slot}
 use Rattle.slots.specs.declared.State.{State}
 use Rattle.slots.specs.declared.Outcome.{Outcome}
 use Rattle.slots.specs.Heard.{numberOf, changesNothing}
-use Rattle.slots.specs.Parts.{isOpen, isDelete, openSlot, pathOf, siblingsOf, slotAt, openAt, wantAt}
+use Rattle.slots.specs.Parts.{isOpen, goesBeside, openSlot, pathOf, siblingsOf, slotAt, openAt, wantAt}
 use Rattle.slots.specs.Book.{begins, goesOn}
 use Rattle.slots.specs.Begin.{begun}
 use Rattle.slots.proofs.Keeping.{Shaped, slot-here, slot-other, path-new}
@@ -231,7 +232,7 @@ root-level st ws inv =
 
 -- So many grants were needed: at least m, and for a search or an insertion just m.
 abbrev Needs : Op → ℕ → ℕ → Type 0
-Needs op m grants = (m ≤ grants) × (isDelete op ≡ false → grants ≡ m)
+Needs op m grants = (m ≤ grants) × (goesBeside op ≡ false → grants ≡ m)
 
 module _ (s : ℕ) (b : s < slotCount) where
   -- an open slot is granted at most what its measure says

@@ -1,7 +1,7 @@
 -- A slot that comes down its key's way: the step's tests of its pages hold, and once its want is granted it holds a stretch
 -- of the way again, with the granted page as its lowest.
 use Prim.Native.Nat.{ℕ, suc, _+_, _≤_, _<_}
-use mathlib.Core.Bool.{true, false, not, _&&_}
+use mathlib.Core.Bool.{true, false, not, _&&_, _||_}
 use mathlib.Core.List.{List, [], _∷_, _++_, reverse, reverse-append, reverse-cons, append-assoc}
 use mathlib.Core.Logic.{_⊎_, inl, inr, ⊎-elim}
 use mathlib.Core.Path.{_≡_, refl, sym, ap, ap₂, _∙_, subst}
@@ -13,12 +13,12 @@ use lib.Seq.{append-snoc, getD-at, getD-append-seam}
 use Rattle.ground.proofs.Tests.{all-from}
 use Rattle.ground.proofs.Bools.{and-both, or-first, or-second, not-of-false}
 use Rattle.ground.proofs.Choice.{cond-ind, cond-false}
-use Rattle.page.specs.Words.{Page, μ, isLeaf}
+use Rattle.page.specs.Words.{Page, isLeaf}
 use Rattle.page.specs.Place.{route}
 use Rattle.slots.specs.declared.Op.{Op}
 use Rattle.slots.specs.Parts.{keyOf}
 use Rattle.footing.specs.Granted.{isSafe, kept, atItsLeaf}
-use Rattle.footing.specs.Fitting.{descends, rightlyKept, rightlyBeside, isNone, fitting}
+use Rattle.footing.specs.Fitting.{descends, rightlyKept, rightlyBeside, rightlyAcross, isNone, fitting}
 use Rattle.tree.specs.Tree.{Tr, way}
 use Rattle.tree.specs.Facts.{WayFacts}
 use Rattle.ground.proofs.Choice.{by-test}
@@ -86,7 +86,7 @@ module _ (op : Op) (k : ℕ) (memory : ℕ → Page) where
   -- ---- the pages that are kept
 
   -- one page that is safe
-  rightly-alone : (p : ℕ) → isSafe op k (μ (memory p)) ≡ true → Rightly op k memory (p ∷ [])
+  rightly-alone : (p : ℕ) → isSafe op k (memory p) ≡ true → Rightly op k memory (p ∷ [])
   rightly-alone p safe = record { some = omega arith; top = inr safe; unsafe = λ i h. absurd (omega arith) }
 
   -- page 0
@@ -94,25 +94,25 @@ module _ (op : Op) (k : ℕ) (memory : ℕ → Page) where
   rightly-root p e = record { some = omega arith; top = inl e; unsafe = λ i h. absurd (omega arith) }
 
   -- one page more that is not safe
-  rightly-more : (path : List ℕ) (p : ℕ) → Rightly op k memory path → isSafe op k (μ (memory p)) ≡ false → Rightly op k memory (path ++ p ∷ [])
+  rightly-more : (path : List ℕ) (p : ℕ) → Rightly op k memory path → isSafe op k (memory p) ≡ false → Rightly op k memory (path ++ p ∷ [])
   rightly-more path p r f =
       let len : length (path ++ p ∷ []) ≡ length path + 1 = length-append path (p ∷ []) in
       let first : getD path 0 0 ≡ getD (path ++ p ∷ []) 0 0 = sym (List·getD-append path (p ∷ []) 0 0 (r .some)) in
       record {
         some = omega arith;
-        top = subst (λ (q : ℕ). (q ≡ 0) ⊎ (isSafe op k (μ (memory q)) ≡ true)) first (r .top);
+        top = subst (λ (q : ℕ). (q ≡ 0) ⊎ (isSafe op k (memory q) ≡ true)) first (r .top);
         unsafe = λ i h.
             by-test (ltb (suc i) (length path))
             (λ y.
             let inside : suc i < length path = ltb-true (suc i) (length path) y in
-            subst (λ (q : ℕ). isSafe op k (μ (memory q)) ≡ false) (sym (List·getD-append path (p ∷ []) 0 (suc i) inside)) (r .unsafe i inside))
+            subst (λ (q : ℕ). isSafe op k (memory q) ≡ false) (sym (List·getD-append path (p ∷ []) 0 (suc i) inside)) (r .unsafe i inside))
             (λ z.
             let last : length path ≤ suc i = ltb-false (suc i) (length path) z in
             let at : length path ≡ suc i = omega arith in
-            subst (λ (q : ℕ). isSafe op k (μ (memory q)) ≡ false) (sym (getD-at path p [] 0 (suc i) at)) f);
+            subst (λ (q : ℕ). isSafe op k (memory q) ≡ false) (sym (getD-at path p [] 0 (suc i) at)) f);
       }
 
-  rightly-on : (path : List ℕ) (want : ℕ) → HeldRightly op k memory path want → isSafe op k (μ (memory want)) ≡ false
+  rightly-on : (path : List ℕ) (want : ℕ) → HeldRightly op k memory path want → isSafe op k (memory want) ≡ false
       → Rightly op k memory (path ++ want ∷ [])
   rightly-on path want (inl (none, root)) f =
       subst (λ (ps : List ℕ). Rightly op k memory (ps ++ want ∷ [])) (sym none) (rightly-root want root)
@@ -126,10 +126,10 @@ module _ (op : Op) (k : ℕ) (memory : ℕ → Page) where
   kept-test (top ∷ below) want (inr r) =
       and-both
       (⊎-elim
-      (λ e. or-first (isSafe op k (μ (memory top))) (eq-eqb top 0 e))
+      (λ e. or-first (isSafe op k (memory top)) (eq-eqb top 0 e))
       (λ safe. or-second (eqb top 0) safe)
       (r .top))
-      (all-from (λ (p : ℕ). not (isSafe op k (μ (memory p)))) below 0 (λ i h. not-of-false (r .unsafe i (omega arith))))
+      (all-from (λ (p : ℕ). not (isSafe op k (memory p))) below 0 (λ i h. not-of-false (r .unsafe i (omega arith))))
 
   pub rightly-test : (path : List ℕ) (want : ℕ) → Rightly op k memory path → rightlyKept op k memory path want ≡ true
   rightly-test path want r = kept-test path want (inr r)
@@ -166,7 +166,8 @@ module _ (op : Op) (k : ℕ) (memory : ℕ → Page) where
           and-both
           (kept-test path want (down .held))
           (cond-false
-          (descends memory (keyOf op) path && rightlyBeside op k memory (reverse path) siblings want)
+          (descends memory (keyOf op) path
+          && (rightlyBeside op k memory (reverse path) siblings want || rightlyAcross op k memory path siblings want))
           (descends memory (keyOf op) (path ++ want ∷ []) && isNone siblings)
           down-above
           ∙ and-both
@@ -176,7 +177,7 @@ module _ (op : Op) (k : ℕ) (memory : ℕ → Page) where
       -- what it holds once the want is granted
       pub down-reached : Reached op k memory l t (kept op k memory path want) want
       down-reached =
-          cond-ind (λ (ps : List ℕ). Reached op k memory l t ps want) (isSafe op k (μ (memory want)))
+          cond-ind (λ (ps : List ℕ). Reached op k memory l t ps want) (isSafe op k (memory want))
           (λ safe. record {
             fathers = [];
             upward = refl;

@@ -2,18 +2,18 @@
 -- that a page of the tree, other than page 0, has at least k.
 use Prim.Native.Nat.{ℕ, zero, suc, _+_, _*_, _≤_, _<_}
 use native.Mathlib.Omega.{arith}
-use mathlib.Core.Bool.{true, not}
+use mathlib.Core.Bool.{true, false, not}
 use mathlib.Core.List.{List, [], _∷_, _++_, reverse, reverse-cons}
 use mathlib.Core.Logic.{inl, inr, ⊎-elim, _≢_}
-use mathlib.Core.Path.{_≡_, sym, ap, _∙_, subst}
+use mathlib.Core.Path.{_≡_, refl, sym, ap, _∙_, subst}
 use borrow.Author.Tests.{leb-true, leb-false}
 use lib.Dec.{leb}
-use lib.ListN.{length, getD, length-append}
+use lib.ListN.{length, getD, length-append, length-reverse, List·getD-append}
 use lib.Seq.{append-snoc, getD-append-seam}
 use Rattle.ground.specs.Limits.{wordRange}
 use Rattle.ground.specs.Tests.{all, member}
 use Rattle.ground.proofs.Bools.{not-of-false}
-use Rattle.ground.proofs.Tests.{member-at, all-from-members}
+use Rattle.ground.proofs.Tests.{member-at, member-from, all-from-members}
 use Rattle.page.specs.Words.{Keyed, Page, μ}
 use Rattle.slots.specs.declared.Op.{Op}
 use Rattle.slots.specs.Parts.{keyOf}
@@ -81,11 +81,23 @@ module _ (k n : ℕ) (memory : ℕ → Page) (l : ℕ) (t : Tr l) (forms : Forms
       let here = member-times q part m in
       omega (arith, ap (times q) e, times-append q part upper, way-occurs q x l t)
 
+-- no page of a path below its top is safe, read upward
+pub below-unsafe : (op : Op) (k : ℕ) (memory : ℕ → Page) (path : List ℕ) → Rightly op k memory path → (j : ℕ) → suc j < length path
+    → isSafe op k (memory (getD (reverse path) j 0)) ≡ false
+below-unsafe op k memory [] rightly j h = absurd (omega arith)
+below-unsafe op k memory (top ∷ below) rightly j h =
+    let q : ℕ = getD (reverse below) j 0 in
+    let inside : j < length (reverse below) = omega (arith, length-reverse below) in
+    let here : getD (reverse (top ∷ below)) j 0 ≡ q
+    = ap (λ (up : List ℕ). getD up j 0) (reverse-cons top below) ∙ List·getD-append (reverse below) (top ∷ []) 0 j inside in
+    let found = member-at q below 0 (sym (member-reverse q below) ∙ member-from q (reverse below) j 0 inside refl) in
+    subst (λ (p : ℕ). isSafe op k (memory p) ≡ false) (found .2 ∙ sym here) (rightly .unsafe (found .0) (omega (arith, found .1)))
+
 -- The pages of a path that reaches the leaf, upward: the top one is safe or page 0, and none below it is safe.
 pub held-way : (op : Op) (k n : ℕ) (memory : ℕ → Page) (l : ℕ) (t : Tr l) (path : List ℕ) (leaf : ℕ) (fathers upper : List ℕ)
     → Forms k n memory l t → keyOf op < wordRange → Rightly op k memory path → reverse path ≡ leaf ∷ fathers
     → way (keyOf op) l t ≡ reverse path ++ upper
-    → HeldWay (λ (p : ℕ). isSafe op k (μ (memory p))) (keyOf op) l t leaf fathers
+    → HeldWay (λ (p : ℕ). isSafe op k (memory p)) (keyOf op) l t leaf fathers
 held-way op k n memory l t [] leaf fathers upper forms key rightly upward whole = absurd (omega (arith, rightly .some))
 held-way op k n memory l t (top ∷ below) leaf fathers upper forms key rightly upward whole =
     let turned : reverse (top ∷ below) ≡ reverse below ++ top ∷ [] = reverse-cons top below in
@@ -99,13 +111,13 @@ held-way op k n memory l t (top ∷ below) leaf fathers upper forms key rightly 
           ⊎-elim
           (λ e. inl (root-last k n memory l t forms (keyOf op) key (reverse below) upper
           (above ∙ ap (λ (p : ℕ). reverse below ++ p ∷ upper) e)))
-          (λ s. inr (ap (λ (p : ℕ). isSafe op k (μ (memory p))) (ends .0) ∙ s))
+          (λ s. inr (ap (λ (p : ℕ). isSafe op k (memory p)) (ends .0) ∙ s))
           (rightly .top);
       unsafe =
-          subst (λ (ps : List ℕ). all (λ (p : ℕ). not (isSafe op k (μ (memory p)))) ps ≡ true) (sym (ends .1))
-          (all-from-members (λ (p : ℕ). not (isSafe op k (μ (memory p)))) (reverse below)
+          subst (λ (ps : List ℕ). all (λ (p : ℕ). not (isSafe op k (memory p))) ps ≡ true) (sym (ends .1))
+          (all-from-members (λ (p : ℕ). not (isSafe op k (memory p))) (reverse below)
           (λ q m.
           let found = member-at q below 0 (sym (member-reverse q below) ∙ m) in
-          subst (λ (p : ℕ). not (isSafe op k (μ (memory p))) ≡ true) (found .2)
+          subst (λ (p : ℕ). not (isSafe op k (memory p)) ≡ true) (found .2)
           (not-of-false (rightly .unsafe (found .0) (omega (arith, found .1))))));
     }

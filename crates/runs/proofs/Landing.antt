@@ -1,4 +1,5 @@
 -- At its leaf: a search answers, an insertion answers, lacks room or is made, a deletion answers, wants a sibling or is made.
+-- (A Next at its leaf is in `NextSteps.antt`.)
 use Prim.Native.Nat.{ℕ, _+_, _*_, _≤_, _<_}
 use mathlib.Core.Bool.{Bool, true, false, cond, _&&_, true≢false, false≢true}
 use mathlib.Core.List.{List, [], _∷_, _++_, reverse}
@@ -22,7 +23,7 @@ use Rattle.slots.specs.declared.Op.{Op}
 use Rattle.slots.specs.declared.Op.the-variants.{Search, Insert, Delete}
 use Rattle.slots.specs.declared.Answer.{Answer}
 use Rattle.slots.specs.declared.Answer.the-variants.{Found, NotFound, Inserted, AlreadyThere, Deleted, NoSuchKey, NoRoom}
-use Rattle.slots.specs.Parts.{keyOf, isSearch, isDelete}
+use Rattle.slots.specs.Parts.{keyOf, onlyReads, isDelete}
 use Rattle.footing.specs.Granted.{Verdict, goes, ends, byNeed, deletes, atLeaf}
 use Rattle.tree.specs.Tree.{Tr, entriesOf, way, leafOn, Forms, PoolForms}
 use Rattle.tree.specs.Sorted.{inserted}
@@ -74,7 +75,7 @@ room-reverse k memory leaf path =
 -- ---- what the leaf tells
 
 module _ (memory : ℕ → Page) (x l : ℕ) (t : Tr l) (facts : WayFacts memory x l t) (leaf : ℕ) (rest : List ℕ) (whole : way x l t ≡ leaf ∷ rest) where
-  leaf-page : memory leaf ≡ page 1 0 (leafOn x l t)
+  pub leaf-page : memory leaf ≡ page 1 0 (leafOn x l t)
   leaf-page = ap memory (sym (ap (λ (w : List ℕ). getD w 0 0) whole)) ∙ facts .leaf
 
   pub leaf-is : isLeaf (memory leaf) ≡ true
@@ -97,7 +98,7 @@ module _ (k n : ℕ) (ws : List ℕ) (l : ℕ) (t : Tr l) (pool : PoolForms k n 
   es = entriesOf l t
 
   -- an operation that writes nothing ends so
-  nothing-ends : (op : Op) (a : Answer) → AsPlain op k n ws l t a es ⊎ (NoRoomLeft op k n ws l t a [] × (es ≡ es))
+  pub nothing-ends : (op : Op) (a : Answer) → AsPlain op k n ws l t a es ⊎ (NoRoomLeft op k n ws l t a [] × (es ≡ es))
       → Ended op k n ws l t path₀ siblings₀ want a []
   nothing-ends op a how = record {
     entries = es;
@@ -123,7 +124,7 @@ module _ (k n : ℕ) (ws : List ℕ) (l : ℕ) (t : Tr l) (pool : PoolForms k n 
         done (cond (has x es) (Found (information x es)) NotFound) []
         (ap₂ (λ (b : Bool) (v : ℕ). ends (cond b (Found v) NotFound) []) there-is told-is)
         (nothing-ends (Search x) (cond (has x es) (Found (information x es)) NotFound)
-        (inl (record { answer = refl; entries = refl; room = λ y v e m. absurd (true≢false (ap isSearch e)) })))
+        (inl (record { answer = refl; entries = refl; room = λ y v e m. absurd (true≢false (ap onlyReads e)) })))
 
     -- ---- an insertion
 
@@ -246,7 +247,7 @@ module _ (k n : ℕ) (ws : List ℕ) (l : ℕ) (t : Tr l) (pool : PoolForms k n 
       by-need : (d : Need) → needs k memory x leaf fathers siblings ≡ d
           → Does (Delete x) k n ws l t path₀ siblings₀ want (byNeed path siblings change d)
       by-need nothing e = done (Deleted (information x (memory leaf .entries))) (deletion k memory x leaf fathers siblings) refl (deletion-ends e)
-      by-need (sibling s) e = on path siblings s refl (inr (inr (leaf-goes at s e))) takes
+      by-need (sibling s) e = on path siblings s refl (inr (inr (inl (leaf-goes at s e)))) takes
       by-need astray e = absurd (leaf-on-course at e)
 
       pub delete-does : Does (Delete x) k n ws l t path₀ siblings₀ want (deletes k memory x path leaf fathers siblings)

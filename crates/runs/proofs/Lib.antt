@@ -2,11 +2,13 @@ pub mod Invariant
 pub mod PlainLaws
 pub mod Paths
 pub mod HeldPath
+pub mod Across
 pub mod Needing
 pub mod Placing
 pub mod Others
 pub mod Granting
 pub mod Landing
+pub mod NextSteps
 pub mod Stepping
 pub mod Fathers
 pub mod Progress

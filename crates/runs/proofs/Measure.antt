@@ -4,7 +4,7 @@ use Prim.Native.Nat.{ℕ, suc, _+_, _-_, _*_, _≤_, _<_}
 use mathlib.Core.Bool.{true}
 use mathlib.Core.List.{List, [], _∷_, _++_, reverse, append-assoc}
 use mathlib.Core.Logic.{inl, inr}
-use mathlib.Core.Path.{_≡_, sym, ap, _∙_, subst}
+use mathlib.Core.Path.{_≡_, refl, sym, ap, _∙_, subst}
 use native.Mathlib.Omega.{arith}
 use lib.ListN.{length, getD, length-append, length-reverse, List·getD-append}
 use lib.Seq.{getD-append-seam, getD-append-add}
@@ -13,11 +13,12 @@ use Rattle.ground.proofs.Limits.{grants-of-height}
 use Rattle.page.specs.Words.{Page}
 use Rattle.pool.specs.Pool.{pageAt}
 use Rattle.slots.specs.declared.Op.{Op}
+use Rattle.slots.specs.declared.Op.the-variants.{Search, Insert, Delete, Next}
 use Rattle.slots.specs.declared.Task.{Task}
 use Rattle.slots.specs.declared.Task.the-variants.{Closed, Open}
 use Rattle.slots.specs.declared.Slot.{Slot}
 use Rattle.slots.specs.declared.State.{State}
-use Rattle.slots.specs.Parts.{keyOf, isDelete, pathOf, siblingsOf, slotAt}
+use Rattle.slots.specs.Parts.{keyOf, isDelete, isNext, goesBeside, pathOf, siblingsOf, slotAt}
 use Rattle.tree.specs.Tree.{Tr, way, Forms}
 use Rattle.tree.proofs.Search.{way-facts}
 use Rattle.runs.specs.Stance.{Stance}
@@ -27,7 +28,7 @@ abbrev pub lowestOf : List ℕ → ℕ
 lowestOf path = getD (reverse path) 0 0
 
 -- How many grants are left at most to an open slot with this path and these siblings. From its lowest page it may go down to
--- the leaf, and then take a sibling for each page of the path but the top.
+-- the leaf, and then take a page beside it for each page of the path but the top.
 abbrev pub leftOpen : (ℕ → Page) → List ℕ → List ℕ → ℕ
 leftOpen memory [] siblings = slotGrants
 leftOpen memory (p ∷ ps) siblings = 2 * memory (lowestOf (p ∷ ps)) .level + length ps - 2 - length siblings
@@ -55,7 +56,20 @@ pub record Low (memory : ℕ → Page) (l : ℕ) (t : Tr l) (path : List ℕ) (h
 pub data Where (op : Op) (memory : ℕ → Page) (l : ℕ) (t : Tr l) (path siblings : List ℕ) (want : ℕ) : Type 0 where
   atStart : path ≡ [] → siblings ≡ [] → memory want .level ≡ l + 1 → Where op memory l t path siblings want
   onTheWay : (low : ℕ) → Low memory l t path (low + 2) → siblings ≡ [] → memory want .level ≡ low + 1 → Where op memory l t path siblings want
-  atTheLeaf : Low memory l t path 1 → suc (length siblings) < length path → isDelete op ≡ true → Where op memory l t path siblings want
+  atTheLeaf : Low memory l t path 1 → suc (length siblings) < length path → goesBeside op ≡ true → Where op memory l t path siblings want
+
+-- a deletion goes beside its path, and so does a Next
+deletes-beside : (op : Op) → isDelete op ≡ true → goesBeside op ≡ true
+deletes-beside (Search x) e = e
+deletes-beside (Insert x v) e = e
+deletes-beside (Delete x) e = refl
+deletes-beside (Next x) e = refl
+
+next-beside : (op : Op) → isNext op ≡ true → goesBeside op ≡ true
+next-beside (Search x) e = e
+next-beside (Insert x v) e = e
+next-beside (Delete x) e = refl
+next-beside (Next x) e = refl
 
 module _ (op : Op) (k n : ℕ) (memory : ℕ → Page) (l : ℕ) (t : Tr l) (forms : Forms k n memory l t) (key : keyOf op < wordRange) where
   -- a page of the way is on the level of its index
@@ -75,6 +89,9 @@ module _ (op : Op) (k n : ℕ) (memory : ℕ → Page) (l : ℕ) (t : Tr l) (for
       ∙ List·getD-append (reverse path) upper 0 0 (omega arith) in
       record { some = some; level = way-level (length lower) (lowestOf path) (omega arith) spot; inside = omega arith }
 
+  leaf-at : (path upper : List ℕ) → 1 ≤ length path → way (keyOf op) l t ≡ reverse path ++ upper → Low memory l t path 1
+  leaf-at path upper some e = subst (Low memory l t path) (omega arith) (low-at path [] upper some e)
+
   pub where-it-stands : (path siblings : List ℕ) (want : ℕ) → Stance op k memory l t path siblings want → Where op memory l t path siblings want
   where-it-stands path siblings want (inl s) =
       let facts = way-facts k n memory l t forms (keyOf op) key in
@@ -89,8 +106,10 @@ module _ (op : Op) (k n : ℕ) (memory : ℕ → Page) (l : ℕ) (t : Tr l) (for
       let wanted = way-level (length lower) want (omega (arith, len, ap length (c .whole), length-append lower (want ∷ rest)))
       (ap (λ (w : List ℕ). getD w (length lower) 0) (c .whole) ∙ getD-append-seam lower want rest 0) in
       onTheWay (length lower) (subst (Low memory l t path) longer low) (c .noSiblings) wanted
-  where-it-stands path siblings want (inr (inr b)) =
-      atTheLeaf (subst (Low memory l t path) (omega arith) (low-at path [] (b .upper) (b .rightly .some) (b .whole))) (b .fewer) (b .deletes)
+  where-it-stands path siblings want (inr (inr (inl b))) =
+      atTheLeaf (leaf-at path (b .upper) (b .rightly .some) (b .whole)) (b .fewer) (deletes-beside op (b .deletes))
+  where-it-stands path siblings want (inr (inr (inr c))) =
+      atTheLeaf (leaf-at path (c .upper) (c .rightly .some) (c .whole)) (c .fewer) (next-beside op (c .asksNext))
 
 -- ---- the measure of an open slot, by where it stands
 

@@ -61,7 +61,7 @@ pub record KeptPath (path path′ : List ℕ) (want : ℕ) : Type 0 where
 
 pub kept-path : (op : Op) (k : ℕ) (memory : ℕ → Page) (path : List ℕ) (want : ℕ) → KeptPath path (kept op k memory path want) want
 kept-path op k memory path want =
-    cond-ind (λ (p : List ℕ). KeptPath path p want) (isSafe op k (μ (memory want)))
+    cond-ind (λ (p : List ℕ). KeptPath path p want) (isSafe op k (memory want))
     (λ _. record { lowest = refl; some = omega arith; most = omega arith })
     (λ _. let long = length-append path (want ∷ []) in
     record { lowest = ap (λ (p : List ℕ). getD p 0 0) (reverse-append path (want ∷ [])); some = omega arith; most = omega arith })

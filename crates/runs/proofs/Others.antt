@@ -14,7 +14,7 @@ use Rattle.ground.specs.Tests.{member}
 use Rattle.ground.proofs.Bools.{or-first, or-second}
 use Rattle.ground.proofs.Tests.{member-append, member-from}
 use Rattle.page.specs.Words.{Page, Entry, μ}
-use Rattle.page.specs.Place.{route, has}
+use Rattle.page.specs.Place.{pointer, route, has, atOrAbove}
 use Rattle.page.specs.Short.{neighbour}
 use Rattle.pool.specs.Pool.{Write}
 use Rattle.slots.specs.declared.Op.{Op}
@@ -26,7 +26,7 @@ use Rattle.tree.specs.Change.{memoryAfter, writtenPages, Leads}
 use Rattle.tree.proofs.Memory.{absent-times, unwritten}
 use Rattle.tree.proofs.Search.{way-facts}
 use Rattle.tree.proofs.Ways.{place-facts}
-use Rattle.runs.specs.Stance.{Rightly, Coming, WantsSibling, Stance}
+use Rattle.runs.specs.Stance.{Rightly, Coming, WantsSibling, Crossing, Stance}
 use Rattle.runs.proofs.Paths.{first-below, member-reverse, stretch}
 
 -- ---- the way of a key, before and after
@@ -124,9 +124,9 @@ module _ (op : Op) (k n : ℕ) (memory : ℕ → Page) (l : ℕ) (t : Tr l) (wri
     some = r .some;
     top =
         ⊎-elim inl
-        (λ s. inr (ap (λ (P : Page). isSafe op k (μ P)) (path-same 0 (r .some)) ∙ s))
+        (λ s. inr (ap (λ (P : Page). isSafe op k P) (path-same 0 (r .some)) ∙ s))
         (r .top);
-    unsafe = λ i h. ap (λ (P : Page). isSafe op k (μ P)) (path-same (suc i) h) ∙ r .unsafe i h;
+    unsafe = λ i h. ap (λ (P : Page). isSafe op k P) (path-same (suc i) h) ∙ r .unsafe i h;
   }
 
   -- and its path is a stretch of the way, as far from the leaf as it was
@@ -176,13 +176,20 @@ module _ (op : Op) (k n : ℕ) (memory : ℕ → Page) (l : ℕ) (t : Tr l) (wri
         noSiblings = c .noSiblings;
       }
 
+  -- a path down to the leaf is so again
+  leaf-whole : (upper : List ℕ) → 1 ≤ length path → way x l t ≡ reverse path ++ upper → onWay ≡ reverse path ++ drop (0 + length (reverse path)) onWay
+  leaf-whole upper some whole =
+      let last = path-stays [] upper whole (length path - 1) (length path - 1) (omega arith) (omega arith) in
+      stretch onWay (reverse path) 0
+      (omega (arith, last .0, now .pages, length-reverse path))
+      (λ j h. path-stays [] upper whole (0 + j) j (omega arith) (omega (arith, length-reverse path)) .1)
+
   -- it still stands at its leaf, which decides that the key is there
   beside-keeps : (want : ℕ) → WantsSibling op k memory l t path siblings want
       → WantsSibling op k (memoryAfter memory writes) (leads .height) (leads .tree) path siblings want
   beside-keeps want b =
       let some = b .rightly .some in
       let first = path-stays [] (b .upper) (b .whole) 0 0 (omega arith) some in
-      let last = path-stays [] (b .upper) (b .whole) (length path - 1) (length path - 1) (omega arith) (omega arith) in
       let leaf : leafOn x (leads .height) (leads .tree) ≡ leafOn x l t
       = ap (λ (P : Page). P .entries)
       (sym (now .leaf)
@@ -194,10 +201,7 @@ module _ (op : Op) (k n : ℕ) (memory : ℕ → Page) (l : ℕ) (t : Tr l) (wri
         deletes = b .deletes;
         there = sym (now .decides) ∙ ap (has x) leaf ∙ before .decides ∙ b .there;
         upper = drop (0 + length (reverse path)) onWay;
-        whole =
-            stretch onWay (reverse path) 0
-            (omega (arith, last .0, now .pages, length-reverse path))
-            (λ j h. path-stays [] (b .upper) (b .whole) (0 + j) j (omega arith) (omega (arith, length-reverse path)) .1);
+        whole = leaf-whole (b .upper) some (b .whole);
         rightly = rightly-keeps (b .rightly);
         fewer = b .fewer;
         short = λ j h. ap μ (upward-same j (omega (arith, b .fewer))) ∙ b .short j h;
@@ -205,6 +209,24 @@ module _ (op : Op) (k n : ℕ) (memory : ℕ → Page) (l : ℕ) (t : Tr l) (wri
         neighbours = λ j h. b .neighbours j h ∙ ap (neighbour x) (sym (upward-same (suc j) (omega (arith, b .fewer))));
         joining = λ j h. ap μ (sibling-same j h) ∙ b .joining j h;
         wantsNext = b .wantsNext ∙ ap (neighbour x) (sym (upward-same (suc (length siblings)) (omega (arith, b .fewer))));
+      }
+
+  -- and so does a Next past its leaf: the second way goes by pages that it holds
+  crossing-keeps : (want : ℕ) → Crossing op k memory l t path siblings want
+      → Crossing op k (memoryAfter memory writes) (leads .height) (leads .tree) path siblings want
+  crossing-keeps want c =
+      let some = c .rightly .some in
+      let top-same = path-same 0 some in
+      record {
+        asksNext = c .asksNext;
+        upper = drop (0 + length (reverse path)) onWay;
+        whole = leaf-whole (c .upper) some (c .whole);
+        rightly = rightly-keeps (c .rightly);
+        none = ap (λ (P : Page). atOrAbove x (P .entries)) (upward-same 0 some) ∙ c .none;
+        right = ap (λ (P : Page). isSafe op k P) top-same ∙ c .right;
+        fewer = c .fewer;
+        turns = c .turns ∙ ap (neighbour x) (sym top-same);
+        leftmost = λ j h. c .leftmost j h ∙ ap (pointer 0) (sym (sibling-same j h));
       }
 
 pub others-keep : (op : Op) (k n : ℕ) (memory : ℕ → Page) (l : ℕ) (t : Tr l) (writes : List Write) (es : List Entry) (path siblings : List ℕ) (want : ℕ)
@@ -215,5 +237,7 @@ pub others-keep : (op : Op) (k n : ℕ) (memory : ℕ → Page) (l : ℕ) (t : T
 others-keep op k n memory l t writes es path siblings want one key forms leads apart (inl s) = inl s
 others-keep op k n memory l t writes es path siblings want one key forms leads apart (inr (inl c)) =
     inr (inl (coming-keeps op k n memory l t writes es path siblings key forms leads apart want c))
-others-keep op k n memory l t writes es path siblings want one key forms leads apart (inr (inr b)) =
-    inr (inr (beside-keeps op k n memory l t writes es path siblings key forms leads apart want b))
+others-keep op k n memory l t writes es path siblings want one key forms leads apart (inr (inr (inl b))) =
+    inr (inr (inl (beside-keeps op k n memory l t writes es path siblings key forms leads apart want b)))
+others-keep op k n memory l t writes es path siblings want one key forms leads apart (inr (inr (inr c))) =
+    inr (inr (inr (crossing-keeps op k n memory l t writes es path siblings key forms leads apart want c)))

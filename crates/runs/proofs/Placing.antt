@@ -2,7 +2,7 @@
 use Prim.Native.Nat.{ℕ, suc, _+_, _≤_, _<_}
 use native.Mathlib.Omega.{arith}
 use mathlib.Core.Bool.{true, true≢false, false≢true}
-use mathlib.Core.List.{List, _∷_, _++_, reverse}
+use mathlib.Core.List.{List, [], _∷_, _++_, reverse}
 use mathlib.Core.Logic.{⊎-elim}
 use mathlib.Core.Path.{_≡_, refl, sym, ap, _∙_, subst}
 use borrow.Author.Tests.{leb-true, leb-false, le-leb, lt-ltb, eqb-true, eq-eqb}
@@ -16,18 +16,19 @@ use Rattle.ground.proofs.Limits.{path-is-way, siblings-below-top}
 use Rattle.page.specs.Words.{Page}
 use Rattle.pool.specs.Pool.{pageAt}
 use Rattle.slots.specs.declared.Op.{Op}
-use Rattle.slots.specs.declared.Op.the-variants.{Search, Insert, Delete}
+use Rattle.slots.specs.declared.Op.the-variants.{Search, Insert, Delete, Next}
 use Rattle.slots.specs.declared.Task.the-variants.{Open}
-use Rattle.slots.specs.Parts.{keyOf, isSearch}
-use Rattle.slots.specs.Sound.{withinLimits}
+use Rattle.slots.specs.Parts.{keyOf, isNext, goesBeside}
+use Rattle.slots.specs.Sound.{limitsOf, withinLimits}
 use Rattle.tree.specs.Tree.{Tr, pageNumber, once, occurs, way, Forms}
 use Rattle.ground.proofs.Choice.{by-test}
 use Rattle.tree.proofs.Memory.{once-same, times, times-append, member-times, absent-times, distinct-times, times-distinct, root-occurs, way-occurs, stands-occurs}
 use Rattle.tree.proofs.Search.{way-facts}
 use Rattle.tree.proofs.Height.{height-facts}
-use Rattle.runs.specs.Stance.{Rightly, Starting, Coming, WantsSibling}
+use Rattle.runs.specs.Stance.{Rightly, Starting, Coming, WantsSibling, Crossing}
 use Rattle.runs.specs.Step.{Scene}
 use Rattle.runs.proofs.Paths.{times-reverse}
+use Rattle.runs.proofs.Across.{across, second-pages, second-new, second-different}
 use Rattle.runs.proofs.Needing.{leaf-needed, beside-leaf}
 
 -- What an open slot holds and wants: "all pages named are below N; no slot holds a page twice or wants one it holds".
@@ -40,23 +41,38 @@ pub record WellHeld (op : Op) (n l : ℕ) (t : Tr l) (path siblings : List ℕ) 
 
 -- ---- as many as the rules allow
 
--- "a search holds at most 1 page, an insertion at most 10, a deletion at most 10 on its path": with no siblings
-limits-alone : (op : Op) (depth : ℕ) → (isSearch op ≡ true → depth ≤ searchHolds) → depth ≤ pathHolds → withinLimits (Open op) depth 0 ≡ true
-limits-alone (Search x) depth few deep = and-both (le-leb depth searchHolds (few refl)) (eq-eqb 0 0 refl)
-limits-alone (Insert x v) depth few deep = and-both (le-leb depth pathHolds deep) (eq-eqb 0 0 refl)
-limits-alone (Delete x) depth few deep =
-    and-both (and-both (le-leb depth pathHolds deep) (le-leb 0 siblingHolds (omega arith))) (or-first (ltb 0 depth) (eq-eqb 0 0 refl))
+-- with none beside the path
+limits-alone : (op : Op) (depth : ℕ) → depth ≤ limitsOf (Open op) .onPath → withinLimits (Open op) depth 0 ≡ true
+limits-alone op depth few =
+    and-both
+    (and-both (le-leb depth (limitsOf (Open op) .onPath) few) (le-leb 0 (limitsOf (Open op) .beside) (omega arith)))
+    (or-first (ltb 0 depth) (eq-eqb 0 0 refl))
+
+-- with fewer beside the path than on it
+limits-beside : (op : Op) (depth beside : ℕ) → goesBeside op ≡ true → depth ≤ pathHolds → beside ≤ siblingHolds → beside < depth
+    → withinLimits (Open op) depth beside ≡ true
+limits-beside (Search x) depth beside both deep few fewer = absurd (false≢true both)
+limits-beside (Insert x v) depth beside both deep few fewer = absurd (false≢true both)
+limits-beside (Delete x) depth beside both deep few fewer =
+    and-both (and-both (le-leb depth pathHolds deep) (le-leb beside siblingHolds few)) (or-second (eqb beside 0) (lt-ltb beside depth fewer))
+limits-beside (Next x) depth beside both deep few fewer =
+    and-both (and-both (le-leb depth pathHolds deep) (le-leb beside siblingHolds few)) (or-second (eqb beside 0) (lt-ltb beside depth fewer))
 
 -- for a search every page is safe, so it holds one
-search-holds : (op : Op) (k : ℕ) (memory : ℕ → Page) (path : List ℕ) → Rightly op k memory path → isSearch op ≡ true
-    → length path ≤ searchHolds
+search-holds : (x k : ℕ) (memory : ℕ → Page) (path : List ℕ) → Rightly (Search x) k memory path → length path ≤ searchHolds
 unfolding searchHolds
-search-holds (Search x) k memory path rightly e =
+search-holds x k memory path rightly =
     by-test (leb (length path) searchHolds)
     (λ t. leb-true (length path) searchHolds t)
     (λ f. absurd (true≢false (rightly .unsafe 0 (leb-false (length path) searchHolds f))))
-search-holds (Insert x v) k memory path rightly e = absurd (false≢true e)
-search-holds (Delete x) k memory path rightly e = absurd (false≢true e)
+
+-- the others may hold as many as a way has
+path-limit : (op : Op) (k : ℕ) (memory : ℕ → Page) (path : List ℕ) → Rightly op k memory path → length path ≤ pathHolds
+    → length path ≤ limitsOf (Open op) .onPath
+path-limit (Search x) k memory path rightly deep = search-holds x k memory path rightly
+path-limit (Insert x v) k memory path rightly deep = deep
+path-limit (Delete x) k memory path rightly deep = deep
+path-limit (Next x) k memory path rightly deep = deep
 
 -- ---- all of the tree, none twice
 
@@ -84,7 +100,7 @@ module _ (op : Op) (k n : ℕ) (memory : ℕ → Page) (l : ℕ) (t : Tr l) (pat
       let noSiblings : length siblings ≡ 0 = ap length (s .noSiblings) in
       counted op k n memory l t path siblings want forms
       (subst (λ (b : ℕ). withinLimits (Open op) (length path) b ≡ true) (sym noSiblings)
-      (limits-alone op (length path) (λ e. omega arith) (omega arith)))
+      (limits-alone op (length path) (omega arith)))
       (λ q.
       let first = ap (times q) (s .noPath) in
       let second = ap (times q) (s .noSiblings) in
@@ -102,8 +118,9 @@ module _ (op : Op) (k n : ℕ) (memory : ℕ → Page) (l : ℕ) (t : Tr l) (pat
       let height = height-facts k n memory l t one most forms .height in
       counted op k n memory l t path siblings want forms
       (subst (λ (b : ℕ). withinLimits (Open op) (length path) b ≡ true) (sym noSiblings)
-      (limits-alone op (length path) (search-holds op k memory path (c .rightly))
-      (omega (arith, length-append (reverse path) (c .upper), length-reverse path, path-is-way))))
+      (limits-alone op (length path)
+      (path-limit op k memory path (c .rightly)
+      (omega (arith, length-append (reverse path) (c .upper), length-reverse path, path-is-way)))))
       (λ q.
       let second = ap (times q) (c .noSiblings) in
       let cut : times q (way x l t) ≡ times q (c .lower) + times q part = ap (times q) (c .whole) ∙ times-append q (c .lower) part in
@@ -121,11 +138,10 @@ module _ (x k n : ℕ) (memory : ℕ → Page) (l : ℕ) (t : Tr l) (path siblin
       let size : l + 1 ≡ length (reverse path) + length (b .upper)
       = sym (way-facts k n memory l t forms x key .pages) ∙ ap length (b .whole) ∙ length-append (reverse path) (b .upper) in
       counted (Delete x) k n memory l t path siblings want forms
-      (and-both
-      (and-both
-      (le-leb (length path) pathHolds (omega (arith, length-reverse path, path-is-way)))
-      (le-leb (length siblings) siblingHolds (omega (arith, length-reverse path, siblings-below-top, b .fewer))))
-      (or-second (eqb (length siblings) 0) (lt-ltb (length siblings) (length path) (omega (arith, b .fewer)))))
+      (limits-beside (Delete x) (length path) (length siblings) refl
+      (omega (arith, length-reverse path, path-is-way))
+      (omega (arith, length-reverse path, siblings-below-top, b .fewer))
+      (omega (arith, b .fewer)))
       (λ q.
       let lower : times q (way x l t) ≡ times q (reverse path) + times q (b .upper)
       = ap (times q) (b .whole) ∙ times-append q (reverse path) (b .upper) in
@@ -157,6 +173,41 @@ well-beside-any (Search x) k n memory l t path siblings want one most key forms 
 well-beside-any (Insert x v) k n memory l t path siblings want one most key forms b = absurd (false≢true (b .deletes))
 well-beside-any (Delete x) k n memory l t path siblings want one most key forms b =
     well-beside x k n memory l t path siblings want one most key forms b
+well-beside-any (Next x) k n memory l t path siblings want one most key forms b = absurd (false≢true (b .deletes))
+
+-- a Next past its leaf holds the lower part of its way, and the upper part of its second way beside it
+next-beside : (op : Op) → isNext op ≡ true → goesBeside op ≡ true
+next-beside (Search x) asks = absurd (false≢true asks)
+next-beside (Insert x v) asks = absurd (false≢true asks)
+next-beside (Delete x) asks = absurd (false≢true asks)
+next-beside (Next x) asks = refl
+
+well-crossing : (op : Op) (k n : ℕ) (memory : ℕ → Page) (l : ℕ) (t : Tr l) (path second : List ℕ) (want : ℕ) → 1 ≤ k → n ≤ largestN
+    → keyOf op < wordRange → Forms k n memory l t → Crossing op k memory l t path second want → WellHeld op n l t path second want
+well-crossing op k n memory l t path second want one most key forms c =
+    let x : ℕ = keyOf op in
+    let a = across op k n memory l t one forms key path second want c in
+    let height = height-facts k n memory l t one most forms .height in
+    counted op k n memory l t path second want forms
+    (limits-beside op (length path) (length second) (next-beside op (c .asksNext))
+    (omega (arith, a .long, a .inside, path-is-way))
+    (omega (arith, a .few, a .inside, siblings-below-top))
+    (omega (arith, c .fewer)))
+    (λ q.
+    let lower : times q (way x l t) ≡ times q (reverse path) + times q (c .upper)
+    = ap (times q) (c .whole) ∙ times-append q (reverse path) (c .upper) in
+    let held = times-append q path second in
+    let beside : times q (second ++ want ∷ []) ≡ times q second + times q (want ∷ []) = times-append q second (want ∷ []) in
+    let turned = times-reverse q path in
+    by-test (member q (second ++ want ∷ []))
+    (λ m.
+    let offPath = absent-times q path (second-new k n memory l t forms x key path second want a q m) in
+    let once-each = distinct-times (second ++ want ∷ []) (second-different k n memory l t forms x key path second want a) q in
+    let page = second-pages k n memory l t forms x key path second want a q m in
+    omega arith)
+    (λ z.
+    let none = absent-times q (second ++ want ∷ []) z in
+    omega (arith, way-occurs q x l t)))
 
 pub well-held : (op : Op) (k n : ℕ) (ws : List ℕ) (l : ℕ) (t : Tr l) (path siblings : List ℕ) (want : ℕ)
     → Scene op k n ws l t path siblings want → WellHeld op n l t path siblings want
@@ -170,6 +221,8 @@ well-held op k n ws l t path siblings want scene =
     (well-starting op k n memory l t path siblings want one most key forms)
     (λ h. ⊎-elim
     (well-coming op k n memory l t path siblings want one most key forms)
+    (⊎-elim
     (well-beside-any op k n memory l t path siblings want one most key forms)
+    (well-crossing op k n memory l t path siblings want one most key forms))
     h)
     (scene .stance)

@@ -1,37 +1,38 @@
 -- The laws of the plain sorted list.
-use Prim.Native.Nat.{ℕ, suc, _+_}
+use Prim.Native.Nat.{ℕ, suc, _+_, _≤_}
 use mathlib.Core.Bool.{Bool, true, false, cond, _||_, false≢true}
 use mathlib.Core.List.{List, [], _∷_, _++_}
-use mathlib.Core.Logic.{_≢_, ⊎-elim}
+use mathlib.Core.Logic.{_⊎_, inl, inr, _≢_, ⊎-elim}
 use mathlib.Core.Path.{_≡_, refl, sym, ap, ap₂, _∙_, subst}
 use native.Mathlib.Omega.{arith}
-use borrow.Author.Tests.{eqb-true, eq-eqb, ne-eqb}
-use lib.Dec.{eqb}
+use borrow.Author.Tests.{leb-true, leb-false, eqb-true, eq-eqb, ne-eqb}
+use lib.Dec.{leb, eqb}
 use lib.ListN.{length, getD, take, drop, length-append, take-append-drop}
 use lib.Seq.{getD-append-seam}
 use Rattle.ground.proofs.Bools.{true-or-false, not-both, false-if-not-true, or-first-fails, or-cases}
 use Rattle.ground.proofs.Choice.{cond-ind, cond-true, cond-false}
 use Rattle.page.specs.Words.{Entry, entry, keyOf, valueOf, page}
-use Rattle.page.specs.Place.{place, has, information, without}
+use Rattle.page.specs.Place.{place, has, information, atOrAbove, without}
 use Rattle.page.specs.Sound.{rises}
 use Rattle.page.proofs.PlaceLaws.{has-from, has-at, has-append, information-at, rises-without}
 use Rattle.page.proofs.RiseLaws.{rises-at, rises-drop}
 use Rattle.page.proofs.PutLaws.{put-entries, put-place-rises}
 use Rattle.slots.specs.declared.Op.{Op}
-use Rattle.slots.specs.declared.Op.the-variants.{Search, Insert, Delete}
+use Rattle.slots.specs.declared.Op.the-variants.{Search, Insert, Delete, Next}
 use Rattle.slots.specs.declared.Answer.{Answer}
-use Rattle.slots.specs.declared.Answer.the-variants.{Found, NotFound, Inserted, AlreadyThere, Deleted, NoSuchKey}
+use Rattle.slots.specs.declared.Answer.the-variants.{Found, NotFound, Inserted, AlreadyThere, Deleted, NoSuchKey, Next as NextLot, None as NoLot}
 use Rattle.slots.specs.Heard.{heard, numberOf}
 use Rattle.slots.specs.Parts.{keyOf as keyOfOp}
+use Rattle.footing.specs.Granted.{nextAnswer}
 use Rattle.tree.specs.Sorted.{inserted}
 use Rattle.tree.proofs.Sorted.{has-inserted}
 use Rattle.runs.specs.Plain.{Reply, reply, plain}
-use Rattle.runs.specs.PlainFacts.{Among, Missing, PlainFacts}
+use Rattle.runs.specs.PlainFacts.{Among, Missing, FirstFrom, AllBelow, PlainFacts}
 
 -- ---- an entry stands where `has` and `information` say so
 
 -- one entry further on
-among-later : (x v : ℕ) (e : Entry) (es : List Entry) → Among x v es → Among x v (e ∷ es)
+pub among-later : (x v : ℕ) (e : Entry) (es : List Entry) → Among x v es → Among x v (e ∷ es)
 among-later x v e es a = record { before = e ∷ a .before; after = a .after; whole = ap (λ (l : List Entry). e ∷ l) (a .whole) }
 
 -- a key that stands does so with its information
@@ -152,6 +153,59 @@ has-without-rising x (e ∷ es) r =
     (λ t. subst (λ (k : ℕ). has k es ≡ false) (eqb-true (e .key) x t) (first-once e es r))
     (λ f. ap (λ (b : Bool). b || has x (without x es)) f ∙ has-without-rising x es (rises-drop 1 (e ∷ es) r))
 
+-- ---- at or above
+
+-- an entry of a longer list is its first, or stands behind it
+among-cases : (x v : ℕ) (e : Entry) (es : List Entry) → Among x v (e ∷ es) → (e .key ≡ x) ⊎ Among x v es
+among-cases x v e es a = by-front (a .before) (a .whole)
+  where
+    by-front : (before : List Entry) → e ∷ es ≡ before ++ entry x v ∷ a .after → (e .key ≡ x) ⊎ Among x v es
+    by-front [] whole = inl (ap (λ (l : List Entry). getD l 0 (entry 0 0) .key) whole)
+    by-front (f ∷ fs) whole = inr (record { before = fs; after = a .after; whole = ap (λ (l : List Entry). drop 1 l) whole })
+
+-- where keys rise, the first of them is the lowest
+first-lowest : (e : Entry) (es : List Entry) → rises (e ∷ es) ≡ true → (z w : ℕ) → Among z w (e ∷ es) → e .key ≤ z
+first-lowest e es r z w a =
+    ⊎-elim
+    (λ here. omega (arith, here))
+    (λ later.
+    let found = has-at z es (among-has z w es later) in
+    let up = rises-at (e ∷ es) r 0 (suc (found .0)) (omega arith) (omega (arith, found .1)) in
+    omega (arith, up, found .2))
+    (among-cases z w e es a)
+
+-- What the entries at or above a key begin with: there is none, and every key is below; or the first of them.
+data Nearest (x : ℕ) (es : List Entry) : Type 0 where
+  nowhere : atOrAbove x es ≡ [] → AllBelow x es → Nearest x es
+  begins : (e : Entry) (rest : List Entry) → atOrAbove x es ≡ e ∷ rest → FirstFrom x (e .key) (e .value) es → Nearest x es
+
+-- an entry that is below changes nothing
+nearest-later : (x : ℕ) (e : Entry) (es : List Entry) → leb x (e .key) ≡ false → Nearest x es → Nearest x (e ∷ es)
+unfolding atOrAbove
+nearest-later x e es low (nowhere none below) =
+    nowhere (cond-false (e ∷ es) (atOrAbove x es) low ∙ none)
+    (λ z w a. ⊎-elim (λ here. omega (arith, here, leb-false x (e .key) low)) (λ later. below z w later) (among-cases z w e es a))
+nearest-later x e es low (begins f rest some first) =
+    begins f rest (cond-false (e ∷ es) (atOrAbove x es) low ∙ some) (record {
+      there = among-later (f .key) (f .value) e es (first .there);
+      above = first .above;
+      first = λ z w a h.
+          ⊎-elim (λ here. absurd (omega (arith, here, h, leb-false x (e .key) low))) (λ later. first .first z w later h) (among-cases z w e es a);
+    })
+
+nearest : (x : ℕ) (es : List Entry) → rises es ≡ true → Nearest x es
+unfolding atOrAbove has
+nearest x [] r = nowhere refl (λ z w a. not-both (among-has z w [] a) refl)
+nearest x (e ∷ es) r =
+    ⊎-elim
+    (λ high. begins e es (cond-true (e ∷ es) (atOrAbove x es) high) (record {
+      there = record { before = []; after = es; whole = refl };
+      above = leb-true x (e .key) high;
+      first = λ z w a h. first-lowest e es r z w a;
+    }))
+    (λ low. nearest-later x e es low (nearest x es (rises-drop 1 (e ∷ es) r)))
+    (true-or-false (leb x (e .key)))
+
 -- ---- the answers
 
 -- a search by whether the key stands
@@ -189,9 +243,25 @@ pub search-keeps : (x : ℕ) (es : List Entry) → plain (Search x) es .entries 
 unfolding plain
 search-keeps x es = refl
 
--- the information in an answer
+-- a Next by what the entries at or above its key begin with
+next-none : (x : ℕ) (es : List Entry) → atOrAbove x es ≡ [] → plain (Next x) es .answer ≡ NoLot
+unfolding plain
+next-none x es e = ap nextAnswer e
+
+next-begins : (x : ℕ) (es : List Entry) (e : Entry) (rest : List Entry) → atOrAbove x es ≡ e ∷ rest → plain (Next x) es .answer ≡ NextLot (e .key) (e .value)
+unfolding plain
+next-begins x es e rest some = ap nextAnswer some
+
+pub next-keeps : (x : ℕ) (es : List Entry) → plain (Next x) es .entries ≡ es
+unfolding plain
+next-keeps x es = refl
+
+-- the first value in an answer, and the second
 abbrev told : Answer → ℕ
 told a = getD (heard a) 1 0
+
+abbrev toldToo : Answer → ℕ
+toldToo a = getD (heard a) 2 0
 
 -- two answers with different numbers are different
 clashes : {a b : Answer} {X : Type 0} → a ≡ b → (numberOf a ≡ numberOf b → ⊥) → X
@@ -210,6 +280,7 @@ module _ (es : List Entry) (r : rises es ≡ true) where
       (λ t. ap (λ (p : Reply). rises (p .entries)) (delete-there x es t) ∙ rises-without x es r)
       (λ f. ap (λ (p : Reply). rises (p .entries)) (delete-missing x es f) ∙ r)
       (true-or-false (has x es))
+  rising (Next x) = ap rises (next-keeps x es) ∙ r
 
   found : (x v : ℕ) → plain (Search x) es .answer ≡ Found v → Among x v es
   found x v e =
@@ -240,6 +311,40 @@ module _ (es : List Entry) (r : rises es ≡ true) where
       ap (λ (p : Reply). plain (Search x) (p .entries) .answer) (delete-there x es t)
       ∙ search-missing x (without x es) (has-without-rising x es r)
 
+  nexts : (x y v : ℕ) → FirstFrom x y v es → plain (Next x) es .answer ≡ NextLot y v
+  nexts x y v f = by-nearest (nearest x es r)
+    where
+      by-nearest : Nearest x es → plain (Next x) es .answer ≡ NextLot y v
+      by-nearest (nowhere none below) = absurd (omega (arith, below y v (f .there), f .above))
+      by-nearest (begins e rest some first) =
+          let key : e .key ≡ y = omega (arith, first .first y v (f .there) (f .above), f .first (e .key) (e .value) (first .there) (first .above)) in
+          let value : e .value ≡ v
+          = sym (among-information (e .key) (e .value) es (first .there) r) ∙ ap (λ (z : ℕ). information z es) key ∙ among-information y v es (f .there) r in
+          next-begins x es e rest some ∙ ap₂ NextLot key value
+
+  next : (x y v : ℕ) → plain (Next x) es .answer ≡ NextLot y v → FirstFrom x y v es
+  next x y v h = by-nearest (nearest x es r)
+    where
+      by-nearest : Nearest x es → FirstFrom x y v es
+      by-nearest (nowhere none below) = clashes (sym (next-none x es none) ∙ h) (λ q. omega (arith, q))
+      by-nearest (begins e rest some first) =
+          let same : NextLot (e .key) (e .value) ≡ NextLot y v = sym (next-begins x es e rest some) ∙ h in
+          subst (λ (w : ℕ). FirstFrom x y w es) (ap toldToo same) (subst (λ (z : ℕ). FirstFrom x z (e .value) es) (ap told same) first)
+
+  none : (x : ℕ) → AllBelow x es → plain (Next x) es .answer ≡ NoLot
+  none x all = by-nearest (nearest x es r)
+    where
+      by-nearest : Nearest x es → plain (Next x) es .answer ≡ NoLot
+      by-nearest (nowhere none below) = next-none x es none
+      by-nearest (begins e rest some first) = absurd (omega (arith, all (e .key) (e .value) (first .there), first .above))
+
+  none-above : (x : ℕ) → plain (Next x) es .answer ≡ NoLot → AllBelow x es
+  none-above x h = by-nearest (nearest x es r)
+    where
+      by-nearest : Nearest x es → AllBelow x es
+      by-nearest (nowhere none below) = below
+      by-nearest (begins e rest some first) = clashes (sym (next-begins x es e rest some) ∙ h) (λ q. omega (arith, q))
+
   others : (op : Op) (y : ℕ) → y ≢ keyOfOp op → plain (Search y) (plain op es .entries) .answer ≡ plain (Search y) es .answer
   others (Search x) y n = ap (λ (l : List Entry). plain (Search y) l .answer) (search-keeps x es)
   others (Insert x v) y n =
@@ -254,6 +359,7 @@ module _ (es : List Entry) (r : rises es ≡ true) where
       ∙ search-same y (without x es) es (has-without-other x y es n) (information-without-other x y es n))
       (λ f. ap (λ (p : Reply). plain (Search y) (p .entries) .answer) (delete-missing x es f))
       (true-or-false (has x es))
+  others (Next x) y n = ap (λ (l : List Entry). plain (Search y) l .answer) (next-keeps x es)
 
   -- The plain list's laws hold of every list whose keys rise.
   pub plain-facts : PlainFacts es
@@ -273,5 +379,10 @@ module _ (es : List Entry) (r : rises es ≡ true) where
     deletedGone = deleted-gone;
     noSuchKey = λ x m. ap (λ (p : Reply). p .answer) (delete-missing x es (missing-has x es m));
     noSuchKeyKeeps = λ x m. ap (λ (p : Reply). p .entries) (delete-missing x es (missing-has x es m));
+    nexts = nexts;
+    next = next;
+    none = none;
+    noneAbove = none-above;
+    nextKeeps = λ x. next-keeps x es;
     others = others;
   }

@@ -3,14 +3,14 @@
 -- Whoever is barred is barred by a slot whose own want ranks before, so the first of them is granted.
 use Prim.Native.Nat.{ℕ, zero, suc, _+_, _-_, _*_, _≤_, _<_}
 use mathlib.Core.Bool.{true, false, not, _&&_, _||_}
-use mathlib.Core.List.{List, [], _∷_, reverse}
+use mathlib.Core.List.{List, [], _∷_}
 use mathlib.Core.Logic.{_⊎_, inl, inr, ⊎-elim, _≢_}
 use mathlib.Core.Path.{_≡_, refl, sym, ap, _∙_, subst}
 use native.Mathlib.Nat.{mul-le-mul-right, suc-mul}
 use native.Mathlib.Omega.{arith}
 use borrow.Author.Tests.{eqb-true, eqb-false, eq-eqb, ne-eqb, not-true, not-false}
 use lib.Dec.{eqb}
-use lib.ListN.{length, getD}
+use lib.ListN.{length}
 use Rattle.ground.specs.Limits.{slotCount, wordRange}
 use Rattle.ground.specs.Tests.{member}
 use Rattle.ground.proofs.Bools.{true-or-false, not-both, false-if-not-true, and-first, and-second, and-fails, or-first-fails, or-second-fails}
@@ -33,7 +33,7 @@ use Rattle.tree.specs.Facts.{Placed}
 use Rattle.runs.specs.Stance.{Stance}
 use Rattle.runs.specs.Waits.{Holder, Older, Barred}
 use Rattle.runs.proofs.Invariant.{Invariant}
-use Rattle.runs.proofs.Fathers.{Father, Top, upward-held, one-father, root-fatherless, wants-under, held-under, wants-inside, wants-placed}
+use Rattle.runs.proofs.Fathers.{Father, Top, one-father, root-fatherless, wants-under, held-under, wants-inside, wants-placed}
 
 -- ---- what bars a want
 
@@ -193,21 +193,17 @@ module _ (st : State) (ws : List ℕ) (inv : Invariant st ws) where
       let p : ℕ = wantAt st s in
       let me = standing s b o in
       let it = standing v (h .below) (holder-opens s h) in
-      let mine : List ℕ = pathOf (slotAt st s) in
-      let its : List ℕ = pathOf (slotAt st v) in
       ⊎-elim
       (λ top. top)
       (λ u. ⊎-elim
-      (λ root. absurd (root-fatherless (st .k) (st .n) memory (inv .height) (inv .tree) forms (getD (reverse its) (u .index) 0)
-      (subst (Father memory (inv .height) (inv .tree) (getD (reverse its) (u .index) 0)) root (u .father))))
+      (λ root. absurd (root-fatherless (st .k) (st .n) memory (inv .height) (inv .tree) forms (u .above)
+      (subst (Father memory (inv .height) (inv .tree) (u .above)) root (u .father))))
       (λ w.
-      let same = one-father (st .k) (st .n) memory (inv .height) (inv .tree) forms (getD (reverse mine) (w .index) 0) (getD (reverse its) (u .index) 0) p (w .father) (u .father) in
+      let same = one-father (st .k) (st .n) memory (inv .height) (inv .tree) forms (w .above) (u .above) p (w .father) (u .father) in
       not-both (h .clashes)
-      (no-two-locks-clash st (inv .sound) v s (getD (reverse its) (u .index) 0) (h .below) b (h .other)
-      (upward-held its (siblingsOf (slotAt st v)) (u .index) (u .held))
-      (subst (λ (q : ℕ). holdsAt st s q ≡ true) same (upward-held mine (siblingsOf (slotAt st s)) (w .index) (w .held)))))
-      (wants-under (st .k) (st .n) memory (inv .height) (inv .tree) forms (me .op) (me .key) mine (siblingsOf (slotAt st s)) p (me .stance)))
-      (held-under (st .k) (st .n) memory (inv .height) (inv .tree) forms (it .op) (it .key) its (siblingsOf (slotAt st v)) (wantAt st v) (it .stance) p (h .holds))
+      (no-two-locks-clash st (inv .sound) v s (u .above) (h .below) b (h .other) (u .held) (subst (λ (q : ℕ). holdsAt st s q ≡ true) same (w .held))))
+      (wants-under (st .k) (st .n) memory (inv .height) (inv .tree) forms (me .op) (me .key) (pathOf (slotAt st s)) (siblingsOf (slotAt st s)) p (me .stance)))
+      (held-under (st .k) (st .n) memory (inv .height) (inv .tree) forms (it .op) (it .key) (pathOf (slotAt st v)) (siblingsOf (slotAt st v)) (wantAt st v) (it .stance) p (h .holds))
 
   -- Whoever is barred is barred by a slot whose own want ranks before.
   better : (s : ℕ) → s < slotCount → openAt st s ≡ true → (w : Placed (inv .height) (inv .tree) 0 wordRange (wantAt st s)) → Holder st s ⊎ Older st s

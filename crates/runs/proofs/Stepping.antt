@@ -1,7 +1,7 @@
 -- A granted step of a slot that stands as it should: its pages are sound for the step, and it goes on and stands as it should
 -- again, or its operation ends. It is never broken.
 use Prim.Native.Nat.{ℕ, suc, _+_, _≤_, _<_}
-use mathlib.Core.Bool.{true, not, _&&_, or-false, true≢false, false≢true}
+use mathlib.Core.Bool.{true, not, _&&_, _||_, or-false, true≢false, false≢true}
 use mathlib.Core.List.{List, [], _∷_, _++_, reverse, append-nil}
 use mathlib.Core.Logic.{inl, inr, ⊎-elim}
 use mathlib.Core.Path.{_≡_, refl, sym, ap, _∙_, subst}
@@ -16,31 +16,32 @@ use Rattle.ground.specs.Tests.{member, distinct}
 use Rattle.ground.proofs.Tests.{all-from-members, member-append, member-first, member-wider, member-behind}
 use Rattle.ground.proofs.Bools.{true-or-false, and-both, and-first, or-first, or-second, or-cases}
 use Rattle.ground.proofs.Choice.{cond-ind, cond-true, cond-false}
-use Rattle.page.specs.Words.{Page, μ, isLeaf}
+use Rattle.page.specs.Words.{Page, isLeaf}
 use Rattle.page.specs.Place.{route, has}
 use Rattle.page.specs.Sound.{soundByItself}
 use Rattle.page.specs.Short.{neighbour}
 use Rattle.pool.specs.Pool.{wordsOf, pageAt, freePages}
 use Rattle.change.specs.Deletion.{Need, sibling, needs}
 use Rattle.slots.specs.declared.Op.{Op}
-use Rattle.slots.specs.declared.Op.the-variants.{Search, Insert, Delete}
+use Rattle.slots.specs.declared.Op.the-variants.{Search, Insert, Delete, Next}
 use Rattle.slots.specs.declared.Answer.the-variants.{NoSuchKey}
 use Rattle.slots.specs.Parts.{keyOf}
 use Rattle.footing.specs.Granted.{Verdict, broken, goes, ends, isSafe, kept, deletes, atLeaf, fromLeaf, comesDown, besides, atItsLeaf, granted}
-use Rattle.footing.specs.Fitting.{pagesSound, descends, rightlyBeside, sameLevels, isSibling, isNone, fitting, nextIsNew, soundForStep, verdict}
+use Rattle.footing.specs.Fitting.{pagesSound, descends, rightlyBeside, rightlyAcross, sameLevels, isSibling, isNone, fitting, nextIsNew, soundForStep, verdict}
 use Rattle.tree.specs.Tree.{Tr, Stands, way, Forms, PoolForms}
 use Rattle.tree.specs.Facts.{WayFacts}
 use Rattle.ground.proofs.Choice.{by-test}
 use Rattle.tree.proofs.Search.{way-facts}
 use Rattle.tree.proofs.Ways.{place-facts}
 use Rattle.tree.proofs.SoundPages.{pool-sound}
-use Rattle.runs.specs.Stance.{Rightly, WantsSibling, Stance, StandsAtLeaf, Takes}
+use Rattle.runs.specs.Stance.{Rightly, WantsSibling, Crossing, Stance, StandsAtLeaf, Takes}
 use Rattle.runs.specs.Step.{Scene, Comes, moves, stops}
 use Rattle.runs.proofs.Paths.{member-reverse}
 use Rattle.runs.proofs.Placing.{well-held}
 use Rattle.runs.proofs.Needing.{AtLeaf, beside-leaf, beside-asked}
 use Rattle.runs.proofs.Granting.{Down, Reached, descends-way, rightly-test, starting-down, coming-down, down-above, down-fitting, down-reached, reached-next, reached-leaf}
 use Rattle.runs.proofs.Landing.{Does, on, done, leaf-is, leaf-has, search-does, insert-does, missing-ends, delete-does}
+use Rattle.runs.proofs.NextSteps.{next-does, crossing-leaf, crossing-test, crossing-does}
 
 -- ---- pages in lists
 
@@ -49,7 +50,7 @@ kept-inside : (op : Op) (k : ℕ) (memory : ℕ → Page) (path siblings : List 
     → member q (want ∷ (path ++ siblings)) ≡ true
 unfolding member
 kept-inside op k memory path siblings want q =
-    cond-ind (λ (ps : List ℕ). member q ps ≡ true → member q (want ∷ (path ++ siblings)) ≡ true) (isSafe op k (μ (memory want)))
+    cond-ind (λ (ps : List ℕ). member q ps ≡ true → member q (want ∷ (path ++ siblings)) ≡ true) (isSafe op k (memory want))
     (λ y m. or-first (member q (path ++ siblings)) (sym (or-false (eqb q want)) ∙ m))
     (λ f m. member-wider q want path siblings (member-first q want path m))
 
@@ -172,6 +173,8 @@ module _ (k n : ℕ) (ws : List ℕ) (l : ℕ) (t : Tr l) (pool : PoolForms k n 
       done NoSuchKey [] refl
       (missing-ends k n ws l t pool path₀ siblings₀ want y facts leaf (fathers ++ upper) whole
       (sym (leaf-has (pageAt k ws) y l t facts leaf (fathers ++ upper) whole) ∙ f)))
+  landed-does (Next y) key facts whole rightly takes =
+      next-does k n ws l t pool one path₀ siblings₀ want y key facts path leaf fathers upper upward whole rightly takes
 
 module _ (op : Op) (k n : ℕ) (ws : List ℕ) (l : ℕ) (t : Tr l) (path siblings : List ℕ) (want : ℕ)
     (scene : Scene op k n ws l t path siblings want) (none : siblings ≡ []) (down : Down op k (pageAt k ws) l t path want) where
@@ -189,7 +192,7 @@ module _ (op : Op) (k n : ℕ) (ws : List ℕ) (l : ℕ) (t : Tr l) (path siblin
       ⊎-elim
       (λ y. inl (record { comesDown = above; safe = y; noSiblings = none; holds = cond-true (want ∷ []) (path ++ want ∷ []) y; still = refl }))
       (λ f. inr (inl (record { comesDown = above; unsafe = f; noSiblings = none; holds = cond-false (want ∷ []) (path ++ want ∷ []) f; still = refl })))
-      (true-or-false (isSafe op k (μ (pageAt k ws want))))
+      (true-or-false (isSafe op k (pageAt k ws want)))
 
   reached : Reached op k (pageAt k ws) l t path′ want
   reached = down-reached op k (pageAt k ws) l t (facts op k n ws l t path siblings want scene) path want down
@@ -308,10 +311,13 @@ module _ (y k n : ℕ) (ws : List ℕ) (l : ℕ) (t : Tr l) (path siblings : Lis
         and-both
         (rightly-test (Delete y) k (pageAt k ws) path want (at .rightly))
         (cond-true
-        (descends (pageAt k ws) y path && rightlyBeside (Delete y) k (pageAt k ws) (reverse path) siblings want)
+        (descends (pageAt k ws) y path
+        && (rightlyBeside (Delete y) k (pageAt k ws) (reverse path) siblings want || rightlyAcross (Delete y) k (pageAt k ws) path siblings want))
         (descends (pageAt k ws) y (path ++ want ∷ []) && isNone siblings)
         at-leaf
-        ∙ and-both (descends-way (pageAt k ws) y l t beside-facts path [] (at .upper) (at .whole)) beside-test)
+        ∙ and-both
+        (descends-way (pageAt k ws) y l t beside-facts path [] (at .upper) (at .whole))
+        (or-first (rightlyAcross (Delete y) k (pageAt k ws) path siblings want) beside-test))
 
     -- the pages of the change are held, or the granted one
     beside-inside : (q : ℕ) → member q (leaf ∷ fathers ++ (siblings ++ want ∷ [])) ≡ true → member q (want ∷ (path ++ siblings)) ≡ true
@@ -335,7 +341,7 @@ module _ (y k n : ℕ) (ws : List ℕ) (l : ℕ) (t : Tr l) (path siblings : Lis
         (fromLeaf (λ (p : ℕ) (ps : List ℕ). deletes k (pageAt k ws) y path p ps (siblings ++ want ∷ [])) up))
         (sym (at .upward))
         (delete-does k n ws l t (scene .forms) path siblings want y beside-facts leaf (fathers ++ at .upper) from-leaf
-        path fathers (siblings ++ want ∷ []) (beside-asked at asks) (inr (inr (record { deletes = refl; atLeaf = test-at-leaf (pageAt k ws) path at-leaf; still = refl; holds = refl }))) beside-inside)
+        path fathers (siblings ++ want ∷ []) (beside-asked at asks) (inr (inr (record { beside = refl; atLeaf = test-at-leaf (pageAt k ws) path at-leaf; still = refl; holds = refl }))) beside-inside)
 
     beside-comes : Comes (Delete y) k n ws l t path siblings want
     unfolding granted
@@ -354,12 +360,56 @@ module _ (y k n : ℕ) (ws : List ℕ) (l : ℕ) (t : Tr l) (path siblings : Lis
       let (leaf, fathers, at, asks) = beside-leaf (scene .forms .forms) (scene .kLeast) (scene .key) b in
       beside-comes leaf fathers at asks
 
--- only a deletion goes on from its leaf
+-- only a deletion wants siblings
 stays : (op : Op) (k n : ℕ) (ws : List ℕ) (l : ℕ) (t : Tr l) (path siblings : List ℕ) (want : ℕ) → Scene op k n ws l t path siblings want
     → WantsSibling op k (pageAt k ws) l t path siblings want → Comes op k n ws l t path siblings want
 stays (Search y) k n ws l t path siblings want scene b = absurd (false≢true (b .deletes))
 stays (Insert y v) k n ws l t path siblings want scene b = absurd (false≢true (b .deletes))
 stays (Delete y) k n ws l t path siblings want scene b = deletion-comes y k n ws l t path siblings want scene b
+stays (Next y) k n ws l t path siblings want scene b = absurd (false≢true (b .deletes))
+
+-- ---- past its leaf
+
+module _ (y k n : ℕ) (ws : List ℕ) (l : ℕ) (t : Tr l) (path second : List ℕ) (want : ℕ)
+    (scene : Scene (Next y) k n ws l t path second want) (c : Crossing (Next y) k (pageAt k ws) l t path second want) where
+  past-leaf : atItsLeaf (pageAt k ws) (reverse path) ≡ true
+  past-leaf =
+      at-leaf-test (pageAt k ws) path (crossing-leaf y k n ws l t (scene .forms) (scene .kLeast) (scene .key) path second want c)
+
+  crossing-fitting : fitting (Next y) k (pageAt k ws) path second want ≡ true
+  unfolding fitting
+  crossing-fitting =
+      and-both
+      (rightly-test (Next y) k (pageAt k ws) path want (c .rightly))
+      (cond-true
+      (descends (pageAt k ws) y path
+      && (rightlyBeside (Next y) k (pageAt k ws) (reverse path) second want || rightlyAcross (Next y) k (pageAt k ws) path second want))
+      (descends (pageAt k ws) y (path ++ want ∷ []) && isNone second)
+      past-leaf
+      ∙ and-both
+      (descends-way (pageAt k ws) y l t (facts (Next y) k n ws l t path second want scene) path [] (c .upper) (c .whole))
+      (or-second (rightlyBeside (Next y) k (pageAt k ws) (reverse path) second want)
+      (crossing-test y k n ws l t (scene .forms) (scene .kLeast) (scene .key) path second want c)))
+
+  next-comes : Comes (Next y) k n ws l t path second want
+  unfolding granted
+  next-comes =
+      does-comes (Next y) k n ws l t path second want scene crossing-fitting
+      (subst (Does (Next y) k n ws l t path second want)
+      (sym
+      (cond-true
+      (besides (Next y) k (pageAt k ws) path second want)
+      (comesDown (Next y) k (pageAt k ws) (freePages k n ws) path want)
+      past-leaf))
+      (crossing-does y k n ws l t (scene .forms) (scene .kLeast) (scene .key) path second want c))
+
+-- only a Next goes down a second way
+crosses-over : (op : Op) (k n : ℕ) (ws : List ℕ) (l : ℕ) (t : Tr l) (path second : List ℕ) (want : ℕ) → Scene op k n ws l t path second want
+    → Crossing op k (pageAt k ws) l t path second want → Comes op k n ws l t path second want
+crosses-over (Search y) k n ws l t path second want scene c = absurd (false≢true (c .asksNext))
+crosses-over (Insert y v) k n ws l t path second want scene c = absurd (false≢true (c .asksNext))
+crosses-over (Delete y) k n ws l t path second want scene c = absurd (false≢true (c .asksNext))
+crosses-over (Next y) k n ws l t path second want scene c = next-comes y k n ws l t path second want scene c
 
 -- A granted step of a slot that stands as it should.
 pub granted-comes : (op : Op) (k n : ℕ) (ws : List ℕ) (l : ℕ) (t : Tr l) (path siblings : List ℕ) (want : ℕ)
@@ -375,6 +425,8 @@ granted-comes op k n ws l t path siblings want scene =
     (λ c.
     down-comes op k n ws l t path siblings want scene (c .noSiblings)
     (coming-down op k (pageAt k ws) l t way-of path siblings want c))
+    (⊎-elim
     (λ b. stays op k n ws l t path siblings want scene b)
+    (λ c. crosses-over op k n ws l t path siblings want scene c))
     r)
     (scene .stance)

@@ -6,16 +6,16 @@ use mathlib.Core.Path.{_≡_, refl, sym, subst}
 use lib.Dec.{ltb}
 use lib.ListN.{length}
 use Rattle.ground.proofs.Choice.{cond-ind, cond-true, cond-false}
-use Rattle.page.specs.Words.{Page, isLeaf}
-use Rattle.page.specs.Place.{has}
+use Rattle.page.specs.Words.{Entry, Page, isLeaf}
+use Rattle.page.specs.Place.{has, atOrAbove}
 use Rattle.pool.specs.Pool.{Write, pageAt, freePages}
 use Rattle.change.specs.Insertion.{room}
 use Rattle.change.specs.Deletion.{Need, nothing, sibling, astray, needs}
 use Rattle.slots.specs.declared.Op.{Op}
-use Rattle.slots.specs.declared.Op.the-variants.{Search, Insert, Delete}
+use Rattle.slots.specs.declared.Op.the-variants.{Search, Insert, Delete, Next}
 use Rattle.slots.specs.declared.Answer.{Answer}
-use Rattle.slots.specs.Parts.{keyOf}
-use Rattle.footing.specs.Granted.{Verdict, broken, goes, ends, kept, byNeed, deletes, atLeaf, fromLeaf, comesDown, besides, atItsLeaf, granted}
+use Rattle.slots.specs.Parts.{keyOf, isNext}
+use Rattle.footing.specs.Granted.{Verdict, broken, goes, ends, isSafe, kept, byNeed, deletes, crosses, byNearest, atLeaf, fromLeaf, comesDown, goesLeft, besides, atItsLeaf, granted}
 use Rattle.footing.specs.Fitting.{soundForStep, verdict}
 
 -- a slot that goes on holds this path and these siblings
@@ -40,6 +40,19 @@ deletes-goes : (k : ℕ) (memory : ℕ → Page) (x : ℕ) (path : List ℕ) (le
 unfolding deletes
 deletes-goes k memory x path leaf fathers siblings = by-need-goes path siblings _ (needs k memory x leaf fathers siblings) tt
 
+-- a Next whose leaf has no such key, and one on its second way
+crosses-goes : (op : Op) (k : ℕ) (memory : ℕ → Page) (path : List ℕ) → GoesTo path [] (crosses op k memory path)
+crosses-goes op k memory [] = tt
+crosses-goes op k memory (top ∷ below) = cond-ind (GoesTo (top ∷ below) []) (isSafe op k (memory top)) (λ _. (refl, refl)) (λ _. tt)
+
+by-nearest-goes : (path : List ℕ) (further : Verdict) (es : List Entry) → GoesTo path [] further → GoesTo path [] (byNearest further es)
+by-nearest-goes path further [] h = h
+by-nearest-goes path further (e ∷ es) h = tt
+
+left-goes : (memory : ℕ → Page) (path second : List ℕ) (p : ℕ) → GoesTo path (second ++ p ∷ []) (goesLeft memory path second p)
+unfolding goesLeft
+left-goes memory path second p = cond-ind (GoesTo path (second ++ p ∷ [])) (isLeaf (memory p)) (λ _. tt) (λ _. (refl, refl))
+
 leaf-goes : (op : Op) (k : ℕ) (memory : ℕ → Page) (free path : List ℕ) (leaf : ℕ) (fathers : List ℕ)
     → GoesTo path [] (atLeaf op k memory free path leaf fathers)
 unfolding atLeaf
@@ -49,6 +62,8 @@ leaf-goes (Insert x v) k memory free path leaf fathers =
     (λ _. cond-ind (GoesTo path []) (ltb (length free) (room k memory leaf path)) (λ _. tt) (λ _. tt))
 leaf-goes (Delete x) k memory free path leaf fathers =
     cond-ind (GoesTo path []) (has x (memory leaf .entries)) (λ _. deletes-goes k memory x path leaf fathers []) (λ _. tt)
+leaf-goes (Next x) k memory free path leaf fathers =
+    by-nearest-goes path (crosses (Next x) k memory path) (atOrAbove x (memory leaf .entries)) (crosses-goes (Next x) k memory path)
 
 from-leaf-goes : (path siblings : List ℕ) (act : ℕ → List ℕ → Verdict) → ((leaf : ℕ) (fathers : List ℕ) → GoesTo path siblings (act leaf fathers))
     → (up : List ℕ) → GoesTo path siblings (fromLeaf act up)
@@ -59,7 +74,11 @@ module _ (op : Op) (k : ℕ) (memory : ℕ → Page) (free path siblings : List 
   besides-goes : GoesTo path (siblings ++ want ∷ []) (besides op k memory path siblings want)
   unfolding besides
   besides-goes =
-      from-leaf-goes path (siblings ++ want ∷ []) _ (λ leaf fathers. deletes-goes k memory (keyOf op) path leaf fathers (siblings ++ want ∷ [])) (reverse path)
+      cond-ind (GoesTo path (siblings ++ want ∷ [])) (isNext op)
+      (λ _. left-goes memory path siblings want)
+      (λ _.
+      from-leaf-goes path (siblings ++ want ∷ []) _
+      (λ leaf fathers. deletes-goes k memory (keyOf op) path leaf fathers (siblings ++ want ∷ [])) (reverse path))
 
   comes-down-goes : GoesTo (kept op k memory path want) [] (comesDown op k memory free path want)
   unfolding comesDown
@@ -90,7 +109,7 @@ module _ (op : Op) (k n : ℕ) (ws path siblings : List ℕ) (want : ℕ) where
   unfolding verdict
   by-verdict P b f = cond-ind P (soundForStep op k n ws path siblings want) f (λ _. b)
 
-  -- standing at its leaf it is granted a sibling, above it the next page of its way
+  -- standing at its leaf it is granted a page beside its path, above it the next page of its way
   at-leaf-rule : atItsLeaf (pageAt k ws) (reverse path) ≡ true
       → granted op k (pageAt k ws) (freePages k n ws) path siblings want ≡ besides op k (pageAt k ws) path siblings want
   unfolding granted
@@ -101,7 +120,7 @@ module _ (op : Op) (k n : ℕ) (ws path siblings : List ℕ) (want : ℕ) where
   unfolding granted
   above-rule at = cond-false (besides op k (pageAt k ws) path siblings want) (comesDown op k (pageAt k ws) (freePages k n ws) path want) at
 
-  -- at its leaf, a slot that goes on holds one sibling more
+  -- at its leaf, a slot that goes on holds one page more beside its path
   pub beside-goes : atItsLeaf (pageAt k ws) (reverse path) ≡ true → (path′ siblings′ : List ℕ) (want′ : ℕ)
       → verdict op k n ws path siblings want ≡ goes path′ siblings′ want′ → (path′ ≡ path) × (siblings′ ≡ siblings ++ want ∷ [])
   beside-goes at path′ siblings′ want′ e =

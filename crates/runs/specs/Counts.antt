@@ -1,5 +1,5 @@
 -- "Granted steps, with h the level of page 0 when it is granted: search and insertion take h, deletion h to 2h-1. So at most 19 a
--- slot": counted in a run, from where an operation has begun to where it ends.
+-- slot". Next: "It takes at most 2h-1 grants, so 304 stands." Counted in a run, from where an operation has begun to where it ends.
 use Prim.Native.Nat.{ℕ, _+_, _-_, _*_, _≤_}
 use mathlib.Core.Bool.{Bool, true, false, not, cond, _&&_}
 use mathlib.Core.List.{List, [], _∷_}
@@ -11,7 +11,7 @@ use Rattle.slots.specs.declared.Op.{Op}
 use Rattle.slots.specs.declared.State.{State}
 use Rattle.slots.specs.declared.Answer.the-variants.{Begun}
 use Rattle.slots.specs.Heard.{changesNothing}
-use Rattle.slots.specs.Parts.{isDelete, openAt}
+use Rattle.slots.specs.Parts.{goesBeside, openAt}
 use Rattle.runs.specs.Run.{Call, begin, step, report, called, InWords}
 
 -- the call is a granted step of slot s: it is neither refused nor answered Waiting
@@ -44,8 +44,8 @@ heightGranted s (c ∷ cs) st ws =
 -- The grants of slot s, which has just begun this operation in this state, among these calls.
 pub record GrantCounts (s : ℕ) (op : Op) (cs : List Call) (st : State) (ws : List ℕ) : Type 0 where
   -- "search and insertion take h"
-  pub exactly : isDelete op ≡ false → endsWithin s cs st ws ≡ true → grantsOf s cs st ws ≡ heightGranted s cs st ws
-  -- "deletion h to 2h-1"
+  pub exactly : goesBeside op ≡ false → endsWithin s cs st ws ≡ true → grantsOf s cs st ws ≡ heightGranted s cs st ws
+  -- "deletion h to 2h-1", and so does Next
   pub least : endsWithin s cs st ws ≡ true → heightGranted s cs st ws ≤ grantsOf s cs st ws
   pub most : grantsOf s cs st ws ≤ 2 * heightGranted s cs st ws - 1
   -- "So at most 19 a slot"

@@ -9,7 +9,7 @@ use Rattle.page.specs.Words.{Entry}
 use Rattle.slots.specs.declared.Op.{Op}
 use Rattle.slots.specs.declared.Op.the-variants.{Search}
 use Rattle.slots.specs.declared.Answer.{Answer}
-use Rattle.slots.specs.declared.Answer.the-variants.{Found, NotFound, Inserted, AlreadyThere, Deleted, NoSuchKey, Begun}
+use Rattle.slots.specs.declared.Answer.the-variants.{Found, NotFound, Inserted, AlreadyThere, Deleted, NoSuchKey, Begun, Next, None}
 use Rattle.slots.specs.Heard.{numberOf}
 use Rattle.runs.specs.Run.{Call, begin, step, report}
 use Rattle.runs.specs.Plain.{plain}
@@ -25,7 +25,7 @@ ended s op a = record { slot = s; op = op; answer = a }
 
 -- the answers that end an operation, save NoRoom; whatever their values
 abbrev pub countedAnswers : List Answer
-countedAnswers = Found 0 ∷ NotFound ∷ Inserted ∷ AlreadyThere ∷ Deleted 0 ∷ NoSuchKey ∷ []
+countedAnswers = Found 0 ∷ NotFound ∷ Inserted ∷ AlreadyThere ∷ Deleted 0 ∷ NoSuchKey ∷ Next 0 0 ∷ None ∷ []
 
 -- the answers of which pages are written
 abbrev pub writing : List Answer

@@ -1,6 +1,6 @@
 -- What the plain sorted list means, pinned by laws: what was inserted is found, what was deleted is not, other keys are
 -- untouched, and keys rise. `plain` knows no pages, and neither do these.
-use Prim.Native.Nat.{ℕ}
+use Prim.Native.Nat.{ℕ, _≤_, _<_}
 use mathlib.Core.Bool.{true}
 use mathlib.Core.List.{List, _∷_, _++_}
 use mathlib.Core.Logic.{_≢_}
@@ -8,8 +8,8 @@ use mathlib.Core.Path.{_≡_}
 use Rattle.page.specs.Words.{Entry, entry}
 use Rattle.page.specs.Sound.{rises}
 use Rattle.slots.specs.declared.Op.{Op}
-use Rattle.slots.specs.declared.Op.the-variants.{Search, Insert, Delete}
-use Rattle.slots.specs.declared.Answer.the-variants.{Found, NotFound, Inserted, AlreadyThere, Deleted, NoSuchKey}
+use Rattle.slots.specs.declared.Op.the-variants.{Search, Insert, Delete, Next}
+use Rattle.slots.specs.declared.Answer.the-variants.{Found, NotFound, Inserted, AlreadyThere, Deleted, NoSuchKey, Next as NextLot, None as NoLot}
 use Rattle.slots.specs.Parts.{keyOf}
 use Rattle.runs.specs.Plain.{plain}
 
@@ -22,6 +22,16 @@ pub record Among (x v : ℕ) (es : List Entry) : Type 0 where
 -- no entry of the key stands in the list
 abbrev pub Missing : ℕ → List Entry → Type 0
 Missing x es = (v : ℕ) → Among x v es → ⊥
+
+-- the entry of key y and information v is the first whose key is at or above x: it stands there, and no such key is lower
+pub record FirstFrom (x y v : ℕ) (es : List Entry) : Type 0 where
+  pub there : Among y v es
+  pub above : x ≤ y
+  pub first : (z w : ℕ) → Among z w es → x ≤ z → y ≤ z
+
+-- every key is below x
+abbrev pub AllBelow : ℕ → List Entry → Type 0
+AllBelow x es = (z w : ℕ) → Among z w es → z < x
 
 -- The laws, for a list whose keys rise.
 pub record PlainFacts (es : List Entry) : Type 0 where
@@ -47,5 +57,11 @@ pub record PlainFacts (es : List Entry) : Type 0 where
   -- otherwise it is answered NoSuchKey, and changes nothing
   pub noSuchKey : (x : ℕ) → Missing x es → plain (Delete x) es .answer ≡ NoSuchKey
   pub noSuchKeyKeeps : (x : ℕ) → Missing x es → plain (Delete x) es .entries ≡ es
+  -- Next answers the first entry whose key is at or above the key asked, and None just if there is none. It changes nothing.
+  pub nexts : (x y v : ℕ) → FirstFrom x y v es → plain (Next x) es .answer ≡ NextLot y v
+  pub next : (x y v : ℕ) → plain (Next x) es .answer ≡ NextLot y v → FirstFrom x y v es
+  pub none : (x : ℕ) → AllBelow x es → plain (Next x) es .answer ≡ NoLot
+  pub noneAbove : (x : ℕ) → plain (Next x) es .answer ≡ NoLot → AllBelow x es
+  pub nextKeeps : (x : ℕ) → plain (Next x) es .entries ≡ es
   -- other keys are untouched: a search of another key is answered as before
   pub others : (op : Op) (y : ℕ) → y ≢ keyOf op → plain (Search y) (plain op es .entries) .answer ≡ plain (Search y) es .answer

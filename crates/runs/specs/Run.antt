@@ -7,7 +7,7 @@ use lib.ListN.{length}
 use Rattle.ground.specs.Limits.{wordRange}
 use Rattle.pool.specs.Pool.{kInRange, nInRange, poolLength}
 use Rattle.slots.specs.declared.Op.{Op}
-use Rattle.slots.specs.declared.Op.the-variants.{Search, Insert, Delete}
+use Rattle.slots.specs.declared.Op.the-variants.{Search, Insert, Delete, Next}
 use Rattle.slots.specs.declared.Answer.{Answer}
 use Rattle.slots.specs.declared.State.{State}
 use Rattle.slots.specs.Begin.{begun}
@@ -53,6 +53,7 @@ abbrev pub OpInWords : Op → Type 0
 OpInWords (Search x) = x < wordRange
 OpInWords (Insert x v) = (x < wordRange) × (v < wordRange)
 OpInWords (Delete x) = x < wordRange
+OpInWords (Next x) = x < wordRange
 
 -- a call as a caller can make it: slots and pages are any numbers
 abbrev pub CallInWords : Call → Type 0

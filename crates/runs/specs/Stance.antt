@@ -8,27 +8,29 @@ use mathlib.Core.Logic.{_⊎_, _≢_}
 use mathlib.Core.Path.{_≡_}
 use lib.ListN.{length, getD}
 use Rattle.page.specs.Words.{Page, μ}
-use Rattle.page.specs.Place.{has}
+use Rattle.page.specs.Place.{place, pointer, has, atOrAbove}
 use Rattle.page.specs.Short.{neighbour}
 use Rattle.slots.specs.declared.Op.{Op}
-use Rattle.slots.specs.declared.Op.the-variants.{Search, Insert, Delete}
-use Rattle.slots.specs.Parts.{keyOf, isDelete}
+use Rattle.slots.specs.declared.Op.the-variants.{Search, Insert, Delete, Next}
+use Rattle.slots.specs.Parts.{keyOf, isDelete, isNext, goesBeside}
 use Rattle.footing.specs.Granted.{isSafe}
 use Rattle.tree.specs.Tree.{Tr, entriesOf, way}
 
--- When a page with the number m is safe for an operation: then all its ancestors are given up. "Search gives up the father."
--- "Insertion: if the page has μ < 2k". "Deletion: the same with μ > k". The rule's test of it is `isSafe`, proved to be this.
-abbrev pub Safe : Op → ℕ → ℕ → Type 0
-Safe (Search x) k m = Unit {0}
-Safe (Insert x v) k m = m < 2 * k
-Safe (Delete x) k m = k < m
+-- When a page is safe for an operation: then all its ancestors are given up. "Search gives up the father." "Insertion: if the page
+-- has μ < 2k". "Deletion: the same with μ > k". Next: it is no leaf, and "still has a child to the right of the route". The rule's
+-- test of it is `isSafe`, proved to be this.
+abbrev pub Safe : Op → ℕ → Page → Type 0
+Safe (Search x) k P = Unit {0}
+Safe (Insert x v) k P = μ P < 2 * k
+Safe (Delete x) k P = k < μ P
+Safe (Next x) k P = (P .level ≢ 1) × (place x (P .entries) < μ P)
 
 -- The pages of a path are those whose ancestors could not be given up: the top one is page 0 or safe for the operation, and
 -- none below it is safe. (For a search every page is safe: so it holds one.)
 pub record Rightly (op : Op) (k : ℕ) (memory : ℕ → Page) (path : List ℕ) : Type 0 where
   pub some : 1 ≤ length path
-  pub top : (getD path 0 0 ≡ 0) ⊎ (isSafe op k (μ (memory (getD path 0 0))) ≡ true)
-  pub unsafe : (i : ℕ) → suc i < length path → isSafe op k (μ (memory (getD path (suc i) 0))) ≡ false
+  pub top : (getD path 0 0 ≡ 0) ⊎ (isSafe op k (memory (getD path 0 0)) ≡ true)
+  pub unsafe : (i : ℕ) → suc i < length path → isSafe op k (memory (getD path (suc i) 0)) ≡ false
 
 -- "Beginning an operation makes the slot want page 0." It holds nothing yet.
 pub record Starting (path siblings : List ℕ) (want : ℕ) : Type 0 where
@@ -63,10 +65,28 @@ pub record WantsSibling (op : Op) (k : ℕ) (memory : ℕ → Page) (l : ℕ) (t
   pub joining : (j : ℕ) → j < length siblings → μ (memory (getD siblings j 0)) ≡ k
   pub wantsNext : want ≡ neighbour (keyOf op) (memory (getD (reverse path) (suc (length siblings)) 0))
 
+-- Past its leaf: Next, "if the leaf has no such key, goes down the leftmost way of the next child to the right, giving nothing up
+-- until its answer". The second way, as far as it is held, stands beside the path, and the want behind it.
+pub record Crossing (op : Op) (k : ℕ) (memory : ℕ → Page) (l : ℕ) (t : Tr l) (path second : List ℕ) (want : ℕ) : Type 0 where
+  pub asksNext : isNext op ≡ true
+  pub upper : List ℕ
+  pub whole : way (keyOf op) l t ≡ reverse path ++ upper
+  pub rightly : Rightly op k memory path
+  -- the leaf has no key at or above the key
+  pub none : atOrAbove (keyOf op) (memory (getD (reverse path) 0 0) .entries) ≡ []
+  -- the top page, the lowest of the way that has one, has a child to the right
+  pub right : isSafe op k (memory (getD path 0 0)) ≡ true
+  -- the second way goes down from there, so it is shorter than the first
+  pub fewer : suc (length second) < length path
+  -- "the next child to the right", and p0 of each page behind it
+  pub turns : getD (second ++ want ∷ []) 0 0 ≡ neighbour (keyOf op) (memory (getD path 0 0))
+  pub leftmost : (j : ℕ) → j < length second → getD (second ++ want ∷ []) (suc j) 0 ≡ pointer 0 (memory (getD second j 0))
+
 -- An open slot with this operation, path, siblings and want stands in the tree as the rules would have it.
 abbrev pub Stance : Op → ℕ → (ℕ → Page) → (l : ℕ) → Tr l → List ℕ → List ℕ → ℕ → Type 0
 Stance op k memory l t path siblings want =
-    Starting path siblings want ⊎ (Coming op k memory l t path siblings want ⊎ WantsSibling op k memory l t path siblings want)
+    Starting path siblings want
+    ⊎ (Coming op k memory l t path siblings want ⊎ (WantsSibling op k memory l t path siblings want ⊎ Crossing op k memory l t path siblings want))
 
 -- ---- what a slot that goes on holds afterwards
 
@@ -75,10 +95,11 @@ abbrev pub StandsAtLeaf : (ℕ → Page) → List ℕ → Type 0
 StandsAtLeaf memory path = (1 ≤ length path) × (memory (getD (reverse path) 0 0) .level ≡ 1)
 
 -- "Search gives up the father." "Insertion: if the page has μ < 2k, all its ancestors are given up." "Deletion: the same with
--- μ > k": coming down to a page that is safe for the operation, it holds that page alone.
+-- μ > k". Next keeps its locks "from the lowest page on its way that still has a child to the right": coming down to a page that
+-- is safe for the operation, it holds that page alone.
 pub record GivesUp (op : Op) (k : ℕ) (memory : ℕ → Page) (path siblings : List ℕ) (want : ℕ) (path′ siblings′ : List ℕ) : Type 0 where
   pub comesDown : StandsAtLeaf memory path → ⊥
-  pub safe : isSafe op k (μ (memory want)) ≡ true
+  pub safe : isSafe op k (memory want) ≡ true
   pub noSiblings : siblings ≡ []
   pub holds : path′ ≡ want ∷ []
   pub still : siblings′ ≡ []
@@ -86,14 +107,14 @@ pub record GivesUp (op : Op) (k : ℕ) (memory : ℕ → Page) (path siblings : 
 -- coming down to one that is not safe, it gives up nothing
 pub record Keeps (op : Op) (k : ℕ) (memory : ℕ → Page) (path siblings : List ℕ) (want : ℕ) (path′ siblings′ : List ℕ) : Type 0 where
   pub comesDown : StandsAtLeaf memory path → ⊥
-  pub unsafe : isSafe op k (μ (memory want)) ≡ false
+  pub unsafe : isSafe op k (memory want) ≡ false
   pub noSiblings : siblings ≡ []
   pub holds : path′ ≡ path ++ want ∷ []
   pub still : siblings′ ≡ []
 
--- a deletion at its leaf takes the sibling beside all that it holds
-pub record TakesSibling (op : Op) (memory : ℕ → Page) (path siblings : List ℕ) (want : ℕ) (path′ siblings′ : List ℕ) : Type 0 where
-  pub deletes : isDelete op ≡ true
+-- a deletion at its leaf takes the sibling, and a Next the page of its second way, beside all that it holds
+pub record TakesBeside (op : Op) (memory : ℕ → Page) (path siblings : List ℕ) (want : ℕ) (path′ siblings′ : List ℕ) : Type 0 where
+  pub beside : goesBeside op ≡ true
   pub atLeaf : StandsAtLeaf memory path
   pub still : path′ ≡ path
   pub holds : siblings′ ≡ siblings ++ want ∷ []
@@ -102,4 +123,4 @@ pub record TakesSibling (op : Op) (memory : ℕ → Page) (path siblings : List 
 abbrev pub Takes : Op → ℕ → (ℕ → Page) → List ℕ → List ℕ → ℕ → List ℕ → List ℕ → Type 0
 Takes op k memory path siblings want path′ siblings′ =
     GivesUp op k memory path siblings want path′ siblings′
-    ⊎ (Keeps op k memory path siblings want path′ siblings′ ⊎ TakesSibling op memory path siblings want path′ siblings′)
+    ⊎ (Keeps op k memory path siblings want path′ siblings′ ⊎ TakesBeside op memory path siblings want path′ siblings′)

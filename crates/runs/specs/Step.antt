@@ -15,7 +15,7 @@ use Rattle.slots.specs.declared.Op.{Op}
 use Rattle.slots.specs.declared.Op.the-variants.{Insert}
 use Rattle.slots.specs.declared.Answer.{Answer}
 use Rattle.slots.specs.declared.Answer.the-variants.{NoRoom}
-use Rattle.slots.specs.Parts.{keyOf, isSearch}
+use Rattle.slots.specs.Parts.{keyOf, onlyReads}
 use Rattle.footing.specs.Granted.{goes, ends}
 use Rattle.footing.specs.Fitting.{verdict}
 use Rattle.tree.specs.Tree.{Tr, entriesOf, occurs, PoolForms}
@@ -58,8 +58,8 @@ pub record Ended (op : Op) (k n : ℕ) (ws : List ℕ) (l : ℕ) (t : Tr l) (pat
   pub how : AsPlain op k n ws l t a entries ⊎ (NoRoomLeft op k n ws l t a writes × (entries ≡ entriesOf l t))
   -- it writes no page but those that it held, the one that it wanted, and free ones
   pub only : (q : ℕ) → member q (writtenPages writes) ≡ true → (member q (want ∷ (path ++ siblings)) ≡ true) ⊎ (occurs q l t ≡ 0)
-  -- a search writes nothing, and of the answers only Inserted and Deleted write
-  pub reads : isSearch op ≡ true → writes ≡ []
+  -- a search or a Next writes nothing, and of the answers only Inserted and Deleted write
+  pub reads : onlyReads op ≡ true → writes ≡ []
   pub writers : isOneOf a writing ≡ false → writes ≡ []
 
 -- A granted step: the slot goes on and stands as it should, or its operation ends. It is never broken.

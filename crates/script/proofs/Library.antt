@@ -90,7 +90,9 @@ asked-in-words s kind key information cs hk hi h =
     let In : Asked → Type 0 = λ (a : Asked). InWords (beginsWith s a cs) in
     cond-ind In (eqb kind 1)
     (λ _. (hk, h))
-    (λ _. cond-ind In (eqb kind 2) (λ _. ((hk, hi), h)) (λ _. cond-ind In (eqb kind 3) (λ _. (hk, h)) (λ _. h)))
+    (λ _. cond-ind In (eqb kind 2)
+    (λ _. ((hk, hi), h))
+    (λ _. cond-ind In (eqb kind 3) (λ _. (hk, h)) (λ _. cond-ind In (eqb kind 4) (λ _. (hk, h)) (λ _. h))))
 
 follow-in-words : (calls : List Went) (cells ws last lastWs : List ℕ) → Follow cells ws calls last lastWs → InWords (callsIn calls)
 unfolding callsIn

@@ -1,13 +1,14 @@
 -- The answers to a script can be read off what is written, in one way only.
 use Prim.Native.Nat.{ℕ, suc}
 use mathlib.Core.Bool.{Bool, true, false, cond, not}
-use mathlib.Core.List.{List, [], _∷_, _++_, map, flatten}
+use mathlib.Core.List.{List, [], _∷_, _++_, map, flatten, append-assoc}
 use mathlib.Core.Logic.{⊎-elim}
 use mathlib.Core.Path.{_≡_, refl, sym, ap, ap₂, _∙_}
 use native.Mathlib.Omega.{arith}
 use borrow.Author.Tests.{not-true}
 use lib.Dec.{eqb}
 use lib.ListN.{length, drop}
+use lib.Seq.{drop-append-seam}
 use Rattle.ground.specs.Tests.{all, member}
 use Rattle.ground.proofs.Bools.{true-or-false, not-both, and-first, and-second}
 use Rattle.ground.proofs.Choice.{cond-true, cond-false}
@@ -15,24 +16,31 @@ use Rattle.ground.proofs.Tests.{all-member}
 use Rattle.slots.specs.declared.State.{State}
 use Rattle.slots.specs.declared.Lock.the-variants.{None}
 use Rattle.slots.specs.declared.Answer.{Answer}
-use Rattle.slots.specs.declared.Answer.the-variants.{Waiting, Moved, Found, NotFound, Inserted, AlreadyThere, Deleted, NoSuchKey, NoRoom, Begun, Made, Reported, BadState, BadPool, BadSlot, SlotBusy, SlotIdle, Damaged, BadPage}
+use Rattle.slots.specs.declared.Answer.the-variants.{Waiting, Moved, Found, NotFound, Inserted, AlreadyThere, Deleted, NoSuchKey, NoRoom, Begun, Made, Reported, Next, None as NoLot, BadState, BadPool, BadSlot, SlotBusy, SlotIdle, Damaged, BadPage}
 use Rattle.slots.specs.Heard.{numberOf}
 use Rattle.lines.specs.declared.Command.{Command}
 use Rattle.lines.specs.declared.Command.the-variants.{Begin, Step, Bad}
 use Rattle.lines.specs.Text.{bytes, startsWith}
-use Rattle.lines.specs.Meaning.{value}
+use Rattle.lines.specs.Meaning.{digits, value}
 use Rattle.lines.specs.Decimal.{decimal}
 use Rattle.lines.specs.Names.{answerLine}
 use Rattle.lines.specs.Ends.{firstLine}
+use Rattle.lines.proofs.Grammar.{digits-of}
 use Rattle.lines.proofs.Decimals.{decimal-digital, value-decimal}
 use Rattle.talk.specs.Split.{Line, ended, linesOf}
-use Rattle.talk.proofs.OneEach.{first-of, digits-plain, answer-line, bad-line}
+use Rattle.talk.proofs.OneEach.{first-of, digits-plain, lot-plain, answer-line, bad-line}
 use Rattle.runs.specs.Run.{Call, called, run}
 use Rattle.script.specs.Script.{callsBy, saidTo}
 use Rattle.script.specs.Promises.{textOf}
 use Rattle.script.proofs.Heard.{spoken, isSpoken}
 
 -- ---- an answer is read back from its line. A report's values are not written: it is read back as one without them.
+
+-- two numbers with a byte between
+unfoldable lotBack : List ℕ → Answer
+lotBack bs =
+    let key = digits bs in
+    Next (value key) (value (drop 1 (drop (length key) bs)))
 
 unfoldable readBack : List ℕ → Answer
 readBack line =
@@ -47,6 +55,8 @@ readBack line =
     (cond (startsWith (bytes "NoRoom") line) NoRoom
     (cond (startsWith (bytes "Begun") line) Begun
     (cond (startsWith (bytes "Made") line) Made
+    (cond (startsWith (bytes "Next ") line) (lotBack (drop (length (bytes "Next ")) line))
+    (cond (startsWith (bytes "None") line) NoLot
     (cond (startsWith (bytes "BadState") line) BadState
     (cond (startsWith (bytes "BadPool") line) BadPool
     (cond (startsWith (bytes "BadSlot") line) BadSlot
@@ -54,7 +64,7 @@ readBack line =
     (cond (startsWith (bytes "SlotIdle") line) SlotIdle
     (cond (startsWith (bytes "Damaged") line) Damaged
     (cond (startsWith (bytes "BadPage") line) BadPage
-    (Reported None 0 0))))))))))))))))))
+    (Reported None 0 0))))))))))))))))))))
 
 isReport : Answer → Bool
 isReport a = eqb (numberOf a) (numberOf (Reported None 0 0))
@@ -65,6 +75,16 @@ asRead a = cond (isReport a) (Reported None 0 0) a
 -- the number in the line
 number-back : (v : ℕ) → value (firstLine (decimal v ++ 10 ∷ [])) ≡ v
 number-back v = ap value (first-of (decimal v) [] (digits-plain (decimal v) (decimal-digital v))) ∙ value-decimal v
+
+-- and two of them
+lot-back : (x v : ℕ) → lotBack (firstLine (decimal x ++ bytes " " ++ decimal v ++ 10 ∷ [])) ≡ Next x v
+unfolding digits lotBack
+lot-back x v =
+    let line : List ℕ = decimal x ++ 32 ∷ decimal v in
+    ap lotBack (first-of (decimal x ++ bytes " " ++ decimal v) [] (lot-plain x v) ∙ append-assoc (decimal x) (bytes " ") (decimal v))
+    ∙ ap (λ (key : List ℕ). Next (value key) (value (drop 1 (drop (length key) line)))) (digits-of (decimal x) (32 ∷ decimal v) (decimal-digital x) refl)
+    ∙ ap (λ (rest : List ℕ). Next (value (decimal x)) (value (drop 1 rest))) (drop-append-seam (decimal x) (32 ∷ decimal v))
+    ∙ ap₂ Next (value-decimal x) (value-decimal v)
 
 reads-back : (a : Answer) → readBack (firstLine (answerLine a)) ≡ asRead a
 unfolding startsWith firstLine readBack isReport
@@ -80,6 +100,8 @@ reads-back NoRoom = refl
 reads-back Begun = refl
 reads-back Made = refl
 reads-back (Reported kind holders lowest) = refl
+reads-back (Next x v) = lot-back x v
+reads-back NoLot = refl
 reads-back BadState = refl
 reads-back BadPool = refl
 reads-back BadSlot = refl

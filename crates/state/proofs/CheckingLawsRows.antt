@@ -3,7 +3,7 @@
 use Prim.Native.Nat.{ℕ, zero, suc, _≤_, _<_}
 use mathlib.Core.Bool.{Bool, true, false, not, _&&_, _||_, and-true, and-false, or-false}
 use mathlib.Core.List.{List, [], _∷_, _++_}
-use mathlib.Core.Logic.{⊎-elim}
+use mathlib.Core.Logic.{_⊎_, inl, inr, ⊎-elim}
 use mathlib.Core.Path.{_≡_, refl, sym, ap, ap₂, _∙_}
 use native.Mathlib.Omega.{arith}
 use borrow.Author.Tests.{eq-eqb, eqb-true, le-leb, leb-true, ltb-true, ltb-false, not-true}
@@ -15,7 +15,7 @@ use Rattle.ground.proofs.Bools.{and-first, and-second, and-both, or-cases, or-f
 use Rattle.ground.proofs.Tests.{allBelow-at}
 use Rattle.slots.specs.Parts.{pathOf, siblingsOf}
 use Rattle.slots.specs.Sound.{withinLimits, belowAndOnce, ifOpen, slotSound}
-use Rattle.lent.specs.Words.{cell, column, taskFrom, slotIn}
+use Rattle.lent.specs.Words.{cell, column, highestKind, taskFrom, slotIn}
 use Rattle.lent.specs.Holds.{Short}
 use Rattle.lent.proofs.HoldLaws.{by-kind}
 use Rattle.lent.proofs.StateLaws.{length-column, column-cell}
@@ -73,7 +73,7 @@ rows-of-pages n want (suc d) (x ∷ path) rest long e =
 
 -- the numbers of pages held, as the rows test them
 abbrev rowLimits : ℕ → ℕ → ℕ → Bool
-rowLimits kind depth beside = leb kind 3 && leb depth 10 && (ltb 1 kind || leb depth kind) && (eqb beside 0 || (eqb kind 3 && ltb beside depth))
+rowLimits kind depth beside = leb kind highestKind && leb depth 10 && (ltb 1 kind || leb depth kind) && (eqb beside 0 || (leb 3 kind && ltb beside depth))
 
 -- of two limits the lower counts
 lower : (d m l : ℕ) → m ≤ l → leb d l && leb d m ≡ leb d m
@@ -81,12 +81,14 @@ lower d m l h =
     same-if-true-together (leb d l && leb d m) (leb d m) (and-second (leb d l) (leb d m))
     (λ t. let few = leb-true d m t in and-both (le-leb d l (omega arith)) t)
 
--- nothing is at most 0
-at-most-none : (d : ℕ) → leb d 0 ≡ eqb d 0
-at-most-none d =
-    same-if-true-together (leb d 0) (eqb d 0)
-    (λ t. let few = leb-true d 0 t in eq-eqb d 0 (omega arith))
-    (λ t. let none = eqb-true d 0 t in le-leb d 0 (omega arith))
+-- none beside is at most 0
+none-beside : (a : Bool) (depth beside : ℕ) → a && (eqb beside 0 || false) ≡ a && leb beside 0 && (eqb beside 0 || ltb beside depth)
+none-beside false depth beside = refl
+none-beside true depth beside =
+    or-false (eqb beside 0)
+    ∙ same-if-true-together (eqb beside 0) (leb beside 0 && (eqb beside 0 || ltb beside depth))
+    (λ t. let none = eqb-true beside 0 t in and-both (le-leb beside 0 (omega arith)) (or-first (ltb beside depth) t))
+    (λ t. let few = leb-true beside 0 (and-first (leb beside 0) (eqb beside 0 || ltb beside depth) t) in eq-eqb beside 0 (omega arith))
 
 -- a test that follows from the others may be left out
 follows : (a f g : Bool) → (a ≡ true → g ≡ true → f ≡ true) → a && true && g ≡ a && f && g
@@ -105,14 +107,18 @@ few-beside depth beside a g =
     (or-cases (eqb beside 0) (ltb beside depth) g)
 
 -- they are the rule's
-limits-fit : (key information depth beside kind : ℕ) → kind < 4 → rowLimits kind depth beside ≡ withinLimits (taskFrom kind key information) depth beside
+limits-fit : (key information depth beside kind : ℕ) → kind ≤ highestKind → rowLimits kind depth beside ≡ withinLimits (taskFrom kind key information) depth beside
 unfolding searchHolds pathHolds siblingHolds
 limits-fit key information depth beside =
     by-kind (λ (kind : ℕ). rowLimits kind depth beside ≡ withinLimits (taskFrom kind key information) depth beside)
-    (ap₂ (λ (a b : Bool). a && b) (lower depth 0 10 (omega arith) ∙ at-most-none depth) (or-false (eqb beside 0)))
-    (ap₂ (λ (a b : Bool). a && b) (lower depth 1 10 (omega arith)) (or-false (eqb beside 0)))
-    (ap₂ (λ (a b : Bool). a && b) (and-true (leb depth 10)) (or-false (eqb beside 0)))
-    (follows (leb depth 10) (leb beside 9) (eqb beside 0 || ltb beside depth) (few-beside depth beside))
+    (ap (λ (a : Bool). a && (eqb beside 0 || false)) (lower depth 0 10 (omega arith)) ∙ none-beside (leb depth 0) depth beside)
+    (ap (λ (a : Bool). a && (eqb beside 0 || false)) (lower depth 1 10 (omega arith)) ∙ none-beside (leb depth 1) depth beside)
+    (ap (λ (a : Bool). a && (eqb beside 0 || false)) (and-true (leb depth 10)) ∙ none-beside (leb depth 10) depth beside)
+    many-beside
+    many-beside
+  where
+    many-beside : leb depth 10 && true && (eqb beside 0 || ltb beside depth) ≡ leb depth 10 && leb beside 9 && (eqb beside 0 || ltb beside depth)
+    many-beside = follows (leb depth 10) (leb beside 9) (eqb beside 0 || ltb beside depth) (few-beside depth beside)
 
 fits : (l w t d p : Bool) → (d ≡ false → w && t ≡ p) → (p ≡ true → w && t ≡ true) → l && w && t && (not d || p) ≡ l && p
 fits false w t d p f g = refl
@@ -136,30 +142,38 @@ module _ (key information depth beside n want top : ℕ) (pages : Bool)
   Fits kind = fineRow kind depth beside n want top && (not deep || pages)
       ≡ withinLimits (taskFrom kind key information) depth beside && ifOpen (taskFrom kind key information) pages
 
-  nothing-deep : eqb depth 0 && eqb beside 0 ≡ true → deep ≡ false
-  nothing-deep e =
-      ap₂ (λ (d b : ℕ). ltb 1 d || ltb 0 b)
-      (eqb-true depth 0 (and-first (eqb depth 0) (eqb beside 0) e))
-      (eqb-true beside 0 (and-second (eqb depth 0) (eqb beside 0) e))
+  -- the limits of a kind
+  abbrev most : ℕ → ℕ → Bool
+  most onPath aside = leb depth onPath && leb beside aside && (eqb beside 0 || ltb beside depth)
+
+  nothing-held : most 0 0 ≡ true → (depth ≡ 0) × (beside ≡ 0)
+  nothing-held e =
+      let both = and-first (leb depth 0 && leb beside 0) (eqb beside 0 || ltb beside depth) e in
+      let d = leb-true depth 0 (and-first (leb depth 0) (leb beside 0) both) in
+      let b = leb-true beside 0 (and-second (leb depth 0) (leb beside 0) both) in
+      (omega arith, omega arith)
 
   -- the limits are the rule's; what is left are the pages
-  limited : (kind : ℕ) → kind < 4 → (w : Bool)
+  limited : (kind : ℕ) → kind ≤ highestKind → (w : Bool)
       → withinLimits (taskFrom kind key information) depth beside && w && high && (not deep || pages) ≡ withinLimits (taskFrom kind key information) depth beside && ifOpen (taskFrom kind key information) pages
       → rowLimits kind depth beside && w && high && (not deep || pages) ≡ withinLimits (taskFrom kind key information) depth beside && ifOpen (taskFrom kind key information) pages
   limited kind k w e = ap (λ (l : Bool). l && w && high && (not deep || pages)) (limits-fit key information depth beside kind k) ∙ e
 
-  kind-fits : (kind : ℕ) → kind < 4 → Fits kind
+  kind-fits : (kind : ℕ) → kind ≤ highestKind → Fits kind
   unfolding searchHolds pathHolds siblingHolds
   kind-fits =
       by-kind Fits
       (limited 0 (omega arith) true
-      (closed (eqb depth 0 && eqb beside 0) high deep pages (λ e. or-first (ltb top n && not (eqb want top)) (and-first (eqb depth 0) (eqb beside 0) e)) nothing-deep))
-      (limited 1 (omega arith) (ltb want n) (fits (leb depth 1 && eqb beside 0) (ltb want n) high deep pages same told))
-      (limited 2 (omega arith) (ltb want n) (fits (leb depth 10 && eqb beside 0) (ltb want n) high deep pages same told))
-      (limited 3 (omega arith) (ltb want n) (fits (leb depth 10 && leb beside 9 && (eqb beside 0 || ltb beside depth)) (ltb want n) high deep pages same told))
+      (closed (most 0 0) high deep pages
+      (λ e. or-first (ltb top n && not (eqb want top)) (eq-eqb depth 0 (nothing-held e .0)))
+      (λ e. ap₂ (λ (d b : ℕ). ltb 1 d || ltb 0 b) (nothing-held e .0) (nothing-held e .1))))
+      (limited 1 (omega arith) (ltb want n) (fits (most 1 0) (ltb want n) high deep pages same told))
+      (limited 2 (omega arith) (ltb want n) (fits (most 10 0) (ltb want n) high deep pages same told))
+      (limited 3 (omega arith) (ltb want n) (fits (most 10 9) (ltb want n) high deep pages same told))
+      (limited 4 (omega arith) (ltb want n) (fits (most 10 9) (ltb want n) high deep pages same told))
 
 -- the rows and the pages of a slot that holds more are the rule
-pub slot-fits : (ws : List ℕ) (n s : ℕ) → cell ws 0 s < 4 → rowFine ws n s && deepFine ws n s ≡ slotSound n (slotIn ws s)
+pub slot-fits : (ws : List ℕ) (n s : ℕ) → cell ws 0 s ≤ highestKind → rowFine ws n s && deepFine ws n s ≡ slotSound n (slotIn ws s)
 unfolding slotSound pathOf siblingsOf
 slot-fits ws n s known =
     let path : List ℕ = column ws 6 s in
@@ -173,31 +187,47 @@ slot-fits ws n s known =
 -- ---- what a fine row says
 
 pub record Row (kind depth beside : ℕ) : Type 0 where
-  pub exists : kind < 4
+  pub exists : kind ≤ highestKind
   pub path : depth ≤ 10
   pub siblings : beside ≤ 10
+  pub closed : kind ≡ 0 → (depth ≡ 0) × (beside ≡ 0)
 
 pub row-says : (kind depth beside n want top : ℕ) → fineRow kind depth beside n want top ≡ true → Row kind depth beside
 row-says kind depth beside n want top e =
-    let f = eqb beside 0 || (eqb kind 3 && ltb beside depth) in
+    let g = ltb 1 kind || leb depth kind in
+    let f = eqb beside 0 || (leb 3 kind && ltb beside depth) in
     let w = eqb kind 0 || ltb want n in
     let limits = and-first (rowLimits kind depth beside) w (and-first (rowLimits kind depth beside && w) (eqb depth 0 || (ltb top n && not (eqb want top))) e) in
-    let numbers = and-first (leb kind 3 && leb depth 10 && (ltb 1 kind || leb depth kind)) f limits in
-    let both = and-first (leb kind 3 && leb depth 10) (ltb 1 kind || leb depth kind) numbers in
-    let k = leb-true kind 3 (and-first (leb kind 3) (leb depth 10) both) in
-    let l = leb-true depth 10 (and-second (leb kind 3) (leb depth 10) both) in
-    let few : beside ≤ 10 =
+    let numbers = and-first (leb kind highestKind && leb depth 10 && g) f limits in
+    let both = and-first (leb kind highestKind && leb depth 10) g numbers in
+    let k = leb-true kind highestKind (and-first (leb kind highestKind) (leb depth 10) both) in
+    let l = leb-true depth 10 (and-second (leb kind highestKind) (leb depth 10) both) in
+    let few : (beside ≡ 0) ⊎ ((3 ≤ kind) × (beside < depth)) =
     ⊎-elim
-    (λ z. let none = eqb-true beside 0 z in omega arith)
-    (λ d. let fewer = ltb-true beside depth (and-second (eqb kind 3) (ltb beside depth) d) in omega arith)
-    (or-cases (eqb beside 0) (eqb kind 3 && ltb beside depth)
-    (and-second (leb kind 3 && leb depth 10 && (ltb 1 kind || leb depth kind)) f limits)) in
-    record { exists = omega arith; path = l; siblings = few }
+    (λ z. inl (eqb-true beside 0 z))
+    (λ d. inr (leb-true 3 kind (and-first (leb 3 kind) (ltb beside depth) d), ltb-true beside depth (and-second (leb 3 kind) (ltb beside depth) d)))
+    (or-cases (eqb beside 0) (leb 3 kind && ltb beside depth) (and-second (leb kind highestKind && leb depth 10 && g) f limits)) in
+    let small : (1 < kind) ⊎ (depth ≤ kind) =
+    ⊎-elim (λ y. inl (ltb-true 1 kind y)) (λ y. inr (leb-true depth kind y))
+    (or-cases (ltb 1 kind) (leb depth kind) (and-second (leb kind highestKind && leb depth 10) g numbers)) in
+    record {
+      exists = k;
+      path = l;
+      siblings = ⊎-elim (λ z. omega arith) (λ d. let fewer = d .1 in omega arith) few;
+      closed = λ z. (
+        ⊎-elim (λ y. absurd (omega arith)) (λ y. omega arith) small,
+        ⊎-elim (λ y. y) (λ d. let high = d .0 in absurd (omega arith)) few,
+      );
+    }
 
 module _ (ws : List ℕ) (n : ℕ) (e : allBelow 16 (rowFine ws n) ≡ true) where
   pub row-at : (s : ℕ) → s < 16 → Row (cell ws 0 s) (cell ws 4 s) (cell ws 5 s)
   row-at s h = row-says (cell ws 0 s) (cell ws 4 s) (cell ws 5 s) n (cell ws 3 s) (cell ws 6 s) (allBelow-at (rowFine ws n) 16 e s h)
 
-  -- no path and no list of siblings is longer than its rows
+  -- no path and no list of siblings is longer than its rows, and a closed slot holds nothing
   pub rows-short : Short ws
-  rows-short = record { path = λ s h. row-at s h .path; siblings = λ s h. row-at s h .siblings }
+  rows-short = record {
+    path = λ s h. row-at s h .path;
+    siblings = λ s h. row-at s h .siblings;
+    closed = λ t h. row-at t h .closed;
+  }

@@ -1,22 +1,17 @@
--- Laws for the test of one slot: its path and then its siblings, page by page, and what its task allows it to hold.
+-- Laws for the test of one slot: its path and then its siblings, page by page.
 use Prim.Native.Nat.{ℕ, _≤_, _<_}
 use mathlib.Core.Bool.{Bool, true, false, not, _&&_, _||_}
 use mathlib.Core.List.{List, [], _∷_, _++_}
 use mathlib.Core.Path.{_≡_, refl, sym, ap, _∙_, subst}
-use native.Mathlib.Omega.{arith}
-use borrow.Author.Tests.{lt-ltb, le-ltb, ne-eqb, eq-eqb, eqb-true, leb-true, not-true}
-use lib.Dec.{eqb, ltb, leb}
+use borrow.Author.Tests.{lt-ltb, le-ltb, ne-eqb, eq-eqb, not-true}
+use lib.Dec.{eqb, ltb}
 use lib.ListN.{take}
-use Rattle.ground.specs.Limits.{searchHolds, pathHolds, siblingHolds}
 use Rattle.ground.specs.Tests.{all, member, distinct, apart}
 use Rattle.ground.proofs.Bools.{and-both, and-first, and-second, and-first-fails, or-first-fails, or-second-fails, or-none, not-both, not-of-false, false-if-not-true, same-if-true-together}
 use Rattle.ground.proofs.Tests.{all-append, all-member, all-from-members, member-none, member-append, distinct-front, distinct-back, distinct-apart, distinct-join, apart-member, apart-from, apart-swap}
-use Rattle.slots.specs.declared.Op.the-variants.{Search, Insert, Delete}
-use Rattle.slots.specs.declared.Task.{Task}
-use Rattle.slots.specs.declared.Task.the-variants.{Closed, Open}
 use Rattle.slots.specs.declared.Slot.{Slot}
 use Rattle.slots.specs.Parts.{pathOf, siblingsOf}
-use Rattle.slots.specs.Sound.{withinLimits, belowAndOnce}
+use Rattle.slots.specs.Sound.{belowAndOnce}
 use Rattle.state.specs.Checking.{enters, mayEnter}
 
 -- ---- the pages of one slot
@@ -147,23 +142,3 @@ module _ (n : ℕ) (s : Slot) where
         e
         ∙ sym (ap (λ (b : Bool). b && mayEnter n (s .want) (pathOf s) (siblingsOf s)) (sym said ∙ t))
         ∙ sym (asked-is n (s .want) (pathOf s) (siblingsOf s) below)
-
--- ---- what a task allows
-
--- no slot holds more than 10 pages on its path and 9 siblings
-pub limits-all : (t : Task) (depth beside : ℕ) → withinLimits t depth beside ≡ true → (depth ≤ 10) × (beside ≤ 9)
-unfolding searchHolds pathHolds siblingHolds
-limits-all Closed depth beside y =
-    let d = eqb-true depth 0 (and-first (eqb depth 0) (eqb beside 0) y) in
-    let b = eqb-true beside 0 (and-second (eqb depth 0) (eqb beside 0) y) in
-    (omega arith, omega arith)
-limits-all (Open (Search x)) depth beside y =
-    let d = leb-true depth 1 (and-first (leb depth 1) (eqb beside 0) y) in
-    let b = eqb-true beside 0 (and-second (leb depth 1) (eqb beside 0) y) in
-    (omega arith, omega arith)
-limits-all (Open (Insert x v)) depth beside y =
-    let b = eqb-true beside 0 (and-second (leb depth 10) (eqb beside 0) y) in
-    (leb-true depth 10 (and-first (leb depth 10) (eqb beside 0) y), omega arith)
-limits-all (Open (Delete x)) depth beside y =
-    let both = and-first (leb depth 10 && leb beside 9) (eqb beside 0 || ltb beside depth) y in
-    (leb-true depth 10 (and-first (leb depth 10) (leb beside 9) both), leb-true beside 9 (and-second (leb depth 10) (leb beside 9) both))

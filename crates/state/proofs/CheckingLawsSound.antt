@@ -3,27 +3,25 @@ use Prim.Native.Nat.{ℕ, _≤_, _<_}
 use mathlib.Core.Bool.{Bool, true, false, not, _&&_, _||_}
 use mathlib.Core.List.{List}
 use mathlib.Core.Logic.{⊎-elim}
-use mathlib.Core.Path.{_≡_, refl, sym, ap, ap₂, _∙_, subst, fun-ext}
-use native.Mathlib.Omega.{arith}
-use borrow.Author.Tests.{ltb-true, lt-ltb, ne-eqb, le-leb}
+use mathlib.Core.Path.{_≡_, refl, sym, ap, ap₂, _∙_, fun-ext}
+use borrow.Author.Tests.{ltb-true, ne-eqb, le-leb}
 use lib.Dec.{leb, ltb}
 use lib.ListN.{getD, take}
 use Rattle.ground.specs.Limits.{largestK, largestN, slotCount}
 use Rattle.ground.specs.Tests.{all, allBelow, member, distinct}
-use Rattle.ground.proofs.Bools.{and-both, not-of-false, and-first-fails, and-second-fails, not-both, false-if-not-true, true-or-false}
+use Rattle.ground.proofs.Bools.{and-first, and-second, and-both, not-of-false, and-first-fails, and-second-fails, not-both, false-if-not-true, true-or-false}
 use Rattle.ground.proofs.Choice.{cond-false}
 use Rattle.ground.proofs.Tests.{allBelow-same, allBelow-from}
 use Rattle.slots.specs.declared.Slot.{Slot}
 use Rattle.slots.specs.Parts.{idleState, slotAt, openAt, isOpen, waitingOrder}
-use Rattle.slots.specs.Sound.{orderSound, withinLimits, slotSound, noClashingHolds, sound}
+use Rattle.slots.specs.Sound.{orderSound, slotSound, noClashingHolds, sound}
 use Rattle.slots.proofs.SoundFacts.{SoundState, sound-facts, empty-unsound}
-use Rattle.lent.specs.Words.{cell, taskFrom, slotIn, orderIn, asRead, known, stateOf}
+use Rattle.lent.specs.Words.{cell, highestKind, taskFrom, orderIn, asRead, known, stateOf}
 use Rattle.lent.specs.Holds.{Short}
 use Rattle.lent.proofs.StateLaws.{slot-read, state-known}
 use Rattle.lent.proofs.HoldLaws.{all-both, by-kind, kind-known}
 use Rattle.state.specs.Checking.{namesEach, rowFine, deepFine, openKind, xiAlone}
-use Rattle.state.proofs.CheckingLawsSlot.{limits-all}
-use Rattle.state.proofs.CheckingLawsRows.{slot-fits, row-at}
+use Rattle.state.proofs.CheckingLawsRows.{slot-fits, row-at, rows-short}
 use Rattle.state.proofs.CheckingLawsAlone.{no-clashes}
 
 -- ---- the order
@@ -44,8 +42,8 @@ named-same p q waiting order same =
         (λ f. and-first-fails (p s) f ∙ sym (and-first-fails (q s) f))
         (true-or-false (ltb s slotCount))
 
-open-kind : (key information kind : ℕ) → kind < 4 → isOpen (taskFrom kind key information) ≡ openKind kind
-open-kind key information = by-kind (λ (k : ℕ). isOpen (taskFrom k key information) ≡ openKind k) refl refl refl refl
+open-kind : (key information kind : ℕ) → kind ≤ highestKind → isOpen (taskFrom kind key information) ≡ openKind kind
+open-kind key information = by-kind (λ (k : ℕ). isOpen (taskFrom k key information) ≡ openKind k) refl refl refl refl refl
 
 -- a slot is open as its kind tells
 open-as : (ws : List ℕ) (s : ℕ) → known ws ≡ true → s < 16 → openAt (asRead ws) s ≡ openKind (cell ws 0 s)
@@ -56,8 +54,7 @@ kind-closed ws s e h z = open-as ws s e h ∙ ap openKind z
 
 pub kind-open : (ws : List ℕ) (s : ℕ) → known ws ≡ true → s < 16 → (cell ws 0 s ≡ 0 → ⊥) → openAt (asRead ws) s ≡ true
 kind-open ws s e h n =
-    let exists = kind-known ws e s h in
-    open-as ws s e h ∙ and-both (not-of-false (ne-eqb (cell ws 0 s) 0 n)) (le-leb (cell ws 0 s) 3 (omega arith))
+    open-as ws s e h ∙ and-both (not-of-false (ne-eqb (cell ws 0 s) 0 n)) (le-leb (cell ws 0 s) highestKind (kind-known ws e s h))
 
 order-words : (ws : List ℕ) → known ws ≡ true → orderSound (asRead ws) ≡ namesEach (λ (s : ℕ). openKind (cell ws 0 s)) (getD ws 2 0) (orderIn ws)
 unfolding orderSound waitingOrder namesEach slotCount
@@ -78,7 +75,7 @@ slots-words ws e =
 -- rows that are fine are of kinds that exist
 rows-known : (ws : List ℕ) (n : ℕ) → allBelow 16 (rowFine ws n) ≡ true → known ws ≡ true
 unfolding known slotCount
-rows-known ws n e = allBelow-from (λ (s : ℕ). ltb (cell ws 0 s) 4) 16 (λ s h. lt-ltb (cell ws 0 s) 4 (row-at ws n e s h .exists))
+rows-known ws n e = allBelow-from (λ (s : ℕ). leb (cell ws 0 s) highestKind) 16 (λ s h. le-leb (cell ws 0 s) highestKind (row-at ws n e s h .exists))
 
 -- ---- the whole
 
@@ -148,6 +145,14 @@ module _ (ws : List ℕ) where
       ∙ ap₂ (λ (x y : Bool). x && y && names && deeps && alones) (sym en ∙ tn) (sym er ∙ tr)
       ∙ ap₂ (λ (x y : Bool). x && y && alones) (sym ew ∙ tw) (sym ed ∙ td))
 
+  -- the rows of a sound state are fine
+  sound-rows-fine : sound (stateOf ws) ≡ true → rows ≡ true
+  sound-rows-fine e =
+      and-second numbers rows
+      (and-first (numbers && rows) names
+      (and-first (numbers && rows && names) deeps
+      (and-first (numbers && rows && names && deeps) alones (sym whole ∙ e))))
+
 -- What is known of the words of a sound state.
 pub record SoundWords (ws : List ℕ) : Type 0 where
   pub exist : known ws ≡ true
@@ -156,17 +161,13 @@ pub record SoundWords (ws : List ℕ) : Type 0 where
   pub short : Short ws
 
 pub sound-words : (ws : List ℕ) → sound (stateOf ws) ≡ true → SoundWords ws
-unfolding slotCount
 sound-words ws e =
-    let exist : known ws ≡ true = ⊎-elim (λ y. y) (λ f. not-both e (unknown-state ws f)) (true-or-false (known ws)) in
+    let fine : allBelow 16 (rowFine ws (getD ws 1 0)) ≡ true = sound-rows-fine ws e in
+    let exist : known ws ≡ true = rows-known ws (getD ws 1 0) fine in
     let read : stateOf ws ≡ asRead ws = state-known ws exist in
-    let facts : SoundState (asRead ws) = sound-facts (asRead ws) (ap sound (sym read) ∙ e) in
-    let limits : (s : ℕ) → s < 16 → (cell ws 4 s ≤ 10) × (cell ws 5 s ≤ 9)
-    = λ s h. limits-all (slotIn ws s .task) (cell ws 4 s) (cell ws 5 s)
-    (subst (λ (x : Slot). withinLimits (x .task) (x .depth) (x .beside) ≡ true) (slot-read ws s h) (facts .slot s h .limits)) in
     record {
       exist = exist;
       read = read;
-      facts = facts;
-      short = record { path = λ s h. limits s h .0; siblings = λ s h. let few = limits s h .1 in omega arith };
+      facts = sound-facts (asRead ws) (ap sound (sym read) ∙ e);
+      short = rows-short ws (getD ws 1 0) fine;
     }

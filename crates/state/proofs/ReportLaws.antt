@@ -12,7 +12,7 @@ use Rattle.ground.specs.Tests.{countBelow}
 use Rattle.ground.proofs.Bools.{true-or-false, not-both, false-if-not-true, and-first, and-second}
 use Rattle.ground.proofs.Choice.{cond-true, cond-false}
 use Rattle.ground.proofs.Tests.{below-or-at, anyBelow-fails, countBelow-passes, countBelow-skips, firstBelow-most, firstBelow-all-fail}
-use Rattle.slots.specs.declared.Op.the-variants.{Search, Insert, Delete}
+use Rattle.slots.specs.declared.Op.the-variants.{Search, Insert, Delete, Next}
 use Rattle.slots.specs.declared.Task.{Task}
 use Rattle.slots.specs.declared.Task.the-variants.{Closed, Open}
 use Rattle.slots.specs.declared.Lock.{Lock}
@@ -45,6 +45,7 @@ open-locks Closed o e = false≢true o
 open-locks (Open (Search x)) o e = let z : _≡_ {A = ℕ} 1 0 = ap lockNumber e in omega arith
 open-locks (Open (Insert x v)) o e = let z : _≡_ {A = ℕ} 2 0 = ap lockNumber e in omega arith
 open-locks (Open (Delete x)) o e = let z : _≡_ {A = ℕ} 2 0 = ap lockNumber e in omega arith
+open-locks (Open (Next x)) o e = let z : _≡_ {A = ℕ} 1 0 = ap lockNumber e in omega arith
 
 module _ (st : State) (f : SoundState st) (p : ℕ) where
   module _ (b : lowestHolder st p < slotCount) where

@@ -1,6 +1,6 @@
 -- What the parts of the test of a state test, where the rule of a sound state has no name for it.
 use Prim.Native.Nat.{ℕ}
-use mathlib.Core.Bool.{Bool, not, _&&_, _||_}
+use mathlib.Core.Bool.{Bool, true, not, _&&_, _||_}
 use mathlib.Core.List.{List}
 use lib.Dec.{leb, ltb, eqb}
 use lib.ListN.{take}
@@ -8,8 +8,8 @@ use Rattle.ground.specs.Limits.{slotCount}
 use Rattle.ground.specs.Tests.{all, allBelow, member, distinct}
 use Rattle.slots.specs.Parts.{held}
 use Rattle.slots.specs.Sound.{belowAndOnce}
-use Rattle.lent.specs.Words.{cell, slotIn}
-use Rattle.lent.specs.Holds.{isDeep, othersHold}
+use Rattle.lent.specs.Words.{cell, highestKind, slotIn}
+use Rattle.lent.specs.Holds.{updatesKind, isDeep, othersHold}
 
 -- a page below n, neither the wanted one nor one of the slot's own so far
 abbrev pub enters : ℕ → ℕ → List ℕ → ℕ → Bool
@@ -29,14 +29,14 @@ namesEach opened waiting order =
 
 -- ---- the same of a state in words
 
--- what a slot of a kind may hold, and what its rows tell of its pages: the wanted page and the top of the path, if there is
--- one, are below n and not the same
+-- what a slot of a kind may hold (pages beside the path are for deletions and Next, kinds 3 and 4), and what its rows tell of
+-- its pages: the wanted page and the top of the path, if there is one, are below n and not the same
 abbrev pub fineRow : ℕ → ℕ → ℕ → ℕ → ℕ → ℕ → Bool
 fineRow kind depth beside n want top =
-    leb kind 3
+    leb kind highestKind
     && leb depth 10
     && (ltb 1 kind || leb depth kind)
-    && (eqb beside 0 || (eqb kind 3 && ltb beside depth))
+    && (eqb beside 0 || (leb 3 kind && ltb beside depth))
     && (eqb kind 0 || ltb want n)
     && (eqb depth 0 || (ltb top n && not (eqb want top)))
 
@@ -49,15 +49,15 @@ deepFine ws n s = not (isDeep ws s) || belowAndOnce n (slotIn ws s)
 
 -- the kinds of open slots
 abbrev pub openKind : ℕ → Bool
-openKind kind = not (eqb kind 0) && leb kind 3
+openKind kind = not (eqb kind 0) && leb kind highestKind
 
 -- no other slot holds a page that slot s holds
 unfoldable pub aloneIn : List ℕ → ℕ → Bool
-aloneIn ws s = all (λ (p : ℕ). not (othersHold ws s 0 p)) (held (slotIn ws s))
+aloneIn ws s = all (λ (p : ℕ). not (othersHold ws s true p)) (held (slotIn ws s))
 
 -- slot s holds its pages under ξ
 abbrev pub updates : List ℕ → ℕ → Bool
-updates ws s = ltb 1 (cell ws 0 s)
+updates ws s = updatesKind (cell ws 0 s)
 
 -- then no other slot holds them
 abbrev pub xiAlone : List ℕ → ℕ → Bool

@@ -6,6 +6,7 @@ use ground::LARGEST_K;
 use ground::LARGEST_N;
 use ground::SLOTS;
 use lent::DELETES;
+use lent::HIGHEST_KIND;
 use lent::PATH;
 use lent::SEARCHES;
 use lent::SIBLINGS;
@@ -24,6 +25,7 @@ use lent::cells::wide;
 use lent::cells::word_at;
 use lent::granting::column_has;
 use lent::granting::is_deep;
+use lent::granting::is_update;
 use lent::granting::others_hold;
 use lent::granting::some_deep;
 ghost use Prim.Native.Nat.{ℕ, _≤_, _<_};
@@ -59,14 +61,15 @@ pub fn numbers_in_range(k: usize, n: usize) -> bool
 }
 
 // A slot with these numbers holds what its kind may hold, as far as the rows tell. A closed slot holds nothing and a search
-// at most one page, so for both the path is no longer than the kind's number. Siblings are fewer than path pages: so at most 9.
+// at most one page, so for both the path is no longer than the kind's number. Deletions and Next alone hold pages beside their
+// path, fewer than on it: so at most 9.
 fn is_fine(kind: u32, depth: u32, beside: u32, n: u32, want: u32, top: u32) -> bool
     ensures { λ r. ⌜ r ≡ fineRow kind depth beside n want top ⌝ }
 {
-    (kind <= DELETES)
+    (kind <= HIGHEST_KIND)
         & (depth <= DEPTH_LIMIT)
         & ((SEARCHES < kind) | (depth <= kind))
-        & ((beside == 0) | ((kind == DELETES) & (beside < depth)))
+        & ((beside == 0) | ((DELETES <= kind) & (beside < depth)))
         & ((kind == 0) | (want < n))
         & ((depth == 0) | ((top < n) & (want != top)))
 }
@@ -163,7 +166,7 @@ fn busy_of(cells: &[u32; STATE]) -> [bool; SLOTS]
     let mut s = 0;
     while s < SLOTS {
         let kind = kind_at(cells, s);
-        busy[s] = (kind != 0) & (kind <= DELETES);
+        busy[s] = (kind != 0) & (kind <= HIGHEST_KIND);
         s += 1;
     }
     busy
@@ -215,11 +218,11 @@ fn order_sound(cells: &[u32; STATE], waiting: usize, busy: [bool; SLOTS]) -> boo
 // No other slot holds one of the first `count` pages from `row` on, of slot s.
 fn column_alone(cells: &[u32; STATE], s: usize, row: usize, count: usize) -> bool
     requires { ⌜ (s < 16) × (row ≤ 16) × (count ≤ 10) × Short (now cells) ⌝ }
-    ensures { λ r. ⌜ r ≡ all (λ (p : ℕ). not (othersHold (now (cells .entry)) s 0 p)) (take count (column (now (cells .entry)) row s)) ⌝ }
+    ensures { λ r. ⌜ r ≡ all (λ (p : ℕ). not (othersHold (now (cells .entry)) s true p)) (take count (column (now (cells .entry)) row s)) ⌝ }
 {
     let mut i = 0;
     while i < count {
-        if others_hold(cells, s, 0, word_at(cells, row + i, s)) {
+        if others_hold(cells, s, true, word_at(cells, row + i, s)) {
             return false;
         }
         i += 1;
@@ -245,7 +248,7 @@ fn updating(cells: &[u32; STATE]) -> u16
     let mut mask = 0u16;
     let mut s = 0;
     while s < SLOTS {
-        if SEARCHES < kind_at(cells, s) {
+        if is_update(kind_at(cells, s)) {
             mask = mask | (1u16 << s);
         }
         s += 1;

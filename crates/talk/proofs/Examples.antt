@@ -4,7 +4,7 @@ use mathlib.Core.Path.{_≡_, refl}
 use Rattle.ground.specs.Limits.{largestK, largestN, tallest, slotCount, searchHolds, pathHolds, siblingHolds}
 use Rattle.ground.specs.Tests.{all, count, member, distinct, apart, allBelow, listBelow, padded}
 use Rattle.page.specs.Words.{flat, encode, pairs, view}
-use Rattle.page.specs.Place.{place, has, information}
+use Rattle.page.specs.Place.{place, has, information, atOrAbove}
 use Rattle.page.specs.Sound.{risesFrom, rises, soundByItself}
 use Rattle.page.specs.Splits.{put, split}
 use Rattle.pool.specs.Pool.{poolLength, start, wordsOf, pageAt, written, applied, isFree, freePages, fresh}
@@ -16,7 +16,7 @@ use Rattle.slots.specs.Book.{leaving, begins, goesOn, closes}
 use Rattle.slots.specs.Sound.{orderSound, slotSound, noClashingHolds, sound}
 use Rattle.slots.specs.Begin.{begun}
 use Rattle.lines.specs.Text.{bytes, startsWith as begins-with}
-use Rattle.lines.specs.Meaning.{digits, value, front, stepping, searching, deleting, informing, inserting, asking, beginning, meaning}
+use Rattle.lines.specs.Meaning.{digits, value, front, stepping, searching, deleting, askingNext, informing, inserting, asking, beginning, meaning}
 use Rattle.lines.specs.Decimal.{digitsWithin, decimal}
 use Rattle.footing.specs.Granted.{atLeaf, comesDown, granted}
 use Rattle.footing.specs.Fitting.{pagesSound, descends, sameLevels, fitting, soundForStep, verdict}
@@ -35,6 +35,11 @@ opened = refl
 pub example : programWrites (bytes "b 0 i 12 3\nb 1 s 12\nt 1\nt 0\nt 1\nt 1\n") ≡ bytes "Begun\nBegun\nWaiting\nInserted\nFound 3\nSlotIdle\n"
 unfolding largestK largestN tallest slotCount searchHolds pathHolds siblingHolds all count member distinct apart allBelow listBelow padded flat encode pairs view place has information risesFrom rises soundByItself put split poolLength start wordsOf pageAt written applied isFree freePages fresh room settled insertion pathOf siblingsOf waitingOrder olderThan noClash noOlder leaving begins goesOn closes orderSound slotSound noClashingHolds sound begun begins-with digits value front stepping searching deleting informing inserting asking beginning meaning digitsWithin decimal atLeaf comesDown granted pagesSound descends sameLevels fitting soundForStep verdict stepped made linesOf replies blank mostBytes programWrites
 example = refl
+
+-- the next lot at or above: none in the empty pool, then the only one
+pub next-example : programWrites (bytes "b 0 n 5\nt 0\nb 0 i 12 3\nt 0\nb 0 n 5\nt 0\nb 0 n 13\nt 0\n") ≡ bytes "Begun\nNone\nBegun\nInserted\nBegun\nNext 12 3\nBegun\nNone\n"
+unfolding largestK largestN tallest slotCount searchHolds pathHolds siblingHolds all count member distinct apart allBelow listBelow padded flat encode pairs view place has information atOrAbove risesFrom rises soundByItself put split poolLength start wordsOf pageAt written applied isFree freePages fresh room settled insertion pathOf siblingsOf waitingOrder olderThan noClash noOlder leaving begins goesOn closes orderSound slotSound noClashingHolds sound begun begins-with digits value front stepping searching deleting askingNext informing inserting asking beginning meaning digitsWithin decimal atLeaf comesDown granted pagesSound descends sameLevels fitting soundForStep verdict stepped made linesOf replies blank mostBytes programWrites
+next-example = refl
 
 -- "empty input writes nothing"
 pub nothing : programWrites [] ≡ []

@@ -9,9 +9,10 @@ use lib.Dec.{leb, eqb}
 use lib.ListN.{length}
 use Rattle.ground.specs.Tests.{all}
 use Rattle.ground.proofs.Bools.{and-first, and-second, and-both}
+use Rattle.ground.proofs.Tests.{all-append}
 use Rattle.slots.specs.declared.State.{State}
 use Rattle.slots.specs.declared.Answer.{Answer}
-use Rattle.slots.specs.declared.Answer.the-variants.{Waiting, Moved, Found, NotFound, Inserted, AlreadyThere, Deleted, NoSuchKey, NoRoom, Begun, Made, Reported, BadState, BadPool, BadSlot, SlotBusy, SlotIdle, Damaged, BadPage}
+use Rattle.slots.specs.declared.Answer.the-variants.{Waiting, Moved, Found, NotFound, Inserted, AlreadyThere, Deleted, NoSuchKey, NoRoom, Begun, Made, Reported, Next, None, BadState, BadPool, BadSlot, SlotBusy, SlotIdle, Damaged, BadPage}
 use Rattle.slots.specs.Begin.{begun}
 use Rattle.lines.specs.declared.Command.{Command}
 use Rattle.lines.specs.declared.Command.the-variants.{Begin, Step, Bad}
@@ -58,6 +59,14 @@ digits-plain (d ∷ ds) t =
     and-both (ap not (ne-eqb d 10 (λ e. omega (arith, leb-true 48 d (and-first (leb 48 d) (leb d 57) digit)))))
     (digits-plain ds (and-second (isDigit d) (all isDigit ds) t))
 
+-- nor is a byte of two numbers with a space between
+pub lot-plain : (x v : ℕ) → all plain (decimal x ++ bytes " " ++ decimal v) ≡ true
+unfolding all
+lot-plain x v =
+    let spelt : (n : ℕ) → all plain (decimal n) ≡ true = λ n. digits-plain (decimal n) (decimal-digital n) in
+    all-append plain (decimal x ++ bytes " ") (decimal v)
+    ∙ and-both (all-append plain (decimal x) (bytes " ") ∙ and-both (spelt x) refl) (spelt v)
+
 -- the line of an answer is one line
 pub answer-line : (a : Answer) (rest : List ℕ) → linesOf (answerLine a ++ rest) ≡ ended (firstLine (answerLine a)) ∷ linesOf rest
 unfolding all
@@ -73,6 +82,8 @@ answer-line NoRoom rest = one-line (bytes "NoRoom") rest refl
 answer-line Begun rest = one-line (bytes "Begun") rest refl
 answer-line Made rest = one-line (bytes "Made") rest refl
 answer-line (Reported kind holders lowest) rest = one-line (bytes "Reported") rest refl
+answer-line (Next x v) rest = one-line (bytes "Next " ++ decimal x ++ bytes " " ++ decimal v) rest (lot-plain x v)
+answer-line None rest = one-line (bytes "None") rest refl
 answer-line BadState rest = one-line (bytes "BadState") rest refl
 answer-line BadPool rest = one-line (bytes "BadPool") rest refl
 answer-line BadSlot rest = one-line (bytes "BadSlot") rest refl

@@ -151,7 +151,7 @@ module _ (k x : ℕ) where
         ∙ ap (page 1 0) (sym (d .leafOf))
 
   -- the entries before, in and behind the child to which x belongs
-  entries-parts : (l : ℕ) (t : Tr (suc l)) (hi : ℕ) (d : Down k x l t hi)
+  pub entries-parts : (l : ℕ) (t : Tr (suc l)) (hi : ℕ) (d : Down k x l t hi)
       → entriesOf (suc l) t ≡ gathered (entriesOf l) (d .before) ++ (entriesOf l (d .here .value) ++ gathered (entriesOf l) (d .after))
   entries-parts l t hi d = ap (gathered (entriesOf l)) (d .whole) ∙ gathered-append (entriesOf l) (d .before) (d .here ∷ d .after)
 

@@ -1,17 +1,18 @@
--- Laws of sorted lists of entries: the parts of a list, a key looked up, inserted and taken out where it belongs.
+-- Laws of sorted lists of entries: the parts of a list, a key looked up, inserted and taken out where it belongs, and
+-- the entries at or above a key.
 use Prim.Native.Nat.{ℕ, suc, _+_, _≤_, _<_}
 use mathlib.Core.Bool.{Bool, true, false, cond, _&&_, _||_, true≢false}
 use mathlib.Core.List.{List, [], _∷_, _++_, append-assoc}
 use mathlib.Core.Path.{_≡_, refl, sym, ap, ap₂, _∙_, subst}
 use native.Mathlib.Omega.{arith}
-use borrow.Author.Tests.{lt-ltb, leb-true, leb-false, le-leb, eqb-false, eq-eqb, ne-eqb}
+use borrow.Author.Tests.{lt-ltb, leb-true, leb-false, le-leb, lt-leb, eqb-false, eq-eqb, ne-eqb}
 use lib.Dec.{leb, eqb}
 use lib.ListN.{length, take, drop, length-append, take-append-drop}
 use lib.Seq.{take-append-le, drop-append-le, take-append-add, drop-append-add}
 use Rattle.ground.specs.Tests.{count}
 use Rattle.ground.proofs.Choice.{by-test, cond-true, cond-false, cond-ind}
 use Rattle.page.specs.Words.{Keyed, Entry, entry}
-use Rattle.page.specs.Place.{place, has, information, without}
+use Rattle.page.specs.Place.{place, has, information, atOrAbove, without}
 use Rattle.page.specs.Sound.{rises, risesFrom}
 use Rattle.page.proofs.PlaceLaws.{place-most, place-append}
 use Rattle.tree.specs.Rows.{headKey, Span, gathered, references}
@@ -185,6 +186,41 @@ module _ (x lo a b hi : ℕ) (A B C : List Entry) (first : Within lo A a) (last 
       ∙ ap₂ (λ (l r : List Entry). l ++ entry x v ∷ r) front back
       ∙ append-assoc A (take n B) (entry x v ∷ (drop n B ++ C))
       ∙ sym (ap (λ (l : List Entry). A ++ l) (append-assoc (take n B) (entry x v ∷ drop n B) C))
+
+-- a list that begins at or above x is all at or above it,
+pub atOrAbove-from : (x hi : ℕ) (es : List Entry) → x ≤ headKey es hi → atOrAbove x es ≡ es
+unfolding atOrAbove
+atOrAbove-from x hi [] h = refl
+atOrAbove-from x hi (e ∷ es) h = cond-true (e ∷ es) (atOrAbove x es) (le-leb x (e .key) h)
+
+-- and nothing of one that ends at or before x is
+pub atOrAbove-behind : (x hi : ℕ) (es : List Entry) → Span Anything es hi → hi ≤ x → atOrAbove x es ≡ []
+unfolding atOrAbove
+atOrAbove-behind x hi [] s h = refl
+atOrAbove-behind x hi (e ∷ es) s h =
+    let below : e .key < hi = keys-below Anything (e ∷ es) hi s .0 in
+    cond-false (e ∷ es) (atOrAbove x es) (lt-leb x (e .key) (omega arith)) ∙ atOrAbove-behind x hi es (s .2) h
+
+-- where the first of two lists has no entry at or above x, those of the second are the next,
+pub atOrAbove-second : (x : ℕ) (xs ys : List Entry) → atOrAbove x xs ≡ [] → atOrAbove x (xs ++ ys) ≡ atOrAbove x ys
+unfolding atOrAbove
+atOrAbove-second x [] ys h = refl
+atOrAbove-second x (d ∷ ds) ys h =
+    by-test (leb x (d .key))
+    (λ t. let none : suc (length ds) ≡ 0 = ap length (sym (cond-true (d ∷ ds) (atOrAbove x ds) t) ∙ h) in absurd (omega arith))
+    (λ t. cond-false (d ∷ (ds ++ ys)) (atOrAbove x (ds ++ ys)) t
+    ∙ atOrAbove-second x ds ys (sym (cond-false (d ∷ ds) (atOrAbove x ds) t) ∙ h))
+
+-- and where it has one, the second comes behind
+pub atOrAbove-first : (x : ℕ) (xs ys : List Entry) (e : Entry) (es : List Entry) → atOrAbove x xs ≡ e ∷ es → atOrAbove x (xs ++ ys) ≡ e ∷ (es ++ ys)
+unfolding atOrAbove
+atOrAbove-first x [] ys e es h = let some : 0 ≡ suc (length es) = ap length h in absurd (omega arith)
+atOrAbove-first x (d ∷ ds) ys e es h =
+    by-test (leb x (d .key))
+    (λ t. cond-true (d ∷ (ds ++ ys)) (atOrAbove x (ds ++ ys)) t
+    ∙ ap (λ (l : List Entry). l ++ ys) (sym (cond-true (d ∷ ds) (atOrAbove x ds) t) ∙ h))
+    (λ t. cond-false (d ∷ (ds ++ ys)) (atOrAbove x (ds ++ ys)) t
+    ∙ atOrAbove-first x ds ys e es (sym (cond-false (d ∷ ds) (atOrAbove x ds) t) ∙ h))
 
 -- a new entry goes behind an entry whose key is at most its own,
 pub inserted-behind : (x v : ℕ) (e : Entry) (es : List Entry) → e .key ≤ x → inserted x v (e ∷ es) ≡ e ∷ inserted x v es

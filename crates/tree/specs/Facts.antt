@@ -1,5 +1,5 @@
 -- What follows from a pool's being a tree: of the way of a key, of the places of pages, of the tree's size and height, and of
--- the pages that are free. The proofs are in files of their own: Search, Ways, Height, SoundPages, Determined, Words.
+-- the pages that are free. The proofs are in files of their own: Search, Next, Ways, Height, SoundPages, Determined, Words.
 use Prim.Native.Nat.{ℕ, zero, suc, _+_, _-_, _^_, _≤_, _<_}
 use mathlib.Core.Path.{_≡_}
 use mathlib.Core.Bool.{true, false}

@@ -98,8 +98,19 @@ fn holds_so_many(kind: u32, depth: u32, beside: u32) -> bool {
     let search = (kind == 1) & (depth <= 1) & (beside == 0);
     let insertion = (kind == 2) & (depth <= 10) & (beside == 0);
     let few = (beside == 0) | (beside < depth);
-    let deletion = (kind == 3) & (depth <= 10) & (beside <= 9) & few;
-    none | search | insertion | deletion
+    let both = (kind == 3) | (kind == 4);
+    none | search | insertion | (both & (depth <= 10) & (beside <= 9) & few)
+}
+
+/// Whether a kind's locks go together: searches, and the next lot.
+fn reads(kind: u32) -> bool {
+    (kind == 1) | (kind == 4)
+}
+
+/// Whether a page is named twice.
+fn is_twice(mut pages: impl Iterator<Item = u32>) -> bool {
+    let mut seen = [0; 16];
+    pages.any(|page| put(&mut seen, page))
 }
 
 /// One struct a slot.
@@ -158,7 +169,8 @@ impl Layout for Structs {
     fn grants(&self, s: usize) -> bool {
         let (want, kind) = (self.slots[s].want, self.slots[s].kind);
         let clashes = self.slots.iter().enumerate().any(|(other, slot)| {
-            other != s && (slot.kind != 1 || kind != 1) && slot.held().any(|page| page == want)
+            let clash = !reads(slot.kind) || !reads(kind);
+            other != s && clash && slot.held().any(|page| page == want)
         });
         let mut older = self.order[..self.waiting]
             .iter()
@@ -189,11 +201,14 @@ impl Layout for Structs {
                 if page >= self.n || page == slot.want {
                     return false;
                 }
-                if slot.kind == 1 {
+                if reads(slot.kind) {
                     put(&mut shared, page);
                 } else if put(&mut alone, page) {
                     return false;
                 }
+            }
+            if slot.kind == 4 && is_twice(slot.held()) {
+                return false;
             }
         }
         let clashes = (0..16).any(|i| alone[i] & shared[i] != 0);
@@ -241,7 +256,7 @@ impl Columns {
     /// Whether a slot other than s holds the page with a lock that clashes; rows only as far as some slot has them.
     fn is_held(&self, s: usize, page: u32) -> bool {
         let kinds = self.row(KIND);
-        let is_search = kinds[s] == 1;
+        let is_reader = reads(kinds[s]);
         let mut hit = false;
         for (first, length) in [(PATH, DEPTH), (SIBLINGS, BESIDE)] {
             let lengths = self.row(length);
@@ -249,7 +264,7 @@ impl Columns {
             for i in 0..most.min(HELD as u32) {
                 let row = self.row(first + i as usize);
                 for other in 0..SLOTS {
-                    let clashes = (kinds[other] != 1) | !is_search;
+                    let clashes = !reads(kinds[other]) | !is_reader;
                     hit |= (row[other] == page) & (i < lengths[other]) & clashes & (other != s);
                 }
             }
@@ -369,15 +384,16 @@ impl Layout for Columns {
             left &= left - 1;
             let word = |row: usize| self.words[at(row, s)];
             let path = (0..depths[s] as usize).map(|i| word(PATH + i));
-            let siblings = (0..besides[s] as usize).map(|i| word(SIBLINGS + i));
-            for page in path.chain(siblings) {
+            let pages = path.chain((0..besides[s] as usize).map(|i| word(SIBLINGS + i)));
+            for page in pages.clone() {
                 bad |= (page >= n) | (page == wants[s]);
-                if kinds[s] == 1 {
+                if reads(kinds[s]) {
                     put(&mut shared, page);
                 } else {
                     bad |= put(&mut alone, page);
                 }
             }
+            bad |= kinds[s] == 4 && is_twice(pages);
         }
         !bad && (0..16).all(|i| alone[i] & shared[i] == 0)
     }

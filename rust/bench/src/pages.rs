@@ -67,6 +67,26 @@ impl Pool<'_> {
         (place > 0 && page[at] == key).then(|| page[at + 1])
     }
 
+    /// A leaf's first entry whose key is at or above this one.
+    pub fn first_from(&self, p: u32, key: u32) -> Option<(u32, u32)> {
+        let page = self.page(p);
+        let mut entries = page[2..2 + 2 * page[1] as usize].chunks_exact(2);
+        let entry = entries.find(|entry| entry[0] >= key)?;
+        Some((entry[0], entry[1]))
+    }
+
+    /// An upper page's next child to the right of the route.
+    pub fn right_of(&self, p: u32, key: u32) -> Option<u32> {
+        let place = self.place(p, key);
+        let is_right = self.level(p) > 1 && place < self.count(p);
+        is_right.then(|| self.page(p)[4 + 2 * place])
+    }
+
+    /// An upper page's first pointer.
+    pub fn first_child(&self, p: u32) -> Option<u32> {
+        (self.level(p) > 1).then(|| self.page(p)[2])
+    }
+
     /// The right neighbour of the page to which an upper page sends a key, or with none the left one.
     pub fn neighbour(&self, p: u32, key: u32) -> u32 {
         let place = self.place(p, key);

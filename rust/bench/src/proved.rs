@@ -30,6 +30,7 @@ impl Program for Proved {
             Op::Search(key) => ghazfulit::Op::Search { key },
             Op::Insert(key, information) => ghazfulit::Op::Insert { key, information },
             Op::Delete(key) => ghazfulit::Op::Delete { key },
+            Op::Next(key) => ghazfulit::Op::Next { key },
         };
         self.0
             .begin(slot, op)
@@ -47,6 +48,8 @@ impl Program for Proved {
             Ok(Step::Deleted(information)) => Answer::deleted(information),
             Ok(Step::NoSuchKey) => Answer::NO_SUCH_KEY,
             Ok(Step::NoRoom) => Answer::NO_ROOM,
+            Ok(Step::Next { key, information }) => Answer::next(key, information),
+            Ok(Step::None) => Answer::NONE,
             Err(refusal) => refused(refusal),
         }
     }

@@ -107,12 +107,13 @@ enum Course {
     Broken,
 }
 
-/// Whether no ancestor of a page can be changed.
-fn is_safe(pool: &Pool, kind: u32, p: u32) -> bool {
-    match kind {
+/// Whether a page's ancestors are needed no more.
+fn is_safe(pool: &Pool, slot: &Slot, p: u32) -> bool {
+    match slot.kind {
         1 => true,
         2 => pool.count(p) < 2 * pool.k,
-        _ => pool.count(p) > pool.k,
+        3 => pool.count(p) > pool.k,
+        _ => pool.right_of(p, slot.key).is_some(),
     }
 }
 
@@ -140,6 +141,27 @@ fn next_sibling(pool: &Pool, slot: &Slot) -> Option<u32> {
     sibling_at(pool, slot, beside)
 }
 
+/// The page at a place of the second way of a next, and the one that points to it.
+fn second_at(pool: &Pool, slot: &Slot, place: usize) -> Option<(u32, u32)> {
+    match place.checked_sub(1) {
+        None => Some((slot.path[0], pool.right_of(slot.path[0], slot.key)?)),
+        Some(above) => {
+            let father = slot.siblings[above];
+            Some((father, pool.first_child(father)?))
+        }
+    }
+}
+
+/// The pages beside a next at its leaf are its second way, and the wanted one follows.
+fn fits_second(pool: &Pool, slot: &Slot) -> bool {
+    let beside = slot.beside as usize;
+    let is_at = |place: usize, p: u32| {
+        second_at(pool, slot, place)
+            .is_some_and(|(father, own)| own == p && pool.level(father) == pool.level(p) + 1)
+    };
+    (0..beside).all(|place| is_at(place, slot.siblings[place])) && is_at(beside, slot.want)
+}
+
 /// The pages held and the wanted one are sound, and those that the rules would have.
 fn fits(pool: &Pool, n: u32, slot: &Slot) -> bool {
     let pages_sound = slot.held().all(|p| pool.is_page_sound(p, n));
@@ -156,13 +178,16 @@ fn fits(pool: &Pool, n: u32, slot: &Slot) -> bool {
     };
     let is_way = path.windows(2).all(|pair| leads(pair[0], pair[1]));
     let is_top = slot.kind == 1
-        || ((path[0] == 0 || is_safe(pool, slot.kind, path[0]))
-            && !path[1..].iter().any(|&p| is_safe(pool, slot.kind, p)));
+        || ((path[0] == 0 || is_safe(pool, slot, path[0]))
+            && !path[1..].iter().any(|&p| is_safe(pool, slot, p)));
     if !is_way || !is_top {
         return false;
     }
     if !is_at_leaf(pool, slot) {
         return slot.beside == 0 && leads(path[depth - 1], slot.want);
+    }
+    if slot.kind == 4 {
+        return pool.first_from(path[depth - 1], slot.key).is_none() && fits_second(pool, slot);
     }
     let beside = slot.beside as usize;
     let is_sibling = |height: usize, p: u32| {
@@ -184,7 +209,7 @@ fn take(pool: &Pool, slot: &mut Slot) {
         slot.beside += 1;
         return;
     }
-    if is_safe(pool, slot.kind, slot.want) {
+    if is_safe(pool, slot, slot.want) {
         slot.path = Default::default();
         slot.depth = 0;
     }
@@ -205,6 +230,12 @@ fn judge<const TESTS: bool>(pool: &mut Pool, n: u32, slot: &Slot) -> Course {
     if pool.level(lowest) > 1 {
         return goes(pool.route(lowest, slot.key));
     }
+    if slot.kind == 4 {
+        return match next(pool, slot, lowest) {
+            Ok(answer) => Course::Ends(answer),
+            Err(want) => goes(want),
+        };
+    }
     let found = pool.find(lowest, slot.key);
     match (slot.kind, found) {
         (1, Some(information)) => Course::Ends(Answer::found(information)),
@@ -219,6 +250,22 @@ fn judge<const TESTS: bool>(pool: &mut Pool, n: u32, slot: &Slot) -> Course {
                 Course::Ends(Answer::deleted(pool.delete(path, siblings, slot.key)))
             }
         },
+    }
+}
+
+/// What a next at its leaf is answered, or the page that it wants then.
+fn next(pool: &Pool, slot: &Slot, leaf: u32) -> Result<Answer, u32> {
+    let beside = slot.beside as usize;
+    let last = match beside {
+        0 => leaf,
+        _ => slot.siblings[beside - 1],
+    };
+    let from = if beside == 0 { slot.key } else { 0 };
+    let entry = (pool.level(last) == 1).then(|| pool.first_from(last, from));
+    match (entry.flatten(), second_at(pool, slot, beside)) {
+        (Some((key, information)), _) => Ok(Answer::next(key, information)),
+        (None, Some((_, want))) => Err(want),
+        (None, None) => Ok(Answer::NONE),
     }
 }
 

@@ -8,6 +8,8 @@ pub enum Op {
     Search(u32),
     Insert(u32, u32),
     Delete(u32),
+    /// The first lot at or above; it is compared, and no part of what is timed.
+    Next(u32),
 }
 
 impl Op {
@@ -17,36 +19,47 @@ impl Op {
             Op::Search(key) => (1, key, 0),
             Op::Insert(key, information) => (2, key, information),
             Op::Delete(key) => (3, key, 0),
+            Op::Next(key) => (4, key, 0),
         }
     }
 }
 
-/// An answer: its number, and its value or 0.
+/// An answer: its number, and its values or 0.
 #[derive(Clone, Copy, PartialEq, Eq, Debug)]
-pub struct Answer(pub u32, pub u32);
+pub struct Answer(pub u32, pub u32, pub u32);
 
 impl Answer {
-    pub const BAD_STATE: Answer = Answer(1, 0);
-    pub const BAD_POOL: Answer = Answer(2, 0);
-    pub const BAD_SLOT: Answer = Answer(3, 0);
-    pub const SLOT_BUSY: Answer = Answer(4, 0);
-    pub const SLOT_IDLE: Answer = Answer(5, 0);
-    pub const DAMAGED: Answer = Answer(6, 0);
-    pub const WAITING: Answer = Answer(32, 0);
-    pub const MOVED: Answer = Answer(33, 0);
-    pub const NOT_FOUND: Answer = Answer(35, 0);
-    pub const INSERTED: Answer = Answer(36, 0);
-    pub const ALREADY_THERE: Answer = Answer(37, 0);
-    pub const NO_SUCH_KEY: Answer = Answer(39, 0);
-    pub const NO_ROOM: Answer = Answer(40, 0);
-    pub const BEGUN: Answer = Answer(41, 0);
+    pub const BAD_STATE: Answer = Answer(1, 0, 0);
+    pub const BAD_POOL: Answer = Answer(2, 0, 0);
+    pub const BAD_SLOT: Answer = Answer(3, 0, 0);
+    pub const SLOT_BUSY: Answer = Answer(4, 0, 0);
+    pub const SLOT_IDLE: Answer = Answer(5, 0, 0);
+    pub const DAMAGED: Answer = Answer(6, 0, 0);
+    pub const WAITING: Answer = Answer(32, 0, 0);
+    pub const MOVED: Answer = Answer(33, 0, 0);
+    pub const NOT_FOUND: Answer = Answer(35, 0, 0);
+    pub const INSERTED: Answer = Answer(36, 0, 0);
+    pub const ALREADY_THERE: Answer = Answer(37, 0, 0);
+    pub const NO_SUCH_KEY: Answer = Answer(39, 0, 0);
+    pub const NO_ROOM: Answer = Answer(40, 0, 0);
+    pub const BEGUN: Answer = Answer(41, 0, 0);
+    pub const NONE: Answer = Answer(45, 0, 0);
 
     pub fn found(information: u32) -> Answer {
-        Answer(34, information)
+        Answer(34, information, 0)
     }
 
     pub fn deleted(information: u32) -> Answer {
-        Answer(38, information)
+        Answer(38, information, 0)
+    }
+
+    pub fn next(key: u32, information: u32) -> Answer {
+        Answer(44, key, information)
+    }
+
+    /// Whether it ends the operation.
+    fn is_end(self) -> bool {
+        matches!(self.0, 34..=40 | 44 | 45)
     }
 }
 
@@ -97,6 +110,18 @@ impl Schedule {
     }
 }
 
+/// The same operations with the next lot asked for in place of every other search.
+pub fn with_nexts(schedule: &Schedule) -> Schedule {
+    let mut other = schedule.clone();
+    let searches = other.ops.iter_mut().enumerate();
+    for (_, op) in searches.filter(|(i, _)| i.is_multiple_of(2)) {
+        if let Op::Search(key) = *op {
+            *op = Op::Next(key);
+        }
+    }
+    other
+}
+
 /// What a run comes to.
 #[derive(PartialEq, Eq)]
 pub struct Outcome {
@@ -108,8 +133,8 @@ pub struct Outcome {
 
 /// Adds an answer to all before it.
 fn add(answers: u64, answer: Answer) -> u64 {
-    (answers.rotate_left(5) ^ u64::from(answer.0) ^ (u64::from(answer.1) << 32))
-        .wrapping_mul(0x9E37_79B9_7F4A_7C15)
+    let values = (u64::from(answer.1) << 32) ^ (u64::from(answer.2) << 8);
+    (answers.rotate_left(5) ^ u64::from(answer.0) ^ values).wrapping_mul(0x9E37_79B9_7F4A_7C15)
 }
 
 /// Runs operations: each slot that is free takes the next, and the slots are stepped in turn.
@@ -131,7 +156,7 @@ pub fn run<P: Program>(program: &mut P, slots: u32, ops: &[Op]) -> (u64, u64) {
             };
             calls += 1;
             answers = add(answers, answer);
-            if (34..=40).contains(&answer.0) {
+            if answer.is_end() {
                 is_open[slot as usize] = false;
                 open -= 1;
             }

@@ -10,10 +10,11 @@ pub struct Second {
     words: Vec<u32>,
 }
 
-/// Its answer as a number and a value.
+/// Its answer as a number and its values.
 fn answer(answer: twin::Answer) -> Answer {
     let heard = answer.heard();
-    Answer(heard[0], heard.get(1).copied().unwrap_or(0))
+    let value = |at: usize| heard.get(at).copied().unwrap_or(0);
+    Answer(heard[0], value(1), value(2))
 }
 
 impl Program for Second {
@@ -31,6 +32,7 @@ impl Program for Second {
             Op::Search(key) => twin::Op::Search(key),
             Op::Insert(key, information) => twin::Op::Insert(key, information),
             Op::Delete(key) => twin::Op::Delete(key),
+            Op::Next(key) => twin::Op::Next(key),
         };
         answer(begin_lent(&mut self.state, slot as usize, op))
     }

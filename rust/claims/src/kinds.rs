@@ -8,7 +8,7 @@ pub fn kind(before: &Moment, call: Call, answer: Answer, after: &Moment) -> Stri
     match (call, answer) {
         (Call::Step(_), Answer::Inserted) => inserted(before, after),
         (Call::Step(slot), Answer::Deleted(_)) => deleted(before, &before.state.slots[slot], after),
-        (Call::Step(slot), Answer::Damaged | Answer::Moved) => {
+        (Call::Step(slot), Answer::Damaged | Answer::Moved | Answer::Next(..) | Answer::None) => {
             format!(
                 "{} {}",
                 answer.name(),
@@ -71,6 +71,7 @@ fn stand(moment: &Moment, slot: &Slot) -> String {
     let op = match slot.op {
         Some(Op::Search(_)) => "search",
         Some(Op::Insert(..)) => "insertion",
+        Some(Op::Next(_)) => "next",
         _ => "deletion",
     };
     let leaf = if has_leaf(moment, slot) {

@@ -27,6 +27,7 @@ fn op(op: Op) -> String {
         Op::Search(key) => format!("(Search {key})"),
         Op::Insert(key, information) => format!("(Insert {key} {information})"),
         Op::Delete(key) => format!("(Delete {key})"),
+        Op::Next(key) => format!("(Next {key})"),
     }
 }
 

@@ -126,6 +126,7 @@ impl<C: Calls> Drive<C> {
             1 => Op::Search(key),
             2 => Op::Insert(key, information),
             3 => Op::Delete(key),
+            4 => Op::Next(key),
             _ => return vec![BAD_KIND],
         };
         self.calls.begin(&mut self.state, slot, op).heard()

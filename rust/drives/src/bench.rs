@@ -1,4 +1,4 @@
-//! The lots on the bench and the shortcuts that lose a lot, each as document 01 says it.
+//! The lots on the bench and the shortcuts that lose a lot, each as document 01 says it; and the next lot, as 02 does.
 
 use crate::program::Program;
 
@@ -28,6 +28,7 @@ const INSERTED: [u32; 4] = [36, 0, 0, 0];
 const ALREADY_THERE: [u32; 4] = [37, 0, 0, 0];
 const DELETED: [u32; 4] = [38, INFORMATION, 0, 0];
 const NO_ROOM: [u32; 4] = [40, 0, 0, 0];
+const NONE: [u32; 4] = [45, 0, 0, 0];
 const BAD_POOL: [u32; 4] = [2, 0, 0, 0];
 const BAD_SLOT: [u32; 4] = [3, 0, 0, 0];
 const BAD_KIND: [u32; 4] = [31, 0, 0, 0];
@@ -96,6 +97,10 @@ impl Case {
         self.alone(3, key, grants, answer);
     }
 
+    fn next(&mut self, key: u32, grants: usize, answer: [u32; 4]) {
+        self.alone(4, key, grants, answer);
+    }
+
     /// What the program says otherwise, if anything.
     pub fn refuted(&self, program: &impl Program) -> Option<String> {
         let input: String = self.lines.iter().map(|line| format!("{line}\n")).collect();
@@ -121,7 +126,7 @@ impl Case {
 
 /// All cases.
 pub fn cases() -> Vec<Case> {
-    [bench(), together(), limits(), shortcuts()]
+    [bench(), together(), limits(), shortcuts(), nexts()]
         .into_iter()
         .flatten()
         .collect()
@@ -205,7 +210,7 @@ fn limits() -> Vec<Case> {
 
     let mut kinds = Case::fresh("kinds", 1);
     kinds.call("b 0 0 5 0", BAD_KIND);
-    kinds.call("b 0 4 5 0", BAD_KIND);
+    kinds.call("b 0 5 5 0", BAD_KIND);
     kinds.call("b 16 4294967295 5 0", BAD_KIND);
 
     vec![
@@ -276,4 +281,92 @@ fn shortcuts() -> Vec<Case> {
     ]);
 
     vec![father, left, safe, sibling, freed]
+}
+
+/// The answer Next with this key.
+fn next_is(key: u32) -> [u32; 4] {
+    [44, key, INFORMATION, 0]
+}
+
+/// The next lot at or above.
+fn nexts() -> Vec<Case> {
+    // "the first entry whose key is at or above a given one, or None"
+    let mut leaf = Case::fresh("next in a root leaf", 1);
+    leaf.next(0, 1, NONE);
+    leaf.insert(10, 1, INSERTED);
+    leaf.insert(20, 1, INSERTED);
+    for (key, answer) in [(9, 10), (10, 10), (11, 20), (20, 20)] {
+        leaf.next(key, 1, next_is(answer));
+    }
+    leaf.next(21, 1, NONE);
+
+    // "if the leaf has no such key, goes down the leftmost way of the next child to the right"
+    let mut second = Case::from_e("next in the second leaf");
+    for (key, grants, answer) in [
+        (5, 2, 10),
+        (10, 2, 10),
+        (11, 3, 20),
+        (20, 2, 20),
+        (21, 2, 30),
+    ] {
+        second.next(key, grants, next_is(answer));
+    }
+    second.next(31, 2, NONE);
+
+    vec![leaf, second, next_keeps(), next_gives_up(), next_shares()]
+}
+
+/// "giving nothing up until its answer"
+fn next_keeps() -> Case {
+    let mut case = three_levels("next over three levels keeps both ways");
+    case.call("b 0 4 25 0", BEGUN);
+    case.call("b 1 2 26 7", BEGUN);
+    for page in [0, 5, 2, 6] {
+        case.call("t 0", MOVED);
+        case.call("t 1", WAITING);
+        case.call(&format!("r {page}"), [43, 1, 1, 0]);
+    }
+    case.call("r 5", [43, 1, 1, 0]);
+    case.call("t 0", next_is(30));
+    case.call("r 6", [43, 0, 0, 16]);
+    case.call("t 1", MOVED);
+    case
+}
+
+/// "from the lowest page on its way that still has a child to the right of the route"
+fn next_gives_up() -> Case {
+    let mut case = three_levels("next gives up what is above a page with a child to the right");
+    case.call("b 0 4 15 0", BEGUN);
+    case.call("t 0", MOVED);
+    case.call("r 0", [43, 1, 1, 0]);
+    case.call("t 0", MOVED);
+    case.call("r 0", [43, 0, 0, 16]);
+    case.call("t 0", MOVED);
+    case.call("r 5", [43, 1, 1, 0]);
+    case.call("r 1", [43, 1, 1, 0]);
+    case.call("t 0", next_is(20));
+    // "from page 0 if none has"
+    case.call("b 0 4 51 0", BEGUN);
+    case.call("t 0", MOVED);
+    case.call("t 0", MOVED);
+    case.call("r 0", [43, 1, 1, 0]);
+    case.call("t 0", NONE);
+    case
+}
+
+/// "It uses ρ-locks"
+fn next_shares() -> Case {
+    let mut case = three_levels("next goes together with a search");
+    case.call("b 3 4 25 0", BEGUN);
+    for _ in 0..3 {
+        case.call("t 3", MOVED);
+    }
+    case.call("b 1 1 20 0", BEGUN);
+    case.call("t 1", MOVED);
+    case.call("r 0", [43, 1, 2, 1]);
+    case.call("t 1", MOVED);
+    case.call("t 1", FOUND);
+    case.call("t 3", MOVED);
+    case.call("t 3", next_is(30));
+    case
 }

@@ -53,7 +53,7 @@ impl Tally {
 }
 
 /// The answers by number.
-const NAMES: [(&str, &str); 20] = [
+const NAMES: [(&str, &str); 22] = [
     ("1", "BadState"),
     ("2", "BadPool"),
     ("3", "BadSlot"),
@@ -74,6 +74,8 @@ const NAMES: [(&str, &str); 20] = [
     ("41", "Begun"),
     ("42", "Made"),
     ("43", "Reported"),
+    ("44", "Next"),
+    ("45", "None"),
 ];
 
 /// The first of some scenes that the program writes otherwise, all given in one run.

@@ -1,6 +1,6 @@
 //! Compares a program with the twin, call by call: `drives SEED SECONDS COMMAND..`.
 //!
-//! First the cases of document 01, then scenes of all kinds, each from a seed of its own, until the time is over.
+//! First the cases of the documents, then scenes of all kinds, each from a seed of its own, until the time is over.
 
 use std::env::args;
 use std::process::ExitCode;
@@ -27,7 +27,7 @@ fn main() -> ExitCode {
     }
 }
 
-/// The cases of document 01; whether all are as it says.
+/// The cases of documents 01 and 02; whether all are as they say.
 fn run_cases(program: &impl Program) -> bool {
     let cases = cases();
     let wrong: Vec<String> = cases
@@ -36,7 +36,7 @@ fn run_cases(program: &impl Program) -> bool {
         .collect();
     wrong.iter().for_each(|text| println!("{text}"));
     println!(
-        "{} cases of document 01, {} otherwise",
+        "{} cases of documents 01 and 02, {} otherwise",
         cases.len(),
         wrong.len()
     );

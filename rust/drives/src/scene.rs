@@ -91,6 +91,7 @@ pub fn call_line(call: Call) -> String {
             format!("b {slot} 2 {key} {information}")
         }
         Call::Begin(slot, Op::Delete(key)) => format!("b {slot} 3 {key} 0"),
+        Call::Begin(slot, Op::Next(key)) => format!("b {slot} 4 {key} 0"),
         Call::Step(slot) => format!("t {slot}"),
         Call::Report(page) => format!("r {page}"),
     }

@@ -336,7 +336,7 @@ fn raw_scene(random: &mut Random, scene: &mut Scene) {
             for row in 0..26 {
                 state[19 + 16 * row + slot] = random.below(most) as u32;
             }
-            state[19 + slot] = random.from(1, 3) as u32;
+            state[19 + slot] = random.from(1, 4) as u32;
         } else if random.percent(20) {
             // a closed slot's key and information are not looked at
             state[19 + 16 * random.from(1, 3) as usize + slot] = 7;

@@ -34,9 +34,21 @@ enum Bug {
     ClosedKeepsKey,
     /// A kind that does not exist counts as closed.
     UnknownKindClosed,
+    /// A next gives up its father like a search.
+    NextGivesUp,
+    /// A next whose leaf has nothing for it is answered None at once.
+    NextEndsAtLeaf,
+    /// A next passes over a key that is equal.
+    NextPassesEqual,
+    /// A next does not keep the pages of its second way.
+    NextForgetsBeside,
+    /// A next counts as one that holds alone.
+    NextHoldsAlone,
+    /// A next with pages beside its path is no sound state.
+    NextBesideUnsound,
 }
 
-const BUGS: [Bug; 12] = [
+const BUGS: [Bug; 18] = [
     Bug::OlderWantOverlooked,
     Bug::FatherGivenUp,
     Bug::EqualKeyLeft,
@@ -49,6 +61,12 @@ const BUGS: [Bug; 12] = [
     Bug::RefusedMakingWrites,
     Bug::ClosedKeepsKey,
     Bug::UnknownKindClosed,
+    Bug::NextGivesUp,
+    Bug::NextEndsAtLeaf,
+    Bug::NextPassesEqual,
+    Bug::NextForgetsBeside,
+    Bug::NextHoldsAlone,
+    Bug::NextBesideUnsound,
 ];
 
 /// Where a row has the word of a slot.
@@ -61,6 +79,7 @@ const KEY: usize = 1;
 const WANT: usize = 3;
 const DEPTH: usize = 4;
 const SIBLINGS: usize = 5;
+const PATH: usize = 6;
 
 impl Calls for Bug {
     fn make(&self, k: u32, n: u32, state: &mut [u32; STATE], words: &mut [u32]) -> Answer {
@@ -84,6 +103,9 @@ impl Calls for Bug {
             return answer;
         }
         let kind = before[at(KIND, slot)];
+        if kind == 4 {
+            return self.next(&before, state, words, slot, answer);
+        }
         match (self, answer) {
             (Bug::OlderWantOverlooked, Answer::Waiting) => {
                 let place = (3..19).find(|&place| state[place] == slot as u32);
@@ -144,6 +166,11 @@ impl Calls for Bug {
         let wanting =
             (0..16).find(|&slot| state[at(KIND, slot)] != 0 && state[at(WANT, slot)] == page);
         match (self, answer, wanting) {
+            (Bug::NextHoldsAlone, Answer::Reported(1, holders, lowest), _)
+                if state[at(KIND, lowest as usize)] == 4 =>
+            {
+                Answer::Reported(2, holders, lowest)
+            }
             (Bug::WantsCounted, Answer::Reported(0, 0, 16), Some(slot)) => {
                 Answer::Reported(1, 1, slot as u32)
             }
@@ -153,17 +180,59 @@ impl Calls for Bug {
 }
 
 impl Bug {
+    /// What is wrong with a step of a next.
+    fn next(
+        &self,
+        before: &[u32; STATE],
+        state: &mut [u32; STATE],
+        words: &mut [u32],
+        slot: usize,
+        answer: Answer,
+    ) -> Answer {
+        let (depth, beside) = (state[at(DEPTH, slot)], state[at(SIBLINGS, slot)]);
+        let key = before[at(KEY, slot)];
+        match (self, answer) {
+            (Bug::NextGivesUp, Answer::Moved) if depth > 1 && beside == 0 => {
+                state[at(PATH, slot)] = before[at(WANT, slot)];
+                state[at(DEPTH, slot)] = 1;
+            }
+            (Bug::NextEndsAtLeaf, Answer::Moved) if words[leaf_word(state, slot)] == 1 => {
+                return Answer::None;
+            }
+            (Bug::NextPassesEqual, Answer::Next(own, _)) if own == key && key < u32::MAX => {
+                *state = *before;
+                state[at(KEY, slot)] = key + 1;
+                return step_lent(state, words, slot);
+            }
+            (Bug::NextForgetsBeside, Answer::Moved) if beside > 0 => state[at(SIBLINGS, slot)] = 0,
+            (Bug::NextBesideUnsound, Answer::Moved | Answer::Next(..))
+                if before[at(SIBLINGS, slot)] > 0 =>
+            {
+                *state = *before;
+                return Answer::BadState;
+            }
+            _ => {}
+        }
+        answer
+    }
+
     /// Changes the state before the twin looks at it.
     fn spoil(&self, state: &mut [u32; STATE]) {
         match self {
             Bug::LongOrderCut => state[2] = state[2].min(16),
             Bug::UnknownKindClosed => state[at(KIND, 0)..at(KEY, 0)]
                 .iter_mut()
-                .filter(|kind| **kind > 3)
+                .filter(|kind| **kind > 4)
                 .for_each(|kind| *kind = 0),
             _ => {}
         }
     }
+}
+
+/// Where the pool has the level of a slot's lowest path page.
+fn leaf_word(state: &[u32; STATE], slot: usize) -> usize {
+    let lowest = state[at(PATH + state[at(DEPTH, slot)] as usize - 1, slot)];
+    lowest as usize * page_words(state[0])
 }
 
 /// Some scenes, the same for every bug.
@@ -210,13 +279,19 @@ fn the_twin_itself_is_found_right() {
 }
 
 #[test]
-fn a_case_of_01_finds_each_shortcut() {
+fn a_case_of_the_documents_finds_each_shortcut() {
     let shortcuts = [
         Bug::FatherGivenUp,
         Bug::EqualKeyLeft,
         Bug::DeletionTestsFull,
         Bug::FreedNotZeroed,
         Bug::LastPageKept,
+        Bug::NextGivesUp,
+        Bug::NextEndsAtLeaf,
+        Bug::NextPassesEqual,
+        Bug::NextForgetsBeside,
+        Bug::NextHoldsAlone,
+        Bug::NextBesideUnsound,
     ];
     for bug in shortcuts {
         let refuted = cases().iter().any(|case| case.refuted(&|| bug).is_some());

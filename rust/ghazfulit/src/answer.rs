@@ -15,6 +15,8 @@ pub enum Op {
     Insert { key: u32, information: u32 },
     /// A key to be taken out.
     Delete { key: u32 },
+    /// The first lot whose key is at or above this one.
+    Next { key: u32 },
 }
 
 impl Op {
@@ -24,6 +26,7 @@ impl Op {
             Op::Search { key } => (header::SEARCH, key, 0),
             Op::Insert { key, information } => (header::INSERT, key, information),
             Op::Delete { key } => (header::DELETE, key, 0),
+            Op::Next { key } => (header::NEXT, key, 0),
         }
     }
 }
@@ -49,6 +52,10 @@ pub enum Step {
     NoSuchKey,
     /// More pages would be needed than are free; nothing has changed.
     NoRoom,
+    /// The first lot whose key is at or above the one asked for.
+    Next { key: u32, information: u32 },
+    /// No lot has a key at or above it.
+    None,
 }
 
 impl Step {
@@ -70,6 +77,8 @@ impl Display for Step {
             Step::Deleted(information) => write!(f, "Deleted {information}"),
             Step::NoSuchKey => write!(f, "NoSuchKey"),
             Step::NoRoom => write!(f, "NoRoom"),
+            Step::Next { key, information } => write!(f, "Next {key} {information}"),
+            Step::None => write!(f, "None"),
         }
     }
 }
@@ -105,7 +114,7 @@ impl Error for Refusal {}
 /// A kind of lock.
 #[derive(Clone, Copy, Debug, PartialEq, Eq, Hash)]
 pub enum Lock {
-    /// A search's: others may search there too.
+    /// Of a search or a next: others may read there too.
     Rho,
     /// An update's: it goes with nothing.
     Xi,
@@ -168,6 +177,11 @@ pub(crate) fn stepped(answer: Answer) -> Result<Step, Refusal> {
         header::DELETED => Step::Deleted(answer[1]),
         header::NO_SUCH_KEY => Step::NoSuchKey,
         header::NO_ROOM => Step::NoRoom,
+        header::NEXT_LOT => Step::Next {
+            key: answer[1],
+            information: answer[2],
+        },
+        header::NO_LOT => Step::None,
         number => return Err(refusal(number).unwrap_or_else(|| unheard(answer))),
     })
 }

@@ -13,6 +13,8 @@
 //! assert_eq!(index.step(1)?, Step::Waiting);
 //! assert_eq!(index.step(0)?, Step::Inserted);
 //! assert_eq!(index.step(1)?, Step::Found(3));
+//! index.begin(1, Op::Next { key: 10 })?;
+//! assert_eq!(index.step(1)?, Step::Next { key: 12, information: 3 });
 //! # Ok::<(), ghazfulit::Refusal>(())
 //! ```
 //!

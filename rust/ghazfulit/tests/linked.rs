@@ -40,6 +40,38 @@ fn case_e_and_its_locks() {
 }
 
 #[test]
+fn the_next_lot() {
+    let mut index = Index::new(1, 3).expect("in range");
+    index.begin(0, Op::Next { key: 10 }).expect("begun");
+    assert_eq!(index.step(0), Ok(Step::None));
+    for key in [10, 20, 30] {
+        let information = key + 1;
+        index
+            .begin(0, Op::Insert { key, information })
+            .expect("begun");
+        assert_eq!(index.step(0), Ok(Step::Inserted));
+    }
+    // its leaf has nothing for it, and it keeps both while it wants the second one
+    index.begin(2, Op::Next { key: 11 }).expect("begun");
+    for holders in [0, 1] {
+        assert_eq!(index.step(2), Ok(Step::Moved));
+        assert_eq!(index.report(1).expect("a page").holders, holders);
+    }
+    let report = index.report(0).expect("a page");
+    assert_eq!((report.held, report.holders), (Some((Lock::Rho, 2)), 1));
+    let next = Step::Next {
+        key: 20,
+        information: 21,
+    };
+    assert_eq!(index.step(2), Ok(next));
+    assert!(next.is_end() && Step::None.is_end());
+    assert_eq!(
+        (next.to_string(), Step::None.to_string()),
+        ("Next 20 21".to_string(), "None".to_string())
+    );
+}
+
+#[test]
 fn a_refused_call_leaves_all_as_it_was() {
     let mut words = vec![5; 9];
     assert_eq!(Index::over(1, 1, &mut words).err(), Some(Refusal::BadPool));

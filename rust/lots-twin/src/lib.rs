@@ -1,4 +1,4 @@
-//! The little program of document 01 as one function from its input to its output.
+//! The little program of documents 01 and 02 as one function from its input to its output.
 
 use twin::{begin, make, page_words, step, Answer, Op, State};
 
@@ -56,12 +56,15 @@ impl Talk {
             Answer::Found(information) | Answer::Deleted(information) => {
                 format!("{} {}\n", answer.name(), information).into_bytes()
             }
+            Answer::Next(key, information) => {
+                format!("{} {key} {information}\n", answer.name()).into_bytes()
+            }
             _ => format!("{}\n", answer.name()).into_bytes(),
         }
     }
 }
 
-/// What a line asks for, if it is one of the four.
+/// What a line asks for, if it is one of the five.
 fn parse(line: &[u8]) -> Option<Line> {
     let parts: Vec<&[u8]> = line.split(|&byte| byte == b' ').collect();
     match parts[..] {
@@ -71,6 +74,7 @@ fn parse(line: &[u8]) -> Option<Line> {
             Op::Insert(number(key)?, number(information)?),
         )),
         [b"b", slot, b"d", key] => Some(Line::Begin(number(slot)?, Op::Delete(number(key)?))),
+        [b"b", slot, b"n", key] => Some(Line::Begin(number(slot)?, Op::Next(number(key)?))),
         [b"t", slot] => Some(Line::Step(number(slot)?)),
         _ => None,
     }

@@ -43,6 +43,13 @@ fn bad_lines() {
         "b 0 i 1\n",
         "b 0 i 1 2 3\n",
         "b 0 d\n",
+        "b 0 n\n",
+        "b 0 n \n",
+        "b 0 n 1 2\n",
+        "b 0 n 4294967296\n",
+        "b 0 N 1\n",
+        "n 0 1\n",
+        "b 0 n 1",
         "b 0 x 1\n",
         "b s 1\n",
         "t 4294967296\n",
@@ -69,6 +76,32 @@ fn numbers_at_the_edge() {
         written(input),
         "Begun\nSlotBusy\nInserted\nBegun\nDeleted 4294967295\n"
     );
+}
+
+#[test]
+fn the_next_lot() {
+    let input = "b 0 n 1\nt 0\nb 0 i 12 3\nt 0\nb 1 n 12\nt 1\nb 1 n 013\nt 1\n";
+    assert_eq!(
+        written(input),
+        "Begun\nNone\nBegun\nInserted\nBegun\nNext 12 3\nBegun\nNone\n"
+    );
+    let largest = "b 0 i 4294967295 4294967295\nt 0\nb 15 n 0\nt 15\nb 16 n 0\n";
+    assert_eq!(
+        written(largest),
+        "Begun\nInserted\nBegun\nNext 4294967295 4294967295\nBadSlot\n"
+    );
+}
+
+#[test]
+fn the_next_lot_in_the_second_leaf() {
+    let mut input = String::new();
+    for key in [10, 20, 30, 40, 50] {
+        input += &format!("b 0 i {key} {key}\nt 0\n");
+    }
+    assert_eq!(written(&input), "Begun\nInserted\n".repeat(5));
+    input += "b 0 n 21\nt 0\nt 0\nb 1 d 30\nt 1\nt 0\nt 1\n";
+    let told = "Begun\nMoved\nMoved\nBegun\nWaiting\nNext 30 30\nMoved\n";
+    assert!(written(&input).ends_with(told), "{}", written(&input));
 }
 
 #[test]

@@ -5,13 +5,14 @@ use draw::Random;
 use twin::{page_words, Op, Slot, State};
 
 use crate::moment::{Call, Moment};
+use crate::second_way::place_next;
 
 /// A pool being built, and what its pages must be.
-struct Build {
-    k: u32,
-    n: u32,
-    keys: u64,
-    words: Vec<u32>,
+pub(crate) struct Build {
+    pub k: u32,
+    pub n: u32,
+    pub keys: u64,
+    pub words: Vec<u32>,
 }
 
 /// One step on a built pool, now and then with one thing wrong.
@@ -43,11 +44,12 @@ fn spoil(random: &mut Random, build: &mut Build, slot: &mut Slot) {
     let start = page as usize * size;
     let other = random.below(u64::from(build.n)) as u32;
     let key = slot.op.map_or(0, Op::key);
+    let drawn = random.below(build.keys) as u32;
     match random.below(16) {
         12..=15 => turn_back(random, build, slot),
-        0 => slot.op = Some(Op::Delete(key)),
+        0 => slot.op = Some(random.one(&[Op::Delete(key), Op::Next(key)])),
         1 => slot.op = Some(Op::Insert(key, 1)),
-        2 => slot.op = Some(Op::Delete(random.below(build.keys) as u32)),
+        2 => slot.op = Some(random.one(&[Op::Delete(drawn), Op::Next(drawn)])),
         3 | 4 => recount(random, build, page),
         5 => build.words[start] = (build.words[start] + random.one(&[1, 2, 10])) % 12,
         6 => want_copy(build, slot, other),
@@ -58,6 +60,7 @@ fn spoil(random: &mut Random, build: &mut Build, slot: &mut Slot) {
             slot.depth -= 1;
         }
         10 if slot.depth > 1 => slot.depth -= 1,
+        11 if slot.beside > 1 => slot.siblings.swap(0, slot.beside - 1),
         _ => {
             let at = start + random.below(size as u64) as usize;
             build.words[at] = random.below(5) as u32;
@@ -65,21 +68,24 @@ fn spoil(random: &mut Random, build: &mut Build, slot: &mut Slot) {
     }
 }
 
-/// A page points at one that is held or wanted: where the next sibling would be read, if the
+/// A page points at one that is held or wanted: where the next want would be read, if the
 /// slot stands at its leaf, otherwise anywhere.
 fn turn_back(random: &mut Random, build: &mut Build, slot: &Slot) {
     let size = page_words(build.k);
     let pages = [slot.held(), vec![slot.want]].concat();
     let key = slot.op.map_or(0, Op::key);
+    let is_next = matches!(slot.op, Some(Op::Next(_)));
     let next = slot.depth.checked_sub(3 + slot.beside);
     let page = match next {
+        _ if is_next => random.one(&[slot.want, slot.want, slot.path[0]]),
         Some(at) if random.percent(70) => slot.path[at],
         _ => random.one(&[slot.path(), &[slot.want]].concat()),
     };
     let start = page as usize * size;
     if build.words[start] > 1 && build.words[start + 1] > 0 {
         let (place, beside) = places(build, page, key);
-        let at = random.one(&[place, beside, beside]);
+        let first = if is_next { 0 } else { beside };
+        let at = random.one(&[place, beside, first]);
         build.words[start + 2 + 2 * at] = random.one(&pages);
     }
 }
@@ -144,12 +150,13 @@ fn rubbish(random: &mut Random) -> Build {
     Build { k, n, keys, words }
 }
 
-/// An operation on a key near the middle.
+/// An operation on a key near the middle. There are enough keys below that of a `Next` to fill a page, and one above it.
 fn operation(random: &mut Random, build: &Build) -> Op {
     let key = random.below(build.keys) as u32;
-    match random.below(10) {
+    match random.below(14) {
         0 => Op::Search(key),
         1..=4 => Op::Insert(key, random.below(1000) as u32),
+        5..=8 => Op::Next(random.from(2 * u64::from(build.k), build.keys - 2) as u32),
         _ => Op::Delete(key),
     }
 }
@@ -166,7 +173,7 @@ fn add_others(random: &mut Random, state: &mut State, number: usize) {
 }
 
 /// How many keys a page of the path has: the top one is page 0 or safe, none below is safe.
-fn path_count(
+pub(crate) fn path_count(
     random: &mut Random,
     build: &Build,
     op: Op,
@@ -181,7 +188,7 @@ fn path_count(
         _ => k,
     };
     let (from, to) = match (op, is_top, page) {
-        (Op::Search(_), ..) | (_, true, 0) => (least, 2 * k),
+        (Op::Search(_) | Op::Next(_), ..) | (_, true, 0) => (least, 2 * k),
         (Op::Insert(..), true, _) => (least, 2 * k - 1),
         (Op::Insert(..), false, _) => (2 * k, 2 * k),
         (Op::Delete(_), true, _) => (k + 1, 2 * k),
@@ -197,7 +204,7 @@ fn path_count(
 }
 
 /// Writes a page of this level and number of keys; one of a leaf's keys may be a given one.
-fn write(
+pub(crate) fn write(
     random: &mut Random,
     build: &mut Build,
     page: u32,
@@ -213,13 +220,25 @@ fn write(
         }
     }
     keys.truncate(count as usize);
+    write_keys(random, build, page, level, keys);
+}
+
+/// Writes a page of this level with these keys, and pointers that are drawn.
+pub(crate) fn write_keys(
+    random: &mut Random,
+    build: &mut Build,
+    page: u32,
+    level: u32,
+    mut keys: Vec<u32>,
+) {
     keys.sort_unstable();
     let size = page_words(build.k);
-    let mut part = vec![level, count];
+    let count = keys.len();
+    let mut part = vec![level, count as u32];
     if level == 1 {
         part.extend(keys.iter().flat_map(|&key| [key, key + 100]));
     } else {
-        let mut pointers = different(random, count as usize + 1, build.n);
+        let mut pointers = different(random, count + 1, build.n);
         part.push(pointers.remove(0));
         part.extend(
             keys.iter()
@@ -244,7 +263,7 @@ fn different(random: &mut Random, count: usize, n: u32) -> Vec<u32> {
 }
 
 /// Where an upper page sends a key, and which page is the neighbour of the one there.
-fn leads(build: &Build, page: u32, key: u32) -> (u32, u32) {
+pub(crate) fn leads(build: &Build, page: u32, key: u32) -> (u32, u32) {
     let pointers = &build.words[page as usize * page_words(build.k) + 2..];
     let (place, beside) = places(build, page, key);
     (pointers[2 * place], pointers[2 * beside])
@@ -267,6 +286,14 @@ fn place_slot(random: &mut Random, build: &mut Build, op: Op) -> Option<Slot> {
         write(random, build, 0, level, count, None);
         return Some(Slot::open(op, 0, &[], &[]));
     }
+    match op {
+        Op::Next(key) => place_next(random, build, key),
+        _ => place_held(random, build, op),
+    }
+}
+
+/// The same for an operation that holds something and is no `Next`.
+fn place_held(random: &mut Random, build: &mut Build, op: Op) -> Option<Slot> {
     let is_beside = matches!(op, Op::Delete(_)) && random.percent(65);
     let held = match op {
         Op::Search(_) => 1,

@@ -67,20 +67,24 @@ fn odd_call(random: &mut Random, draw: &Draw) -> Call {
     }
 }
 
-/// A random operation; a deletion is mostly of a key that is there.
+/// A random operation; a deletion is mostly of a key that is there, and a `Next` is often from just behind one.
 pub fn operation(random: &mut Random, draw: &Draw, grows: bool, there: &[u32]) -> Op {
     let key = match random.below(50) {
         0 => u32::MAX,
         _ => random.below(draw.keys) as u32,
     };
-    let (inserts, deletes) = if grows { (85, 8) } else { (6, 86) };
+    let (inserts, deletes) = if grows { (74, 8) } else { (6, 72) };
     match random.below(100) {
         drawn if drawn < inserts => Op::Insert(key, random.below(1000) as u32),
         drawn if drawn < inserts + deletes && !there.is_empty() && random.percent(85) => {
             Op::Delete(random.one(there))
         }
         drawn if drawn < inserts + deletes => Op::Delete(key),
-        _ => Op::Search(key),
+        drawn if drawn >= 95 => Op::Search(key),
+        _ if !there.is_empty() && random.percent(70) => {
+            Op::Next(random.one(there).saturating_add(1))
+        }
+        _ => Op::Next(key),
     }
 }
 

@@ -5,6 +5,7 @@ mod built;
 mod fresh;
 mod limits;
 mod moment;
+mod second_way;
 mod spoiled;
 
 pub use built::built;

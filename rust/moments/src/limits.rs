@@ -41,27 +41,31 @@ fn drawn_state(random: &mut Random) -> State {
     state
 }
 
-/// An open slot that holds as many pages as it may, or some more; they go on from the last
-/// slot's.
-fn drawn_slot(random: &mut Random, n: u32, next: &mut u32) -> Slot {
+/// An operation, and how many pages it holds on its path and beside it: as many as it may, or some more.
+fn drawn_counts(random: &mut Random) -> (Op, usize, usize) {
     let key = random.below(9) as u32;
     let more = usize::from(random.percent(5));
-    let (op, depth, beside) = match random.below(5) {
+    let both = random.one(&[1, 2, 5, 9, 10, 10]) + usize::from(random.percent(3));
+    let beside = random.one(&[0, both / 2, both - 1]) + more;
+    match random.below(7) {
         0 => (Op::Search(key), random.one(&[0, 1, 1]) + more, 0),
         1 | 2 => (
             Op::Insert(key, 3),
             random.one(&[0, 1, 5, 9, 10, 10]) + more,
             0,
         ),
-        _ => {
-            let depth = random.one(&[1, 2, 5, 9, 10, 10]);
-            (
-                Op::Delete(key),
-                depth,
-                random.one(&[0, depth / 2, depth - 1]) + more,
-            )
-        }
-    };
+        3 | 4 => (Op::Delete(key), both, beside),
+        _ => (Op::Next(key), both, beside),
+    }
+}
+
+/// An open slot; its pages go on from the last slot's.
+fn drawn_slot(random: &mut Random, n: u32, next: &mut u32) -> Slot {
+    let (op, depth, beside) = drawn_counts(random);
+    // some share pages with the last slot: only two that read may
+    if matches!(op, Op::Next(_) | Op::Search(_)) && random.percent(20) {
+        *next = next.saturating_sub(random.below(12) as u32);
+    }
     let beside = beside + usize::from(random.percent(2));
     let mut slot = Slot {
         op: Some(op),

@@ -8,7 +8,7 @@ use crate::fresh::{draw, made, next_call, operation, Draw};
 use crate::moment::{Call, Moment};
 
 /// A moment in the middle of a random run, grown first and then mostly shrunk; best one where a
-/// deletion wants a sibling.
+/// deletion wants a sibling, or a `Next` is on its second way.
 fn middle(random: &mut Random) -> (Draw, Moment) {
     let mut draw = draw(random);
     draw.n = random.from(6, 24) as u32;
@@ -17,7 +17,7 @@ fn middle(random: &mut Random) -> (Draw, Moment) {
     let mut moment = made(draw.k, draw.n);
     let calls = random.from(40, 260) as usize;
     for at in 0.. {
-        if at >= calls && (has_sibling(&moment) || random.percent(20)) {
+        if at >= calls && (has_leaf(&moment) || random.percent(20)) {
             break;
         }
         let call = next_call(random, &draw, &moment, at);
@@ -26,8 +26,8 @@ fn middle(random: &mut Random) -> (Draw, Moment) {
     (draw, moment)
 }
 
-/// Whether some deletion holds its leaf.
-fn has_sibling(moment: &Moment) -> bool {
+/// Whether some operation holds its leaf.
+fn has_leaf(moment: &Moment) -> bool {
     let size = page_words(moment.state.k);
     moment.ready().iter().any(|&slot| {
         let lowest = moment.state.slots[slot].path().last().copied();
@@ -122,7 +122,7 @@ fn spoil_state(random: &mut Random, draw: &Draw, state: &mut State, number: usiz
     let cell = random.one(&[0, 0, 0, 1, 1, 2, 3, 9]);
     let key = random.below(draw.keys) as u32;
     let slot = &mut state.slots[number];
-    match random.below(18) {
+    match random.below(19) {
         0 => state.k = odd,
         1 => state.n = random.one(&[odd, draw.n - 1, draw.n + 1]),
         2 => {
@@ -158,6 +158,7 @@ fn spoil_state(random: &mut Random, draw: &Draw, state: &mut State, number: usiz
         14 => slot.op = None,
         15 => slot.op = Some(Op::Delete(key)),
         16 => slot.op = Some(Op::Insert(key, odd)),
+        17 => slot.op = Some(Op::Next(key)),
         _ => slot.op = Some(Op::Search(key)),
     }
 }

@@ -23,6 +23,10 @@ pub enum Answer {
     Made,
     /// The lock kind (0 none, 1 ρ, 2 ξ), how many hold the page, the lowest holder.
     Reported(u32, u32, u32),
+    /// The key and the information of the first entry at or above the key asked for.
+    Next(u32, u32),
+    /// There is no such entry.
+    None,
 }
 
 impl Answer {
@@ -48,6 +52,8 @@ impl Answer {
             Answer::Begun => vec![41],
             Answer::Made => vec![42],
             Answer::Reported(kind, holders, lowest) => vec![43, kind, holders, lowest],
+            Answer::Next(key, information) => vec![44, key, information],
+            Answer::None => vec![45],
         }
     }
 
@@ -73,6 +79,8 @@ impl Answer {
             Answer::Begun => "Begun",
             Answer::Made => "Made",
             Answer::Reported(..) => "Reported",
+            Answer::Next(..) => "Next",
+            Answer::None => "None",
         }
     }
 }

@@ -4,6 +4,7 @@
 use crate::answer::Answer;
 use crate::change::{delete, insert, room_is_short};
 use crate::page::{read_page, Page};
+use crate::second_way;
 use crate::state::{Op, Slot};
 
 /// A page with its number.
@@ -13,8 +14,8 @@ pub struct Held {
     pub page: Page,
 }
 
-/// The pages an operation holds: its path from the top downward, its siblings from the leaf's
-/// upward.
+/// The pages an operation holds: its path from the top downward; beside it a deletion's siblings
+/// from the leaf's upward, or the second way of a `Next` from the top downward.
 #[derive(Clone, Debug)]
 pub struct Reach {
     pub path: Vec<Held>,
@@ -76,8 +77,20 @@ fn read_sound(shape: Shape, words: &[u32], slot: &Slot, op: Op) -> Option<(Reach
 fn is_reach_right(k: u32, op: Op, reach: &Reach) -> bool {
     is_way(op.key(), &reach.path)
         && is_top_right(k, op, &reach.path)
-        && (has_leaf(reach) || reach.siblings.is_empty())
-        && (!has_leaf(reach) || (is_deleting_there(op, reach) && are_siblings_right(k, op, reach)))
+        && match lowest_leaf(reach) {
+            None => reach.siblings.is_empty(),
+            Some(leaf) => is_beside_right(k, op, leaf, reach),
+        }
+}
+
+/// Who keeps its leaf: a deletion whose key is there, with the siblings that the rules took, and a
+/// `Next` whose leaf has nothing for it, with its second way.
+fn is_beside_right(k: u32, op: Op, leaf: &Page, reach: &Reach) -> bool {
+    match op {
+        Op::Delete(key) => leaf.find(key).is_some() && are_siblings_right(k, op, reach),
+        Op::Next(key) => leaf.first_from(key).is_none() && second_way::is_right(key, reach),
+        Op::Search(_) | Op::Insert(..) => false,
+    }
 }
 
 /// Each path page is where the one above routes the key, one level lower.
@@ -91,39 +104,30 @@ fn is_step_down(key: u32, upper: &Page, lower: &Held) -> bool {
     !upper.is_leaf() && upper.route(key) == lower.number && upper.level == lower.page.level + 1
 }
 
-/// An update's top page is page 0 or safe, and none below it is safe.
+/// The top page is page 0 or safe, and none below it is safe.
 fn is_top_right(k: u32, op: Op, path: &[Held]) -> bool {
     let Some((top, below)) = path.split_first() else {
         return true;
     };
-    op.is_search()
-        || ((top.number == 0 || is_safe(k, op, &top.page))
-            && below.iter().all(|held| !is_safe(k, op, &held.page)))
+    (top.number == 0 || is_safe(k, op, &top.page))
+        && below.iter().all(|held| !is_safe(k, op, &held.page))
 }
 
-/// Whether no ancestor of the page can be changed by the operation.
+/// Whether the operation can do without the page's ancestors: they cannot be changed by it, or, for
+/// a `Next`, the page itself has a child to the right of the route.
 fn is_safe(k: u32, op: Op, page: &Page) -> bool {
     match op {
         Op::Search(_) => true,
         Op::Insert(..) => page.count() < 2 * k as usize,
         Op::Delete(_) => page.count() > k as usize,
+        Op::Next(key) => page.right_of_route(key).is_some(),
     }
 }
 
-/// Whether the lowest path page is a leaf.
-fn has_leaf(reach: &Reach) -> bool {
-    reach.path.last().is_some_and(|held| held.page.is_leaf())
-}
-
-/// Only a deletion keeps its leaf, and only if the key is there.
-fn is_deleting_there(op: Op, reach: &Reach) -> bool {
-    let Op::Delete(key) = op else {
-        return false;
-    };
-    reach
-        .path
-        .last()
-        .is_some_and(|leaf| leaf.page.find(key).is_some())
+/// The lowest path page, if it is a leaf.
+fn lowest_leaf(reach: &Reach) -> Option<&Page> {
+    let lowest = &reach.path.last()?.page;
+    lowest.is_leaf().then_some(lowest)
 }
 
 /// Each sibling held is the one the rules took, all of them join, and each left the father short.
@@ -153,10 +157,12 @@ fn is_want_right(k: u32, op: Op, reach: &Reach, wanted: &Held) -> bool {
     if reach.path.is_empty() {
         return wanted.number == 0;
     }
-    let father = if has_leaf(reach) {
-        reach.path.len().checked_sub(2 + reach.siblings.len())
-    } else {
-        Some(reach.path.len() - 1)
+    let father = match (lowest_leaf(reach), op) {
+        (Some(_), Op::Next(key)) => {
+            return second_way::is_right_at(key, reach, reach.siblings.len(), wanted);
+        }
+        (Some(_), _) => reach.path.len().checked_sub(2 + reach.siblings.len()),
+        (None, _) => Some(reach.path.len() - 1),
     };
     father.is_some_and(|at| {
         next_want(k, op, reach) == Some(wanted.number)
@@ -164,15 +170,22 @@ fn is_want_right(k: u32, op: Op, reach: &Reach, wanted: &Held) -> bool {
     })
 }
 
-/// The page wanted next with these pages held: the route, or a deletion's next sibling.
+/// The page wanted next with these pages held: the route, a deletion's next sibling, or what
+/// follows on the second way of a `Next`.
 fn next_want(k: u32, op: Op, reach: &Reach) -> Option<u32> {
     let lowest = &reach.path.last()?.page;
     if !lowest.is_leaf() {
         return Some(lowest.route(op.key()));
     }
-    let Op::Delete(_) = op else {
-        return None;
-    };
+    match op {
+        Op::Delete(_) => next_sibling(k, op, reach),
+        Op::Next(key) => second_way::next_want(key, reach),
+        Op::Search(_) | Op::Insert(..) => None,
+    }
+}
+
+/// The sibling that a deletion at its leaf wants next, if it needs one more.
+fn next_sibling(k: u32, op: Op, reach: &Reach) -> Option<u32> {
     let do_all_join = reach
         .siblings
         .last()
@@ -183,7 +196,7 @@ fn next_want(k: u32, op: Op, reach: &Reach) -> Option<u32> {
     sibling_at(k, op, reach, reach.siblings.len())
 }
 
-/// What is held after the grant: a safe page gives up its ancestors, a search its father.
+/// What is held after the grant: a safe page gives up its ancestors, and so a search its father.
 fn take(k: u32, op: Op, reach: Reach, wanted: Held) -> Reach {
     let Reach {
         mut path,
@@ -202,14 +215,28 @@ fn take(k: u32, op: Op, reach: Reach, wanted: Held) -> Reach {
 
 /// The answers that a leaf just granted gives without any change.
 fn answer_at_leaf(op: Op, reach: &Reach) -> Option<Answer> {
-    let leaf = reach.path.last().filter(|held| held.page.is_leaf())?;
-    let found = leaf.page.find(op.key()).map(|at| leaf.page.with[at]);
+    let leaf = lowest_leaf(reach)?;
+    let found = leaf.find(op.key()).map(|at| leaf.with[at]);
     match (op, found) {
+        (Op::Next(key), _) => next_entry(key, leaf, reach),
         (Op::Search(_), Some(information)) => Some(Answer::Found(information)),
         (Op::Search(_), None) => Some(Answer::NotFound),
         (Op::Insert(..), Some(_)) => Some(Answer::AlreadyThere),
         (Op::Delete(_), None) => Some(Answer::NoSuchKey),
         _ => None,
+    }
+}
+
+/// What a `Next` at its leaf is answered: an entry of the leaf, or the first of its second way's
+/// leaf, or None where there is no second way.
+fn next_entry(key: u32, leaf: &Page, reach: &Reach) -> Option<Answer> {
+    let entry = leaf
+        .first_from(key)
+        .or_else(|| second_way::first_entry(reach));
+    match entry {
+        Some((own, information)) => Some(Answer::Next(own, information)),
+        None if reach.path[0].page.right_of_route(key).is_none() => Some(Answer::None),
+        None => None,
     }
 }
 
@@ -233,6 +260,6 @@ fn change(shape: Shape, words: &mut [u32], op: Op, reach: Reach) -> Answer {
         Op::Insert(..) if room_is_short(shape, words, &reach.path) => Answer::NoRoom,
         Op::Insert(key, information) => insert(shape, words, key, information, reach.path),
         Op::Delete(key) => delete(shape, words, key, reach),
-        Op::Search(_) => unreachable!("a search ends at its leaf"),
+        Op::Search(_) | Op::Next(_) => unreachable!("it changes no page"),
     }
 }

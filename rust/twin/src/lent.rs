@@ -6,7 +6,7 @@
 //! | 3 to 18 | the waiting order, oldest first |
 //! | from 19 | rows of 16, one word a slot: kind, key, information, want, depth, number of siblings, then 10 rows of the path and 10 of the siblings |
 //!
-//! A kind is 0 for a closed slot, 1 for a search, 2 for an insertion, 3 for a deletion; any other is no state at all.
+//! A kind is 0 for a closed slot, 1 for a search, 2 for an insertion, 3 for a deletion, 4 for a `Next`; any other is no state at all.
 //! Words that a slot's kind does not use are not looked at, and are 0 where a call writes the slot.
 
 use crate::answer::Answer;
@@ -48,6 +48,7 @@ fn slot_of(words: &[u32; STATE], number: usize) -> Option<Slot> {
         1 => Some(Op::Search(word(1))),
         2 => Some(Op::Insert(word(1), word(2))),
         3 => Some(Op::Delete(word(1))),
+        4 => Some(Op::Next(word(1))),
         _ => return None,
     };
     Some(Slot {
@@ -88,6 +89,7 @@ fn write_slot(words: &mut [u32; STATE], state: &State, number: usize) {
         Some(Op::Search(key)) => (1, key, 0),
         Some(Op::Insert(key, information)) => (2, key, information),
         Some(Op::Delete(key)) => (3, key, 0),
+        Some(Op::Next(key)) => (4, key, 0),
     };
     let single = [
         kind,

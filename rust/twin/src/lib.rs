@@ -1,6 +1,6 @@
-//! Document 01 a second time: the index of lots as four plain calls.
+//! Document 01, with the requests of 02 that have landed, a second time: the index of lots as four plain calls.
 //!
-//! Written from the document alone, so that it shares nothing with the proved rules.
+//! Written from the documents alone, so that it shares nothing with the proved rules.
 //! It decodes every page it reads into lists, changes the lists and writes them back.
 //!
 //! ```
@@ -21,6 +21,7 @@ mod grant;
 mod lent;
 mod locks;
 mod page;
+mod second_way;
 mod state;
 
 pub use answer::Answer;

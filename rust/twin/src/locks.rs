@@ -18,7 +18,7 @@ pub fn must_wait(state: &State, number: usize) -> bool {
 
 /// Two ρ go together; ξ goes with nothing.
 fn clash(one: Op, other: Op) -> bool {
-    !(one.is_search() && other.is_search())
+    !(one.reads() && other.reads())
 }
 
 /// The slots that hold a page, lowest first, with their operations.
@@ -36,7 +36,7 @@ pub fn lock_report(state: &State, page: u32) -> Answer {
     match holders.first() {
         None => Answer::Reported(0, 0, 16),
         Some(&(lowest, op)) => {
-            let kind = if op.is_search() { 1 } else { 2 };
+            let kind = if op.reads() { 1 } else { 2 };
             Answer::Reported(kind, holders.len() as u32, lowest as u32)
         }
     }

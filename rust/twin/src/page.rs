@@ -35,6 +35,25 @@ impl Page {
         self.keys.iter().position(|&own| own == key)
     }
 
+    /// A leaf's first entry whose key is at or above this one.
+    pub fn first_from(&self, key: u32) -> Option<(u32, u32)> {
+        let at = self.keys.iter().position(|&own| own >= key)?;
+        Some((self.keys[at], self.with[at]))
+    }
+
+    /// An upper page's next child to the right of the route, if it has one.
+    pub fn right_of_route(&self, key: u32) -> Option<u32> {
+        if self.is_leaf() {
+            return None;
+        }
+        self.with.get(self.place(key) + 1).copied()
+    }
+
+    /// An upper page's first pointer.
+    pub fn first_child(&self) -> Option<u32> {
+        (!self.is_leaf()).then(|| self.with[0])
+    }
+
     /// Where an upper page has the pointer.
     pub fn place_of(&self, pointer: u32) -> usize {
         self.with

@@ -13,26 +13,29 @@ pub enum Op {
     Search(u32),
     Insert(u32, u32),
     Delete(u32),
+    /// The first entry at or above the key.
+    Next(u32),
 }
 
 impl Op {
     /// The key the operation is about.
     pub fn key(self) -> u32 {
         match self {
-            Op::Search(key) | Op::Insert(key, _) | Op::Delete(key) => key,
+            Op::Search(key) | Op::Insert(key, _) | Op::Delete(key) | Op::Next(key) => key,
         }
     }
 
     /// Whether its locks are ρ-locks.
-    pub fn is_search(self) -> bool {
-        matches!(self, Op::Search(_))
+    pub fn reads(self) -> bool {
+        matches!(self, Op::Search(_) | Op::Next(_))
     }
 }
 
 /// One slot: closed, or open with an operation, the page it wants and the pages it holds.
 ///
-/// The path goes from the top downward, the siblings from the leaf's upward. The counts may
-/// be any numbers, even larger than the arrays.
+/// The path goes from the top downward. A deletion's siblings go from the leaf's upward; a
+/// `Next` has its second way there, from the top downward. The counts may be any numbers, even
+/// larger than the arrays.
 #[derive(Clone, Copy, Debug, PartialEq, Eq)]
 pub struct Slot {
     pub op: Option<Op>,
@@ -144,30 +147,38 @@ fn is_order_sound(state: &State) -> bool {
 
 /// What is asked of one slot by itself.
 fn is_slot_sound(slot: &Slot, n: u32) -> bool {
-    let Some(op) = slot.op else {
-        return slot.depth == 0 && slot.beside == 0;
-    };
-    if !are_counts_sound(op, slot.depth, slot.beside) {
+    if !are_counts_sound(slot) {
         return false;
+    }
+    if slot.op.is_none() {
+        return true;
     }
     let held = slot.held();
     let is_twice = (1..held.len()).any(|i| held[..i].contains(&held[i]));
     slot.want < n && held.iter().all(|&page| page < n) && !is_twice && !slot.holds(slot.want)
 }
 
-/// How many pages an operation may hold.
-fn are_counts_sound(op: Op, depth: usize, beside: usize) -> bool {
+/// The most pages that a slot may hold, on its path and beside it.
+fn limits(op: Option<Op>) -> (usize, usize) {
     match op {
-        Op::Search(_) => depth <= 1 && beside == 0,
-        Op::Insert(..) => depth <= 10 && beside == 0,
-        Op::Delete(_) => depth <= 10 && beside <= 9 && (beside == 0 || beside < depth),
+        None => (0, 0),
+        Some(Op::Search(_)) => (1, 0),
+        Some(Op::Insert(..)) => (10, 0),
+        Some(Op::Delete(_)) => (10, 9),
+        Some(Op::Next(_)) => (10, 9),
     }
+}
+
+/// The counts are within their limits, and there are none beside or fewer than on the path.
+fn are_counts_sound(slot: &Slot) -> bool {
+    let (path, beside) = limits(slot.op);
+    slot.depth <= path && slot.beside <= beside && (slot.beside == 0 || slot.beside < slot.depth)
 }
 
 /// No ξ-held page is held by another slot; the slots are sound by themselves.
 fn are_locks_sound(state: &State) -> bool {
     state.slots.iter().enumerate().all(|(number, slot)| {
-        let is_exclusive = slot.op.is_some_and(|op| !op.is_search());
+        let is_exclusive = slot.op.is_some_and(|op| !op.reads());
         let is_elsewhere = |page: &u32| {
             state
                 .slots

@@ -13,10 +13,11 @@ fn middle(random: &mut Random, k: u32, n: u32) -> Run {
     for _ in 0..200 + random.below(100) {
         let slot = random.below(16) as usize;
         let key = random.below(40) as u32;
-        match random.below(8) {
+        match random.below(9) {
             0 | 1 => run.begin(slot, Op::Insert(key, key)),
             2 => run.begin(slot, Op::Delete(key)),
             3 => run.begin(slot, Op::Search(key)),
+            4 => run.begin(slot, Op::Next(key)),
             _ => run.step(slot),
         };
     }
@@ -30,7 +31,7 @@ fn spoil(random: &mut Random, state: &mut State) {
     let cell = random.below(10) as usize;
     let number = random.below(16) as usize;
     let slot = &mut state.slots[number];
-    match random.below(11) {
+    match random.below(12) {
         0 => state.k = drawn,
         1 => state.n = drawn,
         2 => state.waiting = drawn as usize,
@@ -41,6 +42,7 @@ fn spoil(random: &mut Random, state: &mut State) {
         7 => slot.path[cell] = drawn,
         8 => slot.siblings[cell] = drawn,
         9 => slot.op = None,
+        10 => slot.op = Some(Op::Next(drawn)),
         _ => slot.op = Some(Op::Delete(drawn)),
     }
 }

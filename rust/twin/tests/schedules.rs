@@ -23,10 +23,13 @@ fn operation(random: &mut Random, keys: u64, grows: bool) -> Op {
         1 => u32::MAX,
         _ => random.below(keys) as u32,
     };
-    let (inserts, deletes) = if grows { (60, 15) } else { (15, 65) };
+    let (inserts, deletes) = if grows { (55, 15) } else { (15, 55) };
     match random.below(100) {
         drawn if drawn < inserts => Op::Insert(key, random.bits() as u32),
         drawn if drawn < inserts + deletes => Op::Delete(key),
+        // often beyond the last lot
+        drawn if drawn % 6 == 0 => Op::Next(u32::MAX),
+        drawn if drawn % 2 == 0 => Op::Next(key),
         _ => Op::Search(key),
     }
 }
@@ -124,7 +127,11 @@ fn every_kind_of_answer() {
     for _ in 0..20_000 {
         let slot = random.below(16) as usize;
         if random.percent(40) {
-            run.begin(slot, operation(&mut random, 30, true));
+            let op = operation(&mut random, 30, true);
+            // with the largest key there would always be a next one
+            if op.key() < u32::MAX || matches!(op, Op::Next(_)) {
+                run.begin(slot, op);
+            }
         } else {
             run.step(slot);
         }
@@ -139,6 +146,8 @@ fn every_kind_of_answer() {
         "Deleted",
         "NoSuchKey",
         "NoRoom",
+        "Next",
+        "None",
         "SlotIdle",
     ];
     for name in heard {

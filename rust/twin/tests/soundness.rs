@@ -100,27 +100,29 @@ fn the_order_names_each_open_slot_once_and_no_other() {
 
 #[test]
 fn all_pages_named_are_below_n() {
-    let delete = Op::Delete(5);
-    for (want, path, sibling, unsound) in [
-        (63, 62, 61, false),
-        (64, 62, 61, true),
-        (63, 64, 61, true),
-        (63, 62, 64, true),
-    ] {
-        let state = with(&[(0, slot(delete, want, &[path, 9], &[sibling]))]);
-        assert_eq!(bad(&state), unsound, "{want} {path} {sibling}");
+    for op in [Op::Delete(5), Op::Next(5)] {
+        for (want, path, sibling, unsound) in [
+            (63, 62, 61, false),
+            (64, 62, 61, true),
+            (63, 64, 61, true),
+            (63, 62, 64, true),
+        ] {
+            let state = with(&[(0, slot(op, want, &[path, 9], &[sibling]))]);
+            assert_eq!(bad(&state), unsound, "{op:?}: {want} {path} {sibling}");
+        }
     }
 }
 
 #[test]
 fn no_slot_holds_a_page_twice_or_wants_one_it_holds() {
-    let delete = Op::Delete(5);
-    assert!(!bad(&with(&[(0, slot(delete, 4, &[1, 2], &[3]))])));
-    assert!(bad(&with(&[(0, slot(delete, 4, &[1, 1], &[3]))])));
-    assert!(bad(&with(&[(0, slot(delete, 4, &[1, 2], &[2]))])));
-    assert!(bad(&with(&[(0, slot(delete, 4, &[1, 2, 6], &[3, 3]))])));
-    assert!(bad(&with(&[(0, slot(delete, 2, &[1, 2], &[3]))])));
-    assert!(bad(&with(&[(0, slot(delete, 3, &[1, 2], &[3]))])));
+    for op in [Op::Delete(5), Op::Next(5)] {
+        assert!(!bad(&with(&[(0, slot(op, 4, &[1, 2], &[3]))])));
+        assert!(bad(&with(&[(0, slot(op, 4, &[1, 1], &[3]))])));
+        assert!(bad(&with(&[(0, slot(op, 4, &[1, 2], &[2]))])));
+        assert!(bad(&with(&[(0, slot(op, 4, &[1, 2, 6], &[3, 3]))])));
+        assert!(bad(&with(&[(0, slot(op, 2, &[1, 2], &[3]))])));
+        assert!(bad(&with(&[(0, slot(op, 3, &[1, 2], &[3]))])));
+    }
 }
 
 #[test]
@@ -130,25 +132,26 @@ fn how_many_pages_an_operation_holds() {
         bad(&with(&[(0, slot(op, 50, &pages(path), &siblings))]))
     };
     let (search, insert, delete) = (Op::Search(5), Op::Insert(5, 1), Op::Delete(5));
+    let next = Op::Next(5);
     assert!(!held(search, 1, 0) && held(search, 2, 0));
     assert!(!held(insert, 10, 0));
     assert!(!held(delete, 10, 9));
     assert!(!held(delete, 3, 0) && !held(delete, 3, 2) && held(delete, 3, 3));
+    assert!(!held(next, 10, 9) && !held(next, 10, 0));
+    assert!(!held(next, 3, 0) && !held(next, 3, 2) && held(next, 3, 3));
+    assert!(!held(next, 0, 0) && held(next, 0, 1) && held(next, 1, 1));
     assert!(held(search, 1, 1) && held(insert, 2, 1));
-    let mut longer = with(&[(0, slot(insert, 50, &pages(10), &[]))]);
-    longer.slots[0].depth = 11;
-    assert!(bad(&longer));
-    let mut more = with(&[(
-        0,
-        slot(
-            delete,
-            50,
-            &pages(10),
-            &[20, 21, 22, 23, 24, 25, 26, 27, 28],
-        ),
-    )]);
-    more.slots[0].beside = 10;
-    assert!(bad(&more));
+    for op in [insert, delete, next] {
+        let mut longer = with(&[(0, slot(op, 50, &pages(10), &[]))]);
+        longer.slots[0].depth = 11;
+        assert!(bad(&longer), "{op:?}");
+    }
+    for op in [delete, next] {
+        let siblings = [20, 21, 22, 23, 24, 25, 26, 27, 28];
+        let mut more = with(&[(0, slot(op, 50, &pages(10), &siblings))]);
+        more.slots[0].beside = 10;
+        assert!(bad(&more), "{op:?}");
+    }
 }
 
 #[test]
@@ -172,20 +175,24 @@ fn no_updated_page_is_held_by_another_slot() {
             (1, slot(b, 41, &[7], &[])),
         ]))
     };
-    assert!(!both(search, search));
+    let next = Op::Next(5);
+    assert!(!both(search, search) && !both(search, next) && !both(next, next));
+    assert!(both(next, insert) && both(insert, next) && both(next, delete) && both(delete, next));
     assert!(
         both(search, insert)
             && both(insert, search)
             && both(insert, delete)
             && both(delete, delete)
     );
-    let beside = |b| {
+    let beside = |a, b| {
         bad(&with(&[
-            (0, slot(delete, 40, &[7, 8], &[9])),
+            (0, slot(a, 40, &[7, 8], &[9])),
             (1, slot(b, 41, &[9], &[])),
         ]))
     };
-    assert!(beside(search) && beside(insert));
+    assert!(beside(delete, search) && beside(delete, insert) && beside(delete, next));
+    assert!(beside(next, insert) && beside(next, delete));
+    assert!(!beside(next, search) && !beside(next, next));
     let wanted = with(&[
         (0, slot(insert, 40, &[7], &[])),
         (1, slot(search, 7, &[6], &[])),

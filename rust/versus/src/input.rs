@@ -54,5 +54,6 @@ pub fn begin_line(slot: u64, op: Op) -> String {
         Op::Search(key) => format!("b {slot} s {key}"),
         Op::Insert(key, information) => format!("b {slot} i {key} {information}"),
         Op::Delete(key) => format!("b {slot} d {key}"),
+        Op::Next(key) => format!("b {slot} n {key}"),
     }
 }

@@ -114,11 +114,15 @@ impl Run {
         }
     }
 
-    /// Search and insertion take h grants, deletion h to 2h-1.
+    /// Search and insertion take h grants, deletion and next h to 2h-1.
     fn judge_grants(&self, slot: usize, op: Op, answer: Answer) {
         let (taken, height) = (self.grants[slot], self.height[slot]);
         match op {
             Op::Delete(_) if answer != Answer::NoSuchKey => {
+                assert!((height..=2 * height - 1).contains(&taken));
+            }
+            // by its second way just those that go down from the page with a child to the right
+            Op::Next(_) if answer != Answer::None => {
                 assert!((height..=2 * height - 1).contains(&taken));
             }
             _ => assert_eq!(taken, height),
@@ -215,14 +219,17 @@ impl Run {
                 holders.entry(page).or_default().push(number);
             }
         }
-        let is_search = |slot: &usize| matches!(self.state.slots[*slot].op, Some(Op::Search(_)));
+        let reads = |slot: &usize| {
+            let op = self.state.slots[*slot].op;
+            matches!(op, Some(Op::Search(_) | Op::Next(_)))
+        };
         for page in 0..self.n {
             let by = holders.get(&page).cloned().unwrap_or_default();
-            let all_search = by.iter().all(is_search);
-            assert!(by.len() < 2 || all_search);
+            let all_read = by.iter().all(reads);
+            assert!(by.len() < 2 || all_read);
             let kind = if by.is_empty() {
                 0
-            } else if all_search {
+            } else if all_read {
                 1
             } else {
                 2
@@ -255,6 +262,10 @@ fn list_answer(list: &mut BTreeMap<u32, u32>, op: Op) -> Answer {
         Op::Search(key) => list
             .get(&key)
             .map_or(Answer::NotFound, |&with| Answer::Found(with)),
+        Op::Next(key) => list
+            .range(key..)
+            .next()
+            .map_or(Answer::None, |(&own, &with)| Answer::Next(own, with)),
         Op::Delete(key) => list.remove(&key).map_or(Answer::NoSuchKey, Answer::Deleted),
         Op::Insert(key, _) if list.contains_key(&key) => Answer::AlreadyThere,
         Op::Insert(key, with) => {

@@ -2,8 +2,8 @@
 use mathlib.Core.Path.{refl}
 use native.Mathlib.Omega.{arith}
 use lib.Dec.{lit≤}
-use Rattle.slots.specs.declared.Answer.the-variants.{Waiting, Moved, Found, NotFound, Inserted, AlreadyThere, Deleted, NoSuchKey, NoRoom, Begun, Made, Reported, BadState, BadPool, BadSlot, SlotBusy, SlotIdle, Damaged, BadPage}
-use Rattle.answers.proofs.Answers.{answered, room, found-short, deleted-short}
+use Rattle.slots.specs.declared.Answer.the-variants.{Waiting, Moved, Found, NotFound, Inserted, AlreadyThere, Deleted, NoSuchKey, NoRoom, Begun, Made, Reported, Next, None, BadState, BadPool, BadSlot, SlotBusy, SlotIdle, Damaged, BadPage}
+use Rattle.answers.proofs.Answers.{answered, room, found-short, deleted-short, next-short}
 use Rattle.answers.proofs.writing.write_answer.Statement.{statement}
 use Rattle.answers.proofs.writing.write_answer.Tie as tie
 
@@ -115,8 +115,17 @@ slice-aggregate-write-word-10 c = refl
 write-word-requires-10 : tie.Need-write-word-requires-10
 write-word-requires-10 c κs = room _ _ (c .before .before .before .before .before .pre) (lit≤ tt)
 
+enum-known-a-3 : tie.Need-enum-known-a-3
+enum-known-a-3 c = c .match .keys13
+
+slice-aggregate-write-lot : tie.Need-slice-aggregate-write-lot
+slice-aggregate-write-lot c = refl
+
+write-lot-requires : tie.Need-write-lot-requires
+write-lot-requires c κs = omega (arith, c .before .before .before .before .before .before .pre)
+
 enum-told-11 : tie.Need-enum-told-11
-enum-told-11 c = c .match .keys13
+enum-told-11 c = c .match .keys14
 
 slice-aggregate-write-word-11 : tie.Need-slice-aggregate-write-word-11
 slice-aggregate-write-word-11 c = refl
@@ -125,7 +134,7 @@ write-word-requires-11 : tie.Need-write-word-requires-11
 write-word-requires-11 c κs = room _ _ (c .before .before .before .before .before .pre) (lit≤ tt)
 
 enum-told-12 : tie.Need-enum-told-12
-enum-told-12 c = c .match .keys14
+enum-told-12 c = c .match .keys15
 
 slice-aggregate-write-word-12 : tie.Need-slice-aggregate-write-word-12
 slice-aggregate-write-word-12 c = refl
@@ -134,7 +143,7 @@ write-word-requires-12 : tie.Need-write-word-requires-12
 write-word-requires-12 c κs = room _ _ (c .before .before .before .before .before .pre) (lit≤ tt)
 
 enum-told-13 : tie.Need-enum-told-13
-enum-told-13 c = c .match .keys15
+enum-told-13 c = c .match .keys16
 
 slice-aggregate-write-word-13 : tie.Need-slice-aggregate-write-word-13
 slice-aggregate-write-word-13 c = refl
@@ -143,7 +152,7 @@ write-word-requires-13 : tie.Need-write-word-requires-13
 write-word-requires-13 c κs = room _ _ (c .before .before .before .before .before .pre) (lit≤ tt)
 
 enum-told-14 : tie.Need-enum-told-14
-enum-told-14 c = c .match .keys16
+enum-told-14 c = c .match .keys17
 
 slice-aggregate-write-word-14 : tie.Need-slice-aggregate-write-word-14
 slice-aggregate-write-word-14 c = refl
@@ -152,7 +161,7 @@ write-word-requires-14 : tie.Need-write-word-requires-14
 write-word-requires-14 c κs = room _ _ (c .before .before .before .before .before .pre) (lit≤ tt)
 
 enum-told-15 : tie.Need-enum-told-15
-enum-told-15 c = c .match .keys17
+enum-told-15 c = c .match .keys18
 
 slice-aggregate-write-word-15 : tie.Need-slice-aggregate-write-word-15
 slice-aggregate-write-word-15 c = refl
@@ -161,7 +170,7 @@ write-word-requires-15 : tie.Need-write-word-requires-15
 write-word-requires-15 c κs = room _ _ (c .before .before .before .before .before .pre) (lit≤ tt)
 
 enum-told-16 : tie.Need-enum-told-16
-enum-told-16 c = c .match .keys18
+enum-told-16 c = c .match .keys19
 
 slice-aggregate-write-word-16 : tie.Need-slice-aggregate-write-word-16
 slice-aggregate-write-word-16 c = refl
@@ -170,13 +179,22 @@ write-word-requires-16 : tie.Need-write-word-requires-16
 write-word-requires-16 c κs = room _ _ (c .before .before .before .before .before .pre) (lit≤ tt)
 
 enum-told-17 : tie.Need-enum-told-17
-enum-told-17 c = c .match .keys19
+enum-told-17 c = c .match .keys20
 
 slice-aggregate-write-word-17 : tie.Need-slice-aggregate-write-word-17
 slice-aggregate-write-word-17 c = refl
 
 write-word-requires-17 : tie.Need-write-word-requires-17
 write-word-requires-17 c κs = room _ _ (c .before .before .before .before .before .pre) (lit≤ tt)
+
+enum-told-18 : tie.Need-enum-told-18
+enum-told-18 c = c .match .keys21
+
+slice-aggregate-write-word-18 : tie.Need-slice-aggregate-write-word-18
+slice-aggregate-write-word-18 c = refl
+
+write-word-requires-18 : tie.Need-write-word-requires-18
+write-word-requires-18 c κs = room _ _ (c .before .before .before .before .before .pre) (lit≤ tt)
 
 same-length : tie.Need-same-length
 same-length c = c .before .before .write-word .kept .0
@@ -255,46 +273,61 @@ returns-12 : tie.Need-returns-12
 returns-12 c = answered (Reported _ _ _) (c .before .before .before .before .before .before .before .before .args .out .now) (c .before .before .before .before .before .before .before .before .args .at) (c .before .before .before .before .before .enum-told10 .given .1) (c .before .before .write-word10 .ensures) (lit≤ tt)
 
 same-length-13 : tie.Need-same-length-13
-same-length-13 c = c .before .before .write-word11 .kept .0
+same-length-13 c = c .before .before .write-lot .kept .0
 
 returns-13 : tie.Need-returns-13
-returns-13 c = answered BadState (c .before .before .before .before .before .before .before .before .args .out .now) (c .before .before .before .before .before .before .before .before .args .at) (c .before .before .before .before .before .enum-told11 .given .1) (c .before .before .write-word11 .ensures) (lit≤ tt)
+returns-13 c =
+    let x = c .before .before .before .before .before .before .a3 .given .0 .0 in
+    let v = c .before .before .before .before .before .before .a3 .given .0 .1 .0 in
+    answered (Next x v) (c .before .before .before .before .before .before .before .before .before .args .out .now) (c .before .before .before .before .before .before .before .before .before .args .at) (c .before .before .before .before .before .before .a3 .given .1) (c .before .before .write-lot .ensures) (next-short x v (omega arith) (omega arith))
 
 same-length-14 : tie.Need-same-length-14
-same-length-14 c = c .before .before .write-word12 .kept .0
+same-length-14 c = c .before .before .write-word11 .kept .0
 
 returns-14 : tie.Need-returns-14
-returns-14 c = answered BadPool (c .before .before .before .before .before .before .before .before .args .out .now) (c .before .before .before .before .before .before .before .before .args .at) (c .before .before .before .before .before .enum-told12 .given .1) (c .before .before .write-word12 .ensures) (lit≤ tt)
+returns-14 c = answered None (c .before .before .before .before .before .before .before .before .args .out .now) (c .before .before .before .before .before .before .before .before .args .at) (c .before .before .before .before .before .enum-told11 .given .1) (c .before .before .write-word11 .ensures) (lit≤ tt)
 
 same-length-15 : tie.Need-same-length-15
-same-length-15 c = c .before .before .write-word13 .kept .0
+same-length-15 c = c .before .before .write-word12 .kept .0
 
 returns-15 : tie.Need-returns-15
-returns-15 c = answered BadSlot (c .before .before .before .before .before .before .before .before .args .out .now) (c .before .before .before .before .before .before .before .before .args .at) (c .before .before .before .before .before .enum-told13 .given .1) (c .before .before .write-word13 .ensures) (lit≤ tt)
+returns-15 c = answered BadState (c .before .before .before .before .before .before .before .before .args .out .now) (c .before .before .before .before .before .before .before .before .args .at) (c .before .before .before .before .before .enum-told12 .given .1) (c .before .before .write-word12 .ensures) (lit≤ tt)
 
 same-length-16 : tie.Need-same-length-16
-same-length-16 c = c .before .before .write-word14 .kept .0
+same-length-16 c = c .before .before .write-word13 .kept .0
 
 returns-16 : tie.Need-returns-16
-returns-16 c = answered SlotBusy (c .before .before .before .before .before .before .before .before .args .out .now) (c .before .before .before .before .before .before .before .before .args .at) (c .before .before .before .before .before .enum-told14 .given .1) (c .before .before .write-word14 .ensures) (lit≤ tt)
+returns-16 c = answered BadPool (c .before .before .before .before .before .before .before .before .args .out .now) (c .before .before .before .before .before .before .before .before .args .at) (c .before .before .before .before .before .enum-told13 .given .1) (c .before .before .write-word13 .ensures) (lit≤ tt)
 
 same-length-17 : tie.Need-same-length-17
-same-length-17 c = c .before .before .write-word15 .kept .0
+same-length-17 c = c .before .before .write-word14 .kept .0
 
 returns-17 : tie.Need-returns-17
-returns-17 c = answered SlotIdle (c .before .before .before .before .before .before .before .before .args .out .now) (c .before .before .before .before .before .before .before .before .args .at) (c .before .before .before .before .before .enum-told15 .given .1) (c .before .before .write-word15 .ensures) (lit≤ tt)
+returns-17 c = answered BadSlot (c .before .before .before .before .before .before .before .before .args .out .now) (c .before .before .before .before .before .before .before .before .args .at) (c .before .before .before .before .before .enum-told14 .given .1) (c .before .before .write-word14 .ensures) (lit≤ tt)
 
 same-length-18 : tie.Need-same-length-18
-same-length-18 c = c .before .before .write-word16 .kept .0
+same-length-18 c = c .before .before .write-word15 .kept .0
 
 returns-18 : tie.Need-returns-18
-returns-18 c = answered Damaged (c .before .before .before .before .before .before .before .before .args .out .now) (c .before .before .before .before .before .before .before .before .args .at) (c .before .before .before .before .before .enum-told16 .given .1) (c .before .before .write-word16 .ensures) (lit≤ tt)
+returns-18 c = answered SlotBusy (c .before .before .before .before .before .before .before .before .args .out .now) (c .before .before .before .before .before .before .before .before .args .at) (c .before .before .before .before .before .enum-told15 .given .1) (c .before .before .write-word15 .ensures) (lit≤ tt)
 
 same-length-19 : tie.Need-same-length-19
-same-length-19 c = c .before .before .write-word17 .kept .0
+same-length-19 c = c .before .before .write-word16 .kept .0
 
 returns-19 : tie.Need-returns-19
-returns-19 c = answered BadPage (c .before .before .before .before .before .before .before .before .args .out .now) (c .before .before .before .before .before .before .before .before .args .at) (c .before .before .before .before .before .enum-told17 .given .1) (c .before .before .write-word17 .ensures) (lit≤ tt)
+returns-19 c = answered SlotIdle (c .before .before .before .before .before .before .before .before .args .out .now) (c .before .before .before .before .before .before .before .before .args .at) (c .before .before .before .before .before .enum-told16 .given .1) (c .before .before .write-word16 .ensures) (lit≤ tt)
+
+same-length-20 : tie.Need-same-length-20
+same-length-20 c = c .before .before .write-word17 .kept .0
+
+returns-20 : tie.Need-returns-20
+returns-20 c = answered Damaged (c .before .before .before .before .before .before .before .before .args .out .now) (c .before .before .before .before .before .before .before .before .args .at) (c .before .before .before .before .before .enum-told17 .given .1) (c .before .before .write-word17 .ensures) (lit≤ tt)
+
+same-length-21 : tie.Need-same-length-21
+same-length-21 c = c .before .before .write-word18 .kept .0
+
+returns-21 : tie.Need-returns-21
+returns-21 c = answered BadPage (c .before .before .before .before .before .before .before .before .args .out .now) (c .before .before .before .before .before .before .before .before .args .at) (c .before .before .before .before .before .enum-told18 .given .1) (c .before .before .write-word18 .ensures) (lit≤ tt)
 
 pub write-answer-spec : {M : Type 1} → statement M
 write-answer-spec =
@@ -336,6 +369,9 @@ write-answer-spec =
     enum-told-10
     slice-aggregate-write-word-10
     write-word-requires-10
+    enum-known-a-3
+    slice-aggregate-write-lot
+    write-lot-requires
     enum-told-11
     slice-aggregate-write-word-11
     write-word-requires-11
@@ -357,6 +393,9 @@ write-answer-spec =
     enum-told-17
     slice-aggregate-write-word-17
     write-word-requires-17
+    enum-told-18
+    slice-aggregate-write-word-18
+    write-word-requires-18
     same-length
     returns
     same-length-2
@@ -394,4 +433,8 @@ write-answer-spec =
     same-length-18
     returns-18
     same-length-19
-    returns-19)
+    returns-19
+    same-length-20
+    returns-20
+    same-length-21
+    returns-21)

@@ -46,6 +46,9 @@ enum-known-answer-3 c = search needs
 lock-number-requires : tie.Need-lock-number-requires
 lock-number-requires c κs = search needs
 
+enum-known-answer-4 : tie.Need-enum-known-answer-4
+enum-known-answer-4 c = search needs
+
 enum-told-10 : tie.Need-enum-told-10
 enum-told-10 c = search needs
 
@@ -66,6 +69,9 @@ enum-told-15 c = search needs
 
 enum-told-16 : tie.Need-enum-told-16
 enum-told-16 c = search needs
+
+enum-told-17 : tie.Need-enum-told-17
+enum-told-17 c = search needs
 
 returns : tie.Need-returns
 returns c = sym (ap told (c .enum-told .given .1))
@@ -106,25 +112,31 @@ returns-12 c =
     ap (λ (lock : ℕ). 43 ∷ lock ∷ given .0 .1 .0 ∷ given .0 .1 .1 .0 ∷ []) (c .lock-number .ensures) ∙ sym (ap told (given .1))
 
 returns-13 : tie.Need-returns-13
-returns-13 c = sym (ap told (c .enum-told10 .given .1))
+returns-13 c = sym (ap told (c .before .answer4 .given .1))
 
 returns-14 : tie.Need-returns-14
-returns-14 c = sym (ap told (c .enum-told11 .given .1))
+returns-14 c = sym (ap told (c .enum-told10 .given .1))
 
 returns-15 : tie.Need-returns-15
-returns-15 c = sym (ap told (c .enum-told12 .given .1))
+returns-15 c = sym (ap told (c .enum-told11 .given .1))
 
 returns-16 : tie.Need-returns-16
-returns-16 c = sym (ap told (c .enum-told13 .given .1))
+returns-16 c = sym (ap told (c .enum-told12 .given .1))
 
 returns-17 : tie.Need-returns-17
-returns-17 c = sym (ap told (c .enum-told14 .given .1))
+returns-17 c = sym (ap told (c .enum-told13 .given .1))
 
 returns-18 : tie.Need-returns-18
-returns-18 c = sym (ap told (c .enum-told15 .given .1))
+returns-18 c = sym (ap told (c .enum-told14 .given .1))
 
 returns-19 : tie.Need-returns-19
-returns-19 c = sym (ap told (c .enum-told16 .given .1))
+returns-19 c = sym (ap told (c .enum-told15 .given .1))
+
+returns-20 : tie.Need-returns-20
+returns-20 c = sym (ap told (c .enum-told16 .given .1))
+
+returns-21 : tie.Need-returns-21
+returns-21 c = sym (ap told (c .enum-told17 .given .1))
 
 pub numbers-spec : {M : Type 1} → statement M
 numbers-spec =
@@ -143,6 +155,7 @@ numbers-spec =
     enum-told-9
     enum-known-answer-3
     lock-number-requires
+    enum-known-answer-4
     enum-told-10
     enum-told-11
     enum-told-12
@@ -150,6 +163,7 @@ numbers-spec =
     enum-told-14
     enum-told-15
     enum-told-16
+    enum-told-17
     returns
     returns-2
     returns-3
@@ -168,4 +182,6 @@ numbers-spec =
     returns-16
     returns-17
     returns-18
-    returns-19)
+    returns-19
+    returns-20
+    returns-21)

@@ -2,12 +2,14 @@
 use Rattle.ground.specs.Limits.{slotCount, largestK, largestN}
 use Rattle.index.proofs.StepLaws.{Passed, says-unsound, says-pool, says-slot, words-passed, says-idle, open-waits, open-asks, says-waiting, says-granted}
 use Rattle.state.proofs.CheckingLawsSound.{SoundWords, sound-words}
+use Rattle.lent.proofs.HoldLaws.{kind-of-open}
 use Rattle.lent.proofs.StateLaws.{slot-read}
-use Rattle.lent.specs.Words.{asRead}
+use Rattle.lent.specs.Words.{cell, asRead}
+use Rattle.slots.specs.declared.Slot.{Slot}
 use Rattle.slots.specs.Parts.{slotAt}
 use borrow.Author.Tests.{not-true, not-false}
 use native.Mathlib.Omega.{arith}
-use mathlib.Core.Path.{_≡_, sym, _∙_}
+use mathlib.Core.Path.{_≡_, sym, ap, _∙_}
 use borrow.Author.Needs.{needs}
 use Rattle.index.proofs.calls.step.Statement.{statement}
 use Rattle.index.proofs.calls.step.Tie as tie
@@ -97,7 +99,10 @@ grants-requires : tie.Need-grants-requires
 unfolding slotCount
 grants-requires c κs =
     let w = kept (c .before .before .before .before .before .before .before .before .before .before .before .before) in
-    ((c .before .before .before .before .before .before .if3 .left, w .exist, w .short), (w .facts .waits, w .facts .orderBelow))
+    let was = c .before .before .before .before .before .before .before .before .before .before .before .before .before .before .before .before .args in
+    let task = ap (λ (x : Slot). x .task) (sym (c .before .before .before .before .slot-at .ensures)) ∙ c .before .before .task .given .1 in
+    let opened = kind-of-open (cell (was .state .now) 0 (was .s)) (cell (was .state .now) 1 (was .s)) (cell (was .state .now) 2 (was .s)) task in
+    ((c .before .before .before .before .before .before .if3 .left, w .exist, w .short, opened), (w .facts .waits, w .facts .orderBelow))
 
 same-length-4 : tie.Need-same-length-4
 same-length-4 c = search needs

@@ -58,10 +58,27 @@ unfolding asking
 returns-3 c =
     rw (sym (c .before .before .before .before .before .before .before .before .goes-on .ensures) ∙ c .before .before .before .before .before .before .before .if1 .left, sym (c .before .before .before .before .before .goes-on2 .ensures) ∙ c .before .before .before .before .if2 .left, sym (c .before .before .goes-on3 .ensures) ∙ c .before .if3 .taken, drop-drop 3 (c .before .before .before .before .before .before .before .before .before .before .before .args .at) (c .before .before .before .before .before .before .before .before .before .before .before .args .line .now)) (c .read-delete .ensures)
 
+slice-aggregate-goes-on-4 : tie.Need-slice-aggregate-goes-on-4
+slice-aggregate-goes-on-4 c = search needs
+
+goes-on-requires-4 : tie.Need-goes-on-requires-4
+goes-on-requires-4 c κs = search needs
+
+add-read-next : tie.Need-add-read-next
+add-read-next c = search needs
+
+read-next-requires : tie.Need-read-next-requires
+read-next-requires c κs = begins-within _ _ _ (c .before .before .before .before .before .before .before .before .before .before .before .before .before .pre) (sym (c .before .goes-on4 .ensures) ∙ c .if4 .taken)
+
 returns-4 : tie.Need-returns-4
 unfolding asking
 returns-4 c =
-    rw (sym (c .before .before .before .before .before .before .before .goes-on .ensures) ∙ c .before .before .before .before .before .before .if1 .left, sym (c .before .before .before .before .goes-on2 .ensures) ∙ c .before .before .before .if2 .left, sym (c .before .goes-on3 .ensures) ∙ c .if3 .left)
+    rw (sym (c .before .before .before .before .before .before .before .before .before .before .before .goes-on .ensures) ∙ c .before .before .before .before .before .before .before .before .before .before .if1 .left, sym (c .before .before .before .before .before .before .before .before .goes-on2 .ensures) ∙ c .before .before .before .before .before .before .before .if2 .left, sym (c .before .before .before .before .before .goes-on3 .ensures) ∙ c .before .before .before .before .if3 .left, sym (c .before .before .goes-on4 .ensures) ∙ c .before .if4 .taken, drop-drop 3 (c .before .before .before .before .before .before .before .before .before .before .before .before .before .before .args .at) (c .before .before .before .before .before .before .before .before .before .before .before .before .before .before .args .line .now)) (c .read-next .ensures)
+
+returns-5 : tie.Need-returns-5
+unfolding asking
+returns-5 c =
+    rw (sym (c .before .before .before .before .before .before .before .before .before .before .goes-on .ensures) ∙ c .before .before .before .before .before .before .before .before .before .if1 .left, sym (c .before .before .before .before .before .before .before .goes-on2 .ensures) ∙ c .before .before .before .before .before .before .if2 .left, sym (c .before .before .before .before .goes-on3 .ensures) ∙ c .before .before .before .if3 .left, sym (c .before .goes-on4 .ensures) ∙ c .if4 .left)
 
 pub read-asked-spec : {M : Type 1} → statement M
 read-asked-spec =
@@ -82,4 +99,9 @@ read-asked-spec =
     add-read-delete
     read-delete-requires
     returns-3
-    returns-4)
+    slice-aggregate-goes-on-4
+    goes-on-requires-4
+    add-read-next
+    read-next-requires
+    returns-4
+    returns-5)

@@ -2,9 +2,8 @@
 use Rattle.state.proofs.MaskLaws.{mask-none, mask-sets, mask-keeps}
 use Rattle.state.specs.Checking.{updates}
 use Rattle.slots.specs.Report.{maskBelow}
-use borrow.Author.Tests.{lt-ltb, le-ltb}
 use lib.Bits.{bitOr}
-use lib.Dec.{ltb}
+use Rattle.lent.specs.Holds.{updatesKind}
 use native.Mathlib.Omega.{arith}
 use mathlib.Core.Logic.{⊎-elim}
 use mathlib.Core.Path.{_≡_, sym, ap, _∙_}
@@ -25,6 +24,9 @@ loop-holds c = (omega arith, sym (mask-none (updates (c .args .cells .now))))
 kind-at-requires : tie.Need-kind-at-requires Inv-loop μ-loop
 kind-at-requires c κs = omega arith
 
+is-update-requires : tie.Need-is-update-requires Inv-loop μ-loop
+is-update-requires c κs = search needs
+
 cast-mask : tie.Need-cast-mask Inv-loop μ-loop
 cast-mask c = search needs
 
@@ -39,14 +41,13 @@ loop-less c = search needs
 
 loop-again : tie.Need-loop-again Inv-loop μ-loop
 loop-again c =
-    let ws = c .before .before .before .before .args .cells .now in
-    let l = c .before .before .before .loop in
-    let kind : ℕ = c .before .kind-at .result in
-    let said = ap (ltb 1) (sym (c .before .kind-at .ensures)) in (
+    let ws = c .before .before .before .before .before .args .cells .now in
+    let l = c .before .before .before .before .loop in
+    let said = c .before .is-update .ensures ∙ ap updatesKind (c .before .before .kind-at .ensures) in (
       omega arith,
       ⊎-elim
-          (λ w. w .1 ∙ ap (λ (m : ℕ). bitOr m (1 * 2 ^ l .s % 2 ^ 16)) (l .inv .1) ∙ mask-sets (updates ws) 16 (l .s) (omega arith) (said ∙ lt-ltb 1 kind (w .0 .taken)))
-          (λ w. w .1 ∙ l .inv .1 ∙ mask-keeps (updates ws) (l .s) (said ∙ le-ltb 1 kind (w .0 .left)))
+          (λ w. w .1 ∙ ap (λ (m : ℕ). bitOr m (1 * 2 ^ l .s % 2 ^ 16)) (l .inv .1) ∙ mask-sets (updates ws) 16 (l .s) (omega arith) (sym said ∙ w .0 .taken))
+          (λ w. w .1 ∙ l .inv .1 ∙ mask-keeps (updates ws) (l .s) (sym said ∙ w .0 .left))
           (c .if1 .came),
     )
 
@@ -58,4 +59,4 @@ returns c =
 
 pub updating-spec : {M : Type 1} → statement M
 updating-spec =
-    tie.close (tie.spec Inv-loop μ-loop loop-holds kind-at-requires cast-mask shl-mask add-s loop-less loop-again returns)
+    tie.close (tie.spec Inv-loop μ-loop loop-holds kind-at-requires is-update-requires cast-mask shl-mask add-s loop-less loop-again returns)

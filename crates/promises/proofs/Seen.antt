@@ -1,0 +1,166 @@
+-- The lot that a Next answers stands on the leaf that its last step was granted: read off the rule.
+use Prim.Native.Nat.{ℕ, _<_}
+use mathlib.Core.Bool.{true, false, false≢true}
+use mathlib.Core.List.{List, [], _∷_, _++_, reverse, reverse-append}
+use mathlib.Core.Path.{_≡_, refl, sym, ap, _∙_, subst}
+use borrow.Author.Tests.{eqb-true}
+use lib.Dec.{leb, ltb, eqb}
+use lib.ListN.{length, getD}
+use Rattle.ground.specs.Limits.{slotCount}
+use Rattle.ground.proofs.Choice.{by-test, cond-ind, cond-true, cond-false}
+use Rattle.page.specs.Words.{Entry, Page, isLeaf}
+use Rattle.page.specs.Place.{has, information, atOrAbove}
+use Rattle.pool.specs.Pool.{pageAt, freePages}
+use Rattle.change.specs.Insertion.{room}
+use Rattle.change.specs.Deletion.{Need, nothing, sibling, astray, needs}
+use Rattle.slots.specs.declared.Op.{Op}
+use Rattle.slots.specs.declared.Op.the-variants.{Search, Insert, Delete, Next}
+use Rattle.slots.specs.declared.State.{State}
+use Rattle.slots.specs.declared.Answer.{Answer}
+use Rattle.slots.specs.declared.Answer.the-variants.{Moved, Found, NotFound, Inserted, AlreadyThere, Deleted, NoSuchKey, NoRoom, Damaged, None as NoLot}
+use Rattle.slots.specs.Parts.{keyOf, isNext, pathOf, siblingsOf, slotAt, wantAt}
+use Rattle.slots.specs.Heard.{heard, numberOf}
+use Rattle.slots.specs.Grant.{grants}
+use Rattle.footing.specs.Granted.{Verdict, broken, goes, ends, isSafe, kept, byNeed, deletes, nextAnswer, crosses, byNearest, atLeaf, fromLeaf, comesDown, goesLeft, besides, atItsLeaf, granted}
+use Rattle.footing.specs.Fitting.{soundForStep, verdict}
+use Rattle.index.specs.Step.{Left, acted, stepped}
+use Rattle.runs.specs.PlainFacts.{Among}
+use Rattle.runs.proofs.Invariant.{Invariant}
+use Rattle.runs.proofs.PlainLaws.{among-later}
+use Rattle.runs.proofs.Calls.{granted-does}
+use Rattle.promises.specs.Demand2.{Opened, Seen}
+
+-- every answer but Next tells of no lot
+no-next : (P : Page) (a : Answer) → eqb (numberOf a) 44 ≡ false → Seen P a
+no-next P a other y v e = absurd (false≢true (sym other ∙ ap (λ (b : Answer). eqb (numberOf b) 44) e))
+
+-- the first of entries that stand on a leaf
+first-seen : (P : Page) → isLeaf P ≡ true → (es : List Entry) → ((y v : ℕ) → Among y v es → Among y v (P .entries)) → Seen P (nextAnswer es)
+first-seen P leaf [] inside = no-next P NoLot refl
+first-seen P leaf (e ∷ es) inside =
+    λ y v told. (
+      eqb-true (P .level) 1 leaf,
+      inside y v
+          (subst (λ (w : ℕ). Among y w (e ∷ es)) (ap (λ (a : Answer). getD (heard a) 2 0) told)
+          (subst (λ (z : ℕ). Among z (e .value) (e ∷ es)) (ap (λ (a : Answer). getD (heard a) 1 0) told) (record { before = []; after = es; whole = refl }))),
+    )
+
+-- the entries at or above a key are some of the entries
+above-among : (x : ℕ) (es : List Entry) (y v : ℕ) → Among y v (atOrAbove x es) → Among y v es
+unfolding atOrAbove
+above-among x [] y v a = a
+above-among x (e ∷ es) y v a =
+    by-test (leb x (e .key))
+    (λ t. subst (Among y v) (cond-true (e ∷ es) (atOrAbove x es) t) a)
+    (λ f. among-later y v e es (above-among x es y v (subst (Among y v) (cond-false (e ∷ es) (atOrAbove x es) f) a)))
+
+-- a lot that is told at the end stands on this leaf
+abbrev SeenBy : Page → Verdict → Type 0
+SeenBy P broken = Unit {0}
+SeenBy P (goes path siblings want) = Unit {0}
+SeenBy P (ends answer writes) = Seen P answer
+
+-- ---- at the leaf
+
+crosses-seen : (P : Page) (op : Op) (k : ℕ) (memory : ℕ → Page) (path : List ℕ) → SeenBy P (crosses op k memory path)
+crosses-seen P op k memory [] = tt
+crosses-seen P op k memory (top ∷ below) = cond-ind (SeenBy P) (isSafe op k (memory top)) (λ _. tt) (λ _. no-next P NoLot refl)
+
+nearest-seen : (P : Page) → isLeaf P ≡ true → (further : Verdict) → SeenBy P further → (es : List Entry)
+    → ((y v : ℕ) → Among y v es → Among y v (P .entries)) → SeenBy P (byNearest further es)
+nearest-seen P leaf further h [] inside = h
+nearest-seen P leaf further h (e ∷ es) inside = first-seen P leaf (e ∷ es) inside
+
+need-seen : (P : Page) (path siblings : List ℕ) (whole : Verdict) → SeenBy P whole → (n : Need) → SeenBy P (byNeed path siblings whole n)
+need-seen P path siblings whole h nothing = h
+need-seen P path siblings whole h (sibling s) = tt
+need-seen P path siblings whole h astray = tt
+
+deletes-seen : (P : Page) (k : ℕ) (memory : ℕ → Page) (x : ℕ) (path : List ℕ) (leaf : ℕ) (fathers siblings : List ℕ)
+    → SeenBy P (deletes k memory x path leaf fathers siblings)
+unfolding deletes
+deletes-seen P k memory x path leaf fathers siblings =
+    need-seen P path siblings _ (no-next P (Deleted (information x (memory leaf .entries))) refl) (needs k memory x leaf fathers siblings)
+
+leaf-seen : (op : Op) (k : ℕ) (memory : ℕ → Page) (free path : List ℕ) (leaf : ℕ) (fathers : List ℕ) → isLeaf (memory leaf) ≡ true
+    → SeenBy (memory leaf) (atLeaf op k memory free path leaf fathers)
+unfolding atLeaf
+leaf-seen (Search x) k memory free path leaf fathers h =
+    cond-ind (Seen (memory leaf)) (has x (memory leaf .entries))
+    (λ _. no-next (memory leaf) (Found (information x (memory leaf .entries))) refl)
+    (λ _. no-next (memory leaf) NotFound refl)
+leaf-seen (Insert x v) k memory free path leaf fathers h =
+    cond-ind (SeenBy (memory leaf)) (has x (memory leaf .entries))
+    (λ _. no-next (memory leaf) AlreadyThere refl)
+    (λ _.
+    cond-ind (SeenBy (memory leaf)) (ltb (length free) (room k memory leaf path))
+    (λ _. no-next (memory leaf) NoRoom refl)
+    (λ _. no-next (memory leaf) Inserted refl))
+leaf-seen (Delete x) k memory free path leaf fathers h =
+    cond-ind (SeenBy (memory leaf)) (has x (memory leaf .entries))
+    (λ _. deletes-seen (memory leaf) k memory x path leaf fathers [])
+    (λ _. no-next (memory leaf) NoSuchKey refl)
+leaf-seen (Next x) k memory free path leaf fathers h =
+    nearest-seen (memory leaf) h (crosses (Next x) k memory path) (crosses-seen (memory leaf) (Next x) k memory path)
+    (atOrAbove x (memory leaf .entries)) (above-among x (memory leaf .entries))
+
+-- ---- a granted step
+
+module _ (op : Op) (k : ℕ) (memory : ℕ → Page) (free path siblings : List ℕ) (want : ℕ) where
+  abbrev P : Page
+  P = memory want
+
+  -- the lowest page that it holds, coming down, is the granted one
+  lowest-seen : (path′ : List ℕ) → isLeaf P ≡ true
+      → SeenBy P (fromLeaf (λ (leaf : ℕ) (fathers : List ℕ). atLeaf op k memory free path′ leaf fathers) (reverse (kept op k memory path want)))
+  lowest-seen path′ leaf =
+      cond-ind
+      (λ (ps : List ℕ). SeenBy P (fromLeaf (λ (leaf : ℕ) (fathers : List ℕ). atLeaf op k memory free path′ leaf fathers) (reverse ps)))
+      (isSafe op k P)
+      (λ _. leaf-seen op k memory free path′ want [] leaf)
+      (λ _.
+      subst (λ (up : List ℕ). SeenBy P (fromLeaf (λ (leaf : ℕ) (fathers : List ℕ). atLeaf op k memory free path′ leaf fathers) up))
+      (sym (reverse-append path (want ∷ [])))
+      (leaf-seen op k memory free path′ want (reverse path) leaf))
+
+  coming-seen : SeenBy P (comesDown op k memory free path want)
+  unfolding comesDown
+  coming-seen = cond-ind (SeenBy P) (isLeaf P) (λ leaf. lowest-seen (kept op k memory path want) leaf) (λ _. tt)
+
+  left-seen : SeenBy P (goesLeft memory path siblings want)
+  unfolding goesLeft
+  left-seen = cond-ind (SeenBy P) (isLeaf P) (λ leaf. first-seen P leaf (P .entries) (λ y v a. a)) (λ _. tt)
+
+  deletion-seen : (up : List ℕ)
+      → SeenBy P (fromLeaf (λ (leaf : ℕ) (fathers : List ℕ). deletes k memory (keyOf op) path leaf fathers (siblings ++ want ∷ [])) up)
+  deletion-seen [] = tt
+  deletion-seen (leaf ∷ fathers) = deletes-seen P k memory (keyOf op) path leaf fathers (siblings ++ want ∷ [])
+
+  beside-seen : SeenBy P (besides op k memory path siblings want)
+  unfolding besides
+  beside-seen = cond-ind (SeenBy P) (isNext op) (λ _. left-seen) (λ _. deletion-seen (reverse path))
+
+  granted-seen : SeenBy P (granted op k memory free path siblings want)
+  unfolding granted
+  granted-seen = cond-ind (SeenBy P) (atItsLeaf memory (reverse path)) (λ _. beside-seen) (λ _. coming-seen)
+
+verdict-seen : (op : Op) (k n : ℕ) (ws path siblings : List ℕ) (want : ℕ) → SeenBy (pageAt k ws want) (verdict op k n ws path siblings want)
+unfolding verdict
+verdict-seen op k n ws path siblings want =
+    cond-ind (SeenBy (pageAt k ws want)) (soundForStep op k n ws path siblings want)
+    (λ _. granted-seen op k (pageAt k ws) (freePages k n ws) path siblings want)
+    (λ _. tt)
+
+acted-seen : (P : Page) (st : State) (ws : List ℕ) (s : ℕ) (op : Op) (v : Verdict) → SeenBy P v → Seen P (acted st ws s op v .answer)
+acted-seen P st ws s op broken h = no-next P Damaged refl
+acted-seen P st ws s op (goes path siblings want) h = no-next P Moved refl
+acted-seen P st ws s op (ends answer writes) h = h
+
+-- what a granted step of a run tells stands on the page that it was granted
+pub step-seen : (st : State) (ws : List ℕ) (inv : Invariant st ws) (s : ℕ) (op : Op) → s < slotCount → Opened st s op → grants st s ≡ true
+    → Seen (pageAt (st .k) ws (wantAt st s)) (stepped st ws s .answer)
+step-seen st ws inv s op b runs g =
+    let P : Page = pageAt (st .k) ws (wantAt st s) in
+    let v : Verdict = verdict op (st .k) (st .n) ws (pathOf (slotAt st s)) (siblingsOf (slotAt st s)) (wantAt st s) in
+    subst (λ (r : Left). Seen P (r .answer)) (sym (granted-does st ws inv s op b runs g))
+    (acted-seen P st ws s op v (verdict-seen op (st .k) (st .n) ws (pathOf (slotAt st s)) (siblingsOf (slotAt st s)) (wantAt st s)))
