@@ -33,7 +33,7 @@ use Rattle.slots.specs.declared.Slot.{Slot}
 use Rattle.slots.specs.declared.State.{State}
 use Rattle.slots.specs.declared.Answer.{Answer}
 use Rattle.slots.specs.declared.Answer.the-variants.{Moved, Inserted, Deleted, NoRoom, Damaged}
-use Rattle.slots.specs.Parts.{pathOf, siblingsOf, closedSlot, waitingOrder}
+use Rattle.slots.specs.Parts.{isDelete, pathOf, siblingsOf, closedSlot, waitingOrder}
 use Rattle.slots.specs.Book.{leaving, requeued, goesOn, closes}
 use Rattle.slots.proofs.OrderLaws.{length-leaving, length-waiting}
 use Rattle.lent.specs.Words.{orderIn, asRead, known, stateOf, laidInto}
@@ -59,9 +59,9 @@ module _ {op : Op} {k n : ℕ} {ws : List ℕ} {stand : Slot} (h : SlotStanding 
   sibling-cell j l = getD-take (stand .beside) (stand .siblings) j 0 l
 
   -- a deletion may be made of the key that stands at its leaf
-  stand-deleting : (x : ℕ) → standsLast (pageAt k ws) x (reverse (pathOf stand))
+  stand-deleting : (x : ℕ) → isDelete op ≡ true → standsLast (pageAt k ws) x (reverse (pathOf stand))
       → Deleting k n ws x (stand .path) (stand .depth) (stand .siblings) (stand .beside)
-  stand-deleting x there =
+  stand-deleting x is there =
       let s = h .standing in
       let longPath = path-long h in
       let longSiblings = siblings-long h in
@@ -70,9 +70,9 @@ module _ {op : Op} {k n : ℕ} {ws : List ℕ} {stand : Slot} (h : SlotStanding 
         stands = subst (standsLast (pageAt k ws) x) (stand-upward h) there;
         levels = λ i j l e.
             ap (λ (p : ℕ). pageAt k ws p .level) (sym (path-cell i (omega arith)))
-            ∙ s .levels i j (omega arith) (omega arith)
+            ∙ s .levels is i j (omega arith) (omega arith)
             ∙ ap (λ (p : ℕ). pageAt k ws p .level) (sibling-cell j l);
-        others = λ j l e. s .others j (omega arith) (sibling-cell j l ∙ e);
+        others = λ j l e. s .others is j (omega arith) (sibling-cell j l ∙ e);
         pathApart = λ i t l u e. distinct-at (pathOf stand) 0 (distinct-front (pathOf stand) (siblingsOf stand) (s .different)) i t l (omega arith)
             (path-cell i (omega arith) ∙ e ∙ sym (path-cell t u));
         besideApart = λ j t l u e. distinct-at (siblingsOf stand) 0 (distinct-back (pathOf stand) (siblingsOf stand) (s .different)) j t l (omega arith)
@@ -314,4 +314,6 @@ module _ {st : State} {ws : List ℕ} {s : ℕ} {op : Op} {stand : Slot} (a : Ac
 
     pub deletes-stands : {x v : ℕ} → course ≡ Deletes x v
         → Deleting (st .k) (st .n) ws x (stand .path) (stand .depth) (stand .siblings) (stand .beside)
-    deletes-stands {x = x} is = stand-deleting (a .stands) x (subst (ready op (pageAt (st .k) ws) (pathOf stand)) is fit)
+    deletes-stands {x = x} is =
+        let sure = subst (ready op (pageAt (st .k) ws) (pathOf stand)) is fit in
+        stand-deleting (a .stands) x (sure .0) (sure .1)
