@@ -18,7 +18,8 @@ tallest = 10
 unfoldable pub slotCount : ℕ
 slotCount = 16
 
--- "a search holds at most 1 page, an insertion at most 10, a deletion at most 10 on its path and 9 siblings"
+-- "a search holds at most 1 page, an insertion at most 10, a deletion at most 10 on its path and 9 siblings"; Next, with 10 and 9,
+-- "up to 19 pages"
 unfoldable pub searchHolds : ℕ
 searchHolds = 1
 

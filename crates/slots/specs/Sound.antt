@@ -26,24 +26,24 @@ orderSound st =
     && allBelow slotCount (λ (s : ℕ). not (openAt st s) || member s (waitingOrder st))
 
 -- How many pages a slot may hold: on its path, and beside it.
-pub record Limits : Type 0 where
+pub record MayHold : Type 0 where
   pub onPath : ℕ
   pub beside : ℕ
 
-abbrev pub atMost : ℕ → ℕ → Limits
-atMost onPath beside = record { onPath = onPath; beside = beside }
+abbrev pub mayHold : ℕ → ℕ → MayHold
+mayHold onPath beside = record { onPath = onPath; beside = beside }
 
 -- "a search holds at most 1 page, an insertion at most 10, a deletion at most 10 on its path and 9 siblings ..; siblings only in
 -- deletions; a closed slot holds nothing". Next: "In a sound state it may hold up to 19 pages", 10 on its first way and 9 on
 -- the second.
-abbrev pub limitsOf : Task → Limits
-limitsOf Closed = atMost 0 0
-limitsOf (Open (Search x)) = atMost searchHolds 0
-limitsOf (Open (Insert x v)) = atMost pathHolds 0
-limitsOf (Open (Delete x)) = atMost pathHolds siblingHolds
-limitsOf (Open (Next x)) = atMost pathHolds siblingHolds
+abbrev pub limitsOf : Task → MayHold
+limitsOf Closed = mayHold 0 0
+limitsOf (Open (Search x)) = mayHold searchHolds 0
+limitsOf (Open (Insert x v)) = mayHold pathHolds 0
+limitsOf (Open (Delete x)) = mayHold pathHolds siblingHolds
+limitsOf (Open (Next x)) = mayHold pathHolds siblingHolds
 
--- within these limits, and "with no siblings or fewer of them than path pages"
+-- within these limits, and "with no siblings or fewer of them than path pages": so the limit beside the path is never what binds
 abbrev pub withinLimits : Task → ℕ → ℕ → Bool
 withinLimits task depth beside =
     leb depth (limitsOf task .onPath) && leb beside (limitsOf task .beside) && (eqb beside 0 || ltb beside depth)
