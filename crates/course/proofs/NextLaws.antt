@@ -1,5 +1,5 @@
 -- The course of a Next at its leaf, by what was read, as the rule's word for it.
-use Prim.Native.Nat.{ℕ, _-_, _≤_}
+use Prim.Native.Nat.{ℕ, _-_}
 use mathlib.Core.Bool.{Bool, true, false, cond}
 use mathlib.Core.List.{List, [], _∷_, reverse}
 use mathlib.Core.Logic.{_≢_}
@@ -8,7 +8,6 @@ use native.Mathlib.Omega.{arith}
 use borrow.Author.Tests.{eqb-true, eqb-false}
 use lib.Dec.{eqb}
 use lib.ListN.{getD, take, drop}
-use Rattle.ground.proofs.Choice.{cond-true, cond-false}
 use Rattle.ground.proofs.Padded.{next-cell}
 use Rattle.page.specs.Words.{Entry, Page, isLeaf}
 use Rattle.page.specs.Place.{pointer, atOrAbove}
@@ -25,7 +24,7 @@ use Rattle.course.specs.declared.judging.Course.{Course}
 use Rattle.course.specs.declared.judging.Course.the-variants.{Ends}
 use Rattle.footing.specs.Granted.{Verdict, goes, ends, isSafe, nextAnswer, crosses, byNearest, atLeaf}
 use Rattle.footing.specs.Standing.{SlotStanding}
-use Rattle.course.specs.Judged.{onSecond, judgedAt, ifNew, courseOf, ready, nextCourse, nearCourse, crossCourse, firstCourse, leftCourse, secondCourse}
+use Rattle.course.specs.Judged.{onSecond, judgedAt, ifNew, courseOf, ready, nextCourse, nearCourse, crossCourse, firstCourse, leftCourse, nextsCourse}
 use Rattle.course.proofs.JudgeLaws.{standing-needing, standing-holding, stand-upward, lowest, above, Judges, next-judges, leaf-judges}
 
 -- ---- what is known where it stands
@@ -113,11 +112,11 @@ module _ (k : ℕ) (memory : ℕ → Page) (free : List ℕ) (x : ℕ) (stand : 
 
 -- A Next at its leaf does what the rule says.
 pub next-does : {k n : ℕ} {ws : List ℕ} {stand : Slot} (op : Op) (x : ℕ) (memory : ℕ → Page) (free : List ℕ) (course : Course)
-    → SlotStanding op k n ws stand → isLeaf (memory (lowest stand)) ≡ true → op ≡ Next x → course ≡ secondCourse k memory x stand
+    → SlotStanding op k n ws stand → isLeaf (memory (lowest stand)) ≡ true → op ≡ Next x → course ≡ nextsCourse k memory x stand
     → Judges op k memory free stand course
 unfolding judgedAt
 next-does {k} {stand = stand} op x memory free course h low told r =
-    leaf-judges k memory free stand (stand-upward h) low op (Next x) course (secondCourse k memory x stand) told r (split (eqb (stand .beside) 0) refl)
+    leaf-judges k memory free stand (stand-upward h) low op (Next x) course (nextsCourse k memory x stand) told r (split (eqb (stand .beside) 0) refl)
   where
     whole : Verdict
     whole = atLeaf (Next x) k memory free (pathOf stand) (lowest stand) (above stand)

@@ -123,11 +123,12 @@ abbrev pub firstCourse : ℕ → (ℕ → Page) → ℕ → Slot → Course
 firstCourse k memory x stand =
     nearCourse (crossCourse k memory x stand) (nearest (atOrAbove x (memory (leafOf (stand .depth) (stand .path)) .entries)))
 
--- page p of its second way was granted
+-- it was granted page p of its second way
 abbrev pub leftCourse : (ℕ → Page) → Slot → ℕ → Course
 leftCourse memory stand p =
     cond (isLeaf (memory p)) (nearCourse (Ends NoLot) (nearest (memory p .entries))) (nextCourse stand (pointer 0 (memory p)))
 
-abbrev pub secondCourse : ℕ → (ℕ → Page) → ℕ → Slot → Course
-secondCourse k memory x stand =
+-- at its leaf, by whether it holds pages of a second way
+abbrev pub nextsCourse : ℕ → (ℕ → Page) → ℕ → Slot → Course
+nextsCourse k memory x stand =
     cond (eqb (stand .beside) 0) (firstCourse k memory x stand) (leftCourse memory stand (getD (stand .siblings) (stand .beside - 1) 0))

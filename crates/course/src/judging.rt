@@ -22,7 +22,7 @@ ghost use Rattle.pool.specs.Wrapped.{InPool};
 ghost use Rattle.slots.specs.declared.Op.the-variants.{Delete, Next};
 ghost use Rattle.slots.specs.Parts.{pathOf, siblingsOf};
 ghost use Rattle.footing.specs.Standing.{SlotStanding};
-ghost use Rattle.course.specs.Judged.{judged, ifNew, courseOf, ready, nextCourse, searchCourse, insertCourse, deleteCourse, crossCourse, firstCourse, leftCourse, secondCourse};
+ghost use Rattle.course.specs.Judged.{judged, ifNew, courseOf, ready, nextCourse, searchCourse, insertCourse, deleteCourse, crossCourse, firstCourse, leftCourse, nextsCourse};
 
 // The pages are not sound for the step; the slot goes on and wants this page; the operation ends, and no page is written; or it
 // makes the whole change of an insertion (key, information) or of a deletion (key, information that it answers).
@@ -124,7 +124,7 @@ pub fn nexts_left(words: &[u32], k: usize, n: usize, p: u32, stand: Slot) -> Cou
 // A Next at its leaf, by whether it holds pages of a second way.
 pub fn nexts(words: &[u32], k: usize, n: usize, x: u32, stand: Slot) -> Course
     requires { ⌜ SlotStanding (Next x) k n (now words) stand ⌝ }
-    ensures { λ r. ⌜ r ≡ secondCourse k (pageAt k (now (words .entry))) x stand ⌝ }
+    ensures { λ r. ⌜ r ≡ nextsCourse k (pageAt k (now (words .entry))) x stand ⌝ }
 {
     let beside = stand.beside;
     if beside == 0 {

@@ -1,7 +1,6 @@
 -- Where the levels are wrong the page does not lead there; where they are right it is no leaf, and its route tells.
 use Prim.Native.Nat.{ℕ}
-use mathlib.Core.Path.{sym, _∙_}
-use borrow.Author.Tests.{eqb-true, not-false}
+use borrow.Author.Tests.{eqb-true}
 use Rattle.page.specs.Place.{route}
 use Rattle.pool.specs.Pool.{pageAt}
 use Rattle.footing.proofs.LookLaws.{told-true, below-astray, below-named, known-first, father-upper}

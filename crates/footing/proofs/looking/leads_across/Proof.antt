@@ -1,7 +1,6 @@
 -- Where the levels are wrong the page does not name the other; where they are right it is no leaf, has a reference key, and the neighbour that it names tells.
 use Prim.Native.Nat.{ℕ}
-use mathlib.Core.Path.{sym, _∙_}
-use borrow.Author.Tests.{eqb-true, not-false}
+use borrow.Author.Tests.{eqb-true}
 use Rattle.page.specs.Short.{neighbour}
 use Rattle.pool.specs.Pool.{pageAt}
 use Rattle.change.proofs.HeldLaws.{held-upper}
