@@ -3,6 +3,8 @@
 
 #![allow(dead_code)]
 
+mod ways;
+
 use std::collections::BTreeMap;
 
 use twin::{
@@ -114,17 +116,14 @@ impl Run {
         }
     }
 
-    /// Search and insertion take h grants, deletion and next h to 2h-1.
+    /// Search and insertion take h grants, a deletion h to 2h-1, a `Next` just those of its ways.
     fn judge_grants(&self, slot: usize, op: Op, answer: Answer) {
         let (taken, height) = (self.grants[slot], self.height[slot]);
         match op {
             Op::Delete(_) if answer != Answer::NoSuchKey => {
                 assert!((height..=2 * height - 1).contains(&taken));
             }
-            // by its second way just those that go down from the page with a child to the right
-            Op::Next(_) if answer != Answer::None => {
-                assert!((height..=2 * height - 1).contains(&taken));
-            }
+            Op::Next(_) if answer != Answer::None => assert_eq!(taken, self.next_grants(slot)),
             _ => assert_eq!(taken, height),
         }
     }
@@ -157,6 +156,7 @@ impl Run {
     pub fn check(&self) {
         self.check_tree();
         self.check_locks();
+        self.check_ways();
         let is_open = |&slot: &usize| self.state.slots[slot].op.is_some();
         let open: Vec<usize> = (0..16).filter(is_open).collect();
         assert!(open.is_empty() || open.iter().any(|&slot| !must_wait(&self.state, slot)));
