@@ -22,6 +22,8 @@ pub struct Run {
     pub height: [u32; 16],
     pub tally: BTreeMap<&'static str, u64>,
     pub tallest: u32,
+    /// How often a step left a `Next` with so many pages beside its path.
+    pub beside: [u64; 10],
 }
 
 impl Run {
@@ -41,6 +43,7 @@ impl Run {
             height: [0; 16],
             tally,
             tallest: 1,
+            beside: [0; 10],
         }
     }
 
@@ -82,6 +85,10 @@ impl Run {
         self.judge(slot, op, answer, &before);
         self.state = next;
         self.tallest = self.tallest.max(self.words[0]);
+        self.check_way(slot);
+        if let (Op::Next(_), Answer::Moved) = (op, answer) {
+            self.beside[self.state.slots[slot].beside] += 1;
+        }
         answer
     }
 
@@ -156,10 +163,16 @@ impl Run {
     pub fn check(&self) {
         self.check_tree();
         self.check_locks();
-        self.check_ways();
-        let is_open = |&slot: &usize| self.state.slots[slot].op.is_some();
-        let open: Vec<usize> = (0..16).filter(is_open).collect();
-        assert!(open.is_empty() || open.iter().any(|&slot| !must_wait(&self.state, slot)));
+        (0..16).for_each(|slot| self.check_way(slot));
+        let is_closed = self.state.slots.iter().all(|slot| slot.op.is_none());
+        assert!(is_closed || !self.ready().is_empty());
+    }
+
+    /// The open slots that need not wait.
+    pub fn ready(&self) -> Vec<usize> {
+        let is_ready =
+            |slot: &usize| self.state.slots[*slot].op.is_some() && !must_wait(&self.state, *slot);
+        (0..16).filter(is_ready).collect()
     }
 
     /// The pages form the tree, it holds the list's entries, every other page is all zeros.

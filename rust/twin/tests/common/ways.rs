@@ -1,6 +1,6 @@
 //! The pages that a `Next` holds, told again from the tree as it stands.
 
-use twin::{read_page, Op, Page, Slot};
+use twin::{read_page, Op, Page};
 
 use super::Run;
 
@@ -28,18 +28,23 @@ impl Run {
         }
     }
 
-    /// Every open `Next` that holds pages stands where the rules have it.
-    pub fn check_ways(&self) {
-        for slot in self.state.slots.iter().filter(|slot| slot.depth > 0) {
-            if let Some(Op::Next(key)) = slot.op {
-                self.check_way(slot, key);
-            }
-        }
+    /// The number behind the last key of the leaf that a key leads to.
+    pub fn behind_leaf(&self, key: u32) -> u32 {
+        let way = self.down(0, |page| page.route(key));
+        let leaf = self.page(way[way.len() - 1]);
+        leaf.keys.last().map_or(key, |last| last.saturating_add(1))
     }
 
-    /// The path goes from the lowest page with a child to the right of the route, or from page 0; it ends above the want,
-    /// or at a leaf that has nothing for the key, and then the second way is beside it.
-    fn check_way(&self, slot: &Slot, key: u32) {
+    /// An open `Next` that holds pages stands where the rules have it.
+    ///
+    /// Its path goes from the lowest page with a child to the right of the route, or from page 0; it ends above the want, or
+    /// at a leaf that has nothing for the key, and then the second way is beside it.
+    pub fn check_way(&self, slot: usize) {
+        let slot = &self.state.slots[slot];
+        let key = match slot.op {
+            Some(Op::Next(key)) if slot.depth > 0 => key,
+            _ => return,
+        };
         let way = self.down(0, |page| page.route(key));
         let lowest = slot.path[slot.depth - 1];
         let end = way.iter().position(|&page| page == lowest);
