@@ -2,7 +2,7 @@
 //! wants is sound by itself and in its place, but keys, pointers and all other pages are drawn.
 
 use draw::Random;
-use twin::{page_words, Op, Slot, State};
+use twin::{page_words, Op, Page, Slot, State};
 
 use crate::moment::{Call, Moment};
 use crate::second_way::place_next;
@@ -129,7 +129,7 @@ fn want_copy(build: &mut Build, slot: &mut Slot, other: u32) {
 }
 
 /// A pool of rubbish: some pages free, with words behind the level.
-fn rubbish(random: &mut Random) -> Build {
+pub(crate) fn rubbish(random: &mut Random) -> Build {
     let k = random.one(&[1, 1, 1, 2, 2, 3]);
     let n = if random.percent(60) {
         random.from(3, 20)
@@ -151,7 +151,7 @@ fn rubbish(random: &mut Random) -> Build {
 }
 
 /// An operation on a key near the middle. There are enough keys below that of a `Next` to fill a page, and one above it.
-fn operation(random: &mut Random, build: &Build) -> Op {
+pub(crate) fn operation(random: &mut Random, build: &Build) -> Op {
     let key = random.below(build.keys) as u32;
     match random.below(14) {
         0 => Op::Search(key),
@@ -232,23 +232,32 @@ pub(crate) fn write_keys(
     mut keys: Vec<u32>,
 ) {
     keys.sort_unstable();
-    let size = page_words(build.k);
-    let count = keys.len();
-    let mut part = vec![level, count as u32];
-    if level == 1 {
-        part.extend(keys.iter().flat_map(|&key| [key, key + 100]));
+    let with = if level == 1 {
+        keys.iter().map(|key| key + 100).collect()
     } else {
-        let mut pointers = different(random, count + 1, build.n);
-        part.push(pointers.remove(0));
-        part.extend(
-            keys.iter()
-                .zip(pointers)
-                .flat_map(|(&key, pointer)| [key, pointer]),
-        );
+        different(random, keys.len() + 1, build.n)
+    };
+    write_page(build, page, &Page { level, keys, with });
+}
+
+/// Writes a page.
+pub(crate) fn write_page(build: &mut Build, number: u32, page: &Page) {
+    let (even, odd) = if page.is_leaf() {
+        (&page.keys, &page.with)
+    } else {
+        (&page.with, &page.keys)
+    };
+    let size = page_words(build.k);
+    let part = &mut build.words[number as usize * size..][..size];
+    part.fill(0);
+    part[0] = page.level;
+    part[1] = page.count() as u32;
+    for (at, &word) in even.iter().enumerate() {
+        part[2 + 2 * at] = word;
     }
-    part.resize(size, 0);
-    let start = page as usize * size;
-    build.words[start..start + size].copy_from_slice(&part);
+    for (at, &word) in odd.iter().enumerate() {
+        part[3 + 2 * at] = word;
+    }
 }
 
 /// So many different numbers from 1 to n-1, or as many as there are and then others.

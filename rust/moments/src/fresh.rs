@@ -45,7 +45,8 @@ pub fn next_call(random: &mut Random, draw: &Draw, moment: &Moment, at: usize) -
     let open = moment.open();
     if !open.contains(&slot) && (open.is_empty() || random.percent(50)) {
         let grows = (at / draw.turn).is_multiple_of(2);
-        return Call::Begin(slot, operation(random, draw, grows, &moment.keys()));
+        let op = operation(random, draw, grows, &moment.keys());
+        return Call::Begin(slot, behind_leaf(random, moment, op));
     }
     let ready = moment.ready();
     Call::Step(if random.percent(80) {
@@ -53,6 +54,17 @@ pub fn next_call(random: &mut Random, draw: &Draw, moment: &Moment, at: usize) -
     } else {
         random.one(&open)
     })
+}
+
+/// A `Next` often asks from behind the last key of a leaf, where its second way begins.
+fn behind_leaf(random: &mut Random, moment: &Moment, op: Op) -> Op {
+    let ends = moment.ends();
+    match op {
+        Op::Next(_) if !ends.is_empty() && random.percent(50) => {
+            Op::Next(random.one(&ends).saturating_add(1))
+        }
+        _ => op,
+    }
 }
 
 /// A call that is likely refused, or a report.

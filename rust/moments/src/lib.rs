@@ -1,6 +1,7 @@
 //! Moments at which calls are tried: in the middle of random runs, with words or cells spoiled, on pages that no run
 //! reaches, and near the limits of a sound state.
 
+mod broken;
 mod built;
 mod fresh;
 mod limits;

@@ -29,13 +29,25 @@ impl Moment {
         answer
     }
 
-    /// The keys that the leaves hold.
-    pub fn keys(&self) -> Vec<u32> {
+    /// The keys that each leaf holds.
+    fn leaves(&self) -> impl Iterator<Item = Vec<u32>> + '_ {
         let size = page_words(self.state.k);
         let leaves = self.words.chunks(size).filter(|part| part[0] == 1);
-        leaves
-            .flat_map(|part| part[2..].iter().step_by(2).take(part[1] as usize).copied())
-            .collect()
+        leaves.map(|part| {
+            let keys = part[2..].iter().step_by(2);
+            keys.take(part[1] as usize).copied().collect()
+        })
+    }
+
+    /// The keys that the leaves hold.
+    pub fn keys(&self) -> Vec<u32> {
+        self.leaves().flatten().collect()
+    }
+
+    /// The last key of each leaf.
+    pub fn ends(&self) -> Vec<u32> {
+        let last = |keys: Vec<u32>| keys.last().copied();
+        self.leaves().filter_map(last).collect()
     }
 
     /// The open slots that need not wait.

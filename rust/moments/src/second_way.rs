@@ -3,10 +3,14 @@
 use draw::Random;
 use twin::{page_words, Op, Slot};
 
+use crate::broken::break_clause;
 use crate::built::{leads, path_count, write, write_keys, Build};
 
 /// How often a page is drawn again, so that it points to pages that are not used.
 const TRIES: usize = 60;
+
+/// How many pages a `Next` holds on its path above a leaf.
+const HELD: [u32; 11] = [1, 1, 2, 2, 2, 3, 3, 4, 5, 7, 9];
 
 /// The pages of a `Next` as they are placed.
 struct Way {
@@ -25,47 +29,85 @@ enum Place {
 
 /// Draws where a `Next` stands, and writes the pages that it holds and wants.
 pub(crate) fn place_next(random: &mut Random, build: &mut Build, key: u32) -> Option<Slot> {
-    let is_second = random.percent(65);
-    let held = random.one(&[1, 1, 2, 2, 2, 3, 3, 4, 5, 7, 9]) + u32::from(is_second);
-    let last = if is_second {
-        1
+    if random.percent(35) {
+        return place_down(random, build, key);
+    }
+    let mut slot = place_second(random, build, key)?;
+    if random.percent(25) {
+        break_clause(random, build, &mut slot, key);
+    }
+    Some(slot)
+}
+
+/// Going down: it wants the route of the lowest page. The leaf that it wants often has nothing for it.
+fn place_down(random: &mut Random, build: &mut Build, key: u32) -> Option<Slot> {
+    let last = random.one(&[2, 2, 2, 2, 3, 4]);
+    let top = draw_top(random, build);
+    // page 0 may be the top without a child to the right
+    let place = if top == 0 && random.percent(50) {
+        Place::Below
     } else {
-        random.one(&[2, 2, 2, 3, 4])
+        Place::Top
     };
-    let top = if random.percent(50) {
+    let held = random.one(&HELD);
+    let way = go_down(random, build, Way::from(key, top), last, held, place)?;
+    let (&want, path) = way.path.split_last()?;
+    let (op, level) = (Op::Next(key), last - 1);
+    let count = path_count(random, build, op, true, want, level);
+    if level == 1 && random.percent(60) {
+        let keys = way.keys(random, build, level, count, Place::Below);
+        write_keys(random, build, want, level, keys);
+    } else {
+        write(random, build, want, level, count, None);
+    }
+    Some(Slot::open(op, want, path, &[]))
+}
+
+/// At its leaf, which has nothing for it: the second way as far as it goes.
+pub(crate) fn place_second(random: &mut Random, build: &mut Build, key: u32) -> Option<Slot> {
+    let held = random.one(&HELD) + 1;
+    let top = draw_top(random, build);
+    let mut way = go_down(random, build, Way::from(key, top), 1, held, Place::Top)?;
+    way.go_right(random, build, held)?;
+    let (&want, beside) = way.second.split_last()?;
+    Some(Slot::open(Op::Next(key), want, &way.path, beside))
+}
+
+/// The top page of a path: page 0 or any other.
+fn draw_top(random: &mut Random, build: &Build) -> u32 {
+    if random.percent(50) {
         0
     } else {
         random.from(1, u64::from(build.n) - 1) as u32
-    };
-    let mut way = Way {
-        key,
-        path: vec![top],
-        second: Vec::new(),
-    };
+    }
+}
+
+/// Writes so many pages of a path, the last of a given level. An upper last page leads to one more, not yet written.
+fn go_down(
+    random: &mut Random,
+    build: &mut Build,
+    mut way: Way,
+    last: u32,
+    held: u32,
+    top: Place,
+) -> Option<Way> {
     for at in 0..held {
-        let level = last + held - 1 - at;
-        // page 0 may be the top without a child to the right, but leads to no second way then
-        let is_last = top == 0 && !is_second && random.percent(30);
-        let place = if at == 0 && !is_last {
-            Place::Top
-        } else {
-            Place::Below
-        };
-        way.add(random, build, level, place)?;
+        let place = if at == 0 { top } else { Place::Below };
+        way.add(random, build, last + held - 1 - at, place)?;
     }
-    let op = Op::Next(key);
-    if is_second {
-        way.go_right(random, build, held)?;
-        let (&want, beside) = way.second.split_last()?;
-        return Some(Slot::open(op, want, &way.path, beside));
-    }
-    let (want, path) = way.path.split_last()?;
-    let count = path_count(random, build, op, true, *want, last - 1);
-    write(random, build, *want, last - 1, count, None);
-    Some(Slot::open(op, *want, path, &[]))
+    Some(way)
 }
 
 impl Way {
+    /// A path that begins at its top.
+    fn from(key: u32, top: u32) -> Way {
+        Way {
+            key,
+            path: vec![top],
+            second: Vec::new(),
+        }
+    }
+
     /// Writes the lowest page of the path; if it is above the leaves, the page it leads to comes behind it.
     fn add(
         &mut self,

@@ -2,22 +2,29 @@
 //! slot holds or wants, or cells of the state.
 
 use draw::Random;
-use twin::{page_words, Op, State};
+use twin::{page_words, Op, Slot, State};
 
 use crate::fresh::{draw, made, next_call, operation, Draw};
 use crate::moment::{Call, Moment};
 
 /// A moment in the middle of a random run, grown first and then mostly shrunk; best one where a
-/// deletion wants a sibling, or a `Next` is on its second way.
+/// deletion or a `Next` holds pages beside its path, or its leaf at least.
 fn middle(random: &mut Random) -> (Draw, Moment) {
     let mut draw = draw(random);
-    draw.n = random.from(6, 24) as u32;
-    draw.keys = random.from(8, 40);
-    draw.turn = random.from(60, 160) as usize;
+    // tall trees are for two pages beside and more
+    let is_tall = draw.k == 1 && random.percent(60);
+    let (n, keys, turn) = if is_tall {
+        ((24, 40), (60, 90), (150, 300))
+    } else {
+        ((6, 24), (8, 40), (60, 160))
+    };
+    draw.n = random.from(n.0, n.1) as u32;
+    draw.keys = random.from(keys.0, keys.1);
+    draw.turn = random.from(turn.0, turn.1) as usize;
     let mut moment = made(draw.k, draw.n);
-    let calls = random.from(40, 260) as usize;
+    let calls = random.from(40, 2 * turn.0 + 140) as usize;
     for at in 0.. {
-        if at >= calls && (has_leaf(&moment) || random.percent(20)) {
+        if at >= calls && random.percent(worth(&moment)) {
             break;
         }
         let call = next_call(random, &draw, &moment, at);
@@ -26,19 +33,32 @@ fn middle(random: &mut Random) -> (Draw, Moment) {
     (draw, moment)
 }
 
-/// Whether some operation holds its leaf.
-fn has_leaf(moment: &Moment) -> bool {
-    let size = page_words(moment.state.k);
-    moment.ready().iter().any(|&slot| {
-        let lowest = moment.state.slots[slot].path().last().copied();
-        lowest.is_some_and(|page| moment.words[page as usize * size] == 1)
-    })
+/// How often in a hundred a run is left at such a moment.
+fn worth(moment: &Moment) -> u64 {
+    let ready = moment.ready();
+    let slots = || ready.iter().map(|&slot| &moment.state.slots[slot]);
+    match slots().map(|slot| slot.beside).max() {
+        Some(2..) => 90,
+        Some(1) => 30,
+        _ if slots().any(|slot| has_leaf(moment, slot)) => 3,
+        _ => 1,
+    }
 }
 
-/// An open slot, best one that can be granted and holds many pages.
+/// Whether a slot holds its leaf.
+fn has_leaf(moment: &Moment, slot: &Slot) -> bool {
+    let size = page_words(moment.state.k);
+    let lowest = slot.path().last();
+    lowest.is_some_and(|&page| moment.words[page as usize * size] == 1)
+}
+
+/// An open slot, best one that can be granted and holds many pages, beside its path first of all.
 fn choose(random: &mut Random, moment: &Moment) -> Option<usize> {
     let ready = moment.ready();
-    let score = |slot: &usize| moment.state.slots[*slot].held().len();
+    let score = |slot: &usize| {
+        let slot = &moment.state.slots[*slot];
+        (slot.beside, slot.depth)
+    };
     let most = ready.iter().map(score).max()?;
     let best: Vec<usize> = ready
         .iter()

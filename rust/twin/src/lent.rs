@@ -4,7 +4,7 @@
 //! |---|---|
 //! | 0, 1, 2 | k, N, how many wait |
 //! | 3 to 18 | the waiting order, oldest first |
-//! | from 19 | rows of 16, one word a slot: kind, key, information, want, depth, number of siblings, then 10 rows of the path and 10 of the siblings |
+//! | from 19 | rows of 16, one word a slot: kind, key, information, want, depth, number of pages beside, then 10 rows of the path and 10 of the pages beside |
 //!
 //! A kind is 0 for a closed slot, 1 for a search, 2 for an insertion, 3 for a deletion, 4 for a `Next`; any other is no state at all.
 //! Words that a slot's kind does not use are not looked at, and are 0 where a call writes the slot.

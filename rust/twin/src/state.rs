@@ -4,7 +4,7 @@
 pub const SLOTS: usize = 16;
 /// How many path pages a slot has cells for.
 pub const PATH: usize = 10;
-/// How many siblings a slot has cells for.
+/// How many pages beside its path a slot has cells for.
 pub const SIBLINGS: usize = 10;
 
 /// What a buyer asks for: a key, and for an insertion its information.
@@ -87,7 +87,7 @@ impl Slot {
         &self.path[..self.depth]
     }
 
-    /// The siblings held, for counts within the arrays.
+    /// The pages held beside the path, for counts within the arrays.
     pub fn siblings(&self) -> &[u32] {
         &self.siblings[..self.beside]
     }

@@ -14,38 +14,56 @@ struct Draw {
     calls: u32,
     slots: u64,
     check_every: u32,
+    /// How many operations in a hundred are a `Next`.
+    nexts: u64,
 }
 
-/// A random operation; insertions and deletions prevail by turns.
-fn operation(random: &mut Random, keys: u64, grows: bool) -> Op {
+/// A random operation: a `Next` so many times in a hundred; otherwise insertions and deletions prevail by turns. Keys are
+/// even, so that there is always a number between two of them.
+fn operation(random: &mut Random, run: &Run, draw: &Draw, grows: bool) -> Op {
     let key = match random.below(60) {
         0 => 0,
         1 => u32::MAX,
-        _ => random.below(keys) as u32,
+        _ => 2 * random.below(draw.keys) as u32,
     };
-    let (inserts, deletes) = if grows { (55, 15) } else { (15, 55) };
+    if random.percent(draw.nexts) {
+        return next(random, run, key);
+    }
+    let (inserts, deletes) = if grows { (60, 20) } else { (20, 60) };
     match random.below(100) {
         drawn if drawn < inserts => Op::Insert(key, random.bits() as u32),
         drawn if drawn < inserts + deletes => Op::Delete(key),
-        // often beyond the last lot
-        drawn if drawn % 6 == 0 => Op::Next(u32::MAX),
-        drawn if drawn % 2 == 0 => Op::Next(key),
         _ => Op::Search(key),
     }
 }
 
-/// Runs one schedule, empties the tree at its end, and says how high it grew.
-fn schedule(random: &mut Random, draw: &Draw) -> u32 {
+/// A `Next`: mostly from behind a leaf, where a second way begins; often from beyond the last lot.
+fn next(random: &mut Random, run: &Run, key: u32) -> Op {
+    match random.below(10) {
+        0..=5 => Op::Next(run.behind_leaf(key)),
+        6 => Op::Next(u32::MAX),
+        _ => Op::Next(key),
+    }
+}
+
+/// Runs one schedule, and empties the tree at its end.
+fn schedule(random: &mut Random, draw: &Draw) -> Run {
     let mut run = Run::new(draw.k, draw.n);
     let mut grows = true;
     for call in 0..draw.calls {
         if random.below(u64::from(draw.calls / 6)) == 0 {
             grows = !grows;
         }
-        let slot = random.below(draw.slots) as usize;
+        let mut slot = random.below(draw.slots) as usize;
         if random.percent(35) {
-            run.begin(slot, operation(random, draw.keys, grows));
+            let op = operation(random, &run, draw, grows);
+            run.begin(slot, op);
         } else {
+            // with many slots most of them wait; half of the steps shall be granted
+            let ready = run.ready();
+            if !ready.is_empty() && random.percent(50) {
+                slot = random.one(&ready);
+            }
             run.step(slot);
         }
         if call % draw.check_every == 0 {
@@ -55,7 +73,7 @@ fn schedule(random: &mut Random, draw: &Draw) -> u32 {
     run.finish();
     run.check();
     empty(&mut run);
-    run.tallest
+    run
 }
 
 /// Deletes every entry, sixteen at a time: the pool is fresh again.
@@ -72,10 +90,32 @@ fn empty(run: &mut Run) {
     assert!(run.words[1..].iter().all(|&word| word == 0));
 }
 
+/// What some runs reached.
+#[derive(Default)]
+struct Reached {
+    tallest: u32,
+    beside: [u64; 10],
+}
+
+impl Reached {
+    /// Adds what one more run reached.
+    fn add(&mut self, run: &Run) {
+        self.tallest = self.tallest.max(run.tallest);
+        for (all, more) in self.beside.iter_mut().zip(run.beside) {
+            *all += more;
+        }
+    }
+
+    /// How often a `Next` had so many pages beside its path, or more.
+    fn beside_from(&self, least: usize) -> u64 {
+        self.beside[least..].iter().sum()
+    }
+}
+
 #[test]
 fn small_pools() {
     let mut random = Random(1);
-    let mut tallest = 1;
+    let mut reached = Reached::default();
     for turn in 0..160 {
         let k = 1 + turn % 4;
         let n = 1 + random.below(40) as u32;
@@ -87,24 +127,27 @@ fn small_pools() {
             calls: 1000,
             slots,
             check_every: 1,
+            nexts: random.one(&[10, 40]),
         };
-        tallest = tallest.max(schedule(&mut random, &draw));
+        reached.add(&schedule(&mut random, &draw));
     }
-    assert!(tallest >= 4);
+    assert!(reached.tallest >= 4);
+    assert!(reached.beside_from(1) > 100);
 }
 
 #[test]
 fn large_pools() {
     let mut random = Random(2);
-    let mut tallest = 1;
-    for (k, n) in [
-        (1, 1024),
-        (1, 300),
-        (2, 500),
-        (3, 200),
-        (4, 100),
-        (16, 40),
-        (16, 1024),
+    let mut reached = Reached::default();
+    for (k, n, nexts) in [
+        (1, 1024, 10),
+        (1, 1024, 40),
+        (1, 300, 40),
+        (2, 500, 40),
+        (3, 200, 20),
+        (4, 100, 20),
+        (16, 40, 10),
+        (16, 1024, 10),
     ] {
         let keys = 600 * u64::from(k);
         let draw = Draw {
@@ -114,20 +157,31 @@ fn large_pools() {
             calls: 25_000,
             slots: 16,
             check_every: 97,
+            nexts,
         };
-        tallest = tallest.max(schedule(&mut random, &draw));
+        reached.add(&schedule(&mut random, &draw));
     }
-    assert!(tallest >= 6);
+    assert!(reached.tallest >= 6);
+    assert!(reached.beside_from(2) > 100);
 }
 
 #[test]
 fn every_kind_of_answer() {
     let mut random = Random(3);
     let mut run = Run::new(1, 12);
-    for _ in 0..20_000 {
-        let slot = random.below(16) as usize;
+    let draw = Draw {
+        k: 1,
+        n: 12,
+        keys: 30,
+        calls: 20_000,
+        slots: 16,
+        check_every: 1,
+        nexts: 30,
+    };
+    for _ in 0..draw.calls {
+        let slot = random.below(draw.slots) as usize;
         if random.percent(40) {
-            let op = operation(&mut random, 30, true);
+            let op = operation(&mut random, &run, &draw, true);
             // with the largest key there would always be a next one
             if op.key() < u32::MAX || matches!(op, Op::Next(_)) {
                 run.begin(slot, op);

@@ -3,6 +3,8 @@
 
 #![allow(dead_code)]
 
+mod ways;
+
 use std::collections::BTreeMap;
 
 use twin::{
@@ -20,6 +22,8 @@ pub struct Run {
     pub height: [u32; 16],
     pub tally: BTreeMap<&'static str, u64>,
     pub tallest: u32,
+    /// How often a step left a `Next` with so many pages beside its path.
+    pub beside: [u64; 10],
 }
 
 impl Run {
@@ -39,6 +43,7 @@ impl Run {
             height: [0; 16],
             tally,
             tallest: 1,
+            beside: [0; 10],
         }
     }
 
@@ -80,6 +85,10 @@ impl Run {
         self.judge(slot, op, answer, &before);
         self.state = next;
         self.tallest = self.tallest.max(self.words[0]);
+        self.check_way(slot);
+        if let (Op::Next(_), Answer::Moved) = (op, answer) {
+            self.beside[self.state.slots[slot].beside] += 1;
+        }
         answer
     }
 
@@ -114,17 +123,14 @@ impl Run {
         }
     }
 
-    /// Search and insertion take h grants, deletion and next h to 2h-1.
+    /// Search and insertion take h grants, a deletion h to 2h-1, a `Next` just those of its ways.
     fn judge_grants(&self, slot: usize, op: Op, answer: Answer) {
         let (taken, height) = (self.grants[slot], self.height[slot]);
         match op {
             Op::Delete(_) if answer != Answer::NoSuchKey => {
                 assert!((height..=2 * height - 1).contains(&taken));
             }
-            // by its second way just those that go down from the page with a child to the right
-            Op::Next(_) if answer != Answer::None => {
-                assert!((height..=2 * height - 1).contains(&taken));
-            }
+            Op::Next(_) if answer != Answer::None => assert_eq!(taken, self.next_grants(slot)),
             _ => assert_eq!(taken, height),
         }
     }
@@ -157,9 +163,16 @@ impl Run {
     pub fn check(&self) {
         self.check_tree();
         self.check_locks();
-        let is_open = |&slot: &usize| self.state.slots[slot].op.is_some();
-        let open: Vec<usize> = (0..16).filter(is_open).collect();
-        assert!(open.is_empty() || open.iter().any(|&slot| !must_wait(&self.state, slot)));
+        (0..16).for_each(|slot| self.check_way(slot));
+        let is_closed = self.state.slots.iter().all(|slot| slot.op.is_none());
+        assert!(is_closed || !self.ready().is_empty());
+    }
+
+    /// The open slots that need not wait.
+    pub fn ready(&self) -> Vec<usize> {
+        let is_ready =
+            |slot: &usize| self.state.slots[*slot].op.is_some() && !must_wait(&self.state, *slot);
+        (0..16).filter(is_ready).collect()
     }
 
     /// The pages form the tree, it holds the list's entries, every other page is all zeros.

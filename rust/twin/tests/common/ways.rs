@@ -1,0 +1,75 @@
+//! The pages that a `Next` holds, told again from the tree as it stands.
+
+use twin::{read_page, Op, Page};
+
+use super::Run;
+
+/// An upper page's next child to the right of the route: it stands behind the first key above.
+fn right_of(page: &Page, key: u32) -> Option<u32> {
+    let at = page.keys.iter().position(|&own| own > key)?;
+    (page.level > 1).then(|| page.with[at + 1])
+}
+
+impl Run {
+    /// A page of the tree.
+    fn page(&self, number: u32) -> Page {
+        read_page(&self.words, self.k, self.n, number).expect("a tree page")
+    }
+
+    /// From a page down to a leaf, by the child that is chosen.
+    fn down(&self, from: u32, chosen: impl Fn(&Page) -> u32) -> Vec<u32> {
+        let mut way = vec![from];
+        loop {
+            let page = self.page(way[way.len() - 1]);
+            if page.level == 1 {
+                return way;
+            }
+            way.push(chosen(&page));
+        }
+    }
+
+    /// The number behind the last key of the leaf that a key leads to.
+    pub fn behind_leaf(&self, key: u32) -> u32 {
+        let way = self.down(0, |page| page.route(key));
+        let leaf = self.page(way[way.len() - 1]);
+        leaf.keys.last().map_or(key, |last| last.saturating_add(1))
+    }
+
+    /// An open `Next` that holds pages stands where the rules have it.
+    ///
+    /// Its path goes from the lowest page with a child to the right of the route, or from page 0; it ends above the want, or
+    /// at a leaf that has nothing for the key, and then the second way is beside it.
+    pub fn check_way(&self, slot: usize) {
+        let slot = &self.state.slots[slot];
+        let key = match slot.op {
+            Some(Op::Next(key)) if slot.depth > 0 => key,
+            _ => return,
+        };
+        let way = self.down(0, |page| page.route(key));
+        let lowest = slot.path[slot.depth - 1];
+        let end = way.iter().position(|&page| page == lowest);
+        let end = end.expect("a page on the way of the key");
+        let has_right = |&at: &usize| right_of(&self.page(way[at]), key).is_some();
+        let top = (0..=end).rev().find(has_right).unwrap_or(0);
+        assert_eq!(slot.path(), &way[top..=end]);
+        if end + 1 < way.len() {
+            assert_eq!((slot.siblings(), slot.want), (&[][..], way[end + 1]));
+            return;
+        }
+        assert!(self.page(lowest).keys.iter().all(|&own| own < key));
+        let right = right_of(&self.page(way[top]), key).expect("a second way");
+        let second = self.down(right, |page| page.with[0]);
+        let taken = [slot.siblings(), &[slot.want]].concat();
+        assert_eq!(second[..taken.len()], taken);
+    }
+
+    /// How many grants a `Next` takes with this one: one a level, and if it crossed to a second way one a level below the top
+    /// of its path.
+    pub fn next_grants(&self, slot: usize) -> u32 {
+        let (its, height) = (&self.state.slots[slot], self.height[slot]);
+        match its.path() {
+            [top, .., leaf] if self.page(*leaf).level == 1 => height + self.page(*top).level - 1,
+            _ => height,
+        }
+    }
+}
