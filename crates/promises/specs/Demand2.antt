@@ -9,8 +9,8 @@ use mathlib.Core.Path.{_≡_}
 use lib.ListN.{replicate}
 use Rattle.ground.specs.Limits.{slotCount}
 use Rattle.ground.specs.Tests.{member, distinct}
-use Rattle.page.specs.Words.{Page, μ, size}
-use Rattle.page.specs.Place.{place, pointer}
+use Rattle.page.specs.Words.{Entry, Page, μ, size}
+use Rattle.page.specs.Place.{place, pointer, atOrAbove}
 use Rattle.page.specs.Short.{neighbour}
 use Rattle.pool.specs.Pool.{wordsOf, pageAt}
 use Rattle.slots.specs.declared.Op.{Op}
@@ -20,7 +20,7 @@ use Rattle.slots.specs.declared.State.{State}
 use Rattle.slots.specs.declared.Lock.the-variants.{None}
 use Rattle.slots.specs.declared.Answer.{Answer}
 use Rattle.slots.specs.declared.Answer.the-variants.{Waiting, Moved, NoRoom, Begun, Reported, BadSlot, SlotBusy, SlotIdle, BadPage, Next as NextLot}
-use Rattle.slots.specs.Parts.{held, pathOf, siblingsOf, slotAt, openAt, wantAt, holdsAt, waitingOrder}
+use Rattle.slots.specs.Parts.{keyOf, isDelete, isNext, goesBeside, held, pathOf, siblingsOf, slotAt, openAt, wantAt, holdsAt, waitingOrder}
 use Rattle.slots.specs.Locks.{lockOf, clash}
 use Rattle.slots.specs.Grant.{olderThan}
 use Rattle.slots.specs.Sound.{sound}
@@ -33,7 +33,7 @@ use Rattle.runs.specs.Run.{Call, begin, step, report, called, runFrom, CallInWo
 use Rattle.runs.specs.Stance.{Safe, Stance, Takes}
 use Rattle.runs.specs.Waits.{Barred, Before}
 use Rattle.runs.specs.Done.{countedAnswers, writing, isOneOf}
-use Rattle.runs.specs.PlainFacts.{Among}
+use Rattle.runs.specs.PlainFacts.{Among, AllBelow}
 use Rattle.promises.specs.Demand1.{Exactly}
 
 -- ---- after every call
@@ -42,16 +42,16 @@ use Rattle.promises.specs.Demand1.{Exactly}
 abbrev pub Opened : State → ℕ → Op → Type 0
 Opened st s op = slotAt st s .task ≡ Open op
 
--- slot s searches, or asks for the next lot
-abbrev pub Reads : State → ℕ → Type 0
-Reads st s = (x : ℕ) × (Opened st s (Search x) ⊎ Opened st s (Next x))
-
--- the operation is a search, or asks for the next lot
+-- the operation only reads: it is a search, or asks for the next lot
 abbrev pub Reader : Op → Type 0
 Reader (Search x) = Unit {0}
 Reader (Insert x v) = ⊥
 Reader (Delete x) = ⊥
 Reader (Next x) = Unit {0}
+
+-- slot s only reads
+abbrev pub Reads : State → ℕ → Type 0
+Reads st s = (op : Op) × Opened st s op × Reader op
 
 -- What a run with this k and N has left.
 pub record AfterEveryCall (k n : ℕ) (st : State) (ws : List ℕ) : Type 0 where
@@ -152,6 +152,16 @@ answersOf (report p) = Reported None 0 0 ∷ BadPage ∷ []
 -- ---- the words of the rules that are used above, pinned
 
 pub record Words (k : ℕ) : Type 0 where
+  -- the key of an operation is the one that it names
+  pub key : (x v : ℕ) → (keyOf (Search x) ≡ x) × (keyOf (Insert x v) ≡ x) × (keyOf (Delete x) ≡ x) × (keyOf (Next x) ≡ x)
+  -- a deletion is a Delete of some key, and nothing else is,
+  pub deletion : (op : Op) → Exactly (isDelete op ≡ true) ((x : ℕ) × (op ≡ Delete x))
+  -- what asks for the next lot is a Next of some key,
+  pub asksNext : (op : Op) → Exactly (isNext op ≡ true) ((x : ℕ) × (op ≡ Next x))
+  -- and just these two may hold pages beside their path
+  pub beside : (op : Op) → Exactly (goesBeside op ≡ true) ((x : ℕ) × ((op ≡ Delete x) ⊎ (op ≡ Next x)))
+  -- no entry of a list is at or above a key just if every key of it is below
+  pub nearest : (x : ℕ) (es : List Entry) → Exactly (atOrAbove x es ≡ []) (AllBelow x es)
   -- a page is safe, as 01 says when ancestors are given up
   pub safe : (op : Op) (P : Page) → Exactly (isSafe op k P ≡ true) (Safe op k P)
   -- "its right neighbour under the same father; if it has none, the left one": of the page to which F routes x
