@@ -1,6 +1,7 @@
 -- Demand 2, in the customer's words: "Search, insertion and deletion follow Bayer and Schkolnick's first solution as our paper
 -- fixes it. From a fresh pool, after every call, the pages form their B*-tree (an empty root leaf allowed), every other page is
 -- free, no two locks clash, and each step takes and gives up just the locks the rules name."
+-- Next of 02 (i) is among the operations: whatever is said of every operation is said of it.
 use Prim.Native.Nat.{ℕ, suc, _-_, _≤_, _<_}
 use mathlib.Core.Bool.{true, false}
 use mathlib.Core.List.{List, [], _∷_, _++_}
