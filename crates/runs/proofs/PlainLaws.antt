@@ -5,7 +5,7 @@ use mathlib.Core.List.{List, [], _∷_, _++_}
 use mathlib.Core.Logic.{_⊎_, inl, inr, _≢_, ⊎-elim}
 use mathlib.Core.Path.{_≡_, refl, sym, ap, ap₂, _∙_, subst}
 use native.Mathlib.Omega.{arith}
-use borrow.Author.Tests.{leb-true, leb-false, lt-leb, eqb-true, eq-eqb, ne-eqb}
+use borrow.Author.Tests.{leb-true, leb-false, eqb-true, eq-eqb, ne-eqb}
 use lib.Dec.{leb, eqb}
 use lib.ListN.{length, getD, take, drop, length-append, take-append-drop}
 use lib.Seq.{getD-append-seam}
@@ -14,7 +14,7 @@ use Rattle.ground.proofs.Choice.{by-test, cond-ind, cond-true, cond-false}
 use Rattle.page.specs.Words.{Entry, entry, keyOf, valueOf, page}
 use Rattle.page.specs.Place.{place, has, information, atOrAbove, without}
 use Rattle.page.specs.Sound.{rises}
-use Rattle.page.proofs.PlaceLaws.{has-from, has-at, has-append, information-at, rises-without}
+use Rattle.page.proofs.PlaceLaws.{has-from, has-at, has-append, information-at, above-later, rises-without}
 use Rattle.page.proofs.RiseLaws.{rises-at, rises-drop}
 use Rattle.page.proofs.PutLaws.{put-entries, put-place-rises}
 use Rattle.slots.specs.declared.Op.{Op}
@@ -189,7 +189,7 @@ pub below-none : (x : ℕ) (es : List Entry) → AllBelow x es → atOrAbove x e
 unfolding atOrAbove
 below-none x [] below = refl
 below-none x (e ∷ es) below =
-    cond-false (e ∷ es) (atOrAbove x es) (lt-leb x (e .key) (below (e .key) (e .value) (record { before = []; after = es; whole = refl })))
+    above-later x e es (below (e .key) (e .value) (record { before = []; after = es; whole = refl }))
     ∙ below-none x es (λ z w a. below z w (among-later z w e es a))
 
 -- What the entries at or above a key begin with: there is none, or the first of them.
