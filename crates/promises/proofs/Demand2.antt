@@ -32,7 +32,7 @@ use Rattle.slots.specs.declared.Answer.the-variants.{Waiting, Moved, NoRoom, Ba
 use Rattle.slots.specs.Parts.{isDelete, isNext, goesBeside, isOpen, held, pathOf, siblingsOf, slotAt, openAt, wantAt, holdsAt, openSlot, closedSlot}
 use Rattle.slots.specs.Locks.{lockOf, clash}
 use Rattle.slots.specs.Sound.{withinLimits}
-use Rattle.slots.specs.Heard.{numberOf, changesNothing}
+use Rattle.slots.specs.Heard.{numberOf, changesNothing, isOneOf, countedAnswers, ending}
 use Rattle.slots.specs.Report.{reported}
 use Rattle.slots.specs.Grant.{grants}
 use Rattle.slots.specs.Book.{begins, goesOn, closes}
@@ -51,7 +51,6 @@ use Rattle.runs.specs.Run.{Call, begin, step, report, called, runFrom}
 use Rattle.runs.specs.Stance.{Safe, Takes}
 use Rattle.runs.specs.Waits.{Barred}
 use Rattle.runs.specs.Step.{Ended}
-use Rattle.runs.specs.Done.{countedAnswers, isOneOf}
 use Rattle.runs.proofs.Invariant.{Invariant}
 use Rattle.runs.proofs.Calls.{StepOf, noSlot, idle, waits, onward, over, step-of}
 use Rattle.runs.proofs.Runs.{call-keeps, call-numbers, BeginOf, noSuch, busy, begins-so, begin-of, ReportOf, noPage, tells, report-of, holds-after, numbers-after}
@@ -60,7 +59,7 @@ use Rattle.runs.proofs.Older.{older-before, before-older}
 use Rattle.runs.proofs.PlainLaws.{none-below, below-none}
 use Rattle.runs.proofs.Agreement.{plain-counted}
 use Rattle.promises.specs.Demand1.{Exactly}
-use Rattle.promises.specs.Demand2.{Opened, Reader, AfterEveryCall, Seen, ending, StepLocks, CallLocks, answersOf, Words, Demand2Holds}
+use Rattle.promises.specs.Demand2.{Opened, Reader, AfterEveryCall, Seen, StepLocks, CallLocks, answersOf, Words, Demand2Holds}
 use Rattle.promises.proofs.Seen.{step-seen}
 
 -- ---- after every call

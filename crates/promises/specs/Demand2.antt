@@ -20,12 +20,12 @@ use Rattle.slots.specs.declared.Task.the-variants.{Open}
 use Rattle.slots.specs.declared.State.{State}
 use Rattle.slots.specs.declared.Lock.the-variants.{None}
 use Rattle.slots.specs.declared.Answer.{Answer}
-use Rattle.slots.specs.declared.Answer.the-variants.{Waiting, Moved, NoRoom, Begun, Reported, BadSlot, SlotBusy, SlotIdle, BadPage, Next as NextLot}
+use Rattle.slots.specs.declared.Answer.the-variants.{Waiting, Moved, Begun, Reported, BadSlot, SlotBusy, SlotIdle, BadPage, Next as NextLot}
 use Rattle.slots.specs.Parts.{keyOf, isDelete, isNext, goesBeside, held, pathOf, siblingsOf, slotAt, openAt, wantAt, holdsAt, waitingOrder}
 use Rattle.slots.specs.Locks.{lockOf, clash}
 use Rattle.slots.specs.Grant.{olderThan}
 use Rattle.slots.specs.Sound.{sound}
-use Rattle.slots.specs.Heard.{changesNothing}
+use Rattle.slots.specs.Heard.{changesNothing, isOneOf, ending}
 use Rattle.slots.specs.Book.{leaving}
 use Rattle.footing.specs.Granted.{isSafe}
 use Rattle.index.specs.Step.{Left}
@@ -33,7 +33,7 @@ use Rattle.tree.specs.Tree.{Tr, occurs, PoolForms}
 use Rattle.runs.specs.Run.{Call, begin, step, report, called, runFrom, CallInWords, Run}
 use Rattle.runs.specs.Stance.{Safe, Stance, Takes}
 use Rattle.runs.specs.Waits.{Barred, Before}
-use Rattle.runs.specs.Done.{countedAnswers, writing, isOneOf}
+use Rattle.runs.specs.Done.{writing}
 use Rattle.runs.specs.PlainFacts.{Among, AllBelow}
 use Rattle.promises.specs.Demand1.{Exactly}
 
@@ -93,10 +93,6 @@ pub record MovesOn (st : State) (ws : List ℕ) (s : ℕ) (after : Left) : Type 
   pub takes : Takes op (st .k) (pageAt (st .k) ws) (pathOf (slotAt st s)) (siblingsOf (slotAt st s)) (wantAt st s) (pathOf (slotAt (after .state) s)) (siblingsOf (slotAt (after .state) s))
   -- "A new want goes to the end of the waiting order.": the others stand in the order they had
   pub order : waitingOrder (after .state) ≡ leaving s (waitingOrder st) ++ s ∷ []
-
--- the answers that end an operation, whatever their values
-abbrev pub ending : List Answer
-ending = NoRoom ∷ countedAnswers
 
 -- the lot that is answered, if it is one, stands on this leaf
 abbrev pub Seen : Page → Answer → Type 0
