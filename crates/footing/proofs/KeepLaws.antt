@@ -212,7 +212,7 @@ pub beside-held : {k n : ℕ} {ws : List ℕ} (pages siblings : List ℕ) (want 
 beside-held {k} {n} {ws} pages siblings want e held =
     subst (Held k n ws) (append-assoc pages siblings (want ∷ []) ∙ ap (λ (l : List ℕ). pages ++ l) (sym e)) held
 
--- only a deletion goes on from its leaf
+-- only a deletion goes on from its leaf to a sibling
 pub beside-idle : (op : Op) (k : ℕ) (memory : ℕ → Page) (up siblings : List ℕ) (want : ℕ) → isDelete op ≡ false
     → false ≡ rightlyBeside op k memory up siblings want
 beside-idle op k memory [] siblings want f = refl

@@ -1,14 +1,16 @@
 -- A refused call, and one answered Waiting, leaves state and words as given, and no call changes the pool's length.
 use Prim.Native.Nat.{ℕ}
-use mathlib.Core.Bool.{true, false, not, _&&_, _||_, false≢true}
+use mathlib.Core.Bool.{true, false, not, _&&_, false≢true}
 use mathlib.Core.Path.{_≡_, refl, sym, _∙_}
-use mathlib.Core.List.{List, [], _∷_, _++_, reverse}
+use mathlib.Core.List.{List, [], _∷_, _++_, map, reverse}
 use lib.Dec.{leb, ltb, eqb}
 use lib.ListN.{length}
-use borrow.Author.Tests.{leb-true, lt-leb, eqb-true}
+use borrow.Author.Tests.{eqb-true, not-true}
 use Rattle.ground.specs.Limits.{slotCount}
-use Rattle.ground.proofs.Bools.{not-both, and-first, and-second}
+use Rattle.ground.specs.Tests.{all, member}
+use Rattle.ground.proofs.Bools.{not-both, and-second}
 use Rattle.ground.proofs.Choice.{cond-ind, cond-true}
+use Rattle.ground.proofs.Tests.{all-member}
 use Rattle.pool.proofs.WriteLaws.{length-applied}
 use Rattle.pool.proofs.FreshLaws.{length-fresh}
 use Rattle.page.specs.Words.{Entry, Page, isLeaf}
@@ -23,8 +25,8 @@ use Rattle.slots.specs.declared.Task.the-variants.{Closed, Open}
 use Rattle.slots.specs.declared.Slot.{Slot}
 use Rattle.slots.specs.declared.State.{State}
 use Rattle.slots.specs.declared.Answer.{Answer}
-use Rattle.slots.specs.declared.Answer.the-variants.{Waiting, Moved, NoRoom, Next as NextLot}
-use Rattle.slots.specs.Heard.{numberOf, refuses, changesNothing}
+use Rattle.slots.specs.declared.Answer.the-variants.{Waiting, Moved}
+use Rattle.slots.specs.Heard.{numberOf, refuses, changesNothing, ending}
 use Rattle.slots.specs.Begin.{begun}
 use Rattle.slots.specs.Parts.{keyOf, isNext, slotAt, idleState, pathOf, siblingsOf}
 use Rattle.slots.specs.Sound.{sound}
@@ -49,14 +51,16 @@ by-need path siblings whole (sibling s) h = tt
 by-need path siblings whole astray h = tt
 
 deletes-answers : (k : ℕ) (memory : ℕ → Page) (x : ℕ) (path : List ℕ) (leaf : ℕ) (fathers siblings : List ℕ) → Answers (deletes k memory x path leaf fathers siblings)
-unfolding deletes
+unfolding deletes member
 deletes-answers k memory x path leaf fathers siblings = by-need path siblings _ (needs k memory x leaf fathers siblings) refl
 
 next-answers : (es : List Entry) → ofGranted (nextAnswer es) ≡ true
+unfolding member
 next-answers [] = refl
 next-answers (e ∷ es) = refl
 
 crosses-answers : (op : Op) (k : ℕ) (memory : ℕ → Page) (path : List ℕ) → Answers (crosses op k memory path)
+unfolding member
 crosses-answers op k memory [] = tt
 crosses-answers op k memory (top ∷ below) = cond-ind Answers (isSafe op k (memory top)) (λ _. tt) (λ _. refl)
 
@@ -65,7 +69,7 @@ by-nearest further [] h = h
 by-nearest further (e ∷ es) h = next-answers (e ∷ es)
 
 leaf-answers : (op : Op) (k : ℕ) (memory : ℕ → Page) (free path : List ℕ) (leaf : ℕ) (fathers : List ℕ) → Answers (atLeaf op k memory free path leaf fathers)
-unfolding atLeaf
+unfolding atLeaf member
 leaf-answers (Search x) k memory free path leaf fathers = cond-ind (λ (a : Answer). ofGranted a ≡ true) (has x (memory leaf .entries)) (λ _. refl) (λ _. refl)
 leaf-answers (Insert x v) k memory free path leaf fathers =
     cond-ind Answers (has x (memory leaf .entries)) (λ _. refl)
@@ -99,7 +103,10 @@ verdict-answers op k n ws path siblings want =
 
 -- an answer of a granted step is none that leaves all as given
 pub changes : (a : Answer) → ofGranted a ≡ true → changesNothing a ≡ false
-changes a h = lt-leb (numberOf a) (numberOf Waiting) (leb-true (numberOf Moved) (numberOf a) (and-first (leb (numberOf Moved) (numberOf a)) (leb (numberOf a) (numberOf NoRoom) || leb (numberOf (NextLot 0 0)) (numberOf a)) h))
+unfolding all
+changes a h =
+    not-true (changesNothing a)
+    (all-member (λ (m : ℕ). not (leb m (numberOf Waiting))) (map numberOf (Moved ∷ ending)) refl (numberOf a) h)
 
 -- state and words are as they were given
 pub record AsGiven (st : State) (ws : List ℕ) (after : Left) : Type 0 where

@@ -1,8 +1,8 @@
 -- A step, for every argument. "Slots, locks and steps" and "What the caller hears" of document 01.
 use Prim.Native.Nat.{ℕ}
-use mathlib.Core.Bool.{Bool, cond, not, _&&_, _||_}
-use mathlib.Core.List.{List}
-use lib.Dec.{leb, ltb, eqb}
+use mathlib.Core.Bool.{Bool, cond, not}
+use mathlib.Core.List.{List, _∷_}
+use lib.Dec.{ltb, eqb}
 use lib.ListN.{length}
 use Rattle.ground.specs.Limits.{slotCount}
 use Rattle.pool.specs.Pool.{poolLength, applied}
@@ -12,8 +12,8 @@ use Rattle.slots.specs.declared.Task.the-variants.{Closed, Open}
 use Rattle.slots.specs.declared.Slot.{Slot}
 use Rattle.slots.specs.declared.State.{State}
 use Rattle.slots.specs.declared.Answer.{Answer}
-use Rattle.slots.specs.declared.Answer.the-variants.{Waiting, Moved, NoRoom, BadState, BadPool, BadSlot, SlotIdle, Damaged, Next}
-use Rattle.slots.specs.Heard.{numberOf}
+use Rattle.slots.specs.declared.Answer.the-variants.{Waiting, Moved, BadState, BadPool, BadSlot, SlotIdle, Damaged}
+use Rattle.slots.specs.Heard.{isOneOf, ending}
 use Rattle.slots.specs.Parts.{slotAt, pathOf, siblingsOf}
 use Rattle.slots.specs.Sound.{sound}
 use Rattle.slots.specs.Grant.{grants}
@@ -31,9 +31,9 @@ abbrev pub left : Answer → State → List ℕ → Left
 left a st ws = record { answer = a; state = st; words = ws }
 
 -- "Step answers: Waiting, Moved, Found (information), NotFound, Inserted, AlreadyThere, Deleted (information), NoSuchKey,
--- NoRoom." All but Waiting are answers of a granted step. They are numbered in this order; Next and None stand behind all others.
+-- NoRoom." All but Waiting are answers of a granted step: Moved, and those that end an operation, Next and None of 02 (i) among them.
 abbrev pub ofGranted : Answer → Bool
-ofGranted a = leb (numberOf Moved) (numberOf a) && (leb (numberOf a) (numberOf NoRoom) || leb (numberOf (Next 0 0)) (numberOf a))
+ofGranted a = isOneOf a (Moved ∷ ending)
 
 -- Moved, with the new holdings and want; an ending answer, with the pages written; or Damaged: "as given, the slot stays
 -- open, the lock is not taken".

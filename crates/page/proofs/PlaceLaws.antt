@@ -16,7 +16,7 @@ use Rattle.ground.proofs.Tests.{count-append, count-most}
 use Rattle.page.specs.Words.{Keyed, Entry}
 use Rattle.page.specs.Splits.{entryAt}
 use Rattle.page.specs.Sound.{rises}
-use Rattle.page.specs.Place.{place, has, information, without}
+use Rattle.page.specs.Place.{place, has, information, atOrAbove, without}
 use Rattle.page.proofs.RiseLaws.{keyAt, rises-at, rises-drop, rises-without-middle}
 
 -- ---- place
@@ -179,6 +179,18 @@ information-at x (f ∷ es) t (suc i) h e =
     let up = rises-at (f ∷ es) t 0 (suc i) (omega arith) h in
     cond-false (f .value) (information x es) (ne-eqb (f .key) x (λ s. absurd (omega arith)))
     ∙ information-at x es (rises-drop 1 (f ∷ es) t) i (le-of-suc-le-suc h) e
+
+-- ---- at or above
+
+-- the entries at or above x begin with the first that is,
+pub above-first : (x : ℕ) (e : Entry) (es : List Entry) → x ≤ e .key → atOrAbove x (e ∷ es) ≡ e ∷ es
+unfolding atOrAbove
+above-first x e es h = cond-true (e ∷ es) (atOrAbove x es) (le-leb x (e .key) h)
+
+-- and one that is below is passed over
+pub above-later : (x : ℕ) (e : Entry) (es : List Entry) → e .key < x → atOrAbove x (e ∷ es) ≡ atOrAbove x es
+unfolding atOrAbove
+above-later x e es h = cond-false (e ∷ es) (atOrAbove x es) (lt-leb x (e .key) h)
 
 -- ---- without
 

@@ -6,7 +6,7 @@ use mathlib.Core.Path.{_≡_, refl, sym, ap, _∙_}
 use native.Mathlib.Nat.{not-suc-le-zero}
 use native.Mathlib.Omega.{arith}
 use native.Mathlib.Numerals.{add-one}
-use borrow.Author.Tests.{lt-ltb, le-ltb, le-leb, lt-leb}
+use borrow.Author.Tests.{lt-ltb, le-ltb}
 use lib.ListN.{length, getD, drop, length-drop, length-map, List·getD-map, drop-of-length-le}
 use lib.Seq.{getD-drop, drop-cons}
 use Rattle.ground.proofs.Bools.{false-if-not-true}
@@ -19,7 +19,7 @@ use Rattle.page.specs.Reading.{Readable, looked}
 use Rattle.page.specs.Short.{hasRight, betweenAt, neighbour}
 use Rattle.page.specs.declared.reading.Lot.the-variants.{There, Missing}
 use Rattle.page.proofs.RiseLaws.{keyAt}
-use Rattle.page.proofs.PlaceLaws.{place-most, place-between, has-from, has-place, information-at}
+use Rattle.page.proofs.PlaceLaws.{place-most, place-between, has-from, has-place, information-at, above-first, above-later}
 use Rattle.page.proofs.WordLaws.{length-pairs, pairsFrom-most}
 use Rattle.page.proofs.SoundPage.{sound-μ, sound-facts}
 
@@ -153,17 +153,13 @@ module _ (x : ℕ) (es : List Entry) (i : ℕ) where
 
   -- the entry at index i is at or above x
   pub above-found : i < length es → x ≤ keyAt i es → from-here ≡ entryAt i es ∷ drop (suc i) es
-  unfolding atOrAbove
-  above-found h above =
-      ap (atOrAbove x) (next-entry h)
-      ∙ cond-true (entryAt i es ∷ drop (suc i) es) (atOrAbove x (drop (suc i) es)) (le-leb x (keyAt i es) above)
+  above-found h above = ap (atOrAbove x) (next-entry h) ∙ above-first x (entryAt i es) (drop (suc i) es) above
 
   -- it is below
   pub above-more : i < length es → keyAt i es < x → from-here ≡ atOrAbove x (drop (i + 1) es)
-  unfolding atOrAbove
   above-more h below =
       ap (atOrAbove x) (next-entry h)
-      ∙ cond-false (entryAt i es ∷ drop (suc i) es) (atOrAbove x (drop (suc i) es)) (lt-leb x (keyAt i es) below)
+      ∙ above-later x (entryAt i es) (drop (suc i) es) below
       ∙ ap (λ (j : ℕ). atOrAbove x (drop j es)) (sym (add-one i))
 
   -- there is none left
@@ -175,7 +171,7 @@ module _ (x : ℕ) (es : List Entry) (i : ℕ) where
 pub above-all : (es : List Entry) → atOrAbove 0 es ≡ es
 unfolding atOrAbove
 above-all [] = refl
-above-all (e ∷ es) = cond-true (e ∷ es) (atOrAbove 0 es) (le-leb 0 (e .key) (omega arith))
+above-all (e ∷ es) = above-first 0 e es (omega arith)
 
 -- ---- the neighbour of the page to which a father F of m reference keys routes x, at place i
 

@@ -1,14 +1,14 @@
 -- Demand 1 holds of every call. What an answer tells is read off a table, and the answer that a condition leads to off the rule.
 use Prim.Native.Nat.{ℕ, _≤_, _<_}
-use mathlib.Core.Bool.{Bool, true, false, cond, _&&_, _||_, true≢false, false≢true}
+use mathlib.Core.Bool.{Bool, true, false, cond, _&&_, true≢false, false≢true}
 use mathlib.Core.List.{List, [], _∷_, _++_}
 use mathlib.Core.Logic.{_⊎_, inl, inr, _≢_}
-use mathlib.Core.Path.{_≡_, refl, ap, _∙_, subst, transport, transport⁻¹}
-use native.Mathlib.Omega.{arith}
+use mathlib.Core.Path.{_≡_, refl, sym, ap, _∙_, subst, transport, transport⁻¹}
 use lib.Dec.{leb, ltb, eqb}
 use lib.ListN.{length}
 use borrow.Author.Tests.{ltb-true, ltb-false, leb-true, eqb-true, eqb-false, lt-ltb, le-ltb, le-leb, eq-eqb, ne-eqb}
 use Rattle.ground.specs.Limits.{largestK, largestN, slotCount}
+use Rattle.ground.specs.Tests.{member}
 use Rattle.ground.proofs.Bools.{not-both, false-if-not-true, and-first, and-second, and-both}
 use Rattle.ground.proofs.Choice.{cond-false}
 use Rattle.pool.specs.Pool.{kInRange, nInRange, poolLength, pageAt, freePages}
@@ -18,8 +18,8 @@ use Rattle.slots.specs.declared.Task.the-variants.{Closed, Open}
 use Rattle.slots.specs.declared.Slot.{Slot}
 use Rattle.slots.specs.declared.State.{State}
 use Rattle.slots.specs.declared.Answer.{Answer}
-use Rattle.slots.specs.declared.Answer.the-variants.{Waiting, Moved, NoRoom, Begun, Made, BadState, BadPool, BadSlot, SlotBusy, SlotIdle, Damaged, BadPage, Next}
-use Rattle.slots.specs.Heard.{numberOf, refuses}
+use Rattle.slots.specs.declared.Answer.the-variants.{Waiting, Begun, Made, BadState, BadPool, BadSlot, SlotBusy, SlotIdle, Damaged, BadPage}
+use Rattle.slots.specs.Heard.{numberOf, refuses, changesNothing}
 use Rattle.slots.specs.Parts.{isOpen, slotAt, openAt, pathOf, siblingsOf}
 use Rattle.slots.specs.Sound.{sound}
 use Rattle.slots.specs.Grant.{grants}
@@ -32,7 +32,7 @@ use Rattle.footing.specs.Fitting.{pagesSound, fitting, nextIsNew, soundForStep,
 use Rattle.ground.proofs.Choice.{by-test}
 use Rattle.index.specs.Step.{ofGranted, acted, steppedTask, stepped}
 use Rattle.index.specs.Make.{made}
-use Rattle.index.proofs.Refusals.{Answers, granted-answers, step-refused, make-refused, step-length, make-length}
+use Rattle.index.proofs.Refusals.{Answers, granted-answers, changes, step-refused, make-refused, step-length, make-length}
 use Rattle.promises.specs.Demand1.{BeginDemand, WordsFit, soundForTask, StepDemand, ReportDemand, MakingInRange, MakeDemand, Demand1}
 
 -- A row of a table: an answer, and what it tells. By its number an answer tells what stands beside it; one with no row tells `other`.
@@ -88,23 +88,22 @@ begin-demand st s op = record {
     told : {a : Answer} → begun st s op .answer ≡ a → BeginTells st s a
     told e = subst (BeginTells st s) e (begin-tells st s op)
 
--- a table whose answers are all numbered below those of a granted step
-abbrev low : List Row → Bool
-low [] = true
-low (r ∷ rows) = ltb (numberOf (r .answer)) (numberOf Moved) && low rows
+-- a table of answers after which everything is as given
+abbrev unchanging : List Row → Bool
+unchanging [] = true
+unchanging (r ∷ rows) = changesNothing (r .answer) && unchanging rows
 
 -- an answer of a granted step has no row in such a table
-no-row : (rows : List Row) (other : Type 0) (a : Answer) → low rows ≡ true → ofGranted a ≡ true → Tells rows other a ≡ other
+no-row : (rows : List Row) (other : Type 0) (a : Answer) → unchanging rows ≡ true → ofGranted a ≡ true → Tells rows other a ≡ other
 no-row [] other a l h = refl
 no-row (r ∷ rows) other a l h =
     cond-false (r .when) (Tells rows other a) (ne-eqb (numberOf a) (numberOf (r .answer)) differ)
-    ∙ no-row rows other a (and-second (ltb (numberOf (r .answer)) (numberOf Moved)) (low rows) l) h
+    ∙ no-row rows other a (and-second (changesNothing (r .answer)) (unchanging rows) l) h
   where
     differ : numberOf a ≢ numberOf (r .answer)
     differ e =
-        let below : numberOf (r .answer) < numberOf Moved = ltb-true (numberOf (r .answer)) (numberOf Moved) (and-first (ltb (numberOf (r .answer)) (numberOf Moved)) (low rows) l) in
-        let above : numberOf Moved ≤ numberOf a = leb-true (numberOf Moved) (numberOf a) (and-first (leb (numberOf Moved) (numberOf a)) (leb (numberOf a) (numberOf NoRoom) || leb (numberOf (Next 0 0)) (numberOf a)) h) in
-        omega arith
+        not-both (and-first (changesNothing (r .answer)) (unchanging rows) l)
+        (ap (λ (m : ℕ). leb m (numberOf Waiting)) (sym e) ∙ changes a h)
 
 -- what step's answers tell, by the slot and its task
 abbrev stepRows : State → List ℕ → ℕ → Slot → Task → List Row
@@ -125,6 +124,7 @@ StepTells st ws s slot task = Tells (stepRows st ws s slot task) (Goes st ws s s
 
 -- a verdict that is not broken answers as a granted step does
 acted-answers : (st : State) (ws : List ℕ) (s : ℕ) (op : Op) (v : Verdict) → nextIsNew v ≡ true → Answers v → ofGranted (acted st ws s op v .answer) ≡ true
+unfolding member
 acted-answers st ws s op broken new h = absurd (false≢true new)
 acted-answers st ws s op (goes path siblings want) new h = refl
 acted-answers st ws s op (ends answer writes) new h = h

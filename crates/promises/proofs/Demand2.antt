@@ -29,10 +29,10 @@ use Rattle.slots.specs.declared.Lock.the-variants.{Rho, Xi}
 use Rattle.slots.specs.declared.Outcome.{Outcome}
 use Rattle.slots.specs.declared.Answer.{Answer}
 use Rattle.slots.specs.declared.Answer.the-variants.{Waiting, Moved, NoRoom, BadSlot, SlotIdle}
-use Rattle.slots.specs.Parts.{isOpen, held, pathOf, siblingsOf, slotAt, openAt, wantAt, holdsAt, openSlot, closedSlot}
+use Rattle.slots.specs.Parts.{isDelete, isNext, goesBeside, isOpen, held, pathOf, siblingsOf, slotAt, openAt, wantAt, holdsAt, openSlot, closedSlot}
 use Rattle.slots.specs.Locks.{lockOf, clash}
 use Rattle.slots.specs.Sound.{withinLimits}
-use Rattle.slots.specs.Heard.{numberOf, changesNothing}
+use Rattle.slots.specs.Heard.{numberOf, changesNothing, isOneOf, countedAnswers, ending}
 use Rattle.slots.specs.Report.{reported}
 use Rattle.slots.specs.Grant.{grants}
 use Rattle.slots.specs.Book.{begins, goesOn, closes}
@@ -51,15 +51,15 @@ use Rattle.runs.specs.Run.{Call, begin, step, report, called, runFrom}
 use Rattle.runs.specs.Stance.{Safe, Takes}
 use Rattle.runs.specs.Waits.{Barred}
 use Rattle.runs.specs.Step.{Ended}
-use Rattle.runs.specs.Done.{countedAnswers, isOneOf}
 use Rattle.runs.proofs.Invariant.{Invariant}
 use Rattle.runs.proofs.Calls.{StepOf, noSlot, idle, waits, onward, over, step-of}
 use Rattle.runs.proofs.Runs.{call-keeps, call-numbers, BeginOf, noSuch, busy, begins-so, begin-of, ReportOf, noPage, tells, report-of, holds-after, numbers-after}
 use Rattle.runs.proofs.Progress.{barred, barred-waits}
 use Rattle.runs.proofs.Older.{older-before, before-older}
+use Rattle.runs.proofs.PlainLaws.{none-below, below-none}
 use Rattle.runs.proofs.Agreement.{plain-counted}
 use Rattle.promises.specs.Demand1.{Exactly}
-use Rattle.promises.specs.Demand2.{Opened, Reader, AfterEveryCall, Seen, ending, StepLocks, CallLocks, answersOf, Words, Demand2Holds}
+use Rattle.promises.specs.Demand2.{Opened, Reader, AfterEveryCall, Seen, StepLocks, CallLocks, answersOf, Words, Demand2Holds}
 use Rattle.promises.proofs.Seen.{step-seen}
 
 -- ---- after every call
@@ -85,20 +85,14 @@ clashes-so op op′ (excludes e never) (excludes f _) = ((λ c. not-both (ap₂ 
 clashes-is : (op op′ : Op) → Exactly (clash (lockOf (Open op)) (lockOf (Open op′)) ≡ false) (Reader op × Reader op′)
 clashes-is op op′ = clashes-so op op′ (lock-says op) (lock-says op′)
 
--- a task that is a search, or asks for the next lot
+-- a task that only reads
 abbrev ReadsTask : Task → Type 0
-ReadsTask task = (x : ℕ) × ((task ≡ Open (Search x)) ⊎ (task ≡ Open (Next x)))
-
-reading : (op : Op) → Reader op → ReadsTask (Open op)
-reading (Search x) r = (x, inl refl)
-reading (Insert x v) r = absurd r
-reading (Delete x) r = absurd r
-reading (Next x) r = (x, inr refl)
+ReadsTask task = (op : Op) × (task ≡ Open op) × Reader op
 
 both-read : (a b : Task) → isOpen a ≡ true → isOpen b ≡ true → clash (lockOf a) (lockOf b) ≡ false → ReadsTask a × ReadsTask b
 both-read Closed b o q c = not-both o refl
 both-read (Open op) Closed o q c = not-both q refl
-both-read (Open op) (Open op′) o q c = let (one, other) = clashes-is op op′ .0 c in (reading op one, reading op′ other)
+both-read (Open op) (Open op′) o q c = let (one, other) = clashes-is op op′ .0 c in ((op, refl, one), (op′, refl, other))
 
 -- "a closed slot holds nothing"
 closed-empty : (task : Task) (depth beside : ℕ) (path siblings : List ℕ) → withinLimits task depth beside ≡ true → isOpen task ≡ false → take depth path ++ take beside siblings ≡ []
@@ -313,9 +307,33 @@ safe-is k (Next x) P = (
   λ s. and-both (not-of-false (ne-eqb (P .level) 1 (s .0))) (lt-ltb (place x (P .entries)) (μ P) (s .1)),
 )
 
+-- a deletion, a Next, and what may hold pages beside its path, by name
+deletion-named : (op : Op) → isDelete op ≡ true → (x : ℕ) × (op ≡ Delete x)
+deletion-named (Search x) e = absurd (false≢true e)
+deletion-named (Insert x v) e = absurd (false≢true e)
+deletion-named (Delete x) e = (x, refl)
+deletion-named (Next x) e = absurd (false≢true e)
+
+next-named : (op : Op) → isNext op ≡ true → (x : ℕ) × (op ≡ Next x)
+next-named (Search x) e = absurd (false≢true e)
+next-named (Insert x v) e = absurd (false≢true e)
+next-named (Delete x) e = absurd (false≢true e)
+next-named (Next x) e = (x, refl)
+
+beside-named : (op : Op) → goesBeside op ≡ true → (x : ℕ) × ((op ≡ Delete x) ⊎ (op ≡ Next x))
+beside-named (Search x) e = absurd (false≢true e)
+beside-named (Insert x v) e = absurd (false≢true e)
+beside-named (Delete x) e = (x, inl refl)
+beside-named (Next x) e = (x, inr refl)
+
 words-pinned : (k : ℕ) → Words k
 unfolding neighbour
 words-pinned k = record {
+  key = λ x v. (refl, refl, refl, refl);
+  deletion = λ op. (deletion-named op, λ d. ap isDelete (d .1));
+  asksNext = λ op. (next-named op, λ n. ap isNext (n .1));
+  beside = λ op. (beside-named op, λ b. ⊎-elim (λ d. ap goesBeside d) (λ n. ap goesBeside n) (b .1));
+  nearest = λ x es. (none-below x es, below-none x es);
   safe = safe-is k;
   right = λ x F h. cond-true (pointer (suc (place x (F .entries))) F) (pointer (place x (F .entries) - 1) F) (lt-ltb (place x (F .entries)) (μ F) h);
   left = λ x F h. cond-false (pointer (suc (place x (F .entries))) F) (pointer (place x (F .entries) - 1) F) (le-ltb (place x (F .entries)) (μ F) h);

@@ -21,6 +21,7 @@ use Rattle.slots.specs.declared.State.{State}
 use Rattle.slots.specs.declared.Answer.{Answer}
 use Rattle.slots.specs.declared.Answer.the-variants.{Moved, Inserted, AlreadyThere, NoRoom}
 use Rattle.slots.specs.Parts.{isOpen, keyOf, slotAt, wantAt, pathOf, siblingsOf}
+use Rattle.slots.specs.Heard.{isOneOf, countedAnswers}
 use Rattle.slots.specs.Grant.{grants}
 use Rattle.slots.specs.Book.{goesOn, closes}
 use Rattle.footing.specs.Granted.{atItsLeaf}
@@ -34,7 +35,6 @@ use Rattle.tree.proofs.Words.{free-facts}
 use Rattle.runs.specs.Plain.{Reply, reply, plain}
 use Rattle.runs.specs.Stance.{Stance, Takes}
 use Rattle.runs.specs.Step.{Ended, NoRoomLeft, Comes, moves, stops}
-use Rattle.runs.specs.Done.{countedAnswers, isOneOf}
 use Rattle.runs.proofs.Invariant.{Invariant, scene}
 use Rattle.runs.proofs.Stepping.{granted-comes}
 use Rattle.runs.proofs.Verdicts.{coming-ends}

@@ -1,6 +1,7 @@
 -- Demand 2, in the customer's words: "Search, insertion and deletion follow Bayer and Schkolnick's first solution as our paper
 -- fixes it. From a fresh pool, after every call, the pages form their B*-tree (an empty root leaf allowed), every other page is
 -- free, no two locks clash, and each step takes and gives up just the locks the rules name."
+-- Next of 02 (i) is among the operations: whatever is said of every operation is said of it.
 use Prim.Native.Nat.{ℕ, suc, _-_, _≤_, _<_}
 use mathlib.Core.Bool.{true, false}
 use mathlib.Core.List.{List, [], _∷_, _++_}
@@ -9,8 +10,8 @@ use mathlib.Core.Path.{_≡_}
 use lib.ListN.{replicate}
 use Rattle.ground.specs.Limits.{slotCount}
 use Rattle.ground.specs.Tests.{member, distinct}
-use Rattle.page.specs.Words.{Page, μ, size}
-use Rattle.page.specs.Place.{place, pointer}
+use Rattle.page.specs.Words.{Entry, Page, μ, size}
+use Rattle.page.specs.Place.{place, pointer, atOrAbove}
 use Rattle.page.specs.Short.{neighbour}
 use Rattle.pool.specs.Pool.{wordsOf, pageAt}
 use Rattle.slots.specs.declared.Op.{Op}
@@ -19,12 +20,12 @@ use Rattle.slots.specs.declared.Task.the-variants.{Open}
 use Rattle.slots.specs.declared.State.{State}
 use Rattle.slots.specs.declared.Lock.the-variants.{None}
 use Rattle.slots.specs.declared.Answer.{Answer}
-use Rattle.slots.specs.declared.Answer.the-variants.{Waiting, Moved, NoRoom, Begun, Reported, BadSlot, SlotBusy, SlotIdle, BadPage, Next as NextLot}
-use Rattle.slots.specs.Parts.{held, pathOf, siblingsOf, slotAt, openAt, wantAt, holdsAt, waitingOrder}
+use Rattle.slots.specs.declared.Answer.the-variants.{Waiting, Moved, Begun, Reported, BadSlot, SlotBusy, SlotIdle, BadPage, Next as NextLot}
+use Rattle.slots.specs.Parts.{keyOf, isDelete, isNext, goesBeside, held, pathOf, siblingsOf, slotAt, openAt, wantAt, holdsAt, waitingOrder}
 use Rattle.slots.specs.Locks.{lockOf, clash}
 use Rattle.slots.specs.Grant.{olderThan}
 use Rattle.slots.specs.Sound.{sound}
-use Rattle.slots.specs.Heard.{changesNothing}
+use Rattle.slots.specs.Heard.{changesNothing, isOneOf, ending}
 use Rattle.slots.specs.Book.{leaving}
 use Rattle.footing.specs.Granted.{isSafe}
 use Rattle.index.specs.Step.{Left}
@@ -32,8 +33,8 @@ use Rattle.tree.specs.Tree.{Tr, occurs, PoolForms}
 use Rattle.runs.specs.Run.{Call, begin, step, report, called, runFrom, CallInWords, Run}
 use Rattle.runs.specs.Stance.{Safe, Stance, Takes}
 use Rattle.runs.specs.Waits.{Barred, Before}
-use Rattle.runs.specs.Done.{countedAnswers, writing, isOneOf}
-use Rattle.runs.specs.PlainFacts.{Among}
+use Rattle.runs.specs.Done.{writing}
+use Rattle.runs.specs.PlainFacts.{Among, AllBelow}
 use Rattle.promises.specs.Demand1.{Exactly}
 
 -- ---- after every call
@@ -42,16 +43,16 @@ use Rattle.promises.specs.Demand1.{Exactly}
 abbrev pub Opened : State → ℕ → Op → Type 0
 Opened st s op = slotAt st s .task ≡ Open op
 
--- slot s searches, or asks for the next lot
-abbrev pub Reads : State → ℕ → Type 0
-Reads st s = (x : ℕ) × (Opened st s (Search x) ⊎ Opened st s (Next x))
-
--- the operation is a search, or asks for the next lot
+-- the operation only reads: it is a search, or asks for the next lot
 abbrev pub Reader : Op → Type 0
 Reader (Search x) = Unit {0}
 Reader (Insert x v) = ⊥
 Reader (Delete x) = ⊥
 Reader (Next x) = Unit {0}
+
+-- slot s only reads
+abbrev pub Reads : State → ℕ → Type 0
+Reads st s = (op : Op) × Opened st s op × Reader op
 
 -- What a run with this k and N has left.
 pub record AfterEveryCall (k n : ℕ) (st : State) (ws : List ℕ) : Type 0 where
@@ -92,10 +93,6 @@ pub record MovesOn (st : State) (ws : List ℕ) (s : ℕ) (after : Left) : Type 
   pub takes : Takes op (st .k) (pageAt (st .k) ws) (pathOf (slotAt st s)) (siblingsOf (slotAt st s)) (wantAt st s) (pathOf (slotAt (after .state) s)) (siblingsOf (slotAt (after .state) s))
   -- "A new want goes to the end of the waiting order.": the others stand in the order they had
   pub order : waitingOrder (after .state) ≡ leaving s (waitingOrder st) ++ s ∷ []
-
--- the answers that end an operation, whatever their values
-abbrev pub ending : List Answer
-ending = NoRoom ∷ countedAnswers
 
 -- the lot that is answered, if it is one, stands on this leaf
 abbrev pub Seen : Page → Answer → Type 0
@@ -152,6 +149,16 @@ answersOf (report p) = Reported None 0 0 ∷ BadPage ∷ []
 -- ---- the words of the rules that are used above, pinned
 
 pub record Words (k : ℕ) : Type 0 where
+  -- the key of an operation is the one that it names
+  pub key : (x v : ℕ) → (keyOf (Search x) ≡ x) × (keyOf (Insert x v) ≡ x) × (keyOf (Delete x) ≡ x) × (keyOf (Next x) ≡ x)
+  -- a deletion is a Delete of some key, and nothing else is,
+  pub deletion : (op : Op) → Exactly (isDelete op ≡ true) ((x : ℕ) × (op ≡ Delete x))
+  -- what asks for the next lot is a Next of some key,
+  pub asksNext : (op : Op) → Exactly (isNext op ≡ true) ((x : ℕ) × (op ≡ Next x))
+  -- and just these two may hold pages beside their path
+  pub beside : (op : Op) → Exactly (goesBeside op ≡ true) ((x : ℕ) × ((op ≡ Delete x) ⊎ (op ≡ Next x)))
+  -- no entry of a list is at or above a key just if every key of it is below
+  pub nearest : (x : ℕ) (es : List Entry) → Exactly (atOrAbove x es ≡ []) (AllBelow x es)
   -- a page is safe, as 01 says when ancestors are given up
   pub safe : (op : Op) (P : Page) → Exactly (isSafe op k P ≡ true) (Safe op k P)
   -- "its right neighbour under the same father; if it has none, the left one": of the page to which F routes x

@@ -3,6 +3,7 @@
 -- operation after another, gives the same answers, and the tree holds its entries at every moment. "No room" changes nothing
 -- and comes exactly when a new key needs more pages than are free. While any operation is open, some open one can be granted
 -- its step, and if none is begun, 304 rounds that each step every open slot end them all."
+-- Next of 02 (i) is among the operations: "Demand 3's sorted list learns this question."
 use Prim.Native.Nat.{ℕ, _+_, _*_, _≤_, _<_}
 use mathlib.Core.Bool.{true, false}
 use mathlib.Core.List.{List, [], _++_}

@@ -20,6 +20,7 @@ use Rattle.slots.specs.declared.Outcome.{Outcome}
 use Rattle.slots.specs.declared.Answer.{Answer}
 use Rattle.slots.specs.declared.Answer.the-variants.{Waiting, Moved, Begun, BadSlot, SlotBusy, SlotIdle}
 use Rattle.slots.specs.Parts.{slotAt, pathOf, siblingsOf, wantAt, openSlot, closedSlot, idleState}
+use Rattle.slots.specs.Heard.{isOneOf, countedAnswers}
 use Rattle.slots.specs.Book.{rewritten, begins, goesOn, closes}
 use Rattle.slots.proofs.OrderLaws.{same-or-not}
 use Rattle.slots.proofs.Keeping.{slot-here, slot-other}
@@ -31,7 +32,7 @@ use Rattle.tree.proofs.Determined.{pool-determined}
 use Rattle.tree.proofs.Words.{pool-leads, fresh-forms}
 use Rattle.runs.specs.Run.{Call, begin, step, report, called, run, runFrom, InWords, Run}
 use Rattle.runs.specs.Plain.{Reply, plain}
-use Rattle.runs.specs.Done.{Done, ended, countedAnswers, isOneOf, nobody, asks, done, plainAnswers, plainEntries, opsOf, answersIn}
+use Rattle.runs.specs.Done.{Done, ended, nobody, asks, done, plainAnswers, plainEntries, opsOf, answersIn}
 use Rattle.runs.specs.Step.{Ended, AsPlain, NoRoomLeft}
 use Rattle.runs.proofs.Invariant.{Runs, Invariant}
 use Rattle.runs.proofs.Calls.{StepOf, noSlot, idle, waits, onward, over, step-of, same-op, closed-open}

@@ -16,6 +16,7 @@ use Rattle.ground.proofs.Choice.{cond-true, cond-false}
 use Rattle.page.specs.Words.{Page}
 use Rattle.pool.specs.Pool.{pageAt}
 use Rattle.slots.specs.declared.Op.{Op}
+use Rattle.slots.specs.declared.Op.the-variants.{Search, Insert, Delete, Next}
 use Rattle.slots.specs.declared.Slot.{Slot}
 use Rattle.slots.specs.declared.State.{State}
 use Rattle.slots.specs.declared.Outcome.{Outcome}
@@ -31,7 +32,7 @@ use Rattle.index.proofs.Refusals.{step-refused}
 use Rattle.tree.proofs.Search.{way-facts}
 use Rattle.runs.specs.Run.{Call, begin, step, report, called, InWords}
 use Rattle.runs.specs.Step.{Comes, moves, stops}
-use Rattle.runs.specs.Counts.{grantedTo, grantsOf, endsWithin, heightGranted, GrantCounts, CountsFrom}
+use Rattle.runs.specs.Counts.{grantedTo, grantsOf, endsWithin, heightGranted, GoesStraight, GrantCounts, CountsFrom}
 use Rattle.runs.proofs.Invariant.{Runs, Invariant}
 use Rattle.runs.proofs.Calls.{same-op}
 use Rattle.runs.proofs.Runs.{BeginOf, noSuch, busy, begins-so, begin-of, call-keeps}
@@ -230,9 +231,16 @@ root-level st ws inv =
     let facts = way-facts (st .k) (st .n) (pageAt (st .k) ws) (inv .height) (inv .tree) (inv .forms .forms) 0 range-rises in
     ap (λ (p : ℕ). pageAt (st .k) ws p .level) (sym (facts .root)) ∙ facts .level (inv .height) (omega arith)
 
+-- what goes straight down does not go beside its path
+straight-down : (op : Op) → GoesStraight op → goesBeside op ≡ false
+straight-down (Search x) so = refl
+straight-down (Insert x v) so = refl
+straight-down (Delete x) so = absurd so
+straight-down (Next x) so = absurd so
+
 -- So many grants were needed: at least m, and for a search or an insertion just m.
 abbrev Needs : Op → ℕ → ℕ → Type 0
-Needs op m grants = (m ≤ grants) × (goesBeside op ≡ false → grants ≡ m)
+Needs op m grants = (m ≤ grants) × (GoesStraight op → grants ≡ m)
 
 module _ (s : ℕ) (b : s < slotCount) where
   -- an open slot is granted at most what its measure says
@@ -271,14 +279,14 @@ module _ (s : ℕ) (b : s < slotCount) where
       → Needs op m (grantsOf s cs (called st ws c .state) (called st ws c .words)) → Needs op (m + 1) (grantsOf s (c ∷ cs) st ws)
   one-more c cs st ws op m g o rest =
       let is = grants-on s c cs st ws g o in
-      (omega (arith, is, rest .0), λ no. is ∙ omega (arith, rest .1 no))
+      (omega (arith, is, rest .0), λ so. is ∙ omega (arith, rest .1 so))
 
   -- the last grant
   last-one : (c : Call) (cs : List Call) (st : State) (ws : List ℕ) (op : Op) (m : ℕ) → grantedTo s st ws c ≡ true → openAt (called st ws c .state) s ≡ false
       → m ≡ 0 → Needs op (m + 1) (grantsOf s (c ∷ cs) st ws)
   last-one c cs st ws op m g o e =
       let is = grants-last s c cs st ws g o in
-      (omega (arith, is, e), λ no. omega (arith, is, e))
+      (omega (arith, is, e), λ so. omega (arith, is, e))
 
   -- on the way down it is granted one page a level
   on-the-way : (cs : List Call) → InWords cs → (st : State) (ws : List ℕ) → Invariant st ws → (op : Op) (level : ℕ) → Under st ws s op level
@@ -308,7 +316,7 @@ module _ (s : ℕ) (b : s < slotCount) where
           → Where op (pageAt (st .k) ws) (inv .height) (inv .tree) (pathOf (slotAt st s)) (siblingsOf (slotAt st s)) (wantAt st s)
           → Needs op (level - 1) (grantsOf s (c ∷ cs) st ws)
       granted-now rest g (atStart e f h) = absurd (omega (arith, u .some, ap length e))
-      granted-now rest g (atTheLeaf w f d) = (omega (arith, u .lowest, w .level), λ no. not-both d no)
+      granted-now rest g (atTheLeaf w f d) = (omega (arith, u .lowest, w .level), λ so. not-both d (straight-down op so))
       granted-now rest g (onTheWay low w e h) =
           subst (λ (m : ℕ). Needs op m (grantsOf s (c ∷ cs) st ws)) (omega (arith, u .lowest, w .level))
           (⊎-elim
@@ -381,7 +389,7 @@ module _ (s : ℕ) (b : s < slotCount) where
       let counted = from-start cs words st ws inv op runs none in
       let opened : openAt st s ≡ true = ap isOpen runs in
       record {
-        exactly = λ no ends-so. counted .0 ends-so .1 no;
+        exactly = λ so ends-so. counted .0 ends-so .1 so;
         least = λ ends-so. counted .0 ends-so .0;
         most = counted .1;
         inAll = omega (arith, at-most cs words st ws inv opened, measure-bound st ws inv s b opened .1);

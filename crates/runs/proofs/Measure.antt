@@ -18,10 +18,11 @@ use Rattle.slots.specs.declared.Task.{Task}
 use Rattle.slots.specs.declared.Task.the-variants.{Closed, Open}
 use Rattle.slots.specs.declared.Slot.{Slot}
 use Rattle.slots.specs.declared.State.{State}
-use Rattle.slots.specs.Parts.{keyOf, isDelete, isNext, goesBeside, pathOf, siblingsOf, slotAt}
+use Rattle.slots.specs.Parts.{keyOf, isDelete, goesBeside, pathOf, siblingsOf, slotAt}
 use Rattle.tree.specs.Tree.{Tr, way, Forms}
 use Rattle.tree.proofs.Search.{way-facts}
 use Rattle.runs.specs.Stance.{Stance}
+use Rattle.runs.proofs.Placing.{next-beside}
 
 -- the lowest page of a path
 abbrev pub lowestOf : List ℕ → ℕ
@@ -58,18 +59,12 @@ pub data Where (op : Op) (memory : ℕ → Page) (l : ℕ) (t : Tr l) (path sibl
   onTheWay : (low : ℕ) → Low memory l t path (low + 2) → siblings ≡ [] → memory want .level ≡ low + 1 → Where op memory l t path siblings want
   atTheLeaf : Low memory l t path 1 → suc (length siblings) < length path → goesBeside op ≡ true → Where op memory l t path siblings want
 
--- a deletion goes beside its path, and so does a Next
+-- a deletion goes beside its path
 deletes-beside : (op : Op) → isDelete op ≡ true → goesBeside op ≡ true
 deletes-beside (Search x) e = e
 deletes-beside (Insert x v) e = e
 deletes-beside (Delete x) e = refl
 deletes-beside (Next x) e = refl
-
-next-beside : (op : Op) → isNext op ≡ true → goesBeside op ≡ true
-next-beside (Search x) e = e
-next-beside (Insert x v) e = e
-next-beside (Delete x) e = refl
-next-beside (Next x) e = refl
 
 module _ (op : Op) (k n : ℕ) (memory : ℕ → Page) (l : ℕ) (t : Tr l) (forms : Forms k n memory l t) (key : keyOf op < wordRange) where
   -- a page of the way is on the level of its index

@@ -166,7 +166,7 @@ module _ (x k n : ℕ) (memory : ℕ → Page) (l : ℕ) (t : Tr l) (path siblin
       (λ m. omega (arith, needed .pages q m))
       (λ m. omega (arith, absent-times q siblings m, way-occurs q x l t))))
 
--- only a deletion stands beside its leaf
+-- only a deletion wants a sibling
 well-beside-any : (op : Op) (k n : ℕ) (memory : ℕ → Page) (l : ℕ) (t : Tr l) (path siblings : List ℕ) (want : ℕ) → 1 ≤ k → n ≤ largestN
     → keyOf op < wordRange → Forms k n memory l t → WantsSibling op k memory l t path siblings want → WellHeld op n l t path siblings want
 well-beside-any (Search x) k n memory l t path siblings want one most key forms b = absurd (false≢true (b .deletes))
@@ -175,13 +175,14 @@ well-beside-any (Delete x) k n memory l t path siblings want one most key forms 
     well-beside x k n memory l t path siblings want one most key forms b
 well-beside-any (Next x) k n memory l t path siblings want one most key forms b = absurd (false≢true (b .deletes))
 
--- a Next past its leaf holds the lower part of its way, and the upper part of its second way beside it
-next-beside : (op : Op) → isNext op ≡ true → goesBeside op ≡ true
+-- a Next may hold pages beside its path
+pub next-beside : (op : Op) → isNext op ≡ true → goesBeside op ≡ true
 next-beside (Search x) asks = absurd (false≢true asks)
 next-beside (Insert x v) asks = absurd (false≢true asks)
 next-beside (Delete x) asks = absurd (false≢true asks)
 next-beside (Next x) asks = refl
 
+-- past its leaf it holds the lower part of its way, and the upper part of its second way beside it
 well-crossing : (op : Op) (k n : ℕ) (memory : ℕ → Page) (l : ℕ) (t : Tr l) (path second : List ℕ) (want : ℕ) → 1 ≤ k → n ≤ largestN
     → keyOf op < wordRange → Forms k n memory l t → Crossing op k memory l t path second want → WellHeld op n l t path second want
 well-crossing op k n memory l t path second want one most key forms c =

@@ -10,11 +10,11 @@ use lib.Dec.{leb, eqb}
 use lib.ListN.{length, getD, take, drop, length-append, take-append-drop}
 use lib.Seq.{getD-append-seam}
 use Rattle.ground.proofs.Bools.{true-or-false, not-both, false-if-not-true, or-first-fails, or-cases}
-use Rattle.ground.proofs.Choice.{cond-ind, cond-true, cond-false}
+use Rattle.ground.proofs.Choice.{by-test, cond-ind, cond-true, cond-false}
 use Rattle.page.specs.Words.{Entry, entry, keyOf, valueOf, page}
 use Rattle.page.specs.Place.{place, has, information, atOrAbove, without}
 use Rattle.page.specs.Sound.{rises}
-use Rattle.page.proofs.PlaceLaws.{has-from, has-at, has-append, information-at, rises-without}
+use Rattle.page.proofs.PlaceLaws.{has-from, has-at, has-append, information-at, above-later, rises-without}
 use Rattle.page.proofs.RiseLaws.{rises-at, rises-drop}
 use Rattle.page.proofs.PutLaws.{put-entries, put-place-rises}
 use Rattle.slots.specs.declared.Op.{Op}
@@ -174,17 +174,33 @@ first-lowest e es r z w a =
     omega (arith, up, found .2))
     (among-cases z w e es a)
 
--- What the entries at or above a key begin with: there is none, and every key is below; or the first of them.
+-- no entry is at or above a key just if every key is below it
+pub none-below : (x : ℕ) (es : List Entry) → atOrAbove x es ≡ [] → AllBelow x es
+unfolding atOrAbove has
+none-below x [] none z w a = not-both (among-has z w [] a) refl
+none-below x (e ∷ es) none z w a =
+    by-test (leb x (e .key))
+    (λ high. let some : suc (length es) ≡ 0 = ap length (sym (cond-true (e ∷ es) (atOrAbove x es) high) ∙ none) in absurd (omega arith))
+    (λ low.
+    let later : atOrAbove x es ≡ [] = sym (cond-false (e ∷ es) (atOrAbove x es) low) ∙ none in
+    ⊎-elim (λ here. omega (arith, here, leb-false x (e .key) low)) (λ there. none-below x es later z w there) (among-cases z w e es a))
+
+pub below-none : (x : ℕ) (es : List Entry) → AllBelow x es → atOrAbove x es ≡ []
+unfolding atOrAbove
+below-none x [] below = refl
+below-none x (e ∷ es) below =
+    above-later x e es (below (e .key) (e .value) (record { before = []; after = es; whole = refl }))
+    ∙ below-none x es (λ z w a. below z w (among-later z w e es a))
+
+-- What the entries at or above a key begin with: there is none, or the first of them.
 data Nearest (x : ℕ) (es : List Entry) : Type 0 where
-  nowhere : atOrAbove x es ≡ [] → AllBelow x es → Nearest x es
+  nowhere : atOrAbove x es ≡ [] → Nearest x es
   begins : (e : Entry) (rest : List Entry) → atOrAbove x es ≡ e ∷ rest → FirstFrom x (e .key) (e .value) es → Nearest x es
 
 -- an entry that is below changes nothing
 nearest-later : (x : ℕ) (e : Entry) (es : List Entry) → leb x (e .key) ≡ false → Nearest x es → Nearest x (e ∷ es)
 unfolding atOrAbove
-nearest-later x e es low (nowhere none below) =
-    nowhere (cond-false (e ∷ es) (atOrAbove x es) low ∙ none)
-    (λ z w a. ⊎-elim (λ here. omega (arith, here, leb-false x (e .key) low)) (λ later. below z w later) (among-cases z w e es a))
+nearest-later x e es low (nowhere none) = nowhere (cond-false (e ∷ es) (atOrAbove x es) low ∙ none)
 nearest-later x e es low (begins f rest some first) =
     begins f rest (cond-false (e ∷ es) (atOrAbove x es) low ∙ some) (record {
       there = among-later (f .key) (f .value) e es (first .there);
@@ -194,8 +210,8 @@ nearest-later x e es low (begins f rest some first) =
     })
 
 nearest : (x : ℕ) (es : List Entry) → rises es ≡ true → Nearest x es
-unfolding atOrAbove has
-nearest x [] r = nowhere refl (λ z w a. not-both (among-has z w [] a) refl)
+unfolding atOrAbove
+nearest x [] r = nowhere refl
 nearest x (e ∷ es) r =
     ⊎-elim
     (λ high. begins e es (cond-true (e ∷ es) (atOrAbove x es) high) (record {
@@ -315,7 +331,7 @@ module _ (es : List Entry) (r : rises es ≡ true) where
   nexts x y v f = by-nearest (nearest x es r)
     where
       by-nearest : Nearest x es → plain (Next x) es .answer ≡ NextLot y v
-      by-nearest (nowhere none below) = absurd (omega (arith, below y v (f .there), f .above))
+      by-nearest (nowhere none) = absurd (omega (arith, none-below x es none y v (f .there), f .above))
       by-nearest (begins e rest some first) =
           let key : e .key ≡ y = omega (arith, first .first y v (f .there) (f .above), f .first (e .key) (e .value) (first .there) (first .above)) in
           let value : e .value ≡ v
@@ -326,23 +342,19 @@ module _ (es : List Entry) (r : rises es ≡ true) where
   next x y v h = by-nearest (nearest x es r)
     where
       by-nearest : Nearest x es → FirstFrom x y v es
-      by-nearest (nowhere none below) = clashes (sym (next-none x es none) ∙ h) (λ q. omega (arith, q))
+      by-nearest (nowhere none) = clashes (sym (next-none x es none) ∙ h) (λ q. omega (arith, q))
       by-nearest (begins e rest some first) =
           let same : NextLot (e .key) (e .value) ≡ NextLot y v = sym (next-begins x es e rest some) ∙ h in
           subst (λ (w : ℕ). FirstFrom x y w es) (ap toldToo same) (subst (λ (z : ℕ). FirstFrom x z (e .value) es) (ap told same) first)
 
   none : (x : ℕ) → AllBelow x es → plain (Next x) es .answer ≡ NoLot
-  none x all = by-nearest (nearest x es r)
-    where
-      by-nearest : Nearest x es → plain (Next x) es .answer ≡ NoLot
-      by-nearest (nowhere none below) = next-none x es none
-      by-nearest (begins e rest some first) = absurd (omega (arith, all (e .key) (e .value) (first .there), first .above))
+  none x below = next-none x es (below-none x es below)
 
   none-above : (x : ℕ) → plain (Next x) es .answer ≡ NoLot → AllBelow x es
   none-above x h = by-nearest (nearest x es r)
     where
       by-nearest : Nearest x es → AllBelow x es
-      by-nearest (nowhere none below) = below
+      by-nearest (nowhere none) = none-below x es none
       by-nearest (begins e rest some first) = clashes (sym (next-begins x es e rest some) ∙ h) (λ q. omega (arith, q))
 
   others : (op : Op) (y : ℕ) → y ≢ keyOfOp op → plain (Search y) (plain op es .entries) .answer ≡ plain (Search y) es .answer

@@ -1,16 +1,15 @@
 -- "list the ended operations, save those answered "no room", in the order of their answers": read off a run's own calls and
 -- answers. And the plain list worked through them.
 use Prim.Native.Nat.{ℕ}
-use mathlib.Core.Bool.{Bool, cond}
+use mathlib.Core.Bool.{cond}
 use mathlib.Core.List.{List, [], _∷_, map}
 use lib.Dec.{eqb}
-use Rattle.ground.specs.Tests.{member}
 use Rattle.page.specs.Words.{Entry}
 use Rattle.slots.specs.declared.Op.{Op}
 use Rattle.slots.specs.declared.Op.the-variants.{Search}
 use Rattle.slots.specs.declared.Answer.{Answer}
-use Rattle.slots.specs.declared.Answer.the-variants.{Found, NotFound, Inserted, AlreadyThere, Deleted, NoSuchKey, Begun, Next, None}
-use Rattle.slots.specs.Heard.{numberOf}
+use Rattle.slots.specs.declared.Answer.the-variants.{Inserted, Deleted, Begun}
+use Rattle.slots.specs.Heard.{isOneOf, countedAnswers}
 use Rattle.runs.specs.Run.{Call, begin, step, report}
 use Rattle.runs.specs.Plain.{plain}
 
@@ -23,16 +22,9 @@ pub record Done : Type 0 where
 abbrev pub ended : ℕ → Op → Answer → Done
 ended s op a = record { slot = s; op = op; answer = a }
 
--- the answers that end an operation, save NoRoom; whatever their values
-abbrev pub countedAnswers : List Answer
-countedAnswers = Found 0 ∷ NotFound ∷ Inserted ∷ AlreadyThere ∷ Deleted 0 ∷ NoSuchKey ∷ Next 0 0 ∷ None ∷ []
-
 -- the answers of which pages are written
 abbrev pub writing : List Answer
 writing = Inserted ∷ Deleted 0 ∷ []
-
-abbrev pub isOneOf : Answer → List Answer → Bool
-isOneOf a list = member (numberOf a) (map numberOf list)
 
 -- what was asked last in each slot, and nothing yet
 abbrev pub nobody : ℕ → Op

@@ -11,7 +11,7 @@ use Rattle.slots.specs.declared.Op.the-variants.{Search}
 use Rattle.slots.specs.declared.State.{State}
 use Rattle.slots.specs.declared.Answer.{Answer}
 use Rattle.slots.specs.declared.Answer.the-variants.{Waiting, Moved, Found, NotFound, Inserted, AlreadyThere, Deleted, NoSuchKey, NoRoom, Begun, Made, Reported, Next, None, BadState, BadPool, BadSlot, SlotBusy, SlotIdle, Damaged, BadPage}
-use Rattle.slots.specs.Heard.{numberOf}
+use Rattle.slots.specs.Heard.{numberOf, isOneOf}
 use Rattle.lines.specs.declared.Command.{Command}
 use Rattle.lines.specs.declared.Command.the-variants.{Begin, Step, Bad}
 use Rattle.lines.specs.Text.{startsWith}
@@ -20,7 +20,6 @@ use Rattle.lines.specs.Ends.{firstLine}
 use Rattle.talk.specs.Split.{ended, linesOf}
 use Rattle.talk.proofs.OneEach.{answer-line, bad-line}
 use Rattle.runs.specs.Run.{Call, begin, step, called, run, InWords}
-use Rattle.runs.specs.Done.{isOneOf}
 use Rattle.runs.proofs.Invariant.{Invariant}
 use Rattle.runs.proofs.Runs.{call-keeps}
 use Rattle.promises.specs.Demand2.{answersOf}

@@ -16,7 +16,7 @@ use Rattle.pool.specs.Pool.{kInRange, nInRange, poolLength}
 use Rattle.slots.specs.declared.State.{State}
 use Rattle.slots.specs.declared.Answer.{Answer}
 use Rattle.slots.specs.declared.Answer.the-variants.{Made}
-use Rattle.slots.specs.Heard.{numberOf}
+use Rattle.slots.specs.Heard.{numberOf, isOneOf}
 use Rattle.lent.specs.Words.{stateOf}
 use Rattle.index.specs.Make.{made}
 use Rattle.embed.specs.declared.asking.Asked.{Asked}
@@ -25,7 +25,6 @@ use Rattle.embed.specs.Asked.{askedBy}
 use Rattle.embed.specs.Told.{told}
 use Rattle.embed.specs.Statements.{beginTold, beginNext}
 use Rattle.runs.specs.Run.{Call, begin, step, report, called, run, runFrom, InWords, Run}
-use Rattle.runs.specs.Done.{isOneOf}
 use Rattle.runs.proofs.Invariant.{Invariant}
 use Rattle.runs.proofs.Runs.{call-keeps, holds-after}
 use Rattle.promises.specs.Demand1.{MakingInRange}

@@ -2,9 +2,10 @@
 -- Refusals have the numbers of 01's table. The other answers are numbered in the order in which 01 and 02 name them, from 32.
 use Prim.Native.Nat.{ℕ}
 use mathlib.Core.Bool.{Bool}
-use mathlib.Core.List.{List, [], _∷_}
+use mathlib.Core.List.{List, [], _∷_, map}
 use lib.Dec.{leb}
 use lib.ListN.{getD}
+use Rattle.ground.specs.Tests.{member}
 use Rattle.slots.specs.declared.Lock.{Lock}
 use Rattle.slots.specs.declared.Lock.the-variants.{None, Rho, Xi}
 use Rattle.slots.specs.declared.Answer.{Answer}
@@ -51,3 +52,15 @@ refuses a = leb (numberOf a) 7
 -- after a refusal, and after Waiting, everything is as given (of a making: the pool)
 abbrev pub changesNothing : Answer → Bool
 changesNothing a = leb (numberOf a) 32
+
+-- the answer is one of a list, whatever their values
+abbrev pub isOneOf : Answer → List Answer → Bool
+isOneOf a list = member (numberOf a) (map numberOf list)
+
+-- the answers that end an operation, save NoRoom
+abbrev pub countedAnswers : List Answer
+countedAnswers = Found 0 ∷ NotFound ∷ Inserted ∷ AlreadyThere ∷ Deleted 0 ∷ NoSuchKey ∷ Next 0 0 ∷ NoLot ∷ []
+
+-- all answers that end an operation
+abbrev pub ending : List Answer
+ending = NoRoom ∷ countedAnswers

@@ -5,7 +5,7 @@ use mathlib.Core.Bool.{Bool, true, false, cond, _&&_, _||_, true≢false}
 use mathlib.Core.List.{List, [], _∷_, _++_, append-assoc}
 use mathlib.Core.Path.{_≡_, refl, sym, ap, ap₂, _∙_, subst}
 use native.Mathlib.Omega.{arith}
-use borrow.Author.Tests.{lt-ltb, leb-true, leb-false, le-leb, lt-leb, eqb-false, eq-eqb, ne-eqb}
+use borrow.Author.Tests.{lt-ltb, leb-true, leb-false, le-leb, eqb-false, eq-eqb, ne-eqb}
 use lib.Dec.{leb, eqb}
 use lib.ListN.{length, take, drop, length-append, take-append-drop}
 use lib.Seq.{take-append-le, drop-append-le, take-append-add, drop-append-add}
@@ -14,7 +14,7 @@ use Rattle.ground.proofs.Choice.{by-test, cond-true, cond-false, cond-ind}
 use Rattle.page.specs.Words.{Keyed, Entry, entry}
 use Rattle.page.specs.Place.{place, has, information, atOrAbove, without}
 use Rattle.page.specs.Sound.{rises, risesFrom}
-use Rattle.page.proofs.PlaceLaws.{place-most, place-append}
+use Rattle.page.proofs.PlaceLaws.{place-most, place-append, above-first, above-later}
 use Rattle.tree.specs.Rows.{headKey, Span, gathered, references}
 use Rattle.tree.specs.Sorted.{inserted}
 use Rattle.tree.proofs.Rows.{headKey-append, span-left, span-right, span-append, Keys, keys-below, keys-from, keys-map, place-behind, place-before}
@@ -191,7 +191,7 @@ module _ (x lo a b hi : ℕ) (A B C : List Entry) (first : Within lo A a) (last 
 pub atOrAbove-from : (x hi : ℕ) (es : List Entry) → x ≤ headKey es hi → atOrAbove x es ≡ es
 unfolding atOrAbove
 atOrAbove-from x hi [] h = refl
-atOrAbove-from x hi (e ∷ es) h = cond-true (e ∷ es) (atOrAbove x es) (le-leb x (e .key) h)
+atOrAbove-from x hi (e ∷ es) h = above-first x e es h
 
 -- and nothing of one that ends at or before x is
 pub atOrAbove-behind : (x hi : ℕ) (es : List Entry) → Span Anything es hi → hi ≤ x → atOrAbove x es ≡ []
@@ -199,7 +199,7 @@ unfolding atOrAbove
 atOrAbove-behind x hi [] s h = refl
 atOrAbove-behind x hi (e ∷ es) s h =
     let below : e .key < hi = keys-below Anything (e ∷ es) hi s .0 in
-    cond-false (e ∷ es) (atOrAbove x es) (lt-leb x (e .key) (omega arith)) ∙ atOrAbove-behind x hi es (s .2) h
+    above-later x e es (omega arith) ∙ atOrAbove-behind x hi es (s .2) h
 
 -- where the first of two lists has no entry at or above x, those of the second are the next,
 pub atOrAbove-second : (x : ℕ) (xs ys : List Entry) → atOrAbove x xs ≡ [] → atOrAbove x (xs ++ ys) ≡ atOrAbove x ys
