@@ -204,8 +204,8 @@ nextRows =
     (damagedStep ∷ [])
     ∷ row (answers (damaged (nextSlot 7 2 (0 ∷ 5 ∷ []) []) 4 2) (step 0 ∷ []))
     (damagedStep ∷ [])
-    -- a deletion of 25 has no second way
-    ∷ row (answers (withPage (ran [] (slotOpen 7 (Delete 25) 6 (0 ∷ 5 ∷ 2 ∷ []) []) tensWords) 0 (3 ∷ 2 ∷ 5 ∷ 30 ∷ 6 ∷ 40 ∷ 4 ∷ [])) (step 0 ∷ []))
+    -- a deletion of 25, which its leaf has not, goes no second way
+    ∷ row (answers (withPage (ran [] (slotOpen 7 (Delete 25) 3 (5 ∷ 2 ∷ []) []) tensWords) 5 (2 ∷ 2 ∷ 1 ∷ 20 ∷ 2 ∷ 30 ∷ 3 ∷ [])) (step 0 ∷ []))
     (damagedStep ∷ [])
     -- "the leftmost way": by p0 of page 6, though 25 would be routed to page 4; the second leaf's first entry, whatever its key
     ∷ row (answers (damaged atFirstLeaf 45 20) (step 0 ∷ step 0 ∷ []))
