@@ -1,16 +1,17 @@
 -- The next lot on the bench: where a Next goes, which pages it holds on its way, who waits for whom, and what is refused.
--- The answers come from a second program (`rust/twin`, whose tests hold it to this table).
-use Prim.Native.Nat.{ℕ, zero, suc}
+-- The answers come from a second program (`rust/twin`, whose tests read this table, its calls and its answers).
+use Prim.Native.Nat.{ℕ, zero, suc, _+_, _*_}
 use mathlib.Core.List.{List, [], _∷_, _++_}
-use lib.ListN.{set}
-use Rattle.slots.specs.declared.Op.the-variants.{Insert, Next}
+use lib.ListN.{set, take, drop}
+use Rattle.slots.specs.declared.Op.{Op}
+use Rattle.slots.specs.declared.Op.the-variants.{Insert, Delete, Next}
 use Rattle.slots.specs.declared.Lock.the-variants.{None, Rho, Xi}
 use Rattle.slots.specs.declared.State.{State}
 use Rattle.slots.specs.declared.Answer.the-variants.{Reported, BadState, Damaged, Next as NextLot, None as NoLot}
 use Rattle.slots.specs.Heard.{heard}
 use Rattle.slots.specs.Parts.{openSlot, idleState}
 use Rattle.runs.specs.Run.{Call, begin, step, report, Told, ran}
-use Rattle.promises.specs.Bench.{Row, row, runs, puts, two, pool, caseE}
+use Rattle.promises.specs.Bench.{Row, row, runs, puts, two, three, pool, caseE}
 use Rattle.promises.specs.MoreRows.{damaged, answers}
 use Rattle.promises.specs.LongRun.{began, onward, waits, entered}
 
@@ -22,8 +23,8 @@ abbrev pub none : List ℕ
 none = heard NoLot
 
 -- what a report says: nobody holds the page; slot 0 reads it; slots 0 and 1 read it; slot 1 is to change it
-abbrev pub nobody : List ℕ
-nobody = heard (Reported None 0 16)
+abbrev pub noHolder : List ℕ
+noHolder = heard (Reported None 0 16)
 
 abbrev pub reader : List ℕ
 reader = heard (Reported Rho 1 0)
@@ -34,8 +35,8 @@ readers = heard (Reported Rho 2 0)
 abbrev pub changer : List ℕ
 changer = heard (Reported Xi 1 1)
 
-abbrev pub broken : List ℕ
-broken = heard Damaged
+abbrev pub damagedStep : List ℕ
+damagedStep = heard Damaged
 
 abbrev pub badState : List ℕ
 badState = heard BadState
@@ -65,17 +66,25 @@ abbrev pub watched : ℕ → List ℕ → List Call
 watched zero ps = []
 watched (suc n) ps = step 0 ∷ looks ps ++ watched n ps
 
--- a state of n pages in which slot 0 asks for the next lot from 25, wants this page, and holds this path and second way
-abbrev pub asks25 : ℕ → ℕ → List ℕ → List ℕ → State
-asks25 n want path second = record { k = 1; n = n; slots = set (idleState 1 n .slots) 0 (openSlot (Next 25) want path second); order = idleState 1 n .order; waiting = 1 }
+-- a state of n pages in which slot 0 has this operation and want, and holds this path and what stands beside it
+abbrev pub slotOpen : ℕ → Op → ℕ → List ℕ → List ℕ → State
+slotOpen n op want path beside = record { k = 1; n = n; slots = set (idleState 1 n .slots) 0 (openSlot op want path beside); order = idleState 1 n .order; waiting = 1 }
 
--- that state, with the words of three levels
-abbrev pub asking : ℕ → ℕ → List ℕ → List ℕ → Told
-asking n want path second = ran [] (asks25 n want path second) tensWords
+-- slot 0 asks for the next lot from 25, in the words of three levels
+abbrev pub nextSlot : ℕ → ℕ → List ℕ → List ℕ → Told
+nextSlot n want path second = ran [] (slotOpen n (Next 25) want path second) tensWords
 
--- on the second way from page 0: before its last grant
-abbrev pub across : Told
-across = asking 7 3 (0 ∷ 5 ∷ 2 ∷ []) (6 ∷ [])
+-- at its leaf, before the first page of its second way
+abbrev pub atFirstLeaf : Told
+atFirstLeaf = nextSlot 7 6 (0 ∷ 5 ∷ 2 ∷ []) []
+
+-- on its second way, before the second leaf
+abbrev pub onSecondWay : Told
+onSecondWay = nextSlot 7 3 (0 ∷ 5 ∷ 2 ∷ []) (6 ∷ [])
+
+-- the same with other words in page p
+abbrev pub withPage : Told → ℕ → List ℕ → Told
+withPage t p page = ran [] (t .state) (take (p * 7) (t .words) ++ page ++ drop (7 + p * 7) (t .words))
 
 abbrev pub nextRows : List Row
 nextRows =
@@ -93,33 +102,36 @@ nextRows =
     -- two levels, by the second way: the leaf is kept beside page 0
     ∷ row (answers caseE (begin 0 (Next 15) ∷ watched 3 (0 ∷ 1 ∷ 2 ∷ [])))
     (began
-    ∷ onward ∷ reader ∷ nobody ∷ nobody
-    ∷ onward ∷ reader ∷ reader ∷ nobody
-    ∷ next 20 ∷ nobody ∷ nobody ∷ nobody
+    ∷ onward ∷ reader ∷ noHolder ∷ noHolder
+    ∷ onward ∷ reader ∷ reader ∷ noHolder
+    ∷ next 20 ∷ noHolder ∷ noHolder ∷ noHolder
     ∷ [])
+    -- "the next child to the right", not the last: page 0 has three children
+    ∷ row (answers (pool 4 (three ++ runs 0 (Insert 40 7) 2)) (runs 0 (Next 15) 3 ++ runs 0 (Next 25) 3))
+    (began ∷ onward ∷ onward ∷ next 20 ∷ began ∷ onward ∷ onward ∷ next 30 ∷ [])
     -- three levels, by the second way from page 0: down to the leaf 2, then by page 6 to the leaf 3, giving nothing up
     ∷ row (answers tens (begin 0 (Next 25) ∷ watched 5 (0 ∷ 5 ∷ 2 ∷ 6 ∷ 3 ∷ [])))
     (began
-    ∷ onward ∷ reader ∷ nobody ∷ nobody ∷ nobody ∷ nobody
-    ∷ onward ∷ reader ∷ reader ∷ nobody ∷ nobody ∷ nobody
-    ∷ onward ∷ reader ∷ reader ∷ reader ∷ nobody ∷ nobody
-    ∷ onward ∷ reader ∷ reader ∷ reader ∷ reader ∷ nobody
-    ∷ next 30 ∷ nobody ∷ nobody ∷ nobody ∷ nobody ∷ nobody
+    ∷ onward ∷ reader ∷ noHolder ∷ noHolder ∷ noHolder ∷ noHolder
+    ∷ onward ∷ reader ∷ reader ∷ noHolder ∷ noHolder ∷ noHolder
+    ∷ onward ∷ reader ∷ reader ∷ reader ∷ noHolder ∷ noHolder
+    ∷ onward ∷ reader ∷ reader ∷ reader ∷ reader ∷ noHolder
+    ∷ next 30 ∷ noHolder ∷ noHolder ∷ noHolder ∷ noHolder ∷ noHolder
     ∷ [])
     -- three levels, by the second way from page 5, which has a child to the right: page 0 is given up
     ∷ row (answers tens (begin 0 (Next 15) ∷ watched 4 (0 ∷ 5 ∷ 1 ∷ 2 ∷ [])))
     (began
-    ∷ onward ∷ reader ∷ nobody ∷ nobody ∷ nobody
-    ∷ onward ∷ nobody ∷ reader ∷ nobody ∷ nobody
-    ∷ onward ∷ nobody ∷ reader ∷ reader ∷ nobody
-    ∷ next 20 ∷ nobody ∷ nobody ∷ nobody ∷ nobody
+    ∷ onward ∷ reader ∷ noHolder ∷ noHolder ∷ noHolder
+    ∷ onward ∷ noHolder ∷ reader ∷ noHolder ∷ noHolder
+    ∷ onward ∷ noHolder ∷ reader ∷ reader ∷ noHolder
+    ∷ next 20 ∷ noHolder ∷ noHolder ∷ noHolder ∷ noHolder
     ∷ [])
     -- no page of the way has a child to the right: all are held from page 0, and the leaf says None
     ∷ row (answers tens (begin 0 (Next 51) ∷ watched 3 (0 ∷ 6 ∷ 4 ∷ [])))
     (began
-    ∷ onward ∷ reader ∷ nobody ∷ nobody
-    ∷ onward ∷ reader ∷ reader ∷ nobody
-    ∷ none ∷ nobody ∷ nobody ∷ nobody
+    ∷ onward ∷ reader ∷ noHolder ∷ noHolder
+    ∷ onward ∷ reader ∷ reader ∷ noHolder
+    ∷ none ∷ noHolder ∷ noHolder ∷ noHolder
     ∷ [])
     -- an insertion waits above it until its answer; its key is the next one then
     ∷ row (answers tens (runs 0 (Next 25) 1 ++ runs 1 (Insert 26 7) 1 ++ step 0 ∷ step 1 ∷ step 0 ∷ step 1 ∷ step 0 ∷ step 1 ∷ step 0 ∷ step 1 ∷ step 1 ∷ step 1 ∷ runs 0 (Next 25) 3))
@@ -133,31 +145,79 @@ nextRows =
     (began ∷ onward ∷ onward ∷ changer ∷ began ∷ onward ∷ onward ∷ onward ∷ waits ∷ entered ∷ onward ∷ next 30 ∷ [])
     -- two of them go together, and the younger want waits
     ∷ row (answers tens (runs 0 (Next 25) 2 ++ runs 1 (Next 25) 3 ++ report 0 ∷ report 5 ∷ report 2 ∷ step 0 ∷ step 1 ∷ step 0 ∷ step 1 ∷ step 0 ∷ step 1 ∷ []))
-    (began ∷ onward ∷ onward ∷ began ∷ onward ∷ onward ∷ waits ∷ readers ∷ readers ∷ nobody
+    (began ∷ onward ∷ onward ∷ began ∷ onward ∷ onward ∷ waits ∷ readers ∷ readers ∷ noHolder
     ∷ onward ∷ onward ∷ onward ∷ onward ∷ next 30 ∷ next 30 ∷ [])
-    -- 6, Damaged, on the second way. Page 0's next child to the right is page 4
-    ∷ row (answers (damaged across 4 4) (step 0 ∷ []))
-    (broken ∷ [])
-    -- p0 of page 6 is page 1
-    ∷ row (answers (damaged across 44 1) (step 0 ∷ []))
-    (broken ∷ [])
-    -- page 6 has page 0's level
-    ∷ row (answers (damaged across 42 3) (step 0 ∷ []))
-    (broken ∷ [])
-    -- its leaf has a key at or above: 25, and not 24
-    ∷ row (answers (damaged across 16 25) (step 0 ∷ []))
-    (broken ∷ [])
-    ∷ row (answers (damaged across 16 24) (step 0 ∷ []))
+    -- 6, Damaged, clause by clause. Each page held and the wanted one is sound by itself: an unused word of pages 2, 6 and 3 is 9.
+    -- Of page 4 nothing is asked.
+    ∷ row (answers (damaged onSecondWay 20 9) (step 0 ∷ []))
+    (damagedStep ∷ [])
+    ∷ row (answers (damaged onSecondWay 47 9) (step 0 ∷ []))
+    (damagedStep ∷ [])
+    ∷ row (answers (damaged onSecondWay 27 9) (step 0 ∷ []))
+    (damagedStep ∷ [])
+    ∷ row (answers (damaged onSecondWay 34 9) (step 0 ∷ []))
     (next 30 ∷ [])
+    -- coming down: page 5, the top of the path, is not page 0 and has no child to the right
+    ∷ row (answers (nextSlot 7 2 (5 ∷ []) []) (step 0 ∷ []))
+    (damagedStep ∷ [])
+    -- page 5, below the top, has a child to the right
+    ∷ row (answers (withPage onSecondWay 5 (2 ∷ 1 ∷ 2 ∷ 30 ∷ 3 ∷ 0 ∷ 0 ∷ [])) (step 0 ∷ []))
+    (damagedStep ∷ [])
+    -- page 5 leads to page 4, not to page 2
+    ∷ row (answers (damaged onSecondWay 39 4) (step 0 ∷ []))
+    (damagedStep ∷ [])
+    -- the levels of the path are 4, 2 and 1; they are 4, 3 and 1
+    ∷ row (answers (damaged (damaged atFirstLeaf 0 4) 42 3) (step 0 ∷ []))
+    (damagedStep ∷ [])
+    ∷ row (answers (damaged (damaged (damaged atFirstLeaf 0 4) 42 3) 35 3) (step 0 ∷ []))
+    (damagedStep ∷ [])
+    -- page 6 stands beside a path that ends above the leaves, with the route wanted, and with the second way's page
+    ∷ row (answers (nextSlot 7 2 (0 ∷ 5 ∷ []) (6 ∷ [])) (step 0 ∷ []))
+    (damagedStep ∷ [])
+    ∷ row (answers (nextSlot 7 3 (0 ∷ 5 ∷ []) (6 ∷ [])) (step 0 ∷ []))
+    (damagedStep ∷ [])
+    -- its leaf has a key at or above: 25, and not 24
+    ∷ row (answers (damaged onSecondWay 16 25) (step 0 ∷ []))
+    (damagedStep ∷ [])
+    ∷ row (answers (damaged onSecondWay 16 24) (step 0 ∷ []))
+    (next 30 ∷ [])
+    -- page 0 has no child to the right: page 6 is its left neighbour
+    ∷ row (answers (withPage onSecondWay 0 (3 ∷ 1 ∷ 6 ∷ 20 ∷ 5 ∷ 0 ∷ 0 ∷ [])) (step 0 ∷ []))
+    (damagedStep ∷ [])
+    -- page 0's next child to the right is page 4
+    ∷ row (answers (damaged onSecondWay 4 4) (step 0 ∷ []))
+    (damagedStep ∷ [])
+    -- the next child has page 0's level
+    ∷ row (answers (damaged atFirstLeaf 42 3) (step 0 ∷ []))
+    (damagedStep ∷ [])
+    -- p0 of page 6 is page 1
+    ∷ row (answers (damaged onSecondWay 44 1) (step 0 ∷ []))
+    (damagedStep ∷ [])
+    -- p0 of page 6 has page 6's level
+    ∷ row (answers (withPage onSecondWay 3 (2 ∷ 1 ∷ 1 ∷ 40 ∷ 4 ∷ 0 ∷ 0 ∷ [])) (step 0 ∷ []))
+    (damagedStep ∷ [])
     -- from page 6 it would want page 5, which it holds; the lock is not taken and the slot stays open
-    ∷ row (answers (damaged (asking 7 6 (0 ∷ 5 ∷ 2 ∷ []) []) 44 5) (step 0 ∷ report 6 ∷ report 2 ∷ step 0 ∷ []))
-    (broken ∷ nobody ∷ reader ∷ broken ∷ [])
+    ∷ row (answers (damaged atFirstLeaf 44 5) (step 0 ∷ report 6 ∷ report 2 ∷ step 0 ∷ []))
+    (damagedStep ∷ noHolder ∷ reader ∷ damagedStep ∷ [])
+    -- from page 6 it would want page 6; from its leaf, page 2, it would want page 2
+    ∷ row (answers (damaged atFirstLeaf 44 6) (step 0 ∷ []))
+    (damagedStep ∷ [])
+    ∷ row (answers (damaged (nextSlot 7 2 (0 ∷ 5 ∷ []) []) 4 2) (step 0 ∷ []))
+    (damagedStep ∷ [])
+    -- a deletion of 25, which its leaf has not, goes no second way
+    ∷ row (answers (withPage (ran [] (slotOpen 7 (Delete 25) 3 (5 ∷ 2 ∷ []) []) tensWords) 5 (2 ∷ 2 ∷ 1 ∷ 20 ∷ 2 ∷ 30 ∷ 3 ∷ [])) (step 0 ∷ []))
+    (damagedStep ∷ [])
+    -- "the leftmost way": by p0 of page 6, though 25 would be routed to page 4; the second leaf's first entry, whatever its key
+    ∷ row (answers (damaged atFirstLeaf 45 20) (step 0 ∷ step 0 ∷ []))
+    (onward ∷ next 30 ∷ [])
+    ∷ row (answers (damaged onSecondWay 23 1) (step 0 ∷ []))
+    (next 1 ∷ [])
     -- 1, BadState: as many pages beside the path as on it
-    ∷ row (answers (asking 7 2 (0 ∷ 5 ∷ []) (6 ∷ 3 ∷ [])) (step 0 ∷ report 0 ∷ []))
+    ∷ row (answers (nextSlot 7 2 (0 ∷ 5 ∷ []) (6 ∷ 3 ∷ [])) (step 0 ∷ report 0 ∷ []))
     (badState ∷ badState ∷ [])
-    -- "In a sound state it may hold up to 19 pages": 10 on its path and 9 beside it, not 9 and 9
-    ∷ row (answers (asking 20 19 (0 ∷ 1 ∷ 2 ∷ 3 ∷ 4 ∷ 5 ∷ 6 ∷ 7 ∷ 8 ∷ 9 ∷ []) (10 ∷ 11 ∷ 12 ∷ 13 ∷ 14 ∷ 15 ∷ 16 ∷ 17 ∷ 18 ∷ [])) (report 18 ∷ report 19 ∷ []))
-    (reader ∷ nobody ∷ [])
-    ∷ row (answers (asking 20 19 (1 ∷ 2 ∷ 3 ∷ 4 ∷ 5 ∷ 6 ∷ 7 ∷ 8 ∷ 9 ∷ []) (10 ∷ 11 ∷ 12 ∷ 13 ∷ 14 ∷ 15 ∷ 16 ∷ 17 ∷ 18 ∷ [])) (report 18 ∷ []))
+    -- "In a sound state it may hold up to 19 pages": 10 on its path and 9 beside it, not 11 on its path
+    ∷ row (answers (nextSlot 20 19 (0 ∷ 1 ∷ 2 ∷ 3 ∷ 4 ∷ 5 ∷ 6 ∷ 7 ∷ 8 ∷ 9 ∷ []) (10 ∷ 11 ∷ 12 ∷ 13 ∷ 14 ∷ 15 ∷ 16 ∷ 17 ∷ 18 ∷ [])) (report 18 ∷ report 19 ∷ []))
+    (reader ∷ noHolder ∷ [])
+    ∷ row (answers (nextSlot 20 19 (0 ∷ 1 ∷ 2 ∷ 3 ∷ 4 ∷ 5 ∷ 6 ∷ 7 ∷ 8 ∷ 9 ∷ 10 ∷ []) []) (report 9 ∷ []))
     (badState ∷ [])
     ∷ []

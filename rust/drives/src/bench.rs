@@ -313,7 +313,25 @@ fn nexts() -> Vec<Case> {
     }
     second.next(31, 2, NONE);
 
-    vec![leaf, second, next_keeps(), next_gives_up(), next_shares()]
+    vec![
+        leaf,
+        second,
+        next_child(),
+        next_keeps(),
+        next_gives_up(),
+        next_shares(),
+    ]
+}
+
+/// "the next child to the right", not the last one: page 0 has three children
+fn next_child() -> Case {
+    let mut case = Case::fresh("next in the next child of three", 4);
+    for (key, grants) in [(10, 1), (20, 1), (30, 1), (40, 2)] {
+        case.insert(key, grants, INSERTED);
+    }
+    case.next(15, 3, next_is(20));
+    case.next(25, 3, next_is(30));
+    case
 }
 
 /// "giving nothing up until its answer"

@@ -1,226 +1,276 @@
-//! The next lot on the bench: every row of the proved table, by this program.
+//! The next lot on the bench: the rows of the proved table, read as they stand there, and answered by this program.
 
-mod common;
+use std::iter::Peekable;
+use std::vec::IntoIter;
 
-use common::Run;
-use twin::{begin, report, step, Answer, Op, Slot, State};
-use Call::{Begin, Report, Step};
+use twin::{begin, make, page_words, report, step, Answer, Op, Slot, State};
 
-/// The proved table of what is heard in each row.
+/// The proved table.
 const TABLE: &str = include_str!("../../../crates/promises/specs/NextRows.antt");
 
-#[derive(Clone, Copy)]
+/// What an expression of the table stands for.
+#[derive(Clone, Debug, PartialEq)]
+enum Value {
+    Number(u32),
+    Op(Op),
+    Call(Call),
+    Answer(Answer),
+    List(Vec<Value>),
+    State(Box<State>),
+    Told(Box<Told>),
+    Row(Vec<Value>, Vec<Value>),
+}
+use Value::{List, Number};
+
+#[derive(Clone, Copy, Debug, PartialEq)]
 enum Call {
     Begin(usize, Op),
     Step(usize),
     Report(u32),
 }
 
-/// A state and words, and the calls made from there.
-struct Row {
+/// A state and the pool's words.
+#[derive(Clone, Debug, PartialEq)]
+struct Told {
     state: State,
     words: Vec<u32>,
-    calls: Vec<Call>,
 }
 
-impl Row {
-    fn heard(mut self) -> Vec<Answer> {
-        let mut heard = Vec::new();
-        for call in self.calls {
-            let (answer, state) = match call {
-                Begin(slot, op) => begin(&self.state, slot, op),
-                Step(slot) => step(&self.state, &mut self.words, slot),
-                Report(page) => (report(&self.state, page), self.state),
-            };
-            heard.push(answer);
-            self.state = state;
+impl Told {
+    /// A fresh pool, k = 1.
+    fn fresh(n: u32) -> Told {
+        let mut words = vec![9; n as usize * page_words(1)];
+        let (_, state) = make(1, n, &mut words);
+        Told { state, words }
+    }
+
+    fn answer(&mut self, call: &Value) -> Answer {
+        let (answer, state) = match *call {
+            Value::Call(Call::Begin(slot, op)) => begin(&self.state, slot, op),
+            Value::Call(Call::Step(slot)) => step(&self.state, &mut self.words, slot),
+            Value::Call(Call::Report(page)) => (report(&self.state, page), self.state),
+            _ => panic!("{call:?} is no call"),
+        };
+        self.state = state;
+        answer
+    }
+
+    fn answers(&mut self, calls: &[Value]) -> Vec<Value> {
+        let answers = calls.iter().map(|call| Value::Answer(self.answer(call)));
+        answers.collect()
+    }
+}
+
+/// The words of an expression, from the left.
+type Tokens = Peekable<IntoIter<String>>;
+
+/// What is defined in the table by a name without arguments.
+fn defined(name: &str) -> Option<Value> {
+    let text = TABLE.split(&format!("\n{name} =")).nth(1)?;
+    let lines = text.split("\n\n").next()?.lines();
+    let lines: Vec<&str> = lines.filter_map(|line| line.split("--").next()).collect();
+    Some(read(&lines.join("\n")))
+}
+
+fn read(text: &str) -> Value {
+    let text = text.replace('(', " ( ").replace(')', " ) ");
+    let tokens: Vec<String> = text.split_whitespace().map(str::to_string).collect();
+    let mut tokens = tokens.into_iter().peekable();
+    let value = expression(&mut tokens);
+    assert_eq!(tokens.next(), None);
+    value
+}
+
+/// Applications, joined by `∷` and `++`.
+fn expression(tokens: &mut Tokens) -> Value {
+    let first = application(tokens);
+    match tokens.peek().map(String::as_str) {
+        Some("∷") => {
+            tokens.next();
+            List([vec![first], list(&expression(tokens))].concat())
         }
-        heard
-    }
-
-    /// The same with one word changed.
-    fn damaged(mut self, place: usize, word: u32) -> Row {
-        self.words[place] = word;
-        self
+        Some("++") => {
+            tokens.next();
+            List([list(&first), list(&expression(tokens))].concat())
+        }
+        _ => first,
     }
 }
 
-/// From a pool with these keys entered one by one, k = 1, information 7.
-fn entered(n: u32, keys: &[u32], calls: Vec<Call>) -> Row {
-    let mut run = Run::new(1, n);
-    for &key in keys {
-        run.begin(0, Op::Insert(key, 7));
-        run.finish();
-    }
-    let (state, words) = (run.state, run.words);
-    Row {
-        state,
-        words,
-        calls,
+/// A name with its arguments, or a value that stands alone; `.words` takes them out of what is told.
+fn application(tokens: &mut Tokens) -> Value {
+    let head = tokens.next().expect("an expression");
+    let value = match standing_alone(&head, tokens) {
+        Some(value) => value,
+        None => applied(&head, &arguments(tokens)),
+    };
+    match tokens.next_if_eq(".words") {
+        Some(_) => List(told(&value).words.into_iter().map(Number).collect()),
+        None => value,
     }
 }
 
-/// Case E of the bench: two levels.
-fn case_e(calls: Vec<Call>) -> Row {
-    entered(3, &[10, 20, 30], calls)
-}
-
-/// Three levels: 0 above 5 and 6, 5 above the leaves 1 and 2, 6 above the leaves 3 and 4.
-fn tens(calls: Vec<Call>) -> Row {
-    entered(7, &[10, 20, 30, 40, 50], calls)
-}
-
-/// Three levels, and a `Next` from 25 in slot 0 that wants this page and holds these, whatever the rules say.
-fn asking(n: u32, want: u32, path: &[u32], second: &[u32], calls: Vec<Call>) -> Row {
-    let mut row = tens(calls);
-    row.state.n = n;
-    row.state.slots[0] = Slot::open(Op::Next(25), want, path, second);
-    row.state.order[0] = 0;
-    row.state.waiting = 1;
-    row
-}
-
-/// An operation begun in a slot and stepped so often.
-fn runs(slot: usize, op: Op, steps: usize) -> Vec<Call> {
-    let mut calls = vec![Begin(slot, op)];
-    calls.extend(vec![Step(slot); steps]);
-    calls
-}
-
-/// A look at these pages.
-fn looks(pages: &[u32]) -> Vec<Call> {
-    pages.iter().map(|&page| Report(page)).collect()
-}
-
-/// A `Next` in slot 0, and after each step a look at these pages.
-fn watched(key: u32, steps: usize, pages: &[u32]) -> Vec<Call> {
-    let mut calls = vec![Begin(0, Op::Next(key))];
-    for _ in 0..steps {
-        calls.push(Step(0));
-        calls.extend(looks(pages));
+fn arguments(tokens: &mut Tokens) -> Vec<Value> {
+    let is_end = |token: &String| [")", "∷", "++", ".words"].contains(&token.as_str());
+    let mut arguments = Vec::new();
+    while let Some(token) = tokens.next_if(|token| !is_end(token)) {
+        let value = standing_alone(&token, tokens);
+        arguments.push(value.unwrap_or_else(|| applied(&token, &[])));
     }
-    calls
+    arguments
 }
 
-fn steps(slots: &[usize]) -> Vec<Call> {
-    slots.iter().map(|&slot| Step(slot)).collect()
+/// A number, the empty list, or what stands in brackets; not a name.
+fn standing_alone(token: &str, tokens: &mut Tokens) -> Option<Value> {
+    match token {
+        "(" => {
+            let value = expression(tokens);
+            assert_eq!(tokens.next().as_deref(), Some(")"));
+            Some(value)
+        }
+        "[]" => Some(List(Vec::new())),
+        _ => token.parse().ok().map(Number),
+    }
 }
 
-/// The rows that say where a `Next` goes and which pages it holds.
-fn ways() -> Vec<Row> {
-    let next = |key, steps| runs(0, Op::Next(key), steps);
-    vec![
-        entered(1, &[], next(5, 1)),
-        entered(
-            1,
-            &[10, 20],
-            [next(10, 1), next(11, 1), next(21, 1)].concat(),
-        ),
-        case_e([next(20, 2), next(21, 2), next(31, 2)].concat()),
-        case_e(watched(15, 3, &[0, 1, 2])),
-        tens(watched(25, 5, &[0, 5, 2, 6, 3])),
-        tens(watched(15, 4, &[0, 5, 1, 2])),
-        tens(watched(51, 3, &[0, 6, 4])),
-    ]
+/// What a name stands for: a name of the rules or of the other tables, or one that this table defines.
+fn applied(name: &str, arguments: &[Value]) -> Value {
+    let known = answer(name, arguments)
+        .or_else(|| calls(name, arguments))
+        .or_else(|| place(name, arguments));
+    let defined = || defined(name).filter(|_| arguments.is_empty());
+    let value = known.or_else(defined);
+    value.unwrap_or_else(|| panic!("{name} {arguments:?} has no meaning here"))
 }
 
-/// The rows with two slots: who waits for whom.
-fn together() -> Vec<Row> {
-    let next = |slot, key, steps| runs(slot, Op::Next(key), steps);
-    let insert = |key, steps| runs(1, Op::Insert(key, 7), steps);
-    let above = [
-        next(0, 25, 1),
-        insert(26, 1),
-        steps(&[0, 1, 0, 1, 0, 1, 0, 1, 1, 1]),
-        next(0, 25, 3),
-    ];
-    let below = [
-        next(0, 15, 2),
-        insert(16, 2),
-        looks(&[0, 5]),
-        steps(&[0, 1, 0, 1, 1]),
-    ];
-    let beside = [
-        insert(35, 2),
-        looks(&[6]),
-        next(0, 25, 4),
-        steps(&[1, 0, 0]),
-    ];
-    let readers = [
-        next(0, 25, 2),
-        next(1, 25, 3),
-        looks(&[0, 5, 2]),
-        steps(&[0, 1, 0, 1, 0, 1]),
-    ];
-    let runs = [above, below, beside, readers];
-    runs.iter().map(|calls| tens(calls.concat())).collect()
+fn answer(name: &str, arguments: &[Value]) -> Option<Value> {
+    let answer = match (name, arguments) {
+        ("heard", [heard]) => return Some(heard.clone()),
+        ("next", [Number(key)]) => Answer::Next(*key, 7),
+        ("Reported", [Number(lock), Number(count), Number(first)]) => {
+            Answer::Reported(*lock, *count, *first)
+        }
+        ("began", []) => Answer::Begun,
+        ("onward", []) => Answer::Moved,
+        ("waits", []) => Answer::Waiting,
+        ("entered", []) => Answer::Inserted,
+        ("NoLot", []) => Answer::None,
+        ("Damaged", []) => Answer::Damaged,
+        ("BadState", []) => Answer::BadState,
+        _ => return None,
+    };
+    Some(Value::Answer(answer))
 }
 
-/// The rows of refusals.
-fn refusals() -> Vec<Row> {
-    let across = || asking(7, 3, &[0, 5, 2], &[6], steps(&[0]));
-    let turning = [steps(&[0]), looks(&[6, 2]), steps(&[0])].concat();
-    let low: Vec<u32> = (0..10).collect();
-    let high: Vec<u32> = (10..19).collect();
-    vec![
-        across().damaged(4, 4),
-        across().damaged(44, 1),
-        across().damaged(42, 3),
-        across().damaged(16, 25),
-        across().damaged(16, 24),
-        asking(7, 6, &[0, 5, 2], &[], turning).damaged(44, 5),
-        asking(7, 2, &[0, 5], &[6, 3], vec![Step(0), Report(0)]),
-        asking(20, 19, &low, &high, looks(&[18, 19])),
-        asking(20, 19, &low[1..], &high, looks(&[18])),
-    ]
-}
-
-/// The answers of each row of the table, by the names that it gives them.
-fn table() -> Vec<Vec<Answer>> {
-    let rows = TABLE.split("row (answers ").skip(1);
-    let said = rows.map(|row| row.split("\n    (").nth(1).expect("what is said"));
-    said.map(|said| {
-        let names = said.split("[]").next().expect("it has an end");
-        let names = names.split('∷').map(str::trim);
-        names.filter(|name| !name.is_empty()).map(named).collect()
+/// Locks, operations, calls and lists of calls.
+fn calls(name: &str, arguments: &[Value]) -> Option<Value> {
+    Some(match (name, arguments) {
+        ("None", []) => Number(0),
+        ("Rho", []) => Number(1),
+        ("Xi", []) => Number(2),
+        ("Insert", [Number(key), Number(information)]) => Value::Op(Op::Insert(*key, *information)),
+        ("Delete", [Number(key)]) => Value::Op(Op::Delete(*key)),
+        ("Next", [Number(key)]) => Value::Op(Op::Next(*key)),
+        ("begin", [Number(slot), Value::Op(op)]) => Value::Call(Call::Begin(*slot as usize, *op)),
+        ("step", [Number(slot)]) => Value::Call(Call::Step(*slot as usize)),
+        ("report", [Number(page)]) => Value::Call(Call::Report(*page)),
+        ("runs", [Number(slot), Value::Op(op), Number(steps)]) => {
+            let begun = Value::Call(Call::Begin(*slot as usize, *op));
+            let step = Value::Call(Call::Step(*slot as usize));
+            List([vec![begun], vec![step; *steps as usize]].concat())
+        }
+        ("puts", [Number(key)]) => read(&format!("runs 0 (Insert {key} 7) 1")),
+        ("two", []) => read("puts 10 ++ puts 20"),
+        ("three", []) => read("two ++ puts 30"),
+        ("watched", [Number(steps), List(pages)]) => {
+            let reports = pages
+                .iter()
+                .map(|page| applied("report", std::slice::from_ref(page)));
+            let once: Vec<Value> = [read("step 0")].into_iter().chain(reports).collect();
+            List(vec![once; *steps as usize].concat())
+        }
+        _ => return None,
     })
-    .collect()
 }
 
-fn named(name: &str) -> Answer {
-    match name {
-        "began" => Answer::Begun,
-        "onward" => Answer::Moved,
-        "waits" => Answer::Waiting,
-        "entered" => Answer::Inserted,
-        "none" => Answer::None,
-        "nobody" => Answer::Reported(0, 0, 16),
-        "reader" => Answer::Reported(1, 1, 0),
-        "readers" => Answer::Reported(1, 2, 0),
-        "changer" => Answer::Reported(2, 1, 1),
-        "broken" => Answer::Damaged,
-        "badState" => Answer::BadState,
-        _ => {
-            let key = name.strip_prefix("next ").expect("a name of the table");
-            Answer::Next(key.parse().expect("a key"), 7)
+/// Where a row begins, and the row.
+fn place(name: &str, arguments: &[Value]) -> Option<Value> {
+    Some(match (name, arguments) {
+        ("idleState", [Number(k), Number(n)]) => Value::State(Box::new(State::empty(*k, *n))),
+        ("slotOpen", [Number(n), Value::Op(op), Number(want), path, beside]) => {
+            let state = one_open(*n, *op, *want, &numbers(path), &numbers(beside));
+            Value::State(Box::new(state))
         }
+        ("ran", [List(_), Value::State(state), words]) => {
+            let (state, words) = (**state, numbers(words));
+            Value::Told(Box::new(Told { state, words }))
+        }
+        ("pool", [Number(n), List(calls)]) => {
+            let mut told = Told::fresh(*n);
+            told.answers(calls);
+            Value::Told(Box::new(told))
+        }
+        ("caseE", []) => read("pool 3 three"),
+        ("nextSlot", [n, want, path, second]) => {
+            let next = Value::Op(Op::Next(25));
+            let slot = [n, &next, want, path, second].map(Value::clone);
+            let state = applied("slotOpen", &slot);
+            applied("ran", &[List(Vec::new()), state, read("tensWords")])
+        }
+        ("damaged", [from, Number(at), Number(word)]) => with_words(from, *at, &[*word]),
+        ("withPage", [from, Number(page), words]) => with_words(from, page * 7, &numbers(words)),
+        ("answers", [from, List(calls)]) => List(told(from).answers(calls)),
+        ("row", [List(given), List(said)]) => Value::Row(given.clone(), said.clone()),
+        _ => return None,
+    })
+}
+
+/// A state whose slot 0 alone is open. It may be said to hold more than its cells can name.
+fn one_open(n: u32, op: Op, want: u32, path: &[u32], beside: &[u32]) -> State {
+    let mut state = State::empty(1, n);
+    state.slots[0] = Slot::open(op, want, &path[..path.len().min(10)], beside);
+    state.slots[0].depth = path.len();
+    state.waiting = 1;
+    state
+}
+
+/// The same with other words from a place on.
+fn with_words(from: &Value, at: u32, words: &[u32]) -> Value {
+    let mut told = told(from);
+    told.words[at as usize..at as usize + words.len()].copy_from_slice(words);
+    Value::Told(Box::new(told))
+}
+
+fn told(value: &Value) -> Told {
+    match value {
+        Value::Told(told) => (**told).clone(),
+        _ => panic!("{value:?} is no state and words"),
     }
+}
+
+fn list(value: &Value) -> Vec<Value> {
+    match value {
+        List(values) => values.clone(),
+        _ => panic!("{value:?} is no list"),
+    }
+}
+
+fn numbers(value: &Value) -> Vec<u32> {
+    let number = |value| match value {
+        Number(number) => number,
+        _ => panic!("{value:?} is no number"),
+    };
+    list(value).into_iter().map(number).collect()
 }
 
 #[test]
 fn every_row_is_heard() {
-    let rows = ways().into_iter().chain(together()).chain(refusals());
-    let heard: Vec<_> = rows.map(Row::heard).collect();
-    assert_eq!(heard.len(), 20);
-    assert_eq!(heard, table());
-}
-
-#[test]
-fn three_levels_lie_so() {
-    let words = TABLE.split("tensWords =\n").nth(1).expect("they are there");
-    let words = words.split("[]").next().expect("they have an end");
-    let words = words.split('∷').map(str::trim);
-    let words = words.filter(|word| !word.is_empty());
-    let words: Vec<u32> = words.map(|word| word.parse().expect("a word")).collect();
-    assert_eq!(tens(Vec::new()).words, words);
+    let rows = list(&defined("nextRows").expect("it is there"));
+    assert_eq!(rows.len(), 40);
+    for (at, row) in rows.into_iter().enumerate() {
+        match row {
+            Value::Row(given, said) => assert_eq!(given, said, "row {at}"),
+            _ => panic!("{row:?} is no row"),
+        }
+    }
 }
