@@ -1,5 +1,5 @@
 -- The next lot on the bench: where a Next goes, which pages it holds on its way, who waits for whom, and what is refused.
--- The answers come from a second program (`rust/twin`, whose tests read this table, its calls and its answers).
+-- A second program answers the same (`rust/twin`, whose tests read this table, its calls and its answers).
 use Prim.Native.Nat.{ℕ, zero, suc, _+_, _*_}
 use mathlib.Core.List.{List, [], _∷_, _++_}
 use lib.ListN.{set, take, drop}
