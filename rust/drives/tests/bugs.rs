@@ -48,7 +48,7 @@ enum Bug {
     NextBesideUnsound,
 }
 
-const BUGS: [Bug; 18] = [
+const BUGS: [Bug; 12] = [
     Bug::OlderWantOverlooked,
     Bug::FatherGivenUp,
     Bug::EqualKeyLeft,
@@ -61,6 +61,10 @@ const BUGS: [Bug; 18] = [
     Bug::RefusedMakingWrites,
     Bug::ClosedKeepsKey,
     Bug::UnknownKindClosed,
+];
+
+/// Those of the next lot.
+const NEXT_BUGS: [Bug; 6] = [
     Bug::NextGivesUp,
     Bug::NextEndsAtLeaf,
     Bug::NextPassesEqual,
@@ -248,7 +252,7 @@ fn scenes() -> Vec<Scene> {
 #[test]
 fn each_bug_is_found() {
     let scenes = scenes();
-    for bug in BUGS {
+    for bug in BUGS.into_iter().chain(NEXT_BUGS) {
         let program = || bug;
         let found = scenes
             .chunks(28)
@@ -286,14 +290,8 @@ fn a_case_of_the_documents_finds_each_shortcut() {
         Bug::DeletionTestsFull,
         Bug::FreedNotZeroed,
         Bug::LastPageKept,
-        Bug::NextGivesUp,
-        Bug::NextEndsAtLeaf,
-        Bug::NextPassesEqual,
-        Bug::NextForgetsBeside,
-        Bug::NextHoldsAlone,
-        Bug::NextBesideUnsound,
     ];
-    for bug in shortcuts {
+    for bug in shortcuts.into_iter().chain(NEXT_BUGS) {
         let refuted = cases().iter().any(|case| case.refuted(&|| bug).is_some());
         assert!(refuted, "{bug:?}");
     }
