@@ -6,6 +6,7 @@ pub mod WordLaws
 pub mod ExactLaws
 pub mod MoveLaws
 pub mod SmallRows
+pub mod HalvingLaws
 pub mod ReadingLaws
 pub mod SofarLaws
 pub mod CheckingLaws

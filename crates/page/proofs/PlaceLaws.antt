@@ -11,7 +11,7 @@ use lib.Dec.{leb, ltb, eqb}
 use lib.ListN.{length, take, drop}
 use Rattle.ground.specs.Tests.{count}
 use Rattle.ground.proofs.Bools.{or-first, or-second, or-cases, or-first-fails, or-second-fails, true-or-false, not-both}
-use Rattle.ground.proofs.Choice.{cond-ind, cond-true, cond-false}
+use Rattle.ground.proofs.Choice.{by-test, cond-ind, cond-true, cond-false}
 use Rattle.ground.proofs.Tests.{count-append, count-most}
 use Rattle.page.specs.Words.{Keyed, Entry}
 use Rattle.page.specs.Splits.{entryAt}
@@ -93,32 +93,29 @@ place-behind x (e ∷ es) t (suc i) l h =
     (λ p. lt-trans (leb-false (e .key) x p) (rises-at (e ∷ es) t 0 (suc i) (omega arith) h))
     (true-or-false (leb (e .key) x))
 
--- On rising keys two neighbours tell x's place: the key before it is at most x, the key at it greater.
-pub place-between : (x : ℕ) (es : List Entry) → rises es ≡ true → (m : ℕ) → m ≤ length es → (0 < m → keyAt (m - 1) es ≤ x)
-    → (m < length es → x < keyAt m es) → place x es ≡ m
-place-between x es t m h low high =
-    let most = place-most x es in
-    ⊎-elim
-    (λ fewer. let f = ltb-true (place x es) m fewer in
-    let above = place-behind x es t (m - 1) (omega arith) (omega arith) in
-    let at = low (omega arith) in
-    absurd (omega arith))
-    (λ enough. let f = ltb-false (place x es) m enough in
-    ⊎-elim
-    (λ more. let l = ltb-true m (place x es) more in
-    let below = place-before x es t m l in
-    let at = high (omega arith) in
-    absurd (omega arith))
-    (λ same. let l = ltb-false m (place x es) same in omega arith)
-    (true-or-false (ltb m (place x es))))
-    (true-or-false (ltb (place x es) m))
+-- on rising keys, one at most x stands before x's place,
+pub at-most-before : (x : ℕ) (es : List Entry) → rises es ≡ true → (i : ℕ) → i < length es → keyAt i es ≤ x → i < place x es
+at-most-before x es t i h low =
+    by-test (ltb i (place x es)) (ltb-true i (place x es))
+    (λ f. let high = place-behind x es t i (ltb-false i (place x es) f) h in absurd (omega arith))
+
+-- and one greater than x stands behind it
+pub above-behind : (x : ℕ) (es : List Entry) → rises es ≡ true → (i : ℕ) → x < keyAt i es → place x es ≤ i
+above-behind x es t i high =
+    by-test (ltb i (place x es))
+    (λ f. let low = place-before x es t i (ltb-true i (place x es) f) in absurd (omega arith))
+    (ltb-false i (place x es))
 
 -- on rising keys, the place of the key at index i is just behind it
 pub place-at : (x : ℕ) (es : List Entry) → rises es ≡ true → (i : ℕ) → i < length es → keyAt i es ≡ x → place x es ≡ suc i
 place-at x es t i h e =
-    place-between x es t (suc i) h
-    (λ l. let same : suc i - 1 ≡ i = omega arith in rw same (le-of-eq e))
-    (λ l. let up = rises-at es t i (suc i) (omega arith) l in omega arith)
+    let low = at-most-before x es t i h (le-of-eq e) in
+    let most = place-most x es in
+    by-test (ltb (suc i) (length es))
+    (λ more. let up = rises-at es t i (suc i) (omega arith) (ltb-true (suc i) (length es) more) in
+    let high = above-behind x es t (suc i) (omega arith) in
+    omega arith)
+    (λ last. let end = ltb-false (suc i) (length es) last in omega arith)
 
 -- ---- has
 

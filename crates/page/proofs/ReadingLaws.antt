@@ -1,5 +1,5 @@
 -- A page's value read from its words: pair i of the value is the two words at its place, and pi the word before the next key.
-use Prim.Native.Nat.{ℕ, zero, suc, _+_, _-_, _*_, _≤_, _<_}
+use Prim.Native.Nat.{ℕ, zero, suc, _+_, _-_, _*_, _/_, _≤_, _<_}
 use mathlib.Core.Bool.{true, false}
 use mathlib.Core.List.{List, [], _∷_}
 use mathlib.Core.Path.{_≡_, refl, sym, ap, _∙_}
@@ -19,7 +19,8 @@ use Rattle.page.specs.Reading.{Readable, looked}
 use Rattle.page.specs.Short.{hasRight, betweenAt, neighbour}
 use Rattle.page.specs.declared.reading.Lot.the-variants.{There, Missing}
 use Rattle.page.proofs.RiseLaws.{keyAt}
-use Rattle.page.proofs.PlaceLaws.{place-most, place-between, has-from, has-place, information-at, above-first, above-later}
+use Rattle.page.proofs.PlaceLaws.{place-most, has-from, has-place, information-at, above-first, above-later}
+use Rattle.page.proofs.HalvingLaws.{Passes, Untold, half-told}
 use Rattle.page.proofs.WordLaws.{length-pairs, pairsFrom-most}
 use Rattle.page.proofs.SoundPage.{sound-μ, sound-facts}
 
@@ -75,16 +76,13 @@ module _ (ws : List ℕ) (r : Readable ws) where
       ∙ getD-drop (pairsFrom (getD ws 0 0)) ws (2 * i + 1) 0
       ∙ ap (λ (n : ℕ). getD ws n 0) next
 
-  -- The keys before i are at most x, and the key of pair i, if there is one, is greater: i is x's place.
-  pub place-found : (x from i : ℕ) → from ≡ pairsFrom (getD ws 0 0) → rises (view ws .entries) ≡ true → i ≤ getD ws 1 0
-      → ((j : ℕ) → j < i → keyAt j (view ws .entries) ≤ x) → (i < getD ws 1 0 → x < getD ws (from + 2 * i) 0)
-      → i ≡ place x (view ws .entries)
-  place-found x from i e t h low high =
-      let m = readable-μ in
-      sym
-      (place-between x (view ws .entries) t i (omega arith)
-      (λ some. low (i - 1) (omega arith))
-      (λ more. rw (key-word from i e (omega arith)) (high (omega arith))))
+  -- the key in the middle, read where it stands, tells one half of the keys from x
+  pub middle-told : (x from low left p : ℕ) → from ≡ pairsFrom (getD ws 0 0) → rises (view ws .entries) ≡ true
+      → Untold (getD ws 1 0) x (view ws .entries) low left → 0 < left → Passes (getD ws (from + 2 * (low + left / 2)) 0) x p
+      → Untold (getD ws 1 0) x (view ws .entries) (low + (left / 2 + 1) * p) ((left - p) / 2)
+  middle-told x from low left p e t u some told =
+      half-told (getD ws 1 0) x (view ws .entries) readable-μ t low left p u some
+      (rw (key-word from (low + left / 2) e (omega arith)) told)
 
   -- the word of pi is there
   pub pointer-inside : isLeaf (view ws) ≡ false → (i : ℕ) → i ≤ getD ws 1 0 → 2 + 2 * i < length ws

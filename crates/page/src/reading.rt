@@ -81,7 +81,8 @@ pub fn value_at(w: &[u32], i: usize) -> u32
     w[from + 2 * i + 1]
 }
 
-// How many keys are at most x: it stops at the first key above x.
+// How many keys are at most x, by halving. The first `low` keys are, and of the `left` next ones it is not known yet: the one in the
+// middle tells it of itself and of one side. That is added and taken off as a number, since no processor foresees which side.
 pub fn place(w: &[u32], x: u32) -> usize
     requires { ⌜ Readable (now w) ⌝ }
     requires { ⌜ rises (view (now w) .entries) ≡ true ⌝ }
@@ -89,15 +90,16 @@ pub fn place(w: &[u32], x: u32) -> usize
     ensures { λ r. ⌜ r ≤ getD (now (w .entry)) 1 0 ⌝ }
 {
     let from = pairs_from(w[0]);
-    let m = count(w);
-    let mut i = 0;
-    while i < m {
-        if x < w[from + 2 * i] {
-            return i;
-        }
-        i += 1;
+    let mut low = 0;
+    let mut left = count(w);
+    while 0 < left {
+        let half = left / 2;
+        let middle = w[from + 2 * (low + half)];
+        let passed = if middle <= x { 1 } else { 0 };
+        low += (half + 1) * passed;
+        left = (left - passed) / 2;
     }
-    m
+    low
 }
 
 // The information under x in a leaf. A key that is there stands just before its place.
