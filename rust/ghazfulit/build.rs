@@ -17,15 +17,16 @@ fn main() {
     fs::write(out.join("header.rs"), constants(&text)).expect("written");
 }
 
-/// Links the archive: the folder that GHAZFULIT_ARCHIVE names, or target/staticlib.
+/// Links the archive: the folder that GHAZFULIT_ARCHIVE names, or target/staticlib, where the kit puts one for x86-64.
 fn link(root: &Path) {
-    let folder = env::var("GHAZFULIT_ARCHIVE").map_or(root.join("target/staticlib"), PathBuf::from);
-    let archive = folder.join("libembed.a");
-    println!("cargo:rerun-if-changed={}", archive.display());
+    let named = env::var("GHAZFULIT_ARCHIVE").map(PathBuf::from);
     let machine = env::var("CARGO_CFG_TARGET_ARCH").unwrap_or_default();
-    if machine != "x86_64" {
+    if named.is_err() && machine != "x86_64" {
         panic!("the archive is for x86-64, and this builds for {machine}");
     }
+    let folder = named.unwrap_or(root.join("target/staticlib"));
+    let archive = folder.join("libembed.a");
+    println!("cargo:rerun-if-changed={}", archive.display());
     if !archive.is_file() {
         panic!(
             "{} is not there: `rt staticlib embed` writes it",
