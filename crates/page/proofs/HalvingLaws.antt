@@ -12,7 +12,7 @@ use Rattle.page.specs.Words.{Entry}
 use Rattle.page.specs.Sound.{rises}
 use Rattle.page.specs.Place.{place}
 use Rattle.page.proofs.RiseLaws.{keyAt}
-use Rattle.page.proofs.PlaceLaws.{place-most, at-most-before, above-behind}
+use Rattle.page.proofs.PlaceLaws.{at-most-before, above-behind}
 
 -- ---- a comparison as a number
 
@@ -20,34 +20,21 @@ use Rattle.page.proofs.PlaceLaws.{place-most, at-most-before, above-beh
 abbrev pub Passes : ℕ → ℕ → ℕ → Type 0
 Passes y x p = ((y ≤ x) × (p ≡ 1)) ⊎ ((x < y) × (p ≡ 0))
 
--- a number times 1 or 0 is at most the number
-pub times-one : (n p : ℕ) → p ≤ 1 → n * p ≤ n
-times-one n zero h = omega arith
-times-one n (suc zero) h = omega arith
-times-one n (suc (suc p)) h = absurd (omega arith)
-
 -- ---- one comparison
 
 -- Of m keys, x's place is behind the first `low` at least, and behind `left` more at most.
 abbrev pub Untold : ℕ → ℕ → List Entry → ℕ → ℕ → Type 0
 Untold m x es low left = (low + left ≤ m) × (low ≤ place x es) × (place x es ≤ low + left)
 
-module _ (m x : ℕ) (es : List Entry) (e : length es ≡ m) where
-  -- at first nothing is told
-  pub none-told : Untold m x es 0 m
-  none-told =
-      let most = place-most x es in
-      (omega arith, omega arith, omega arith)
-
-  -- the key in the middle tells on which side of it x's place is
-  pub half-told : rises es ≡ true → (low left p : ℕ) → Untold m x es low left → 0 < left → Passes (keyAt (low + left / 2) es) x p
-      → Untold m x es (low + (left / 2 + 1) * p) ((left - p) / 2)
-  half-told t low left p u some (inl (at-most, one)) =
-      let before = at-most-before x es t (low + left / 2) (omega arith) at-most in
-      rw one (omega arith)
-  half-told t low left p u some (inr (above, none)) =
-      let behind = above-behind x es t (low + left / 2) above in
-      rw none (omega arith)
+-- the key in the middle tells on which side of it x's place is
+pub half-told : (m x : ℕ) (es : List Entry) → length es ≡ m → rises es ≡ true → (low left p : ℕ) → Untold m x es low left → 0 < left
+    → Passes (keyAt (low + left / 2) es) x p → Untold m x es (low + (left / 2 + 1) * p) ((left - p) / 2)
+half-told m x es e t low left p u some (inl (at-most, one)) =
+    let before = at-most-before x es t (low + left / 2) (omega arith) at-most in
+    rw one (omega arith)
+half-told m x es e t low left p u some (inr (above, none)) =
+    let behind = above-behind x es t (low + left / 2) above in
+    rw none (omega arith)
 
 -- ---- how many comparisons
 

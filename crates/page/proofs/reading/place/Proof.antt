@@ -1,13 +1,12 @@
 -- The loop's invariant is `Untold`: x's place is behind the first `low` keys at least, and behind `left` more at most. Its measure is how
 -- many comparisons are still to come: at most 6 for the keys of a page (`six-comparisons`).
 use Prim.Native.Nat.{ℕ, _+_, _*_, _/_, _≤_}
-use mathlib.Core.List.{List}
 use mathlib.Core.Logic.{inl, inr, ⊎-elim}
-use mathlib.Core.Path.{sym, subst}
 use native.Mathlib.Omega.{arith}
 use lib.ListN.{getD}
 use Rattle.page.specs.Words.{view}
-use Rattle.page.proofs.HalvingLaws.{Untold, none-told, times-one, comparisons, comparisons-fall}
+use Rattle.page.proofs.HalvingLaws.{Untold, comparisons, comparisons-fall}
+use Rattle.page.proofs.PlaceLaws.{place-most}
 use Rattle.page.proofs.ReadingLaws.{readable-μ, middle-told}
 use Rattle.page.proofs.reading.place.Statement.{statement}
 use Rattle.page.proofs.reading.place.Tie as tie
@@ -24,7 +23,7 @@ passed-most c = ⊎-elim (λ w. omega arith) (λ w. omega arith) (c .if1 .came)
 
 added-most : (c : tie.Joined1 Inv-loop μ-loop)
     → let half : ℕ = c .before .before .before .loop .left / 2 in (half + 1) * c .if1 .passed ≤ half + 1
-added-most c = times-one (c .before .before .before .loop .left / 2 + 1) (c .if1 .passed) (passed-most c)
+added-most c = ⊎-elim (λ w. rw (w .1) (omega arith)) (λ w. rw (w .1) (omega arith)) (c .if1 .came)
 
 shared-slice-read-pairs-from : tie.Need-shared-slice-read-pairs-from Inv-loop μ-loop
 shared-slice-read-pairs-from c = omega arith
@@ -38,9 +37,9 @@ count-requires c κs = omega arith
 loop-holds : tie.Need-loop-holds Inv-loop μ-loop
 loop-holds c =
     let start = c .before .before .before .before in
-    let ws : List ℕ = start .args .w .now in
-    subst (λ (n : ℕ). Untold (getD ws 1 0) (start .args .x) (view ws .entries) 0 n) (sym (c .count .ensures))
-    (none-told (getD ws 1 0) (start .args .x) (view ws .entries) (readable-μ ws (start .pre .0)))
+    let long = readable-μ (start .args .w .now) (start .pre .0) in
+    let most = place-most (start .args .x) (view (start .args .w .now) .entries) in
+    omega arith
 
 add-middle : tie.Need-add-middle Inv-loop μ-loop
 add-middle c = omega arith
