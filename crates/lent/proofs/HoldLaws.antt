@@ -1,5 +1,5 @@
 -- Laws of looking for a page in the other slots: tops first, then the slots that hold more; and that this is the rule's test of
--- clashing locks.
+-- clashing locks; and the walk over older wants.
 use Prim.Native.Nat.{ℕ, zero, suc, _+_, _≤_, _<_}
 use mathlib.Core.Bool.{Bool, true, false, cond, not, _&&_, _||_, false≢true}
 use mathlib.Core.Path.{_≡_, refl, sym, ap, ap₂, _∙_, subst}
@@ -19,12 +19,12 @@ use Rattle.slots.specs.declared.Task.the-variants.{Open}
 use Rattle.slots.specs.declared.Lock.{Lock}
 use Rattle.slots.specs.declared.Lock.the-variants.{None, Rho, Xi}
 use Rattle.slots.specs.declared.Slot.{Slot}
-use Rattle.slots.specs.Parts.{isOpen, held, pathOf, siblingsOf, slotAt, wantAt, holdsAt, waitingOrder}
+use Rattle.slots.specs.Parts.{isOpen, held, pathOf, siblingsOf, openAt, wantAt, holdsAt, waitingOrder}
 use Rattle.slots.specs.Locks.{lockOf, lockAt, clash}
-use Rattle.slots.specs.Grant.{noClash, noOlder}
+use Rattle.slots.specs.Grant.{clashingWant, noClash, noOlder}
 use Rattle.slots.proofs.GrantingLaws.{noOlderFrom, older-end, older-here, older-stops, older-more, order-names}
 use Rattle.lent.specs.Words.{cell, column, highestKind, taskFrom, slotIn, orderIn, asRead, known}
-use Rattle.lent.specs.Holds.{Short, updatesKind, counts, otherHolds, topHolds, isDeep, deepHolds, othersHold}
+use Rattle.lent.specs.Holds.{Short, OpenWait, updatesKind, clashesKind, counts, otherHolds, topHolds, isDeep, deepHolds, othersHold, alsoWants}
 use Rattle.lent.proofs.StateLaws.{slot-read, length-column, column-cell, length-order, order-cell}
 
 -- ---- some number below a bound
@@ -142,10 +142,10 @@ module _ (ws : List ℕ) (s : ℕ) (any : Bool) (p : ℕ) where
     deep-own e =
         sym
         (and-first-fails (member p (held (slotIn ws t)))
-        (and-first-fails (isDeep ws t) (and-first-fails (any || updatesKind (cell ws 0 t)) (not-of-true (eq-eqb t s e)))))
+        (and-first-fails (isDeep ws t) (and-first-fails (clashesKind any (cell ws 0 t)) (not-of-true (eq-eqb t s e)))))
 
     -- whether its lock counts, as found
-    module _ {found : Bool} (said : found ≡ any || updatesKind (cell ws 0 t)) where
+    module _ {found : Bool} (said : found ≡ clashesKind any (cell ws 0 t)) where
       pub deep-passed : found ≡ false → false ≡ deepHolds ws s any p t
       deep-passed f =
           sym
@@ -156,7 +156,7 @@ module _ (ws : List ℕ) (s : ℕ) (any : Bool) (p : ℕ) where
       deep-is d n c e =
           e
           ∙ sym
-          (ap (λ (x : Bool). not x && (any || updatesKind (cell ws 0 t)) && isDeep ws t && member p (held (slotIn ws t))) n
+          (ap (λ (x : Bool). not x && clashesKind any (cell ws 0 t) && isDeep ws t && member p (held (slotIn ws t))) n
           ∙ ap₂ (λ (x y : Bool). x && y && member p (held (slotIn ws t))) (sym said ∙ c) d)
 
 -- ---- locks by kind
@@ -174,9 +174,12 @@ unfolding known slotCount
 kind-known ws e t h = leb-true (cell ws 0 t) highestKind (allBelow-at (λ (s : ℕ). leb (cell ws 0 s) highestKind) 16 e t h)
 
 -- the kind of a slot with an operation is not 0
+kind-if-open : (kind key information : ℕ) → isOpen (taskFrom kind key information) ≡ true → 0 < kind
+kind-if-open zero key information e = absurd (false≢true e)
+kind-if-open (suc kind) key information e = omega arith
+
 pub kind-of-open : (kind key information : ℕ) {op : Op} → taskFrom kind key information ≡ Open op → 0 < kind
-kind-of-open zero key information e = absurd (false≢true (ap isOpen e))
-kind-of-open (suc kind) key information e = omega arith
+kind-of-open kind key information e = kind-if-open kind key information (ap isOpen e)
 
 -- the lock of an open slot, and of any
 abbrev openLock : Bool → Lock
@@ -209,17 +212,21 @@ swap false false true false none = refl
 swap false false false true none = refl
 swap false false false false none = refl
 
--- no other slot holds a clashing lock on the page that an open slot wants
-module _ (ws : List ℕ) (s : ℕ) (e : known ws ≡ true) (h : s < 16) (short : Short ws) (opened : 0 < cell ws 0 s) where
-  here : slotAt (asRead ws) s ≡ slotIn ws s
-  here = slot-read ws s h
-
+-- so by the kinds of two slots, of which the second is open: what a held lock and an older want are both asked
+module _ (ws : List ℕ) (s : ℕ) (e : known ws ≡ true) (h : s < 16) (opened : 0 < cell ws 0 s) where
   abbrev any-lock : Bool
   any-lock = updatesKind (cell ws 0 s)
 
-  own-lock : lockOf (slotIn ws s .task) ≡ openLock any-lock
-  own-lock = lock-kind (cell ws 1 s) (cell ws 2 s) (cell ws 0 s) (kind-known ws e s h) ∙ cond-false None (openLock any-lock) (ne-eqb (cell ws 0 s) 0 (λ z. omega arith))
+  kind-at : (t : ℕ) → t < 16 → lockAt (asRead ws) t ≡ kindLock (cell ws 0 t)
+  kind-at t b = ap (λ (x : Slot). lockOf (x .task)) (slot-read ws t b) ∙ lock-kind (cell ws 1 t) (cell ws 2 t) (cell ws 0 t) (kind-known ws e t b)
 
+  clash-kinds : (t : ℕ) → t < 16 → clash (lockAt (asRead ws) t) (lockAt (asRead ws) s) ≡ not (eqb (cell ws 0 t) 0) && clashesKind any-lock (cell ws 0 t)
+  clash-kinds t b =
+      ap₂ clash (kind-at t b) (kind-at s h ∙ cond-false None (openLock any-lock) (ne-eqb (cell ws 0 s) 0 (λ z. omega arith)))
+      ∙ clash-open (eqb (cell ws 0 t) 0) (updatesKind (cell ws 0 t)) any-lock
+
+-- no other slot holds a clashing lock on the page that an open slot wants
+module _ (ws : List ℕ) (s : ℕ) (e : known ws ≡ true) (h : s < 16) (short : Short ws) (opened : 0 < cell ws 0 s) where
   shut-holds : (t : ℕ) → t < 16 → eqb (cell ws 0 t) 0 ≡ true → member (cell ws 3 s) (held (slotIn ws t)) ≡ false
   unfolding pathOf siblingsOf
   shut-holds t b z =
@@ -227,63 +234,71 @@ module _ (ws : List ℕ) (s : ℕ) (e : known ws ≡ true) (h : s < 16) (short :
       ap₂ (λ (d n : ℕ). member (cell ws 3 s) (take d (column ws 6 t) ++ take n (column ws 16 t))) (none .0) (none .1) ∙ member-none (cell ws 3 s)
 
   each : (t : ℕ) → t < 16
-      → not (otherHolds ws s any-lock (cell ws 3 s) t) ≡ eqb t s || not (holdsAt (asRead ws) t (wantAt (asRead ws) s) && clash (lockAt (asRead ws) t) (lockAt (asRead ws) s))
+      → not (otherHolds ws s (updatesKind (cell ws 0 s)) (cell ws 3 s) t) ≡ eqb t s || not (holdsAt (asRead ws) t (wantAt (asRead ws) s) && clash (lockAt (asRead ws) t) (lockAt (asRead ws) s))
   each t b =
       let m : Bool = member (cell ws 3 s) (held (slotIn ws t)) in
       sym
-      (ap₂ (λ (x y : Slot). eqb t s || not (member (y .want) (held x) && clash (lockOf (x .task)) (lockOf (y .task)))) (slot-read ws t b) here
-      ∙ ap₂ (λ (x y : Lock). eqb t s || not (m && clash x y)) (lock-kind (cell ws 1 t) (cell ws 2 t) (cell ws 0 t) (kind-known ws e t b)) own-lock
-      ∙ ap (λ (c : Bool). eqb t s || not (m && c)) (clash-open (eqb (cell ws 0 t) 0) (updatesKind (cell ws 0 t)) any-lock)
-      ∙ swap (eqb t s) (eqb (cell ws 0 t) 0) (any-lock || updatesKind (cell ws 0 t)) m (shut-holds t b))
+      (ap₂ (λ (x y : Slot). eqb t s || not (member (y .want) (held x) && clash (lockAt (asRead ws) t) (lockAt (asRead ws) s))) (slot-read ws t b) (slot-read ws s h)
+      ∙ ap (λ (c : Bool). eqb t s || not (m && c)) (clash-kinds ws s e h opened t b)
+      ∙ swap (eqb t s) (eqb (cell ws 0 t) 0) (clashesKind (updatesKind (cell ws 0 s)) (cell ws 0 t)) m (shut-holds t b))
 
-  pub no-clash-words : {any : Bool} {want : ℕ} {r : Bool} → any ≡ any-lock → want ≡ cell ws 3 s → r ≡ othersHold ws s any want → not r ≡ noClash (asRead ws) s
+  pub no-clash-words : {any : Bool} {want : ℕ} {r : Bool} → any ≡ updatesKind (cell ws 0 s) → want ≡ cell ws 3 s → r ≡ othersHold ws s any want → not r ≡ noClash (asRead ws) s
   unfolding noClash slotCount othersHold
   no-clash-words {any} {want} {r} a w said =
       ap not (said ∙ ap₂ (λ (x : Bool) (y : ℕ). othersHold ws s x y) a w)
-      ∙ sym (any-not (otherHolds ws s any-lock (cell ws 3 s)) 16)
+      ∙ sym (any-not (otherHolds ws s (updatesKind (cell ws 0 s)) (cell ws 3 s)) 16)
       ∙ allBelow-same _ _ 16 each
 
 -- ---- the walk over older wants, on the words
 
-module _ (ws : List ℕ) (s : ℕ) (long : length ws ≡ 435) (inside : s < 16) (few : getD ws 2 0 ≤ 16)
-    (below : (t : ℕ) → member t (waitingOrder (asRead ws)) ≡ true → t < slotCount) where
-  few′ : getD ws 2 0 ≤ slotCount
+module _ (ws : List ℕ) (s : ℕ) (long : length ws ≡ 435) (inside : s < 16) (e : known ws ≡ true) (opened : 0 < cell ws 0 s) (waits : OpenWait ws) where
+  few : getD ws 2 0 ≤ slotCount
   unfolding slotCount
-  few′ = few
+  few = waits .few
 
   cells : length (orderIn ws) ≡ slotCount
   unfolding slotCount
   cells = length-order ws long
 
-  want-is : (t : ℕ) → t < 16 → wantAt (asRead ws) t ≡ cell ws 3 t
-  want-is t h = ap (λ (x : Slot). x .want) (slot-read ws t h)
+  -- an open slot wants the page that slot s wants, with a clashing lock
+  want-words : (t : ℕ) → t < 16 → openAt (asRead ws) t ≡ true → clashingWant (asRead ws) s t ≡ alsoWants ws (updatesKind (cell ws 0 s)) (cell ws 3 s) t
+  want-words t b o =
+      let some : 0 < cell ws 0 t = kind-if-open (cell ws 0 t) (cell ws 1 t) (cell ws 2 t) (ap (λ (x : Slot). isOpen (x .task)) (sym (slot-read ws t b)) ∙ o) in
+      let c : Bool = clashesKind (updatesKind (cell ws 0 s)) (cell ws 0 t) in
+      ap₂ (λ (x y : Slot). eqb (x .want) (y .want) && clash (lockAt (asRead ws) t) (lockAt (asRead ws) s)) (slot-read ws t b) (slot-read ws s inside)
+      ∙ ap (λ (w : Bool). eqb (cell ws 3 t) (cell ws 3 s) && w)
+      (clash-kinds ws s e inside opened t b ∙ ap (λ (z : Bool). not z && c) (ne-eqb (cell ws 0 t) 0 (λ z. omega arith)))
 
   -- behind the last that waits
   pub walk-end : {i : ℕ} → noOlder (asRead ws) s ≡ noOlderFrom (asRead ws) s i → getD ws 2 0 ≤ i → true ≡ noOlder (asRead ws) s
-  walk-end {i} so-far h = sym (so-far ∙ older-end (asRead ws) s i cells few′ h)
+  walk-end {i} so-far h = sym (so-far ∙ older-end (asRead ws) s i cells few h)
 
   -- at place i
   module _ {i t : ℕ} (so-far : noOlder (asRead ws) s ≡ noOlderFrom (asRead ws) s i) (here : i < getD ws 2 0) (read : t ≡ getD ws (i + 3) 0) where
     place : getD (orderIn ws) i 0 ≡ t
-    place = order-cell ws i (omega arith) ∙ sym read
+    place = order-cell ws i (omega (arith, waits .few)) ∙ sym read
+
+    named : member t (waitingOrder (asRead ws)) ≡ true
+    named = subst (λ (x : ℕ). member x (waitingOrder (asRead ws)) ≡ true) place (order-names (asRead ws) i cells few here)
 
     pub walk-slot : t < 16
     unfolding slotCount
-    walk-slot = subst (λ (x : ℕ). x < 16) place (below (getD (orderIn ws) i 0) (order-names (asRead ws) i cells few′ here))
+    walk-slot = waits .below t named
 
     pub walk-own : t ≡ s → true ≡ noOlder (asRead ws) s
-    walk-own e = sym (so-far ∙ older-here (asRead ws) s i cells few′ here (place ∙ e))
+    walk-own q = sym (so-far ∙ older-here (asRead ws) s i cells few here (place ∙ q))
 
-    module _ (other : t ≡ s → ⊥) where
-      pub walk-older : cell ws 3 t ≡ cell ws 3 s → false ≡ noOlder (asRead ws) s
-      walk-older e =
-          sym
-          (so-far
-          ∙ older-stops (asRead ws) s i cells few′ here (λ q. other (sym place ∙ q))
-          (ap (wantAt (asRead ws)) place ∙ want-is t walk-slot ∙ e ∙ sym (want-is s inside)))
+    -- another slot, with what was found of its want
+    module _ (other : t ≡ s → ⊥) {any found : Bool} {want : ℕ} (own : any ≡ updatesKind (cell ws 0 s)) (wanted : want ≡ cell ws 3 s) (said : found ≡ alsoWants ws any want t) where
+      is-found : clashingWant (asRead ws) s (getD (orderIn ws) i 0) ≡ found
+      is-found =
+          ap (clashingWant (asRead ws) s) place
+          ∙ want-words t walk-slot (waits .opened t named)
+          ∙ ap₂ (λ (a : Bool) (w : ℕ). alsoWants ws a w t) (sym own) (sym wanted)
+          ∙ sym said
 
-      pub walk-on : (cell ws 3 t ≡ cell ws 3 s → ⊥) → noOlder (asRead ws) s ≡ noOlderFrom (asRead ws) s (i + 1)
-      walk-on n =
-          so-far
-          ∙ older-more (asRead ws) s i cells few′ here (λ q. other (sym place ∙ q))
-          (λ e. n (sym (want-is t walk-slot) ∙ sym (ap (wantAt (asRead ws)) place) ∙ e ∙ want-is s inside))
+      pub walk-older : found ≡ true → false ≡ noOlder (asRead ws) s
+      walk-older b = sym (so-far ∙ older-stops (asRead ws) s i cells few here (λ q. other (sym place ∙ q)) (is-found ∙ b))
+
+      pub walk-on : found ≡ false → noOlder (asRead ws) s ≡ noOlderFrom (asRead ws) s (i + 1)
+      walk-on b = so-far ∙ older-more (asRead ws) s i cells few here (λ q. other (sym place ∙ q)) (is-found ∙ b)

@@ -18,15 +18,14 @@ use crate::cells::word_at;
 use ground::SLOTS;
 ghost use mathlib.Core.Path.{_≡_};
 ghost use mathlib.Core.Bool.{true, not, _&&_, _||_};
-ghost use Prim.Native.Nat.{ℕ, _≤_, _<_};
+ghost use Prim.Native.Nat.{_≤_, _<_};
 ghost use lib.Dec.{ltb, eqb};
-ghost use lib.ListN.{getD, take};
-ghost use Rattle.ground.specs.Limits.{slotCount};
+ghost use lib.ListN.{take};
 ghost use Rattle.ground.specs.Tests.{anyBelow, member};
-ghost use Rattle.slots.specs.Parts.{held, waitingOrder};
+ghost use Rattle.slots.specs.Parts.{held};
 ghost use Rattle.slots.specs.Grant as rule;
 ghost use Rattle.lent.specs.Words.{cell, column, slotIn, asRead, known};
-ghost use Rattle.lent.specs.Holds.{Short, updatesKind, topHolds, deepHolds, isDeep, othersHold};
+ghost use Rattle.lent.specs.Holds.{Short, OpenWait, updatesKind, clashesKind, topHolds, deepHolds, isDeep, othersHold, alsoWants};
 
 // Page p stands in one of the first `count` rows from `row` on, of slot s.
 pub fn column_has(cells: &[u32; STATE], row: usize, count: usize, s: usize, p: u32) -> bool
@@ -61,11 +60,19 @@ pub fn is_update(kind: u32) -> bool
     (kind == INSERTS) | (kind == DELETES)
 }
 
+// A lock of this kind clashes: with an update's any lock does, with a reader's ξ alone. Two ρ on a page go together, ξ goes with
+// nothing.
+pub fn clashes(any: bool, kind: u32) -> bool
+    ensures { λ r. ⌜ r ≡ clashesKind any kind ⌝ }
+{
+    any | is_update(kind)
+}
+
 // Slot t is another one than s, its lock counts (any lock, or ξ alone), and page p is the top of its path.
 pub fn is_top(t: u32, s: u32, any: bool, kind: u32, depth: u32, top: u32, p: u32) -> bool
-    ensures { λ r. ⌜ r ≡ (not (eqb t s) && (any || updatesKind kind)) && (ltb 0 depth && eqb p top) ⌝ }
+    ensures { λ r. ⌜ r ≡ (not (eqb t s) && clashesKind any kind) && (ltb 0 depth && eqb p top) ⌝ }
 {
-    (t != s) & (any | is_update(kind)) & ((0 < depth) & (p == top))
+    (t != s) & clashes(any, kind) & ((0 < depth) & (p == top))
 }
 
 // Another slot than s, whose lock counts, has page p on top of its path.
@@ -123,8 +130,7 @@ pub fn deep_holds(cells: &[u32; STATE], s: usize, any: bool, p: u32, t: usize) -
     if t == s {
         return false;
     }
-    let counts = any | is_update(kind_at(cells, t));
-    if !counts {
+    if !clashes(any, kind_at(cells, t)) {
         return false;
     }
     holds_at(cells, t, p)
@@ -169,12 +175,21 @@ pub fn no_clash(cells: &[u32; STATE], s: usize) -> bool
     !others_hold(cells, s, any, want_at(cells, s))
 }
 
-// No older want is for the same page.
+// Slot t wants page p, and its lock counts.
+pub fn also_wants(cells: &[u32; STATE], any: bool, p: u32, t: usize) -> bool
+    requires { ⌜ t < 16 ⌝ }
+    ensures { λ r. ⌜ r ≡ alsoWants (now (cells .entry)) any p t ⌝ }
+{
+    (want_at(cells, t) == p) & clashes(any, kind_at(cells, t))
+}
+
+// No older want clashes with that of slot s.
 pub fn no_older(cells: &[u32; STATE], s: usize) -> bool
-    requires { ⌜ (s < 16) × (getD (now cells) 2 0 ≤ 16) × ((t : ℕ) → member t (waitingOrder (asRead (now cells))) ≡ true → t < slotCount) ⌝ }
+    requires { ⌜ (s < 16) × (known (now cells) ≡ true) × (0 < cell (now cells) 0 s) × OpenWait (now cells) ⌝ }
     ensures { λ r. ⌜ r ≡ rule.noOlder (asRead (now (cells .entry))) s ⌝ }
 {
     sized(cells);
+    let any = is_update(kind_at(cells, s));
     let want = want_at(cells, s);
     let waiting = waiting_of(cells);
     let mut i = 0;
@@ -186,7 +201,7 @@ pub fn no_older(cells: &[u32; STATE], s: usize) -> bool
         if t == s {
             break true;
         }
-        if want_at(cells, t) == want {
+        if also_wants(cells, any, want, t) {
             break false;
         }
         i += 1;
@@ -195,8 +210,7 @@ pub fn no_older(cells: &[u32; STATE], s: usize) -> bool
 
 // A step grants the want of slot s.
 pub fn grants(cells: &[u32; STATE], s: usize) -> bool
-    requires { ⌜ (s < 16) × (known (now cells) ≡ true) × Short (now cells) × (0 < cell (now cells) 0 s) ⌝ }
-    requires { ⌜ (getD (now cells) 2 0 ≤ 16) × ((t : ℕ) → member t (waitingOrder (asRead (now cells))) ≡ true → t < slotCount) ⌝ }
+    requires { ⌜ (s < 16) × (known (now cells) ≡ true) × Short (now cells) × (0 < cell (now cells) 0 s) × OpenWait (now cells) ⌝ }
     ensures { λ r. ⌜ r ≡ rule.grants (asRead (now (cells .entry))) s ⌝ }
 {
     if !no_older(cells, s) {

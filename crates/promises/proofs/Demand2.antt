@@ -10,7 +10,7 @@ use lib.ListN.{length, take}
 use borrow.Author.Tests.{leb-true, eqb-true, eqb-false, ne-eqb, ltb-true, lt-ltb, le-ltb, not-true}
 use Rattle.ground.specs.Limits.{slotCount}
 use Rattle.ground.specs.Tests.{member, padded}
-use Rattle.ground.proofs.Bools.{not-both, false-if-not-true, and-first, and-second, and-both, not-of-false, or-first, or-second, or-cases}
+use Rattle.ground.proofs.Bools.{true-or-false, not-both, false-if-not-true, and-first, and-second, and-both, not-of-false, or-first, or-second, or-cases}
 use Rattle.ground.proofs.Choice.{cond-true, cond-false}
 use Rattle.ground.proofs.Tests.{member-here, member-cases, member-append, member-inside}
 use Rattle.page.specs.Words.{Page, μ, isLeaf, encode}
@@ -29,8 +29,8 @@ use Rattle.slots.specs.declared.Lock.the-variants.{Rho, Xi}
 use Rattle.slots.specs.declared.Outcome.{Outcome}
 use Rattle.slots.specs.declared.Answer.{Answer}
 use Rattle.slots.specs.declared.Answer.the-variants.{Waiting, Moved, NoRoom, BadSlot, SlotIdle}
-use Rattle.slots.specs.Parts.{isDelete, isNext, goesBeside, isOpen, held, pathOf, siblingsOf, slotAt, openAt, wantAt, holdsAt, openSlot, closedSlot}
-use Rattle.slots.specs.Locks.{lockOf, clash}
+use Rattle.slots.specs.Parts.{isDelete, isNext, goesBeside, isOpen, held, pathOf, siblingsOf, slotAt, openAt, wantAt, holdsAt, waitingOrder, openSlot, closedSlot}
+use Rattle.slots.specs.Locks.{lockOf, lockAt, clash}
 use Rattle.slots.specs.Sound.{withinLimits}
 use Rattle.slots.specs.Heard.{numberOf, changesNothing, isOneOf, countedAnswers, ending}
 use Rattle.slots.specs.Report.{reported}
@@ -54,12 +54,12 @@ use Rattle.runs.specs.Step.{Ended}
 use Rattle.runs.proofs.Invariant.{Invariant}
 use Rattle.runs.proofs.Calls.{StepOf, noSlot, idle, waits, onward, over, step-of}
 use Rattle.runs.proofs.Runs.{call-keeps, call-numbers, BeginOf, noSuch, busy, begins-so, begin-of, ReportOf, noPage, tells, report-of, holds-after, numbers-after}
-use Rattle.runs.proofs.Progress.{barred, barred-waits}
+use Rattle.runs.proofs.Progress.{barred, barred-waits, older-other, older-waits}
 use Rattle.runs.proofs.Older.{older-before, before-older}
 use Rattle.runs.proofs.PlainLaws.{none-below, below-none}
 use Rattle.runs.proofs.Agreement.{plain-counted}
 use Rattle.promises.specs.Demand1.{Exactly}
-use Rattle.promises.specs.Demand2.{Opened, Reader, AfterEveryCall, Seen, StepLocks, CallLocks, answersOf, Words, Demand2Holds}
+use Rattle.promises.specs.Demand2.{Opened, Reader, AfterEveryCall, Seen, InTheWay, StepLocks, CallLocks, answersOf, Words, Demand2Holds}
 use Rattle.promises.proofs.Seen.{step-seen}
 
 -- ---- after every call
@@ -93,6 +93,36 @@ both-read : (a b : Task) → isOpen a ≡ true → isOpen b ≡ true → clash (
 both-read Closed b o q c = not-both o refl
 both-read (Open op) Closed o q c = not-both q refl
 both-read (Open op) (Open op′) o q c = let (one, other) = clashes-is op op′ .0 c in ((op, refl, one), (op′, refl, other))
+
+-- a task that updates
+abbrev UpdatesTask : Task → Type 0
+UpdatesTask task = (op : Op) × (task ≡ Open op) × (Reader op → ⊥)
+
+-- where two locks clash one of the two updates,
+one-updates : (a b : Task) → isOpen a ≡ true → isOpen b ≡ true → clash (lockOf a) (lockOf b) ≡ true → UpdatesTask a ⊎ UpdatesTask b
+one-updates Closed b o q c = not-both o refl
+one-updates (Open op) Closed o q c = not-both q refl
+one-updates (Open op) (Open op′) o q c = by-lock (lock-says op) (lock-says op′)
+  where
+    by-lock : LockSays op → LockSays op′ → UpdatesTask (Open op) ⊎ UpdatesTask (Open op′)
+    by-lock (excludes e never) l = inl (op, refl, never)
+    by-lock (shares e r) (excludes f never) = inr (op′, refl, never)
+    by-lock (shares e r) (shares f p) = not-both c (ap₂ clash e f)
+
+-- and where one updates they clash
+abbrev ReaderTask : Task → Type 0
+ReaderTask Closed = ⊥
+ReaderTask (Open op) = Reader op
+
+never-both : (task : Task) → ReadsTask task → UpdatesTask task → ⊥
+never-both task (op, e, r) (op′, f, never) = never (subst ReaderTask f (subst ReaderTask (sym e) r))
+
+update-clashes : (a b : Task) → isOpen a ≡ true → isOpen b ≡ true → UpdatesTask a ⊎ UpdatesTask b → clash (lockOf a) (lockOf b) ≡ true
+update-clashes a b o q u =
+    ⊎-elim
+    (λ c. c)
+    (λ c. let (one, other) = both-read a b o q c in absurd (⊎-elim (never-both a one) (never-both b other) u))
+    (true-or-false (clash (lockOf a) (lockOf b)))
 
 -- "a closed slot holds nothing"
 closed-empty : (task : Task) (depth beside : ℕ) (path siblings : List ℕ) → withinLimits task depth beside ≡ true → isOpen task ≡ false → take depth path ++ take beside siblings ≡ []
@@ -141,6 +171,50 @@ module _ (st : State) (ws : List ℕ) (inv : Invariant st ws) where
   abbrev Waits : ℕ → Left → Type 0
   Waits s r = Exactly (r .answer ≡ Waiting) ((s < slotCount) × (openAt st s ≡ true) × Barred st s)
 
+  -- that is, if another slot is in its way
+  in-the-way : (s : ℕ) → s < slotCount → openAt st s ≡ true → Barred st s → InTheWay st s
+  in-the-way s b o (inl h) = record {
+    slot = h .slot;
+    inside = h .below;
+    other = h .other;
+    oneUpdates = one-updates (slotAt st (h .slot) .task) (slotAt st s .task) (holder-open (st .n) (slotAt st (h .slot)) (wantAt st s) (inv .sound .slot (h .slot) (h .below)) (h .holds)) o (h .clashes);
+    there = inl (h .holds);
+  }
+  in-the-way s b o (inr e) =
+      let waits = older-waits s (e .slot) (waitingOrder st) (e .older) in
+      record {
+        slot = e .slot;
+        inside = inv .sound .orderBelow (e .slot) waits;
+        other = older-other s (e .slot) (waitingOrder st) (e .older);
+        oneUpdates = one-updates (slotAt st (e .slot) .task) (slotAt st s .task) (inv .sound .orderOpen (e .slot) waits) o (e .clashes);
+        there = inr (e .same, older-before s (e .slot) (waitingOrder st) (inv .sound .orderNames s b o) (e .older));
+      }
+
+  way-barred : (s : ℕ) → openAt st s ≡ true → InTheWay st s → Barred st s
+  way-barred s o w =
+      let clashes : openAt st (w .slot) ≡ true → clash (lockAt st (w .slot)) (lockAt st s) ≡ true
+      = λ q. update-clashes (slotAt st (w .slot) .task) (slotAt st s .task) q o (w .oneUpdates) in
+      ⊎-elim
+      (λ h. inl (record {
+        slot = w .slot;
+        below = w .inside;
+        other = w .other;
+        holds = h;
+        clashes = clashes (holder-open (st .n) (slotAt st (w .slot)) (wantAt st s) (inv .sound .slot (w .slot) (w .inside)) h);
+      }))
+      (λ q.
+      let older = before-older s (w .slot) (waitingOrder st) (inv .sound .orderOnce) (q .1) in
+      inr (record {
+        slot = w .slot;
+        older = older;
+        same = q .0;
+        clashes = clashes (inv .sound .orderOpen (w .slot) (older-waits s (w .slot) (waitingOrder st) older));
+      }))
+      (w .there)
+
+  waits-for : (s : ℕ) (r : Left) → Waits s r → Exactly (r .answer ≡ Waiting) ((s < slotCount) × (openAt st s ≡ true) × InTheWay st s)
+  waits-for s r w = ((λ e. let (b, o, h) = w .0 e in (b, o, in-the-way s b o h)), (λ q. w .1 (q .0, q .1, way-barred s (q .1) (q .2))))
+
   -- another answer, of a slot that is not barred
   not-waiting : (s : ℕ) (a : Answer) (next : State) (words : List ℕ) → isOneOf a (Waiting ∷ []) ≡ false
       → ((s < slotCount) × (openAt st s ≡ true) × Barred st s → ⊥) → Waits s (left a next words)
@@ -148,7 +222,7 @@ module _ (st : State) (ws : List ℕ) (inv : Invariant st ws) where
   not-waiting s a next words other free = (λ e. absurd (false≢true (sym other ∙ ap (λ (x : Answer). isOneOf x (Waiting ∷ [])) e)), λ w. absurd (free w))
 
   unchanged : (s : ℕ) (a : Answer) → changesNothing a ≡ true → Waits s (left a st ws) → stepped st ws s ≡ left a st ws → StepLocks st ws s (stepped st ws s)
-  unchanged s a same w e = subst (StepLocks st ws s) (sym e) (record { itself = inl (record { answer = same; state = refl; words = refl }); others = λ u n. refl; waits = w })
+  unchanged s a same w e = subst (StepLocks st ws s) (sym e) (record { itself = inl (record { answer = same; state = refl; words = refl }); others = λ u n. refl; waits = w; waitsFor = waits-for s (left a st ws) w })
 
   moved : (s : ℕ) (b : s < slotCount) (op : Op) (path siblings : List ℕ) (want : ℕ) → Opened st s op
       → Takes op (st .k) (pageAt (st .k) ws) (pathOf (slotAt st s)) (siblingsOf (slotAt st s)) (wantAt st s) path siblings
@@ -169,9 +243,13 @@ module _ (st : State) (ws : List ℕ) (inv : Invariant st ws) where
       order = waiting-requeued st s order-long (inv .sound .orderNames s b (ap isOpen runs)) slot;
     }));
     others = λ u n. slot-other st (inv .shaped) s b slot [] 0 u n;
-    waits = not-waiting s Moved (goesOn st s op want path siblings) ws refl (λ w. not-both g (barred-waits st s (w .2)));
+    waits = waits;
+    waitsFor = waits-for s (left Moved (goesOn st s op want path siblings) ws) waits;
   }
     where
+      waits : Waits s (left Moved (goesOn st s op want path siblings) ws)
+      waits = not-waiting s Moved (goesOn st s op want path siblings) ws refl (λ w. not-both g (barred-waits st s (w .2)))
+
       slot : Slot
       slot = openSlot op want path siblings
 
@@ -226,9 +304,13 @@ module _ (st : State) (ws : List ℕ) (inv : Invariant st ws) where
       seen = subst (λ (r : Left). Seen (pageAt (st .k) ws (wantAt st s)) (r .answer)) told (step-seen st ws inv s op b runs g);
     }));
     others = λ u n. slot-other st (inv .shaped) s b closedSlot [] 0 u n;
-    waits = not-waiting s a (closes st s) (applied (st .k) writes ws) (ends-waiting op s a writes e) (λ w. not-both g (barred-waits st s (w .2)));
+    waits = waits;
+    waitsFor = waits-for s (left a (closes st s) (applied (st .k) writes ws)) waits;
   }
     where
+      waits : Waits s (left a (closes st s) (applied (st .k) writes ws))
+      waits = not-waiting s a (closes st s) (applied (st .k) writes ws) (ends-waiting op s a writes e) (λ w. not-both g (barred-waits st s (w .2)))
+
       here : slotAt (closes st s) s ≡ closedSlot
       here = slot-here st (inv .shaped) s b closedSlot [] 0
 

@@ -54,6 +54,10 @@ Reader (Next x) = Unit {0}
 abbrev pub Reads : State → ℕ → Type 0
 Reads st s = (op : Op) × Opened st s op × Reader op
 
+-- slot s updates: it inserts or deletes
+abbrev pub Updates : State → ℕ → Type 0
+Updates st s = (op : Op) × Opened st s op × (Reader op → ⊥)
+
 -- What a run with this k and N has left.
 pub record AfterEveryCall (k n : ℕ) (st : State) (ws : List ℕ) : Type 0 where
   pub sameK : st .k ≡ k
@@ -114,14 +118,25 @@ pub record Ends (st : State) (ws : List ℕ) (s : ℕ) (after : Left) : Type 0 w
   -- the lot that a Next answers it reads on the leaf that this step was granted, not on one without its lock
   pub seen : Seen (pageAt (st .k) ws (wantAt st s)) (after .answer)
 
+-- Slot s wants a page, and another slot is in its way: one of the two updates, and
+pub record InTheWay (st : State) (s : ℕ) : Type 0 where
+  pub slot : ℕ
+  pub inside : slot < slotCount
+  pub other : slot ≢ s
+  pub oneUpdates : Updates st slot ⊎ Updates st s
+  -- the other holds that page, or wants it too and has waited longer
+  pub there : (holdsAt st slot (wantAt st s) ≡ true) ⊎ ((wantAt st slot ≡ wantAt st s) × Before slot s (waitingOrder st))
+
 -- "each step takes and gives up just the locks the rules name"
 pub record StepLocks (st : State) (ws : List ℕ) (s : ℕ) (after : Left) : Type 0 where
   pub itself : Unchanged st ws after ⊎ (MovesOn st ws s after ⊎ Ends st ws s after)
   -- no other slot's operation, holdings or want change
   pub others : (u : ℕ) → u ≢ s → slotAt (after .state) u ≡ slotAt st u
-  -- "A step grants the want when no other slot holds a clashing lock on that page and no older want is for the same page.
-  -- Otherwise it is answered Waiting"
+  -- "A step grants the want when no other slot holds a clashing lock on that page and no older want" that clashes with it "is for the
+  -- same page. Otherwise it is answered Waiting": by the rule's own words,
   pub waits : Exactly (after .answer ≡ Waiting) ((s < slotCount) × (openAt st s ≡ true) × Barred st s)
+  -- and without them
+  pub waitsFor : Exactly (after .answer ≡ Waiting) ((s < slotCount) × (openAt st s ≡ true) × InTheWay st s)
 
 -- "Beginning an operation makes the slot want page 0." It takes no lock.
 pub record Begins (st : State) (ws : List ℕ) (s : ℕ) (op : Op) (after : Left) : Type 0 where

@@ -1,12 +1,12 @@
 -- Lots on the bench that document 01 does not mark to be proved, and the shortcuts that lose a lot: what the rules say
--- where a shortcut would say something else. Then one row for each refusal.
+-- where a shortcut would say something else. Then who waits behind whom, and one row for each refusal.
 use Prim.Native.Nat.{ℕ, _*_}
 use mathlib.Core.List.{List, [], _∷_, _++_}
 use lib.ListN.{set, replicate, take}
 use Rattle.page.specs.Words.{size}
-use Rattle.slots.specs.declared.Op.the-variants.{Search, Insert, Delete}
+use Rattle.slots.specs.declared.Op.the-variants.{Search, Insert, Delete, Next}
 use Rattle.slots.specs.declared.Lock.the-variants.{None, Rho, Xi}
-use Rattle.slots.specs.declared.Answer.the-variants.{Waiting, Moved, Found, Deleted, Begun, Made, Reported, BadState, BadPool, BadSlot, SlotBusy, SlotIdle, Damaged, BadPage}
+use Rattle.slots.specs.declared.Answer.the-variants.{Waiting, Moved, Found, NotFound, Inserted, Deleted, NoSuchKey, Begun, Made, Reported, BadState, BadPool, BadSlot, SlotBusy, SlotIdle, Damaged, BadPage, None as NoLot}
 use Rattle.slots.specs.Heard.{heard}
 use Rattle.slots.specs.Parts.{idleState}
 use Rattle.index.specs.Step.{Left}
@@ -44,8 +44,8 @@ more =
     -- steps: Found 7. Slot 1 steps: Moved."
     row (answers caseE (runs 0 (Search 10) 1 ++ runs 1 (Delete 20) 1 ++ step 0 ∷ step 1 ∷ []))
     (heard Begun ∷ heard Moved ∷ heard Begun ∷ heard Waiting ∷ heard (Found 7) ∷ heard Moved ∷ [])
-    -- "K: two searches begun in slots 0 and 1; step 1: Waiting."
-    ∷ row (answers (pool 1 []) (begin 0 (Search 5) ∷ begin 1 (Search 5) ∷ step 1 ∷ [])) (heard Begun ∷ heard Begun ∷ heard Waiting ∷ [])
+    -- "K: two searches begun in slots 0 and 1; step 1:" as 02 (iii) has it, "NotFound in an empty pool".
+    ∷ row (answers (pool 1 []) (begin 0 (Search 5) ∷ begin 1 (Search 5) ∷ step 1 ∷ [])) (heard Begun ∷ heard Begun ∷ heard NotFound ∷ [])
     -- "L: slot 15 accepted, 16 BadSlot; k 16 accepted, 0 and 17 BadPool; 1,024 pages accepted, 1,025 BadPool."
     ∷ row (answers (pool 1 []) (begin 15 (Search 5) ∷ begin 16 (Search 5) ∷ [])) (heard Begun ∷ heard BadSlot ∷ [])
     ∷ row (heard (making 16 1 .answer) ∷ heard (making 0 1 .answer) ∷ heard (making 17 1 .answer) ∷ [])
@@ -70,6 +70,22 @@ more =
     -- "Freeing a page without zeroing it, or never taking it again": pages 1 and 2, freed in H, are taken again.
     ∷ row (pages (goingOn (goingOn (goingOn caseE delete10) delete20) (puts 10 ++ puts 20)))
     ((2 ∷ 1 ∷ 1 ∷ 20 ∷ 2 ∷ 0 ∷ 0 ∷ []) ∷ (1 ∷ 1 ∷ 10 ∷ 7 ∷ 0 ∷ 0 ∷ 0 ∷ []) ∷ (1 ∷ 2 ∷ 20 ∷ 7 ∷ 30 ∷ 7 ∷ 0 ∷ []) ∷ [])
+    -- 02 (iii): "a want waits only for held locks and older wants that clash with it." A search behind an insertion, and an insertion
+    -- behind a search; a deletion behind a Next; an insertion behind a deletion.
+    ∷ row (answers (pool 1 []) (begin 0 (Insert 5 7) ∷ begin 1 (Search 5) ∷ step 1 ∷ step 0 ∷ step 1 ∷ []))
+    (heard Begun ∷ heard Begun ∷ heard Waiting ∷ heard Inserted ∷ heard (Found 7) ∷ [])
+    ∷ row (answers (pool 1 []) (begin 0 (Search 5) ∷ begin 1 (Insert 5 7) ∷ step 1 ∷ step 0 ∷ step 1 ∷ []))
+    (heard Begun ∷ heard Begun ∷ heard Waiting ∷ heard NotFound ∷ heard Inserted ∷ [])
+    ∷ row (answers (pool 1 []) (begin 0 (Next 5) ∷ begin 1 (Delete 5) ∷ step 1 ∷ step 0 ∷ step 1 ∷ []))
+    (heard Begun ∷ heard Begun ∷ heard Waiting ∷ heard NoLot ∷ heard NoSuchKey ∷ [])
+    ∷ row (answers (pool 1 []) (begin 0 (Delete 5) ∷ begin 1 (Insert 5 7) ∷ step 1 ∷ step 0 ∷ step 1 ∷ []))
+    (heard Begun ∷ heard Begun ∷ heard Waiting ∷ heard NoSuchKey ∷ heard Inserted ∷ [])
+    -- Behind two searches an insertion waits for both, and a third search behind it for the insertion: nobody passes an update.
+    ∷ row (answers (pool 1 []) (begin 0 (Search 5) ∷ begin 1 (Next 5) ∷ begin 2 (Insert 5 7) ∷ begin 3 (Search 5) ∷ step 3 ∷ step 2 ∷ step 1 ∷ step 2 ∷ step 0 ∷ step 3 ∷ step 2 ∷ step 3 ∷ []))
+    (heard Begun ∷ heard Begun ∷ heard Begun ∷ heard Begun ∷ heard Waiting ∷ heard Waiting ∷ heard NoLot ∷ heard Waiting ∷ heard NotFound ∷ heard Waiting ∷ heard Inserted ∷ heard (Found 7) ∷ [])
+    -- The older of two wants for a leaf is a search's, and the younger search has its answer first.
+    ∷ row (answers caseE (runs 0 (Search 20) 1 ++ runs 1 (Search 30) 2 ++ step 0 ∷ []))
+    (heard Begun ∷ heard Moved ∷ heard Begun ∷ heard Moved ∷ heard (Found 7) ∷ heard (Found 7) ∷ [])
     -- 1, BadState: the empty state, for every call
     ∷ row (heardIn (run (begin 0 (Search 5) ∷ step 0 ∷ report 0 ∷ []) (idleState 0 0) [])) (heard BadState ∷ heard BadState ∷ heard BadState ∷ [])
     -- 2, BadPool: a word too few, a word too many

@@ -143,10 +143,10 @@ nextRows =
     -- on its second way it waits for an insertion that holds page 6
     ∷ row (answers tens (runs 1 (Insert 35 7) 2 ++ report 6 ∷ runs 0 (Next 25) 4 ++ step 1 ∷ step 0 ∷ step 0 ∷ []))
     (began ∷ onward ∷ onward ∷ changer ∷ began ∷ onward ∷ onward ∷ onward ∷ waits ∷ entered ∷ onward ∷ next 30 ∷ [])
-    -- two of them go together, and the younger want waits
-    ∷ row (answers tens (runs 0 (Next 25) 2 ++ runs 1 (Next 25) 3 ++ report 0 ∷ report 5 ∷ report 2 ∷ step 0 ∷ step 1 ∷ step 0 ∷ step 1 ∷ step 0 ∷ step 1 ∷ []))
-    (began ∷ onward ∷ onward ∷ began ∷ onward ∷ onward ∷ waits ∷ readers ∷ readers ∷ noHolder
-    ∷ onward ∷ onward ∷ onward ∷ onward ∷ next 30 ∷ next 30 ∷ [])
+    -- two of them go together: slot 1 is granted page 2, for which slot 0's want is older (02 (iii)), and has its answer first
+    ∷ row (answers tens (runs 0 (Next 25) 2 ++ runs 1 (Next 25) 3 ++ step 0 ∷ report 0 ∷ report 5 ∷ report 2 ∷ step 1 ∷ step 0 ∷ step 1 ∷ step 0 ∷ []))
+    (began ∷ onward ∷ onward ∷ began ∷ onward ∷ onward ∷ onward ∷ onward ∷ readers ∷ readers ∷ readers
+    ∷ onward ∷ onward ∷ next 30 ∷ next 30 ∷ [])
     -- 6, Damaged, clause by clause. Each page held and the wanted one is sound by itself: an unused word of pages 2, 6 and 3 is 9.
     -- Of page 4 nothing is asked.
     ∷ row (answers (damaged onSecondWay 20 9) (step 0 ∷ []))

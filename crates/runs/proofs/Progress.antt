@@ -13,7 +13,7 @@ use lib.Dec.{eqb}
 use lib.ListN.{length}
 use Rattle.ground.specs.Limits.{slotCount, wordRange}
 use Rattle.ground.specs.Tests.{member}
-use Rattle.ground.proofs.Bools.{true-or-false, not-both, false-if-not-true, and-first, and-second, and-fails, or-first-fails, or-second-fails}
+use Rattle.ground.proofs.Bools.{true-or-false, not-both, false-if-not-true, and-first, and-second, and-both, and-fails, or-first-fails, or-second-fails}
 use Rattle.ground.proofs.Choice.{cond-true, cond-false}
 use Rattle.ground.proofs.Tests.{member-none, member-here, member-there, member-cases, all-member, all-fails-at, allBelow-false-at}
 use Rattle.page.specs.Words.{Page}
@@ -24,7 +24,7 @@ use Rattle.slots.specs.declared.Task.the-variants.{Closed, Open}
 use Rattle.slots.specs.declared.State.{State}
 use Rattle.slots.specs.Parts.{keyOf, isOpen, pathOf, siblingsOf, slotAt, openAt, wantAt, holdsAt, waitingOrder}
 use Rattle.slots.specs.Locks.{lockAt, clash}
-use Rattle.slots.specs.Grant.{olderThan, noClash, noOlder, grants}
+use Rattle.slots.specs.Grant.{olderThan, clashingWant, noClash, noOlder, grants}
 use Rattle.slots.proofs.Clashes.{no-two-locks-clash}
 use Rattle.slots.proofs.GrantLaws.{granted-no-clash, holder-open}
 use Rattle.slots.proofs.OrderLaws.{same-or-not}
@@ -55,10 +55,13 @@ clash-found st s f =
 older-found : (st : State) (s : ℕ) → noOlder st s ≡ false → Older st s
 unfolding noOlder
 older-found st s f =
-    let (t, m, fails) = all-fails-at (λ (u : ℕ). not (eqb (wantAt st u) (wantAt st s))) (olderThan s (waitingOrder st)) f in
-    record { slot = t; older = m; same = eqb-true (wantAt st t) (wantAt st s) (not-false (eqb (wantAt st t) (wantAt st s)) fails) }
+    let (t, m, fails) = all-fails-at (λ (u : ℕ). not (clashingWant st s u)) (olderThan s (waitingOrder st)) f in
+    let same = eqb (wantAt st t) (wantAt st s) in
+    let clashes = clash (lockAt st t) (lockAt st s) in
+    let both = not-false (same && clashes) fails in
+    record { slot = t; older = m; same = eqb-true (wantAt st t) (wantAt st s) (and-first same clashes both); clashes = and-second same clashes both }
 
--- A want that is not granted is barred by a held clash or by an older want for the same page.
+-- A want that is not granted is barred by a held clash or by an older want that clashes.
 pub barred : (st : State) (s : ℕ) → grants st s ≡ false → Barred st s
 barred st s f = ⊎-elim (λ e. inl (clash-found st s e)) (λ e. inr (older-found st s e)) (and-fails (noClash st s) (noOlder st s) f)
 
@@ -68,9 +71,9 @@ unfolding noOlder
 barred-waits st s (inl h) =
     false-if-not-true (grants st s) (λ g. not-both (h .clashes) (granted-no-clash st s g (h .slot) (h .below) (h .other) (h .holds)))
 barred-waits st s (inr o) =
-    false-if-not-true (grants st s) (λ g. not-both (eq-eqb (wantAt st (o .slot)) (wantAt st s) (o .same))
-    (not-true (eqb (wantAt st (o .slot)) (wantAt st s))
-    (all-member (λ (u : ℕ). not (eqb (wantAt st u) (wantAt st s))) (olderThan s (waitingOrder st)) (and-second (noClash st s) (noOlder st s) g) (o .slot) (o .older))))
+    false-if-not-true (grants st s) (λ g. not-both (and-both (eq-eqb (wantAt st (o .slot)) (wantAt st s) (o .same)) (o .clashes))
+    (not-true (clashingWant st s (o .slot))
+    (all-member (λ (u : ℕ). not (clashingWant st s u)) (olderThan s (waitingOrder st)) (and-second (noClash st s) (noOlder st s) g) (o .slot) (o .older))))
 
 -- ---- older wants
 
@@ -100,8 +103,16 @@ older-cases s t y ys m =
     (λ n. (n, member-cases t y (olderThan s ys) (sym (ap (member t) (older-there s y ys n)) ∙ m)))
     (same-or-not y s)
 
+-- it is another slot's
+pub older-other : (s t : ℕ) (xs : List ℕ) → member t (olderThan s xs) ≡ true → t ≢ s
+unfolding olderThan
+older-other s t [] m = not-both m (member-none t)
+older-other s t (y ∷ ys) m =
+    let (n, how) = older-cases s t y ys m in
+    ⊎-elim (λ e same. n (sym e ∙ same)) (older-other s t ys) how
+
 -- it is one of the order's
-older-waits : (s t : ℕ) (xs : List ℕ) → member t (olderThan s xs) ≡ true → member t xs ≡ true
+pub older-waits : (s t : ℕ) (xs : List ℕ) → member t (olderThan s xs) ≡ true → member t xs ≡ true
 unfolding olderThan member
 older-waits s t [] m = m
 older-waits s t (y ∷ ys) m =

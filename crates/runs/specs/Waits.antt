@@ -1,5 +1,5 @@
--- What bars a want: "A step grants the want when no other slot holds a clashing lock on that page and no older want is for the same
--- page. Otherwise it is answered Waiting".
+-- What bars a want. 01: "A step grants the want when no other slot holds a clashing lock on that page and no older want is for the
+-- same page. Otherwise it is answered Waiting". 02 (iii): "a want waits only for held locks and older wants that clash with it."
 use Prim.Native.Nat.{ℕ, _<_}
 use mathlib.Core.Bool.{true}
 use mathlib.Core.List.{List, _∷_, _++_}
@@ -20,11 +20,12 @@ pub record Holder (st : State) (s : ℕ) : Type 0 where
   pub holds : holdsAt st slot (wantAt st s) ≡ true
   pub clashes : clash (lockAt st slot) (lockAt st s) ≡ true
 
--- an older want is for the same page
+-- an older want is for the same page, of a slot whose lock clashes with its own
 pub record Older (st : State) (s : ℕ) : Type 0 where
   pub slot : ℕ
   pub older : member slot (olderThan s (waitingOrder st)) ≡ true
   pub same : wantAt st slot ≡ wantAt st s
+  pub clashes : clash (lockAt st slot) (lockAt st s) ≡ true
 
 abbrev pub Barred : State → ℕ → Type 0
 Barred st s = Holder st s ⊎ Older st s

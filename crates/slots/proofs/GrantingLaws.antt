@@ -16,8 +16,8 @@ use Rattle.ground.proofs.Choice.{cond-true, cond-false}
 use Rattle.ground.proofs.Tests.{member-more, member-from, member-append}
 use Rattle.slots.specs.declared.Slot.{Slot}
 use Rattle.slots.specs.declared.State.{State}
-use Rattle.slots.specs.Parts.{wantAt, held, pathOf, siblingsOf, waitingOrder}
-use Rattle.slots.specs.Grant.{olderThan, noOlder}
+use Rattle.slots.specs.Parts.{held, pathOf, siblingsOf, waitingOrder}
+use Rattle.slots.specs.Grant.{olderThan, clashingWant, noOlder}
 use Rattle.slots.proofs.OrderLaws.{length-waiting}
 
 -- ---- a page looked for in the first cells
@@ -59,9 +59,9 @@ module _ (p : ℕ → Bool) (s : ℕ) (order : List ℕ) (i : ℕ) where
     unfolding olderThan all
     rest-other n = opened ∙ ap (all p) (cond-false [] (getD order i 0 ∷ olderThan s (drop (suc i) order)) (ne-eqb (getD order i 0) s n))
 
--- from place i of the waiting order on, no want older than slot s's is for the same page
+-- from place i of the waiting order on, no want older than slot s's clashes with it
 unfoldable pub noOlderFrom : State → ℕ → ℕ → Bool
-noOlderFrom st s i = all (λ (t : ℕ). not (eqb (wantAt st t) (wantAt st s))) (olderThan s (drop i (waitingOrder st)))
+noOlderFrom st s i = all (λ (t : ℕ). not (clashingWant st s t)) (olderThan s (drop i (waitingOrder st)))
 
 pub older-none : (st : State) (s : ℕ) → noOlder st s ≡ noOlderFrom st s 0
 unfolding noOlder noOlderFrom
@@ -83,7 +83,7 @@ module _ (st : State) (s i : ℕ) (long : length (st .order) ≡ slotCount) (fit
   -- behind the last that waits there is none
   pub older-end : st .waiting ≤ i → noOlderFrom st s i ≡ true
   unfolding noOlderFrom rest
-  older-end h = rest-end (λ (t : ℕ). not (eqb (wantAt st t) (wantAt st s))) s (waitingOrder st) i (omega (arith, length-waiting st (omega arith)))
+  older-end h = rest-end (λ (t : ℕ). not (clashingWant st s t)) s (waitingOrder st) i (omega (arith, length-waiting st (omega arith)))
 
   module _ (inside : i < st .waiting) where
     at-i : getD (waitingOrder st) i 0 ≡ getD (st .order) i 0
@@ -95,24 +95,24 @@ module _ (st : State) (s i : ℕ) (long : length (st .order) ≡ slotCount) (fit
     -- slot s itself: no want from there on is older
     pub older-here : getD (st .order) i 0 ≡ s → noOlderFrom st s i ≡ true
     unfolding noOlderFrom rest
-    older-here e = rest-here (λ (t : ℕ). not (eqb (wantAt st t) (wantAt st s))) s (waitingOrder st) i place (at-i ∙ e)
+    older-here e = rest-here (λ (t : ℕ). not (clashingWant st s t)) s (waitingOrder st) i place (at-i ∙ e)
 
     module _ (other : getD (st .order) i 0 ≡ s → ⊥) where
-      at-other : noOlderFrom st s i ≡ not (eqb (wantAt st (getD (st .order) i 0)) (wantAt st s)) && noOlderFrom st s (i + 1)
+      at-other : noOlderFrom st s i ≡ not (clashingWant st s (getD (st .order) i 0)) && noOlderFrom st s (i + 1)
       unfolding noOlderFrom rest
       at-other =
-          let q : ℕ → Bool = λ (t : ℕ). not (eqb (wantAt st t) (wantAt st s)) in
+          let q : ℕ → Bool = λ (t : ℕ). not (clashingWant st s t) in
           rest-other q s (waitingOrder st) i place (λ e. other (sym at-i ∙ e))
           ∙ ap (λ (t : ℕ). q t && all q (olderThan s (drop (suc i) (waitingOrder st)))) at-i
           ∙ ap (λ (n : ℕ). q (getD (st .order) i 0) && all q (olderThan s (drop n (waitingOrder st)))) (sym (add-one i))
 
-      -- an older want for the same page
-      pub older-stops : wantAt st (getD (st .order) i 0) ≡ wantAt st s → noOlderFrom st s i ≡ false
-      older-stops e = at-other ∙ and-first-fails (noOlderFrom st s (i + 1)) (not-of-true (eq-eqb _ _ e))
+      -- an older want that clashes
+      pub older-stops : clashingWant st s (getD (st .order) i 0) ≡ true → noOlderFrom st s i ≡ false
+      older-stops e = at-other ∙ and-first-fails (noOlderFrom st s (i + 1)) (not-of-true e)
 
-      -- an older want for another page
-      pub older-more : (wantAt st (getD (st .order) i 0) ≡ wantAt st s → ⊥) → noOlderFrom st s i ≡ noOlderFrom st s (i + 1)
-      older-more n = at-other ∙ ap (λ (b : Bool). b && noOlderFrom st s (i + 1)) (not-of-false (ne-eqb _ _ n))
+      -- an older want that does not
+      pub older-more : clashingWant st s (getD (st .order) i 0) ≡ false → noOlderFrom st s i ≡ noOlderFrom st s (i + 1)
+      older-more e = at-other ∙ ap (λ (b : Bool). b && noOlderFrom st s (i + 1)) (not-of-false e)
 
 -- the pages of a slot are those of its path and its siblings
 pub holds-split : (slot : Slot) (p : ℕ) → member p (held slot) ≡ member p (take (slot .depth) (slot .path)) || member p (take (slot .beside) (slot .siblings))

@@ -1,4 +1,4 @@
--- When a step grants a want. "Slots, locks and steps" of document 01.
+-- When a step grants a want. "Slots, locks and steps" of document 01, as 02 (iii) corrects it.
 use Prim.Native.Nat.{ℕ}
 use mathlib.Core.Bool.{Bool, cond, not, _&&_, _||_}
 use mathlib.Core.List.{List, [], _∷_}
@@ -18,10 +18,16 @@ olderThan s (t ∷ ts) = cond (eqb t s) [] (t ∷ olderThan s ts)
 unfoldable pub noClash : State → ℕ → Bool
 noClash st s = allBelow slotCount (λ (t : ℕ). eqb t s || not (holdsAt st t (wantAt st s) && clash (lockAt st t) (lockAt st s)))
 
--- "no older want is for the same page"
-unfoldable pub noOlder : State → ℕ → Bool
-noOlder st s = all (λ (t : ℕ). not (eqb (wantAt st t) (wantAt st s))) (olderThan s (waitingOrder st))
+-- slot t wants the page that slot s wants, and their locks clash
+abbrev pub clashingWant : State → ℕ → ℕ → Bool
+clashingWant st s t = eqb (wantAt st t) (wantAt st s) && clash (lockAt st t) (lockAt st s)
 
--- "A step grants the want when no other slot holds a clashing lock on that page and no older want is for the same page."
+-- 01: "no older want is for the same page". 02 (iii): "The paper makes a want wait behind every older want on its page. .. Correct
+-- it: a want waits only for held locks and older wants that clash with it."
+unfoldable pub noOlder : State → ℕ → Bool
+noOlder st s = all (λ (t : ℕ). not (clashingWant st s t)) (olderThan s (waitingOrder st))
+
+-- 01: "A step grants the want when no other slot holds a clashing lock on that page and no older want is for the same page.", of
+-- older wants those that clash
 abbrev pub grants : State → ℕ → Bool
 grants st s = noClash st s && noOlder st s

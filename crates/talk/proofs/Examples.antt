@@ -31,7 +31,8 @@ unfolding largestK largestN poolLength made blank
 opened = refl
 
 -- "Input `b 0 i 12 3`, `b 1 s 12`, `t 1`, `t 0`, `t 1`, `t 1` writes, whole: `Begun`, `Begun`, `Waiting`, `Inserted`,
--- `Found 3`, `SlotIdle`, one a line, no header."
+-- `Found 3`, `SlotIdle`, one a line, no header." The third line stays Waiting under 02 (iii): the older want is an insertion's, and ξ
+-- goes with nothing.
 pub example : programWrites (bytes "b 0 i 12 3\nb 1 s 12\nt 1\nt 0\nt 1\nt 1\n") ≡ bytes "Begun\nBegun\nWaiting\nInserted\nFound 3\nSlotIdle\n"
 unfolding largestK largestN tallest slotCount searchHolds pathHolds siblingHolds all count member distinct apart allBelow listBelow padded flat encode pairs view place has information risesFrom rises soundByItself put split poolLength start wordsOf pageAt written applied isFree freePages fresh room settled insertion pathOf siblingsOf waitingOrder olderThan noClash noOlder leaving begins goesOn closes orderSound slotSound noClashingHolds sound begun begins-with digits value front stepping searching deleting informing inserting asking beginning meaning digitsWithin decimal atLeaf comesDown granted pagesSound descends sameLevels fitting soundForStep verdict stepped made linesOf replies blank mostBytes programWrites
 example = refl

@@ -57,7 +57,7 @@ pub trait Layout {
     fn requeue(&mut self, s: usize, goes_on: bool);
     /// Puts a slot at the end of the order.
     fn enqueue(&mut self, s: usize);
-    /// Whether no other slot's lock clashes and no older want is for the page.
+    /// Whether no other slot's lock clashes, held on the page or wanted for longer.
     fn grants(&self, s: usize) -> bool;
     /// The test of a sound state.
     fn is_sound(&self) -> bool;
@@ -168,14 +168,16 @@ impl Layout for Structs {
 
     fn grants(&self, s: usize) -> bool {
         let (want, kind) = (self.slots[s].want, self.slots[s].kind);
-        let clashes = self.slots.iter().enumerate().any(|(other, slot)| {
-            let clash = !reads(slot.kind) || !reads(kind);
-            other != s && clash && slot.held().any(|page| page == want)
-        });
+        let clash = |slot: &Slot| !reads(slot.kind) || !reads(kind);
+        let held =
+            self.slots.iter().enumerate().any(|(other, slot)| {
+                other != s && clash(slot) && slot.held().any(|page| page == want)
+            });
         let mut older = self.order[..self.waiting]
             .iter()
-            .take_while(|&&other| other as usize != s);
-        !clashes && !older.any(|&other| self.slots[other as usize].want == want)
+            .take_while(|&&other| other as usize != s)
+            .map(|&other| &self.slots[other as usize]);
+        !held && !older.any(|slot| slot.want == want && clash(slot))
     }
 
     fn is_sound(&self) -> bool {
@@ -349,12 +351,15 @@ impl Layout for Columns {
     }
 
     fn grants(&self, s: usize) -> bool {
-        let wants = self.row(WANT);
+        let (wants, kinds) = (self.row(WANT), self.row(KIND));
         let want = wants[s];
+        let is_reader = reads(kinds[s]);
         let mut older = self.order()[..self.waiting()]
             .iter()
-            .take_while(|&&other| other as usize != s);
-        !older.any(|&other| wants[other as usize] == want) && !self.is_held(s, want)
+            .map(|&other| other as usize)
+            .take_while(|&other| other != s);
+        let barred = older.any(|other| wants[other] == want && !(is_reader && reads(kinds[other])));
+        !barred && !self.is_held(s, want)
     }
 
     fn is_sound(&self) -> bool {

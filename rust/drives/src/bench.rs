@@ -1,4 +1,5 @@
-//! The lots on the bench and the shortcuts that lose a lot, each as document 01 says it; and the next lot, as 02 does.
+//! The lots on the bench and the shortcuts that lose a lot, each as document 01 says it; and the next lot, and who waits
+//! behind whom, as 02 does.
 
 use crate::program::Program;
 
@@ -27,6 +28,7 @@ const NOT_FOUND: [u32; 4] = [35, 0, 0, 0];
 const INSERTED: [u32; 4] = [36, 0, 0, 0];
 const ALREADY_THERE: [u32; 4] = [37, 0, 0, 0];
 const DELETED: [u32; 4] = [38, INFORMATION, 0, 0];
+const NO_SUCH_KEY: [u32; 4] = [39, 0, 0, 0];
 const NO_ROOM: [u32; 4] = [40, 0, 0, 0];
 const NONE: [u32; 4] = [45, 0, 0, 0];
 const BAD_POOL: [u32; 4] = [2, 0, 0, 0];
@@ -184,7 +186,7 @@ const E: [[u32; 7]; 3] = [
     [1, 2, 20, 7, 30, 7, 0],
 ];
 
-/// J and K: two slots at once.
+/// J and K, and older wants that clash: two slots at once.
 fn together() -> Vec<Case> {
     let mut j = Case::from_e("J");
     j.call("b 0 1 10 0", BEGUN);
@@ -194,12 +196,35 @@ fn together() -> Vec<Case> {
     j.call("t 0", FOUND);
     j.call("t 1", MOVED);
 
-    let mut k = Case::from_e("K");
+    // "Case K becomes NotFound in an empty pool."
+    let mut k = Case::fresh("K", 1);
     k.call("b 0 1 10 0", BEGUN);
     k.call("b 1 1 20 0", BEGUN);
-    k.call("t 1", WAITING);
+    k.call("t 1", NOT_FOUND);
 
-    vec![j, k]
+    vec![
+        j,
+        k,
+        waits("a search behind an insertion", (2, INSERTED), (1, FOUND)),
+        waits(
+            "an insertion behind a search",
+            (1, NOT_FOUND),
+            (2, INSERTED),
+        ),
+        waits("a deletion behind a next", (4, NONE), (3, NO_SUCH_KEY)),
+        waits("two insertions", (2, INSERTED), (2, ALREADY_THERE)),
+    ]
+}
+
+/// "older wants that clash with it": in an empty pool the younger of two operations, each with its kind and answer, waits.
+fn waits(name: &'static str, older: (u32, [u32; 4]), younger: (u32, [u32; 4])) -> Case {
+    let mut case = Case::fresh(name, 1);
+    case.call(&format!("b 0 {} 5 {INFORMATION}", older.0), BEGUN);
+    case.call(&format!("b 1 {} 5 {INFORMATION}", younger.0), BEGUN);
+    case.call("t 1", WAITING);
+    case.call("t 0", older.1);
+    case.call("t 1", younger.1);
+    case
 }
 
 /// L, and a kind of operation that does not exist.

@@ -10,8 +10,14 @@ use twin::{
 /// A call that something is wrong with.
 #[derive(Clone, Copy, Debug)]
 enum Bug {
-    /// An older want for the same page is overlooked.
+    /// An older want that clashes is overlooked.
     OlderWantOverlooked,
+    /// A search waits behind an older search.
+    ReaderBarsReader,
+    /// A search does not wait behind an older insertion or deletion.
+    UpdateBarsNoReader,
+    /// An insertion or deletion does not wait behind an older search.
+    ReaderBarsNoUpdate,
     /// A search gives its father up before the child is granted.
     FatherGivenUp,
     /// A key equal to a reference key goes left.
@@ -48,8 +54,15 @@ enum Bug {
     NextBesideUnsound,
 }
 
-const BUGS: [Bug; 12] = [
+/// Those of who waits behind whom.
+const WAITING_BUGS: [Bug; 4] = [
     Bug::OlderWantOverlooked,
+    Bug::ReaderBarsReader,
+    Bug::UpdateBarsNoReader,
+    Bug::ReaderBarsNoUpdate,
+];
+
+const BUGS: [Bug; 11] = [
     Bug::FatherGivenUp,
     Bug::EqualKeyLeft,
     Bug::DeletionTestsFull,
@@ -106,16 +119,19 @@ impl Calls for Bug {
         if slot >= 16 {
             return answer;
         }
+        if self.waits(&before, slot, answer) {
+            *state = before;
+            words.copy_from_slice(&pages);
+            return Answer::Waiting;
+        }
+        if self.goes(&before, slot, answer) {
+            return unbarred(state, words, slot);
+        }
         let kind = before[at(KIND, slot)];
         if kind == 4 {
             return self.next(&before, state, words, slot, answer);
         }
         match (self, answer) {
-            (Bug::OlderWantOverlooked, Answer::Waiting) => {
-                let place = (3..19).find(|&place| state[place] == slot as u32);
-                state[3..=place.unwrap_or(3)].rotate_right(1);
-                step_lent(state, words, slot)
-            }
             (Bug::FatherGivenUp, Answer::Moved) if kind == 1 => {
                 state[at(DEPTH, slot)] = 0;
                 answer
@@ -184,6 +200,27 @@ impl Calls for Bug {
 }
 
 impl Bug {
+    /// Whether a granted step is made to wait.
+    fn waits(&self, before: &[u32; STATE], slot: usize, answer: Answer) -> bool {
+        matches!(self, Bug::ReaderBarsReader)
+            && matches!(answer, Answer::Moved | Answer::Found(_) | Answer::NotFound)
+            && reads(before, slot)
+            && older(before, slot).next().is_some()
+    }
+
+    /// Whether a step that waits is made to go, if no lock is held against it.
+    fn goes(&self, before: &[u32; STATE], slot: usize, answer: Answer) -> bool {
+        answer == Answer::Waiting
+            && match self {
+                Bug::OlderWantOverlooked => true,
+                Bug::UpdateBarsNoReader => reads(before, slot),
+                Bug::ReaderBarsNoUpdate => {
+                    !reads(before, slot) && older(before, slot).all(|other| reads(before, other))
+                }
+                _ => false,
+            }
+    }
+
     /// What is wrong with a step of a next.
     fn next(
         &self,
@@ -233,6 +270,31 @@ impl Bug {
     }
 }
 
+/// Whether a slot of a sound state only reads.
+fn reads(state: &[u32; STATE], slot: usize) -> bool {
+    matches!(state[at(KIND, slot)], 1 | 4)
+}
+
+/// The slots of a sound state that have wanted a slot's page for longer.
+fn older(state: &[u32; STATE], slot: usize) -> impl Iterator<Item = usize> + '_ {
+    let order = state[3..19].iter().map(|&other| other as usize);
+    order
+        .take_while(move |&other| other != slot)
+        .filter(move |&other| state[at(WANT, other)] == state[at(WANT, slot)])
+}
+
+/// The step of a slot that no want is older than.
+fn unbarred(state: &mut [u32; STATE], words: &mut [u32], slot: usize) -> Answer {
+    let before = *state;
+    let place = (3..19).find(|&place| state[place] == slot as u32);
+    state[3..=place.unwrap_or(3)].rotate_right(1);
+    let answer = step_lent(state, words, slot);
+    if answer == Answer::Waiting {
+        *state = before;
+    }
+    answer
+}
+
 /// Where the pool has the level of a slot's lowest path page.
 fn leaf_word(state: &[u32; STATE], slot: usize) -> usize {
     let lowest = state[at(PATH + state[at(DEPTH, slot)] as usize - 1, slot)];
@@ -252,7 +314,7 @@ fn scenes() -> Vec<Scene> {
 #[test]
 fn each_bug_is_found() {
     let scenes = scenes();
-    for bug in BUGS.into_iter().chain(NEXT_BUGS) {
+    for bug in BUGS.into_iter().chain(WAITING_BUGS).chain(NEXT_BUGS) {
         let program = || bug;
         let found = scenes
             .chunks(28)
@@ -291,7 +353,7 @@ fn a_case_of_the_documents_finds_each_shortcut() {
         Bug::FreedNotZeroed,
         Bug::LastPageKept,
     ];
-    for bug in shortcuts.into_iter().chain(NEXT_BUGS) {
+    for bug in shortcuts.into_iter().chain(WAITING_BUGS).chain(NEXT_BUGS) {
         let refuted = cases().iter().any(|case| case.refuted(&|| bug).is_some());
         assert!(refuted, "{bug:?}");
     }

@@ -72,6 +72,28 @@ fn the_next_lot() {
 }
 
 #[test]
+fn a_search_does_not_wait_for_a_search() {
+    let mut index = Index::new(1, 1).expect("in range");
+    let (key, information) = (5, 7);
+    let ops = [
+        Op::Search { key },
+        Op::Search { key },
+        Op::Insert { key, information },
+        Op::Search { key },
+    ];
+    for (slot, op) in ops.into_iter().enumerate() {
+        index.begin(slot as u32, op).expect("begun");
+    }
+    // case K; then what is older and updates, or is older than an update
+    assert_eq!(index.step(1), Ok(Step::NotFound));
+    assert_eq!(index.step(3), Ok(Step::Waiting));
+    assert_eq!(index.step(2), Ok(Step::Waiting));
+    assert_eq!(index.step(0), Ok(Step::NotFound));
+    assert_eq!(index.step(2), Ok(Step::Inserted));
+    assert_eq!(index.step(3), Ok(Step::Found(7)));
+}
+
+#[test]
 fn a_refused_call_leaves_all_as_it_was() {
     let mut words = vec![5; 9];
     assert_eq!(Index::over(1, 1, &mut words).err(), Some(Refusal::BadPool));

@@ -7,12 +7,18 @@ fn written(input: &str) -> String {
     String::from_utf8(answers(input.as_bytes())).expect("answers are plain text")
 }
 
+/// The third line is Waiting also as 02 (iii) corrects 01: the older want is an insertion's. Were it a search's, it would not be.
 #[test]
 fn the_example() {
     let input = "b 0 i 12 3\nb 1 s 12\nt 1\nt 0\nt 1\nt 1\n";
     assert_eq!(
         written(input),
         "Begun\nBegun\nWaiting\nInserted\nFound 3\nSlotIdle\n"
+    );
+    let behind_a_search = input.replace("i 12 3", "s 12");
+    assert_eq!(
+        written(&behind_a_search),
+        "Begun\nBegun\nNotFound\nNotFound\nSlotIdle\nSlotIdle\n"
     );
 }
 

@@ -24,5 +24,5 @@ fn stored_runs_are_the_twins() {
         assert!(answers(&input) == output, "{name}");
         runs += 1;
     }
-    assert_eq!(runs, 5);
+    assert_eq!(runs, 6);
 }

@@ -3,17 +3,18 @@
 use crate::answer::Answer;
 use crate::state::{Op, State};
 
-/// Whether a want must wait: another slot's lock clashes, or an older want is for the page.
+/// Whether a want must wait: another slot whose lock clashes holds the page, or has wanted it for longer.
 pub fn must_wait(state: &State, number: usize) -> bool {
     let Some(op) = state.slots[number].op else {
         return false;
     };
     let want = state.slots[number].want;
-    let is_clash = holders(state, want)
+    let is_held = holders(state, want)
         .iter()
         .any(|&(other, its)| other != number && clash(op, its));
-    let mut older = state.order().iter().take_while(|&&slot| slot != number);
-    is_clash || older.any(|&slot| state.slots[slot].want == want)
+    let older = state.order().iter().take_while(|&&slot| slot != number);
+    let mut rivals = older.map(|&slot| &state.slots[slot]);
+    is_held || rivals.any(|slot| slot.want == want && slot.op.is_some_and(|its| clash(op, its)))
 }
 
 /// Two ρ go together; ξ goes with nothing.

@@ -120,12 +120,45 @@ fn j_deletion_waits_for_search() {
     assert_eq!(run.step(1), Answer::Moved);
 }
 
+/// As 02 (iii) corrects it: "Case K becomes NotFound in an empty pool."
 #[test]
-fn k_older_want() {
-    let mut run = case_e();
-    run.begin(0, Op::Search(1));
-    run.begin(1, Op::Search(2));
+fn k_a_search_passes_a_search() {
+    let mut run = Run::new(1, 1);
+    run.begin(0, Op::Search(5));
+    run.begin(1, Op::Search(5));
+    assert_eq!(run.step(1), Answer::NotFound);
+}
+
+/// "a want waits only for held locks and older wants that clash with it": of each two operations, who waits behind whom.
+#[test]
+fn older_wants_that_clash() {
+    let ops = [Op::Search(5), Op::Next(5), Op::Insert(5, 7), Op::Delete(5)];
+    for (i, older) in ops.into_iter().enumerate() {
+        for (j, younger) in ops.into_iter().enumerate() {
+            let mut run = Run::new(1, 1);
+            run.begin(0, older);
+            run.begin(1, younger);
+            let both_read = i < 2 && j < 2;
+            assert_eq!(run.step(1) != Answer::Waiting, both_read, "{i} {j}");
+            // nobody is older than the first
+            assert_ne!(run.step(0), Answer::Waiting);
+        }
+    }
+}
+
+/// Between two searches an insertion waits; the younger search waits behind it, and not behind the older search.
+#[test]
+fn a_search_does_not_pass_an_insertion() {
+    let mut run = Run::new(1, 1);
+    run.begin(0, Op::Search(5));
+    run.begin(1, Op::Insert(5, 7));
+    run.begin(2, Op::Search(5));
+    assert_eq!(run.step(2), Answer::Waiting);
     assert_eq!(run.step(1), Answer::Waiting);
+    assert_eq!(run.step(0), Answer::NotFound);
+    assert_eq!(run.step(2), Answer::Waiting);
+    assert_eq!(run.step(1), Answer::Inserted);
+    assert_eq!(run.step(2), Answer::Found(7));
 }
 
 #[test]

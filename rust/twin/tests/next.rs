@@ -191,10 +191,9 @@ fn its_locks_are_shared() {
     assert_eq!(report(&run.state, 2), Answer::Reported(1, 2, 0));
     assert_eq!(run.step(2), Answer::NotFound);
     assert_eq!(run.step(1), Answer::Moved);
-    // an older want for the same page
-    assert_eq!(run.step(1), Answer::Waiting);
-    assert_eq!(run.step(0), Answer::Next(30, 7));
+    // an older want for the same page does not bar it, for both read
     assert_eq!(run.step(1), Answer::Next(30, 7));
+    assert_eq!(run.step(0), Answer::Next(30, 7));
 }
 
 #[test]

@@ -102,7 +102,7 @@ grants-requires c κs =
     let was = c .before .before .before .before .before .before .before .before .before .before .before .before .before .before .before .before .args in
     let task = ap (λ (x : Slot). x .task) (sym (c .before .before .before .before .slot-at .ensures)) ∙ c .before .before .task .given .1 in
     let opened = kind-of-open (cell (was .state .now) 0 (was .s)) (cell (was .state .now) 1 (was .s)) (cell (was .state .now) 2 (was .s)) task in
-    ((c .before .before .before .before .before .before .if3 .left, w .exist, w .short, opened), (w .facts .waits, w .facts .orderBelow))
+    (c .before .before .before .before .before .before .if3 .left, w .exist, w .short, opened, record { few = w .facts .waits; below = w .facts .orderBelow; opened = w .facts .orderOpen })
 
 same-length-4 : tie.Need-same-length-4
 same-length-4 c = search needs

@@ -1,10 +1,8 @@
 -- Each way out is a test of the rule.
 use Rattle.lent.proofs.HoldLaws.{deep-not, deep-own, deep-passed, deep-is}
 use borrow.Author.Tests.{not-true, not-false, ne-eqb}
-use Rattle.lent.specs.Holds.{updatesKind}
-use Rattle.lent.specs.Words.{cell}
-use mathlib.Core.Path.{_≡_, sym, ap, _∙_}
-use mathlib.Core.Bool.{Bool, _||_}
+use Rattle.lent.specs.Holds.{clashesKind}
+use mathlib.Core.Path.{sym, ap, _∙_}
 use borrow.Author.Needs.{needs}
 use Rattle.lent.proofs.granting.deep_holds.Statement.{statement}
 use Rattle.lent.proofs.granting.deep_holds.Tie as tie
@@ -25,18 +23,13 @@ returns-2 c =
 kind-at-requires : tie.Need-kind-at-requires
 kind-at-requires c κs = search needs
 
-is-update-requires : tie.Need-is-update-requires
-is-update-requires c κs = search needs
-
--- whether its lock counts
-counted : (c : tie.After-is-update)
-    → (c .before .before .before .before .before .args .any || c .is-update .result) ≡ (c .before .before .before .before .before .args .any || updatesKind (cell (c .before .before .before .before .before .args .cells .now) 0 (c .before .before .before .before .before .args .t)))
-counted c = ap (λ (xi : Bool). c .before .before .before .before .before .args .any || xi) (c .is-update .ensures ∙ ap updatesKind (c .before .kind-at .ensures))
+clashes-requires : tie.Need-clashes-requires
+clashes-requires c κs = search needs
 
 returns-3 : tie.Need-returns-3
 returns-3 c =
     let was = c .before .before .before .before .before .before .args in
-    deep-passed (was .cells .now) (was .s) (was .any) (was .p) (was .t) (counted (c .before)) (not-true (was .any || c .before .is-update .result) (c .if3 .taken))
+    deep-passed (was .cells .now) (was .s) (was .any) (was .p) (was .t) (c .before .clashes .ensures ∙ ap (clashesKind (was .any)) (c .before .before .kind-at .ensures)) (not-true (c .before .clashes .result) (c .if3 .taken))
 
 holds-at-requires : tie.Need-holds-at-requires
 holds-at-requires c κs = search needs
@@ -44,8 +37,8 @@ holds-at-requires c κs = search needs
 returns-4 : tie.Need-returns-4
 returns-4 c =
     let was = c .before .before .before .before .before .before .before .args in
-    deep-is (was .cells .now) (was .s) (was .any) (was .p) (was .t) (counted (c .before .before)) (sym (c .before .before .before .before .before .before .is-deep .ensures) ∙ not-false (c .before .before .before .before .before .before .is-deep .result) (c .before .before .before .before .before .if1 .left))
-    (ne-eqb (was .t) (was .s) (c .before .before .before .before .if2 .left)) (not-false (was .any || c .before .before .is-update .result) (c .before .if3 .left)) (c .holds-at .ensures)
+    deep-is (was .cells .now) (was .s) (was .any) (was .p) (was .t) (c .before .before .clashes .ensures ∙ ap (clashesKind (was .any)) (c .before .before .before .kind-at .ensures))
+    (sym (c .before .before .before .before .before .before .is-deep .ensures) ∙ not-false (c .before .before .before .before .before .before .is-deep .result) (c .before .before .before .before .before .if1 .left)) (ne-eqb (was .t) (was .s) (c .before .before .before .before .if2 .left)) (not-false (c .before .before .clashes .result) (c .before .if3 .left)) (c .holds-at .ensures)
 
 pub deep-holds-spec : {M : Type 1} → statement M
 deep-holds-spec =
@@ -55,7 +48,7 @@ deep-holds-spec =
     returns
     returns-2
     kind-at-requires
-    is-update-requires
+    clashes-requires
     returns-3
     holds-at-requires
     returns-4)

@@ -1,18 +1,18 @@
--- The code is the rule's expression, with its test of ξ called.
+-- The code is the rule's expression, with its test of clashing locks called.
 use lib.Dec.{eqb, ltb}
 use mathlib.Core.Path.{ap}
-use mathlib.Core.Bool.{Bool, not, _&&_, _||_}
+use mathlib.Core.Bool.{Bool, not, _&&_}
 use borrow.Author.Needs.{needs}
 use Rattle.lent.proofs.granting.is_top.Statement.{statement}
 use Rattle.lent.proofs.granting.is_top.Tie as tie
 
-is-update-requires : tie.Need-is-update-requires
-is-update-requires c κs = search needs
+clashes-requires : tie.Need-clashes-requires
+clashes-requires c κs = search needs
 
 returns : tie.Need-returns
 returns c =
     let was = c .before .args in
-    ap (λ (xi : Bool). (not (eqb (was .t) (was .s)) && (was .any || xi)) && (ltb 0 (was .depth) && eqb (was .p) (was .top))) (c .is-update .ensures)
+    ap (λ (b : Bool). (not (eqb (was .t) (was .s)) && b) && (ltb 0 (was .depth) && eqb (was .p) (was .top))) (c .clashes .ensures)
 
 pub is-top-spec : {M : Type 1} → statement M
-is-top-spec = tie.close (tie.spec is-update-requires returns)
+is-top-spec = tie.close (tie.spec clashes-requires returns)

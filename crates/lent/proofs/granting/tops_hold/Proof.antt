@@ -7,7 +7,7 @@ use lib.Dec.{eqb, ltb}
 use mathlib.Core.Path.{sym, ap, ap₂, _∙_}
 use mathlib.Core.Bool.{Bool, not, _&&_, _||_}
 use Prim.Native.Nat.{ℕ}
-use Rattle.lent.specs.Holds.{updatesKind, topHolds}
+use Rattle.lent.specs.Holds.{clashesKind, topHolds}
 use Rattle.ground.specs.Tests.{anyBelow}
 use native.Mathlib.Omega.{arith}
 use mathlib.Core.Path.{_≡_}
@@ -55,8 +55,8 @@ loop-again c =
     let t : ℕ = c .before .before .before .before .before .loop .t in
     let this : c .is-top .result ≡ topHolds (was .cells .now) (was .s) (was .any) (was .p) t =
     c .is-top .ensures
-    ∙ ap (λ (k : ℕ). (not (eqb t (was .s)) && (was .any || updatesKind k)) && (ltb 0 (c .before .before .depth-at .result) && eqb (was .p) (c .before .top-at .result))) (c .before .before .before .kind-at .ensures)
-    ∙ ap₂ (λ (d x : ℕ). (not (eqb t (was .s)) && (was .any || updatesKind (cell (was .cells .now) 0 t))) && (ltb 0 d && eqb (was .p) x)) (c .before .before .depth-at .ensures) (c .before .top-at .ensures) in (
+    ∙ ap (λ (k : ℕ). (not (eqb t (was .s)) && clashesKind (was .any) k) && (ltb 0 (c .before .before .depth-at .result) && eqb (was .p) (c .before .top-at .result))) (c .before .before .before .kind-at .ensures)
+    ∙ ap₂ (λ (d x : ℕ). (not (eqb t (was .s)) && clashesKind (was .any) (cell (was .cells .now) 0 t)) && (ltb 0 d && eqb (was .p) x)) (c .before .before .depth-at .ensures) (c .before .top-at .ensures) in (
       omega arith,
       ap₂ (λ (a b : Bool). a || b) (c .before .before .before .before .before .loop .inv .1) this
           ∙ sym (any-on (topHolds (was .cells .now) (was .s) (was .any) (was .p)) t),
