@@ -17,7 +17,7 @@ use crate::cells::wide;
 use crate::cells::word_at;
 use ground::SLOTS;
 ghost use mathlib.Core.Path.{_≡_};
-ghost use mathlib.Core.Bool.{true, not, _&&_, _||_};
+ghost use mathlib.Core.Bool.{true, not, _&&_};
 ghost use Prim.Native.Nat.{_≤_, _<_};
 ghost use lib.Dec.{ltb, eqb};
 ghost use lib.ListN.{take};
@@ -180,7 +180,10 @@ pub fn also_wants(cells: &[u32; STATE], any: bool, p: u32, t: usize) -> bool
     requires { ⌜ t < 16 ⌝ }
     ensures { λ r. ⌜ r ≡ alsoWants (now (cells .entry)) any p t ⌝ }
 {
-    (want_at(cells, t) == p) & clashes(any, kind_at(cells, t))
+    if want_at(cells, t) != p {
+        return false;
+    }
+    clashes(any, kind_at(cells, t))
 }
 
 // No older want clashes with that of slot s.

@@ -109,6 +109,13 @@ fn main() {
     for ((name, _), time) in PROGRAMS.iter().zip(&all) {
         println!("{time:8.1}  {name:40} proved / this {:6.2}", all[0] / time);
     }
+    // the proved one's answers are everybody's, so that the calls are too
+    let (_, outcome) = timed::<Proved>(&schedule);
+    let calls = outcome.calls as f64 / count as f64;
+    println!(
+        "{calls:.2} calls an operation, {:.0} nanoseconds the proved one's",
+        calls * all[0]
+    );
     println!("\nproved, then the four rivals in the same order");
     let pages = table("pages", &[64, 128, 256, 512, 1024], |n| {
         medians(&Schedule::draw(16, n, 16, count / 4, 2), runs, RIVALS)

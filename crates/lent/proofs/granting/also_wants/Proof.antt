@@ -1,8 +1,9 @@
--- The code is the rule's expression, with what it reads told by its calls.
-use lib.Dec.{eqb}
-use mathlib.Core.Path.{ap, ap₂, _∙_}
+-- Each way out is a test of the rule.
+use mathlib.Core.Path.{sym, ap, _∙_}
 use mathlib.Core.Bool.{Bool, _&&_}
-use Prim.Native.Nat.{ℕ}
+use borrow.Author.Tests.{eq-eqb, ne-eqb}
+use Rattle.ground.proofs.Bools.{and-first-fails}
+use Rattle.lent.specs.Words.{cell}
 use Rattle.lent.specs.Holds.{clashesKind}
 use borrow.Author.Needs.{needs}
 use Rattle.lent.proofs.granting.also_wants.Statement.{statement}
@@ -11,17 +12,25 @@ use Rattle.lent.proofs.granting.also_wants.Tie as tie
 want-at-requires : tie.Need-want-at-requires
 want-at-requires c κs = search needs
 
+returns : tie.Need-returns
+returns c =
+    let was = c .before .before .args in
+    let ws = was .cells .now in
+    sym (and-first-fails (clashesKind (was .any) (cell ws 0 (was .t))) (ne-eqb (cell ws 3 (was .t)) (was .p) (λ e. c .if1 .taken (c .before .want-at .ensures ∙ e))))
+
 kind-at-requires : tie.Need-kind-at-requires
 kind-at-requires c κs = search needs
 
 clashes-requires : tie.Need-clashes-requires
 clashes-requires c κs = search needs
 
-returns : tie.Need-returns
-returns c =
-    let was = c .before .before .before .args in
-    ap₂ (λ (w : ℕ) (b : Bool). eqb w (was .p) && b) (c .before .before .want-at .ensures)
-    (c .clashes .ensures ∙ ap (clashesKind (was .any)) (c .before .kind-at .ensures))
+returns-2 : tie.Need-returns-2
+returns-2 c =
+    let was = c .before .before .before .before .args in
+    let ws = was .cells .now in
+    c .clashes .ensures
+    ∙ ap (clashesKind (was .any)) (c .before .kind-at .ensures)
+    ∙ sym (ap (λ (b : Bool). b && clashesKind (was .any) (cell ws 0 (was .t))) (eq-eqb (cell ws 3 (was .t)) (was .p) (sym (c .before .before .before .want-at .ensures) ∙ c .before .before .if1 .left)))
 
 pub also-wants-spec : {M : Type 1} → statement M
-also-wants-spec = tie.close (tie.spec want-at-requires kind-at-requires clashes-requires returns)
+also-wants-spec = tie.close (tie.spec want-at-requires returns kind-at-requires clashes-requires returns-2)
