@@ -26,7 +26,8 @@ pub record OpenWait (ws : List ℕ) : Type 0 where
 abbrev pub updatesKind : ℕ → Bool
 updatesKind kind = eqb kind 2 || eqb kind 3
 
--- "Two ρ on a page go together; ξ goes with nothing.": a lock of this kind clashes with one that clashes with any, or with ξ alone
+-- "Two ρ on a page go together; ξ goes with nothing.": a lock of this kind clashes with an update's (any lock does), or with a reader's
+-- (ξ alone does)
 abbrev pub clashesKind : Bool → ℕ → Bool
 clashesKind any kind = any || updatesKind kind
 

@@ -60,8 +60,8 @@ pub fn is_update(kind: u32) -> bool
     (kind == INSERTS) | (kind == DELETES)
 }
 
-// A lock of this kind clashes: with an update's any lock does, with a reader's ξ alone. Two ρ on a page go together, ξ goes with
-// nothing.
+// Two ρ on a page go together, ξ goes with nothing: with an update's lock any lock clashes, with a reader's ξ alone. Asked of held
+// locks and of older wants alike.
 pub fn clashes(any: bool, kind: u32) -> bool
     ensures { λ r. ⌜ r ≡ clashesKind any kind ⌝ }
 {

@@ -1,7 +1,8 @@
 -- Demand 2, in the customer's words: "Search, insertion and deletion follow Bayer and Schkolnick's first solution as our paper
 -- fixes it. From a fresh pool, after every call, the pages form their B*-tree (an empty root leaf allowed), every other page is
 -- free, no two locks clash, and each step takes and gives up just the locks the rules name."
--- Next of 02 (i) is among the operations: whatever is said of every operation is said of it.
+-- Next of 02 (i) is among the operations: whatever is said of every operation is said of it. 02 (iii): "Demands 2 and 3 stand, with
+-- Waiting given exactly by the new rule.": `StepLocks`, its fields waits and waitsFor.
 use Prim.Native.Nat.{ℕ, suc, _-_, _≤_, _<_}
 use mathlib.Core.Bool.{true, false}
 use mathlib.Core.List.{List, [], _∷_, _++_}
@@ -118,14 +119,14 @@ pub record Ends (st : State) (ws : List ℕ) (s : ℕ) (after : Left) : Type 0 w
   -- the lot that a Next answers it reads on the leaf that this step was granted, not on one without its lock
   pub seen : Seen (pageAt (st .k) ws (wantAt st s)) (after .answer)
 
--- Slot s wants a page, and another slot is in its way: one of the two updates, and
+-- Another slot is in slot s's way: it holds the page that s wants, or wants it too and stands before s in the waiting order; and one of
+-- the two updates.
 pub record InTheWay (st : State) (s : ℕ) : Type 0 where
   pub slot : ℕ
   pub inside : slot < slotCount
   pub other : slot ≢ s
-  pub oneUpdates : Updates st slot ⊎ Updates st s
-  -- the other holds that page, or wants it too and has waited longer
   pub there : (holdsAt st slot (wantAt st s) ≡ true) ⊎ ((wantAt st slot ≡ wantAt st s) × Before slot s (waitingOrder st))
+  pub oneUpdates : Updates st slot ⊎ Updates st s
 
 -- "each step takes and gives up just the locks the rules name"
 pub record StepLocks (st : State) (ws : List ℕ) (s : ℕ) (after : Left) : Type 0 where

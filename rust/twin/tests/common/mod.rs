@@ -11,6 +11,21 @@ use twin::{
     begin, free_pages, make, must_wait, page_words, read_page, report, step, Answer, Op, State,
 };
 
+/// Whether another slot is in a slot's way, as demand 2 has it: it holds the wanted page, or wants it too and has waited longer;
+/// and one of the two updates.
+fn is_in_the_way(state: &State, slot: usize) -> bool {
+    let waits_since = |slot| state.order().iter().position(|&own| own == slot);
+    let updates =
+        |slot: usize| matches!(state.slots[slot].op, Some(Op::Insert(..) | Op::Delete(_)));
+    let want = state.slots[slot].want;
+    let mut others = (0..16).filter(|&other| other != slot && state.slots[other].op.is_some());
+    others.any(|other| {
+        let its = &state.slots[other];
+        let is_older = its.want == want && waits_since(other) < waits_since(slot);
+        (its.holds(want) || is_older) && (updates(other) || updates(slot))
+    })
+}
+
 /// A run from a fresh pool, with the sorted list beside it.
 pub struct Run {
     pub k: u32,
@@ -69,7 +84,7 @@ impl Run {
     /// Steps, and judges the answer by the sorted list.
     pub fn step(&mut self, slot: usize) -> Answer {
         let op = self.state.slots[slot].op;
-        let waits = must_wait(&self.state, slot);
+        let waits = op.is_some() && is_in_the_way(&self.state, slot);
         let (before, given) = (self.words.clone(), self.state);
         let (answer, next) = step(&self.state, &mut self.words, slot);
         *self.tally.entry(answer.name()).or_default() += 1;
