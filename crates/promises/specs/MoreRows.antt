@@ -80,7 +80,7 @@ more =
     (heard Begun ∷ heard Begun ∷ heard Waiting ∷ heard NoLot ∷ heard NoSuchKey ∷ [])
     ∷ row (answers (pool 1 []) (begin 0 (Delete 5) ∷ begin 1 (Insert 5 7) ∷ step 1 ∷ step 0 ∷ step 1 ∷ []))
     (heard Begun ∷ heard Begun ∷ heard Waiting ∷ heard NoSuchKey ∷ heard Inserted ∷ [])
-    -- Behind two searches an insertion waits for both, and a third search behind it for the insertion: nobody passes an update.
+    -- Behind a search and a Next an insertion waits for both, and a search behind it for the insertion: nobody passes an update.
     ∷ row (answers (pool 1 []) (begin 0 (Search 5) ∷ begin 1 (Next 5) ∷ begin 2 (Insert 5 7) ∷ begin 3 (Search 5) ∷ step 3 ∷ step 2 ∷ step 1 ∷ step 2 ∷ step 0 ∷ step 3 ∷ step 2 ∷ step 3 ∷ []))
     (heard Begun ∷ heard Begun ∷ heard Begun ∷ heard Begun ∷ heard Waiting ∷ heard Waiting ∷ heard NoLot ∷ heard Waiting ∷ heard NotFound ∷ heard Waiting ∷ heard Inserted ∷ heard (Found 7) ∷ [])
     -- The older of two wants for a leaf is a search's, and the younger search has its answer first.
