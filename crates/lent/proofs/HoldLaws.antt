@@ -24,7 +24,7 @@ use Rattle.slots.specs.Locks.{lockOf, lockAt, clash}
 use Rattle.slots.specs.Grant.{clashingWant, noClash, noOlder}
 use Rattle.slots.proofs.GrantingLaws.{noOlderFrom, older-end, older-here, older-stops, older-more, order-names}
 use Rattle.lent.specs.Words.{cell, column, highestKind, taskFrom, slotIn, orderIn, asRead, known}
-use Rattle.lent.specs.Holds.{Short, OpenWait, updatesKind, clashesKind, counts, otherHolds, topHolds, isDeep, deepHolds, othersHold, alsoWants}
+use Rattle.lent.specs.Holds.{Short, OpenOrder, updatesKind, clashesKind, counts, otherHolds, topHolds, isDeep, deepHolds, othersHold, alsoWants}
 use Rattle.lent.proofs.StateLaws.{slot-read, length-column, column-cell, length-order, order-cell}
 
 -- ---- some number below a bound
@@ -214,16 +214,13 @@ swap false false false false none = refl
 
 -- so by the kinds of two slots, of which the second is open: what a held lock and an older want are both asked
 module _ (ws : List ℕ) (s : ℕ) (e : known ws ≡ true) (h : s < 16) (opened : 0 < cell ws 0 s) where
-  abbrev any-lock : Bool
-  any-lock = updatesKind (cell ws 0 s)
-
   kind-at : (t : ℕ) → t < 16 → lockAt (asRead ws) t ≡ kindLock (cell ws 0 t)
   kind-at t b = ap (λ (x : Slot). lockOf (x .task)) (slot-read ws t b) ∙ lock-kind (cell ws 1 t) (cell ws 2 t) (cell ws 0 t) (kind-known ws e t b)
 
-  clash-kinds : (t : ℕ) → t < 16 → clash (lockAt (asRead ws) t) (lockAt (asRead ws) s) ≡ not (eqb (cell ws 0 t) 0) && clashesKind any-lock (cell ws 0 t)
+  clash-kinds : (t : ℕ) → t < 16 → clash (lockAt (asRead ws) t) (lockAt (asRead ws) s) ≡ not (eqb (cell ws 0 t) 0) && clashesKind (updatesKind (cell ws 0 s)) (cell ws 0 t)
   clash-kinds t b =
-      ap₂ clash (kind-at t b) (kind-at s h ∙ cond-false None (openLock any-lock) (ne-eqb (cell ws 0 s) 0 (λ z. omega arith)))
-      ∙ clash-open (eqb (cell ws 0 t) 0) (updatesKind (cell ws 0 t)) any-lock
+      ap₂ clash (kind-at t b) (kind-at s h ∙ cond-false None (openLock (updatesKind (cell ws 0 s))) (ne-eqb (cell ws 0 s) 0 (λ z. omega arith)))
+      ∙ clash-open (eqb (cell ws 0 t) 0) (updatesKind (cell ws 0 t)) (updatesKind (cell ws 0 s))
 
 -- no other slot holds a clashing lock on the page that an open slot wants
 module _ (ws : List ℕ) (s : ℕ) (e : known ws ≡ true) (h : s < 16) (short : Short ws) (opened : 0 < cell ws 0 s) where
@@ -251,7 +248,7 @@ module _ (ws : List ℕ) (s : ℕ) (e : known ws ≡ true) (h : s < 16) (short :
 
 -- ---- the walk over older wants, on the words
 
-module _ (ws : List ℕ) (s : ℕ) (long : length ws ≡ 435) (inside : s < 16) (e : known ws ≡ true) (opened : 0 < cell ws 0 s) (waits : OpenWait ws) where
+module _ (ws : List ℕ) (s : ℕ) (long : length ws ≡ 435) (inside : s < 16) (e : known ws ≡ true) (opened : 0 < cell ws 0 s) (waits : OpenOrder ws) where
   few : getD ws 2 0 ≤ slotCount
   unfolding slotCount
   few = waits .few

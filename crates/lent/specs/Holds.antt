@@ -17,7 +17,7 @@ pub record Short (ws : List ℕ) : Type 0 where
   pub closed : (t : ℕ) → t < 16 → cell ws 0 t ≡ 0 → (cell ws 4 t ≡ 0) × (cell ws 5 t ≡ 0)
 
 -- the waiting order is no longer than its row, and names open slots
-pub record OpenWait (ws : List ℕ) : Type 0 where
+pub record OpenOrder (ws : List ℕ) : Type 0 where
   pub few : getD ws 2 0 ≤ 16
   pub below : (t : ℕ) → member t (waitingOrder (asRead ws)) ≡ true → t < slotCount
   pub opened : (t : ℕ) → member t (waitingOrder (asRead ws)) ≡ true → openAt (asRead ws) t ≡ true

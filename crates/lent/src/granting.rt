@@ -25,7 +25,7 @@ ghost use Rattle.ground.specs.Tests.{anyBelow, member};
 ghost use Rattle.slots.specs.Parts.{held};
 ghost use Rattle.slots.specs.Grant as rule;
 ghost use Rattle.lent.specs.Words.{cell, column, slotIn, asRead, known};
-ghost use Rattle.lent.specs.Holds.{Short, OpenWait, updatesKind, clashesKind, topHolds, deepHolds, isDeep, othersHold, alsoWants};
+ghost use Rattle.lent.specs.Holds.{Short, OpenOrder, updatesKind, clashesKind, topHolds, deepHolds, isDeep, othersHold, alsoWants};
 
 // Page p stands in one of the first `count` rows from `row` on, of slot s.
 pub fn column_has(cells: &[u32; STATE], row: usize, count: usize, s: usize, p: u32) -> bool
@@ -188,7 +188,7 @@ pub fn also_wants(cells: &[u32; STATE], any: bool, p: u32, t: usize) -> bool
 
 // No older want clashes with that of slot s.
 pub fn no_older(cells: &[u32; STATE], s: usize) -> bool
-    requires { ⌜ (s < 16) × (known (now cells) ≡ true) × (0 < cell (now cells) 0 s) × OpenWait (now cells) ⌝ }
+    requires { ⌜ (s < 16) × (known (now cells) ≡ true) × (0 < cell (now cells) 0 s) × OpenOrder (now cells) ⌝ }
     ensures { λ r. ⌜ r ≡ rule.noOlder (asRead (now (cells .entry))) s ⌝ }
 {
     sized(cells);
@@ -213,7 +213,7 @@ pub fn no_older(cells: &[u32; STATE], s: usize) -> bool
 
 // A step grants the want of slot s.
 pub fn grants(cells: &[u32; STATE], s: usize) -> bool
-    requires { ⌜ (s < 16) × (known (now cells) ≡ true) × Short (now cells) × (0 < cell (now cells) 0 s) × OpenWait (now cells) ⌝ }
+    requires { ⌜ (s < 16) × (known (now cells) ≡ true) × Short (now cells) × (0 < cell (now cells) 0 s) × OpenOrder (now cells) ⌝ }
     ensures { λ r. ⌜ r ≡ rule.grants (asRead (now (cells .entry))) s ⌝ }
 {
     if !no_older(cells, s) {

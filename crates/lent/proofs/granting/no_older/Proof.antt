@@ -38,9 +38,7 @@ loop-holds : tie.Need-loop-holds Inv-loop μ-loop
 loop-holds c = (omega arith, older-none (asRead (c .before .before .before .before .before .before .args .cells .now)) (c .before .before .before .before .before .before .args .s))
 
 order-at-requires : tie.Need-order-at-requires Inv-loop μ-loop
-order-at-requires c κs =
-    let few = c .before .before .before .before .before .before .before .before .pre .3 .few in
-    search needs
+order-at-requires c κs = search needs
 
 also-wants-requires : tie.Need-also-wants-requires Inv-loop μ-loop
 also-wants-requires c κs =
@@ -49,9 +47,7 @@ also-wants-requires c κs =
     walk-slot (was .args .cells .now) (was .args .s) (c .before .before .before .before .before .before .before .before .sized .ensures) (was .pre .0) (was .pre .1) (was .pre .2) (was .pre .3) (c .before .before .before .loop .inv .1) (omega arith) (c .before .order-at .ensures)
 
 add-i : tie.Need-add-i Inv-loop μ-loop
-add-i c =
-    let few = c .before .before .before .before .before .before .before .before .before .before .before .before .pre .3 .few in
-    search needs
+add-i c = search needs
 
 loop-less : tie.Need-loop-less Inv-loop μ-loop
 loop-less c = search needs
