@@ -1,4 +1,5 @@
-/* Two buyers on one list: the house enters a lot while a buyer looks for it. Writes each answer by its number. */
+/* Two buyers on one list: the house enters a lot while a buyer looks for it, and then downgrades it while one does. Writes each
+ * answer by its number. */
 #include <stdio.h>
 
 #include "ghazfulit.h"
@@ -17,6 +18,7 @@ static void say(const char *what, const uint32_t *answer) {
     case GHAZFULIT_MOVED: printf("%s: Moved\n", what); break;
     case GHAZFULIT_INSERTED: printf("%s: Inserted\n", what); break;
     case GHAZFULIT_FOUND: printf("%s: Found %u\n", what, (unsigned)answer[1]); break;
+    case GHAZFULIT_REGRADED: printf("%s: Regraded %u\n", what, (unsigned)answer[1]); break;
     case GHAZFULIT_NEXT_LOT: printf("%s: Next %u %u\n", what, (unsigned)answer[1], (unsigned)answer[2]); break;
     case GHAZFULIT_REPORTED:
         printf("%s: lock %u, holders %u, lowest %u\n", what, (unsigned)answer[1], (unsigned)answer[2],
@@ -26,10 +28,19 @@ static void say(const char *what, const uint32_t *answer) {
     }
 }
 
+/* Who asks for what. */
+static const char *asked(uint32_t kind) {
+    switch (kind) {
+    case GHAZFULIT_INSERT: return "the house enters a lot";
+    case GHAZFULIT_REGRADE: return "the house downgrades a lot";
+    default: return "a buyer looks for a lot";
+    }
+}
+
 static void begin(uint32_t slot, uint32_t kind, uint32_t key, uint32_t information) {
     uint32_t answer[GHAZFULIT_ANSWER];
     ghazfulit_begin(state, slot, kind, key, information, answer);
-    say(kind == GHAZFULIT_INSERT ? "the house enters a lot" : "a buyer looks for a lot", answer);
+    say(asked(kind), answer);
 }
 
 static void step(uint32_t slot) {
@@ -51,6 +62,11 @@ int main(void) {
     step(0);
     step(1);
     begin(1, GHAZFULIT_NEXT, 10, 0);
+    step(1);
+    begin(0, GHAZFULIT_REGRADE, 12, 1);
+    begin(1, GHAZFULIT_SEARCH, 12, 0);
+    step(1);
+    step(0);
     step(1);
     ghazfulit_report(state, 0, answer);
     say("page 0", answer);

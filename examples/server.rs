@@ -67,21 +67,21 @@ impl Server {
     }
 }
 
-/// The house enters fourteen lots; then it enters one more while buyers look for the last of them, and one for what follows.
+/// The house enters fourteen lots; then it enters one more while buyers look for the last of them, and one for what follows. At
+/// last it downgrades that lot while two look for it: one finds it as it was, one as it is, and nobody misses it.
 fn main() -> Result<(), Refusal> {
-    let enter = |who, key, information| Request {
-        who,
-        op: Op::Insert { key, information },
-    };
+    let house = |op| Request { who: "house", op };
+    let enter = |key, information| house(Op::Insert { key, information });
+    let regrade = |key, information| house(Op::Regrade { key, information });
     let look = |who, key| Request {
         who,
         op: Op::Search { key },
     };
-    let mut server = Server::new((1..15).map(|i| enter("house", 10 * i, 5)))?;
+    let mut server = Server::new((1..15).map(|i| enter(10 * i, 5)))?;
     server.run(1)?;
     println!("four buyers come");
     server.requests.extend([
-        enter("house", 150, 1),
+        enter(150, 1),
         look("first buyer", 140),
         look("second buyer", 140),
         look("third buyer", 999),
@@ -91,6 +91,13 @@ fn main() -> Result<(), Refusal> {
         },
     ]);
     server.run(5)?;
+    println!("the house downgrades a lot");
+    server.requests.extend([
+        look("first buyer", 140),
+        regrade(140, 2),
+        look("second buyer", 140),
+    ]);
+    server.run(3)?;
     if let Err(refusal) = server.index.step(0) {
         println!("slot 0 again: {refusal}");
     }

@@ -33,7 +33,8 @@ enum {
     GHAZFULIT_SEARCH = 1,
     GHAZFULIT_INSERT = 2,
     GHAZFULIT_DELETE = 3,
-    GHAZFULIT_NEXT = 4            /* the first lot at or above a key */
+    GHAZFULIT_NEXT = 4,           /* the first lot at or above a key */
+    GHAZFULIT_REGRADE = 5         /* new information under a key that is there */
 };
 
 /* Answers. Below 32 are refusals. */
@@ -51,7 +52,7 @@ enum {
     GHAZFULIT_FOUND = 34,         /* with the information */
     GHAZFULIT_NOT_FOUND = 35,
     GHAZFULIT_INSERTED = 36,
-    GHAZFULIT_ALREADY_THERE = 37,
+    GHAZFULIT_ALREADY_THERE = 37, /* with the information that is there */
     GHAZFULIT_DELETED = 38,       /* with the information */
     GHAZFULIT_NO_SUCH_KEY = 39,
     GHAZFULIT_NO_ROOM = 40,
@@ -59,7 +60,8 @@ enum {
     GHAZFULIT_MADE = 42,
     GHAZFULIT_REPORTED = 43,      /* with the kind of lock, the number of holders, the lowest holder (16 for none) */
     GHAZFULIT_NEXT_LOT = 44,      /* Next, with the key and the information */
-    GHAZFULIT_NO_LOT = 45         /* None: no lot at or above the key */
+    GHAZFULIT_NO_LOT = 45,        /* None: no lot at or above the key */
+    GHAZFULIT_REGRADED = 46       /* with the old information */
 };
 
 /* Kinds of lock, as a report has them. */
@@ -73,11 +75,11 @@ enum {
 void ghazfulit_make(uint32_t k, uint32_t n, uint32_t *state, uint32_t *words, size_t length, uint32_t *answer);
 
 /* Begins an operation in a closed slot: Begun, or BadKind, BadState, BadSlot, SlotBusy in this order. The information
- * counts for an insertion only. */
+ * counts for an insertion and a regrading only. */
 void ghazfulit_begin(uint32_t *state, uint32_t slot, uint32_t kind, uint32_t key, uint32_t information, uint32_t *answer);
 
-/* Takes one lock more, if it is to be had, and does what follows: the answers 32 to 40, 44 and 45, or BadState, BadPool,
- * BadSlot, SlotIdle, Damaged. An answer from Found to NoRoom, Next and None close the slot. */
+/* Takes one lock more, if it is to be had, and does what follows: the answers 32 to 40 and 44 to 46, or BadState, BadPool,
+ * BadSlot, SlotIdle, Damaged. An answer from Found to NoRoom, Next, None and Regraded close the slot. */
 void ghazfulit_step(uint32_t *state, uint32_t *words, size_t length, uint32_t slot, uint32_t *answer);
 
 /* Says who holds a page: Reported, or BadState, BadPage. */

@@ -5,7 +5,7 @@ use mathlib.Core.Path.{_≡_, sym, ap, _∙_, subst⁻¹}
 use native.Mathlib.Omega.{arith}
 use lib.ListN.{length, length-append}
 use Rattle.slots.specs.declared.Answer.{Answer}
-use Rattle.slots.specs.declared.Answer.the-variants.{Found, Deleted, Next}
+use Rattle.slots.specs.declared.Answer.the-variants.{Next}
 use Rattle.lines.specs.Text.{laid}
 use Rattle.lines.specs.Decimal.{decimal}
 use Rattle.lines.specs.Names.{answerLine}
@@ -19,12 +19,10 @@ answered x out at {out′} {r} e w h =
     subst⁻¹ (λ (y : Answer). (out′ ≡ laid out at (answerLine y)) × (r ≡ at + length (answerLine y)) × (length (answerLine y) ≤ 32)) e
     (w .0, w .1, h)
 
--- with information, a 32-bit number
-pub found-short : (v : ℕ) → v < 2 ^ 32 → length (answerLine (Found v)) ≤ 32
-found-short v h = omega (arith, word-short v h, length-append (decimal v) (10 ∷ []))
-
-pub deleted-short : (v : ℕ) → v < 2 ^ 32 → length (answerLine (Deleted v)) ≤ 32
-deleted-short v h = omega (arith, word-short v h, length-append (decimal v) (10 ∷ []))
+-- a name with a space, and information behind it, a 32-bit number
+pub informed-short : (name : List ℕ) (v : ℕ) → length name ≤ 21 → v < 2 ^ 32 → length (name ++ decimal v ++ (10 ∷ [])) ≤ 32
+informed-short name v g h =
+    omega (arith, g, word-short v h, length-append (name ++ decimal v) (10 ∷ []), length-append name (decimal v))
 
 -- with a key in front of it
 pub next-short : (x v : ℕ) → x < 2 ^ 32 → v < 2 ^ 32 → length (answerLine (Next x v)) ≤ 32

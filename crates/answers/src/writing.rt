@@ -1,5 +1,5 @@
-// How an answer is written: its name, for Found and Deleted a space and the information, for Next the key in front of it, and a
-// line feed.
+// How an answer is written: its name, for Found, AlreadyThere, Deleted and Regraded a space and the information, for Next the key
+// in front of it, and a line feed.
 use slots::Answer;
 ghost use mathlib.Core.List.{_++_};
 ghost use mathlib.Core.Path.{_≡_};
@@ -83,7 +83,7 @@ pub fn write_answer(out: &mut [u8], at: usize, a: Answer) -> usize
         Answer::Found(information) => write_value(out, at, b"Found ", information),
         Answer::NotFound => write_word(out, at, b"NotFound\n"),
         Answer::Inserted => write_word(out, at, b"Inserted\n"),
-        Answer::AlreadyThere => write_word(out, at, b"AlreadyThere\n"),
+        Answer::AlreadyThere(information) => write_value(out, at, b"AlreadyThere ", information),
         Answer::Deleted(information) => write_value(out, at, b"Deleted ", information),
         Answer::NoSuchKey => write_word(out, at, b"NoSuchKey\n"),
         Answer::NoRoom => write_word(out, at, b"NoRoom\n"),
@@ -92,6 +92,7 @@ pub fn write_answer(out: &mut [u8], at: usize, a: Answer) -> usize
         Answer::Reported(_, _, _) => write_word(out, at, b"Reported\n"),
         Answer::Next(key, information) => write_lot(out, at, b"Next ", key, information),
         Answer::None => write_word(out, at, b"None\n"),
+        Answer::Regraded(information) => write_value(out, at, b"Regraded ", information),
         Answer::BadState => write_word(out, at, b"BadState\n"),
         Answer::BadPool => write_word(out, at, b"BadPool\n"),
         Answer::BadSlot => write_word(out, at, b"BadSlot\n"),

@@ -111,7 +111,7 @@ upward-reverse (suc i) path h =
     ∙ sym (reverse-append (take i path) (getD path i 0 ∷ []))
     ∙ sym (ap reverse (take-suc path i 0 (omega arith)))
 
--- a page of an insertion's path is held
+-- a page of an insertion's or a regrading's path is held
 pub holding-page : {k n : ℕ} {ws path : List ℕ} {depth : ℕ} → Holding k n ws path depth → (i : ℕ) → i < depth
     → HeldPage k n ws (getD path i 0)
 holding-page {path = path} {depth = depth} h i l =

@@ -59,7 +59,7 @@ needOf Astray = rule.astray
 abbrev pub satisfiedBy : ℕ → Need
 satisfiedBy left = cond (eqb left 0) Nothing Astray
 
--- The array holds the pages of an insertion that stands at its leaf.
+-- The array holds the pages of an insertion or a regrading that stands at its leaf.
 pub record Holding (k n : ℕ) (ws path : List ℕ) (depth : ℕ) : Type 0 where
   pub cells : length path ≡ pathHolds
   pub some : 1 ≤ depth

@@ -1,3 +1,4 @@
 pub mod Insertion
 pub mod Deletion
+pub mod Regrading
 pub mod Held

@@ -21,13 +21,14 @@ use Rattle.page.specs.declared.reading.Lot.{Lot}
 use Rattle.page.specs.declared.reading.Lot.the-variants.{There, Missing}
 use Rattle.pool.specs.Pool.{Write, pageAt}
 use Rattle.change.specs.Insertion.{room, insertion}
+use Rattle.change.specs.Regrading.{regrading}
 use Rattle.change.specs.Deletion.{Need, nothing, sibling, astray, needs, deletion}
 use Rattle.change.specs.Held.{Needing, Holding, leafOf, fathersOf}
 use Rattle.change.proofs.HeldLaws.{Known, held-front, upward-reverse, upward-father, holding-known}
 use Rattle.slots.specs.declared.Op.{Op}
-use Rattle.slots.specs.declared.Op.the-variants.{Search, Insert, Delete, Next}
+use Rattle.slots.specs.declared.Op.the-variants.{Search, Insert, Delete, Next, Regrade}
 use Rattle.slots.specs.declared.Answer.{Answer}
-use Rattle.slots.specs.declared.Answer.the-variants.{Found, NotFound, Inserted, AlreadyThere, Deleted, NoSuchKey, NoRoom}
+use Rattle.slots.specs.declared.Answer.the-variants.{Found, NotFound, Inserted, AlreadyThere, Deleted, NoSuchKey, NoRoom, Regraded}
 use Rattle.slots.specs.declared.Slot.{Slot}
 use Rattle.slots.specs.Parts.{keyOf, isNext, pathOf, siblingsOf, held}
 use Rattle.course.specs.declared.judging.Course.{Course}
@@ -36,7 +37,7 @@ use Rattle.footing.specs.Granted.{Verdict, broken, goes, ends, isSafe, kept, de
 use Rattle.footing.specs.Fitting.{descends, rightlyKept, rightlyBeside, sameLevels, isSibling, isNone, rightlyAcross, fitting}
 use Rattle.footing.specs.Standing.{SlotStanding, standPath, standSiblings}
 use Rattle.footing.proofs.AcrossLaws.{across-idle}
-use Rattle.course.specs.Judged.{onSecond, judgedAt, judged, ifNew, courseOf, ready, nextCourse, searchCourse, insertCourse, needCourse, deleteCourse, standsLast}
+use Rattle.course.specs.Judged.{onSecond, judgedAt, judged, ifNew, courseOf, ready, nextCourse, searchCourse, insertCourse, regradeCourse, needCourse, deleteCourse, standsLast}
 
 -- ---- the rule of a granted step
 
@@ -76,6 +77,7 @@ module _ (k : ℕ) (memory : ℕ → Page) (free : List ℕ) where
       sym
       (cond-true (judgedAt (Next x) k memory free path more p up) (goes path more (route x (memory p))) leaf
       ∙ ap (onSecond (atLeaf (Next x) k memory free path p up) memory path more) (reverse-append siblings (want ∷ [])))
+  beside-acts (Regrade x v) path siblings (p ∷ up) want leaf right = not-both right (sym (across-idle (Regrade x v) k memory path siblings want refl))
 
   -- without siblings the rule at a leaf is the one for an operation that comes down
   alone-acts : (op : Op) (path : List ℕ) (leaf : ℕ) (fathers : List ℕ) → atLeaf op k memory free path leaf fathers ≡ judgedAt op k memory free path [] leaf fathers
@@ -84,6 +86,7 @@ module _ (k : ℕ) (memory : ℕ → Page) (free : List ℕ) where
   alone-acts (Insert x v) path leaf fathers = refl
   alone-acts (Delete x) path leaf fathers = refl
   alone-acts (Next x) path leaf fathers = refl
+  alone-acts (Regrade x v) path leaf fathers = refl
 
   -- an operation that comes down to page p stands at a path that ends there
   down-acts : (op : Op) (path : List ℕ) (p : ℕ) (fathers : List ℕ) → reverse path ≡ p ∷ fathers
@@ -155,7 +158,7 @@ module _ {op : Op} {k n : ℕ} {ws : List ℕ} {stand : Slot} (h : SlotStanding 
             ∙ ap (λ (p : ℕ). pageAt k ws p .level + 1) (getD-take (stand .depth) (stand .path) (suc i) 0 l);
       }
 
-  -- and as an insertion asks
+  -- and as an insertion and a regrading ask
   pub standing-holding : Holding k n ws (stand .path) (stand .depth)
   standing-holding =
       let f = standing-needing in
@@ -277,7 +280,7 @@ module _ (k : ℕ) (memory : ℕ → Page) (free : List ℕ) (stand : Slot) wher
           change : ℕ → List ℕ → Verdict
           change leaf fathers = cond (ltb (length free) (room k memory leaf (pathOf stand))) (ends NoRoom []) (ends Inserted (insertion k memory x v free leaf fathers))
 
-          split : (b : Bool) (v′ : ℕ) → (said (insertCourse (cond b (There v′) Missing) x v) ≡ ifNew (cond b (ends AlreadyThere []) (change (lowest stand) (above stand))))
+          split : (b : Bool) (v′ : ℕ) → (said (insertCourse (cond b (There v′) Missing) x v) ≡ ifNew (cond b (ends (AlreadyThere v′) []) (change (lowest stand) (above stand))))
               × ready (Insert x v) memory (pathOf stand) (insertCourse (cond b (There v′) Missing) x v)
           split true v′ = (refl, tt)
           split false v′ = (
@@ -285,6 +288,23 @@ module _ (k : ℕ) (memory : ℕ → Page) (free : List ℕ) (stand : Slot) wher
                 ∙ ends-new (ltb (length free) (room k memory (lowest stand) (pathOf stand))) NoRoom Inserted [] (insertion k memory x v free (lowest stand) (above stand)),
             refl,
           )
+
+      pub regrade-judges : (x v : ℕ) → lot ≡ looked x (memory (lowest stand) .entries) → op ≡ Regrade x v → course ≡ regradeCourse lot x v → Judges op k memory free stand course
+      unfolding judgedAt atLeaf
+      regrade-judges x v read told r =
+          judges-at (Regrade x v) (λ (l : Lot). regradeCourse l x v) read told r (split (has x (memory (lowest stand) .entries)) refl)
+        where
+          old : ℕ
+          old = information x (memory (lowest stand) .entries)
+
+          split : (b : Bool) → has x (memory (lowest stand) .entries) ≡ b
+              → (said (regradeCourse (cond b (There old) Missing) x v) ≡ ifNew (cond b (ends (Regraded old) (regrading memory x v (lowest stand))) (ends NoSuchKey [])))
+              × ready (Regrade x v) memory (pathOf stand) (regradeCourse (cond b (There old) Missing) x v)
+          split true there = (
+            ap (fromLeaf (λ (leaf : ℕ) (fathers : List ℕ). ends (Regraded old) (regrading memory x v leaf))) up,
+            subst (standsLast memory x) (sym up) there,
+          )
+          split false missing = (refl, tt)
 
       pub delete-judges : (x : ℕ) → lot ≡ looked x (memory (lowest stand) .entries) → op ≡ Delete x → course ≡ deleteCourse k memory x lot stand → Judges op k memory free stand course
       unfolding judgedAt deletes

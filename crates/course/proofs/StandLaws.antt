@@ -27,7 +27,7 @@ use Rattle.change.specs.Deletion.{Need, satisfied, needs}
 use Rattle.change.specs.Held.{Held, upward}
 use Rattle.change.proofs.HeldLaws.{Known, held-known, held-front, held-back, held-upper, upward-reverse, upward-father}
 use Rattle.slots.specs.declared.Op.{Op}
-use Rattle.slots.specs.declared.Op.the-variants.{Search, Insert, Delete, Next}
+use Rattle.slots.specs.declared.Op.the-variants.{Search, Insert, Delete, Next, Regrade}
 use Rattle.slots.specs.declared.Slot.{Slot}
 use Rattle.slots.specs.Parts.{keyOf, isDelete, isNext, isOpen, openSlot, pathOf, siblingsOf, held}
 use Rattle.slots.proofs.SoundFacts.{sound-slot}
@@ -313,6 +313,7 @@ no-deletion (Search x) t d = absurd (false≢true t)
 no-deletion (Insert x v) t d = absurd (false≢true t)
 no-deletion (Delete x) t d = absurd (false≢true t)
 no-deletion (Next x) t d = absurd (false≢true d)
+no-deletion (Regrade x v) t d = absurd (false≢true t)
 
 -- below the top page each page of the way lies a level above the next one
 turn-falls : (memory : ℕ → Page) (x top : ℕ) (way : List ℕ) → turnsRight memory x top way ≡ true → Falls memory (top ∷ way)

@@ -17,14 +17,15 @@ use Rattle.page.specs.declared.reading.Nearest.{Nearest}
 use Rattle.page.specs.declared.reading.Nearest.the-variants.{Lot as TheLot, Nothing}
 use Rattle.change.specs.Insertion.{room, insertion}
 use Rattle.change.specs.Deletion.{Need, nothing, sibling, astray, needs, deletion}
+use Rattle.change.specs.Regrading.{regrading}
 use Rattle.change.specs.Held.{leafOf, fathersOf}
 use Rattle.slots.specs.declared.Op.{Op}
-use Rattle.slots.specs.declared.Op.the-variants.{Search, Insert, Delete, Next}
-use Rattle.slots.specs.declared.Answer.the-variants.{Found, NotFound, Inserted, AlreadyThere, Deleted, NoSuchKey, NoRoom, Next as NextLot, None as NoLot}
+use Rattle.slots.specs.declared.Op.the-variants.{Search, Insert, Delete, Next, Regrade}
+use Rattle.slots.specs.declared.Answer.the-variants.{Found, NotFound, Inserted, AlreadyThere, Deleted, NoSuchKey, NoRoom, Next as NextLot, None as NoLot, Regraded}
 use Rattle.slots.specs.declared.Slot.{Slot}
 use Rattle.slots.specs.Parts.{keyOf, isDelete, siblingsOf, held}
 use Rattle.course.specs.declared.judging.Course.{Course}
-use Rattle.course.specs.declared.judging.Course.the-variants.{Broken, Goes, Ends, Inserts, Deletes}
+use Rattle.course.specs.declared.judging.Course.the-variants.{Broken, Goes, Ends, Inserts, Deletes, Regrades}
 use Rattle.footing.specs.Granted.{Verdict, broken, goes, ends, isSafe, deletes, nextAnswer, atLeaf, fromLeaf}
 use Rattle.footing.specs.Fitting.{nextIsNew}
 
@@ -42,6 +43,7 @@ judgedAt (Delete x) k memory free path siblings leaf fathers =
     cond (has x (memory leaf .entries)) (deletes k memory x path leaf fathers siblings) (ends NoSuchKey [])
 judgedAt (Next x) k memory free path siblings leaf fathers =
     onSecond (atLeaf (Next x) k memory free path leaf fathers) memory path siblings (reverse siblings)
+judgedAt (Regrade x v) k memory free path siblings leaf fathers = atLeaf (Regrade x v) k memory free path leaf fathers
 
 -- the operation stands at this path and these siblings
 unfoldable pub judged : Op → ℕ → (ℕ → Page) → List ℕ → List ℕ → List ℕ → Verdict
@@ -73,19 +75,22 @@ courseOf k memory free path siblings (Deletes x v) =
     fromLeaf
     (λ (leaf : ℕ) (fathers : List ℕ). ends (Deleted v) (deletion k memory x leaf fathers siblings))
     (reverse path)
+courseOf k memory free path siblings (Regrades x v old) =
+    fromLeaf (λ (leaf : ℕ) (fathers : List ℕ). ends (Regraded old) (regrading memory x v leaf)) (reverse path)
 
 -- the key stands in the last page of a path, given upward
 abbrev pub standsLast : (ℕ → Page) → ℕ → List ℕ → Type 0
 standsLast memory x [] = ⊥
 standsLast memory x (leaf ∷ fathers) = has x (memory leaf .entries) ≡ true
 
--- what a change may count on: an insertion comes of an insertion, a deletion of a deletion, and what is taken out is there
+-- what a change may count on: an insertion comes of an insertion, a deletion of a deletion, and what is taken out or regraded is there
 abbrev pub ready : Op → (ℕ → Page) → List ℕ → Course → Type 0
 ready op memory path Broken = Unit {0}
 ready op memory path (Goes next) = Unit {0}
 ready op memory path (Ends a) = Unit {0}
 ready op memory path (Inserts x v) = op ≡ Insert x v
 ready op memory path (Deletes x v) = (isDelete op ≡ true) × standsLast memory x (reverse path)
+ready op memory path (Regrades x v old) = standsLast memory x (reverse path)
 
 -- The courses by what was read: on to this page, if it is not held; and, at the leaf, by what stands there under the key.
 abbrev pub nextCourse : Slot → ℕ → Course
@@ -96,8 +101,12 @@ searchCourse (There v) = Ends (Found v)
 searchCourse Missing = Ends NotFound
 
 abbrev pub insertCourse : Lot → ℕ → ℕ → Course
-insertCourse (There v′) x v = Ends AlreadyThere
+insertCourse (There v′) x v = Ends (AlreadyThere v′)
 insertCourse Missing x v = Inserts x v
+
+abbrev pub regradeCourse : Lot → ℕ → ℕ → Course
+regradeCourse (There old) x v = Regrades x v old
+regradeCourse Missing x v = Ends NoSuchKey
 
 abbrev pub needCourse : Slot → ℕ → ℕ → Need → Course
 needCourse stand x v nothing = Deletes x v

@@ -2,7 +2,7 @@
 use Prim.Native.Nat.{ℕ}
 use mathlib.Core.Bool.{cond}
 use lib.Dec.{eqb}
-use Rattle.slots.specs.declared.Op.the-variants.{Search, Insert, Delete, Next}
+use Rattle.slots.specs.declared.Op.the-variants.{Search, Insert, Delete, Next, Regrade}
 use Rattle.embed.specs.declared.asking.Asked.{Asked}
 use Rattle.embed.specs.declared.asking.Asked.the-variants.{Known, Unknown}
 
@@ -13,4 +13,6 @@ askedBy kind key information =
     (Known (Search key))
     (cond (eqb kind 2)
     (Known (Insert key information))
-    (cond (eqb kind 3) (Known (Delete key)) (cond (eqb kind 4) (Known (Next key)) Unknown)))
+    (cond (eqb kind 3)
+    (Known (Delete key))
+    (cond (eqb kind 4) (Known (Next key)) (cond (eqb kind 5) (Known (Regrade key information)) Unknown))))

@@ -9,7 +9,7 @@ pub enum Asked {
     Unknown,
 }
 
-// 1 is a search, 2 an insertion, 3 a deletion, 4 a Next. Only an insertion looks at the information.
+// 1 is a search, 2 an insertion, 3 a deletion, 4 a Next, 5 a regrading. Only insertions and regradings look at the information.
 pub fn read_asked(kind: u32, key: u32, information: u32) -> Asked
     ensures { λ r. ⌜ r ≡ askedBy kind key information ⌝ }
 {
@@ -24,6 +24,9 @@ pub fn read_asked(kind: u32, key: u32, information: u32) -> Asked
     }
     if kind == 4 {
         return Asked::Known(Op::Next(key));
+    }
+    if kind == 5 {
+        return Asked::Known(Op::Regrade(key, information));
     }
     Asked::Unknown
 }

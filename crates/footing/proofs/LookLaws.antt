@@ -12,7 +12,7 @@ use borrow.Author.Tests.{eqb-true, eq-eqb, ne-eqb, leb-true, not-true, not-false
 use lib.Dec.{eqb, leb, ltb}
 use lib.ListN.{length, getD, take}
 use lib.Seq.{length-take-le, getD-take}
-use Rattle.ground.specs.Limits.{pathHolds, searchHolds, siblingHolds}
+use Rattle.ground.specs.Limits.{pathHolds, searchHolds, regradeHolds, siblingHolds}
 use Rattle.ground.specs.Tests.{all, member}
 use Rattle.ground.proofs.Bools.{not-both, and-first, and-second, and-both, and-first-fails, and-second-fails, or-first, or-second, or-cases, false-if-not-true}
 use Rattle.ground.proofs.Choice.{cond-ind, cond-true, cond-false}
@@ -24,7 +24,7 @@ use Rattle.pool.specs.Pool.{wordsOf, pageAt}
 use Rattle.change.specs.Held.{Held}
 use Rattle.change.proofs.HeldLaws.{Known, held-known, held-some, held-front, on-path, among-siblings, upward-father, upward-reverse}
 use Rattle.slots.specs.declared.Op.{Op}
-use Rattle.slots.specs.declared.Op.the-variants.{Search, Insert, Delete, Next}
+use Rattle.slots.specs.declared.Op.the-variants.{Search, Insert, Delete, Next, Regrade}
 use Rattle.slots.specs.declared.Task.{Task}
 use Rattle.slots.specs.declared.Task.the-variants.{Open}
 use Rattle.slots.specs.declared.Slot.{Slot}
@@ -66,9 +66,6 @@ module _ (memory : ℕ → Page) (names : ℕ → ℕ) (p q : ℕ) where
 
   pub below-level : namesBelow memory names p q ≡ true → memory p .level ≡ memory q .level + 1
   below-level t = eqb-true (memory p .level) (memory q .level + 1) (and-second (eqb (names p) q) level-below t)
-
-  pub below-name : namesBelow memory names p q ≡ true → names p ≡ q
-  below-name t = eqb-true (names p) q (and-first (eqb (names p) q) level-below t)
 
 -- ---- a way, link by link
 
@@ -276,11 +273,12 @@ module _ (k n : ℕ) (ws : List ℕ) where
 
 -- how many pages it holds
 within-table : (op : Op) → (limitsOf (Open op) .onPath ≤ pathHolds) × (limitsOf (Open op) .beside < pathHolds)
-unfolding searchHolds pathHolds siblingHolds
+unfolding searchHolds regradeHolds pathHolds siblingHolds
 within-table (Search x) = (omega arith, omega arith)
 within-table (Insert x v) = (omega arith, omega arith)
 within-table (Delete x) = (omega arith, omega arith)
 within-table (Next x) = (omega arith, omega arith)
+within-table (Regrade x v) = (omega arith, omega arith)
 
 limits : (op : Op) (depth beside : ℕ) → withinLimits (Open op) depth beside ≡ true → (depth ≤ pathHolds) × (beside < pathHolds)
 limits op depth beside t =

@@ -12,10 +12,11 @@ use Rattle.page.specs.Short.{hasRight, neighbour}
 use Rattle.pool.specs.Pool.{Write}
 use Rattle.change.specs.Insertion.{room, insertion}
 use Rattle.change.specs.Deletion.{Need, nothing, sibling, astray, needs, deletion}
+use Rattle.change.specs.Regrading.{regrading}
 use Rattle.slots.specs.declared.Op.{Op}
-use Rattle.slots.specs.declared.Op.the-variants.{Search, Insert, Delete, Next}
+use Rattle.slots.specs.declared.Op.the-variants.{Search, Insert, Delete, Next, Regrade}
 use Rattle.slots.specs.declared.Answer.{Answer}
-use Rattle.slots.specs.declared.Answer.the-variants.{Found, NotFound, Inserted, AlreadyThere, Deleted, NoSuchKey, NoRoom, Next as NextLot, None as NoLot}
+use Rattle.slots.specs.declared.Answer.the-variants.{Found, NotFound, Inserted, AlreadyThere, Deleted, NoSuchKey, NoRoom, Next as NextLot, None as NoLot, Regraded}
 use Rattle.slots.specs.Parts.{keyOf, isNext}
 
 -- What a granted step comes to: the pages are not sound for it; the slot goes on, holding this path and these siblings
@@ -27,13 +28,14 @@ pub data Verdict : Type 0 where
 
 -- "Search gives up the father." "Insertion: if the page has μ < 2k, all its ancestors are given up." "Deletion: the
 -- same with μ > k, for pages other than 0": page 0 has no ancestors. Next keeps its locks "from the lowest page on its way that
--- still has a child to the right of the route (from page 0 if none has)": a leaf has no children.
+-- still has a child to the right of the route (from page 0 if none has)": a leaf has no children. Regrading: "every page is safe for it".
 -- On such a page an operation holds that page alone.
 abbrev pub isSafe : Op → ℕ → Page → Bool
 isSafe (Search x) k P = true
 isSafe (Insert x v) k P = ltb (μ P) (2 * k)
 isSafe (Delete x) k P = ltb k (μ P)
 isSafe (Next x) k P = not (isLeaf P) && hasRight x P
+isSafe (Regrade x v) k P = true
 
 -- the path after page p is granted
 abbrev pub kept : Op → ℕ → (ℕ → Page) → List ℕ → ℕ → List ℕ
@@ -74,19 +76,24 @@ byNearest further (e ∷ es) = ends (nextAnswer (e ∷ es)) []
 -- At the leaf, with its path upward held: the leaf and its fathers.
 -- "Search .. At a leaf it answers". "Insertion .. At the leaf: a key already there is answered so; then room is counted;
 -- then the whole change is made." "Deletion .. At the leaf: a missing key is answered so." Next: a key at or above is answered
--- at once.
+-- at once. 02 (iv): "AlreadyThere shall now carry the information there." Regrading "puts new information under a key that is there
+-- and answers Regraded with the old information, or NoSuchKey".
 unfoldable pub atLeaf : Op → ℕ → (ℕ → Page) → List ℕ → List ℕ → ℕ → List ℕ → Verdict
 atLeaf (Search x) k memory free path leaf fathers =
     ends (cond (has x (memory leaf .entries)) (Found (information x (memory leaf .entries))) NotFound) []
 atLeaf (Insert x v) k memory free path leaf fathers =
     cond (has x (memory leaf .entries))
-    (ends AlreadyThere [])
+    (ends (AlreadyThere (information x (memory leaf .entries))) [])
     (cond (ltb (length free) (room k memory leaf path))
     (ends NoRoom [])
     (ends Inserted (insertion k memory x v free leaf fathers)))
 atLeaf (Delete x) k memory free path leaf fathers =
     cond (has x (memory leaf .entries)) (deletes k memory x path leaf fathers []) (ends NoSuchKey [])
 atLeaf (Next x) k memory free path leaf fathers = byNearest (crosses (Next x) k memory path) (atOrAbove x (memory leaf .entries))
+atLeaf (Regrade x v) k memory free path leaf fathers =
+    cond (has x (memory leaf .entries))
+    (ends (Regraded (information x (memory leaf .entries))) (regrading memory x v leaf))
+    (ends NoSuchKey [])
 
 -- the lowest page of a path, given upward, and the pages above it
 abbrev pub fromLeaf : (ℕ → List ℕ → Verdict) → List ℕ → Verdict

@@ -38,6 +38,7 @@ pub fn key_asked(op: Op) -> u32
         Op::Insert(x, _) => x,
         Op::Delete(x) => x,
         Op::Next(x) => x,
+        Op::Regrade(x, _) => x,
     }
 }
 
@@ -54,7 +55,7 @@ pub fn has_child_right(words: &[u32], k: usize, n: usize, x: u32, p: u32) -> boo
     has_right_of(words, k, n, p, x)
 }
 
-// On page p the operation gives up all others on its path. A search does so on every page: it reads nothing.
+// On page p the operation gives up all others on its path. A search and a regrading do so on every page: they read nothing.
 pub fn is_safe(words: &[u32], k: usize, n: usize, op: Op, p: u32) -> bool
     requires { ⌜ InPool k n p (now words) ⌝ }
     requires { ⌜ Readable (wordsOf k p (now words)) ⌝ }
@@ -66,6 +67,7 @@ pub fn is_safe(words: &[u32], k: usize, n: usize, op: Op, p: u32) -> bool
         Op::Insert(_, _) => count_of(words, k, n, p) < 2 * k,
         Op::Delete(_) => k < count_of(words, k, n, p),
         Op::Next(x) => has_child_right(words, k, n, x, p),
+        Op::Regrade(_, _) => true,
     }
 }
 

@@ -23,6 +23,10 @@ slotCount = 16
 unfoldable pub searchHolds : ℕ
 searchHolds = 1
 
+-- Regrading: "it holds at most 1"
+unfoldable pub regradeHolds : ℕ
+regradeHolds = 1
+
 unfoldable pub pathHolds : ℕ
 pathHolds = 10
 

@@ -1,4 +1,4 @@
--- What the functions of an insertion and of a deletion ask, from where the operation stands; and each course, carried out, as the
+-- What the functions of an insertion, a deletion and a regrading ask, from where the operation stands; and each course, carried out, as the
 -- rule's word for it.
 use Prim.Native.Nat.{ℕ, _+_, _-_, _*_, _≤_, _<_}
 use mathlib.Core.Bool.{Bool, true, false, cond}
@@ -16,6 +16,7 @@ use Rattle.ground.proofs.Bools.{or-first, false-if-not-true}
 use Rattle.ground.proofs.Choice.{cond-true, cond-false}
 use Rattle.ground.proofs.Tests.{member-append, member-from, not-member-at, distinct-front, distinct-back, distinct-apart, distinct-at, distinct-join, apart-member, apart-from, listBelow-distinct}
 use Rattle.page.specs.Words.{μ}
+use Rattle.page.specs.Place.{has}
 use Rattle.pool.specs.Pool.{Write, pageAt, freePages, isFree, applied}
 use Rattle.pool.specs.Scan.{Scanned}
 use Rattle.pool.specs.declared.lying.Taken.{Taken}
@@ -23,6 +24,8 @@ use Rattle.pool.proofs.LyingLaws.{scanned-at}
 use Rattle.pool.proofs.FreeLaws.{Free, freePages-at, freePages-free}
 use Rattle.change.specs.Insertion.{room, insertion}
 use Rattle.change.specs.Deletion.{deletion}
+use Rattle.change.specs.Regrading.{regrading}
+use Rattle.change.specs.Held.{Holding}
 use Rattle.change.proofs.HeldLaws.{held-known}
 use Rattle.insertion.specs.Inserting.{Inserting}
 use Rattle.insertion.proofs.InsertLaws.{insertion-same}
@@ -32,19 +35,19 @@ use Rattle.slots.specs.declared.Op.the-variants.{Insert}
 use Rattle.slots.specs.declared.Slot.{Slot}
 use Rattle.slots.specs.declared.State.{State}
 use Rattle.slots.specs.declared.Answer.{Answer}
-use Rattle.slots.specs.declared.Answer.the-variants.{Moved, Inserted, Deleted, NoRoom, Damaged}
+use Rattle.slots.specs.declared.Answer.the-variants.{Moved, Inserted, Deleted, NoRoom, Damaged, Regraded}
 use Rattle.slots.specs.Parts.{isDelete, pathOf, siblingsOf, closedSlot, waitingOrder}
 use Rattle.slots.specs.Book.{leaving, requeued, goesOn, closes}
 use Rattle.slots.proofs.OrderLaws.{length-leaving, length-waiting}
 use Rattle.lent.specs.Words.{orderIn, asRead, known, stateOf, laidInto}
 use Rattle.lent.proofs.StateLaws.{length-order, state-known, state-written}
 use Rattle.course.specs.declared.judging.Course.{Course}
-use Rattle.course.specs.declared.judging.Course.the-variants.{Broken, Goes, Ends, Inserts, Deletes}
+use Rattle.course.specs.declared.judging.Course.the-variants.{Broken, Goes, Ends, Inserts, Deletes, Regrades}
 use Rattle.footing.specs.Granted.{Verdict, ends, fromLeaf}
 use Rattle.footing.specs.Standing.{SlotStanding}
 use Rattle.course.specs.Judged.{courseOf, ready, standsLast}
 use Rattle.course.proofs.JudgeLaws.{path-long, siblings-long, standing-needing, standing-holding, stand-upward}
-use Rattle.index.specs.Acting.{Leaves, Acts, wanting, standLeaf, standFathers, lacksRoom, roomAnswer, afterInsertion, afterDeletion}
+use Rattle.index.specs.Acting.{Leaves, Acts, wanting, standLeaf, standFathers, lacksRoom, roomAnswer, afterInsertion, afterDeletion, afterRegrading}
 
 -- ---- an operation that stands somewhere
 
@@ -291,6 +294,17 @@ module _ (cells : List ℕ) {ws : List ℕ} {s : ℕ} {op : Op} {stand : Slot} (
       split true h w = record { answer = h; state = ap stateOf e ∙ closed-state; all = e; words = w }
       split false h w = record { answer = h; state = ap stateOf e ∙ closed-state; all = e; words = w }
 
+  -- a change that is made at once, by its writes at the leaf
+  acts-change : (answer : Answer) (writes : ℕ → List ℕ → List Write) {cells′ words : List ℕ}
+      → words ≡ applied (st .k) (writes (standLeaf stand) (standFathers stand)) ws
+      → cells′ ≡ laidInto cells s (closes st s)
+      → Leaves cells ws s op (fromLeaf (λ (leaf : ℕ) (fathers : List ℕ). ends answer (writes leaf fathers)) (reverse (pathOf stand))) answer cells′ words
+  acts-change answer writes {cells′} {words} made e =
+      subst
+      (λ (up : List ℕ). Leaves cells ws s op (fromLeaf (λ (leaf : ℕ) (fathers : List ℕ). ends answer (writes leaf fathers)) up) answer cells′ words)
+      (sym (stand-upward (a .stands)))
+      (record { answer = refl; state = ap stateOf e ∙ closed-state; all = e; words = made })
+
   -- a deletion
   pub acts-deletes : {course : Course} {x v : ℕ} {cells′ words : List ℕ} → course ≡ Deletes x v
       → words ≡ afterDeletion (st .k) ws x stand
@@ -298,11 +312,16 @@ module _ (cells : List ℕ) {ws : List ℕ} {s : ℕ} {op : Op} {stand : Slot} (
       → leaves course (Deleted v) cells′ words
   acts-deletes {x = x} {v = v} {cells′ = cells′} {words = words} is made e =
       subst (λ (c : Course). leaves c (Deleted v) cells′ words) (sym is)
-      (subst (λ (up : List ℕ). Leaves cells ws s op (fromLeaf change up) (Deleted v) cells′ words) (sym (stand-upward (a .stands)))
-      (record { answer = refl; state = ap stateOf e ∙ closed-state; all = e; words = made }))
-    where
-      change : ℕ → List ℕ → Verdict
-      change leaf fathers = ends (Deleted v) (deletion (st .k) (pageAt (st .k) ws) x leaf fathers (siblingsOf stand))
+      (acts-change (Deleted v) (λ leaf fathers. deletion (st .k) (pageAt (st .k) ws) x leaf fathers (siblingsOf stand)) made e)
+
+  -- a regrading
+  pub acts-regrades : {course : Course} {x v old : ℕ} {cells′ words : List ℕ} → course ≡ Regrades x v old
+      → words ≡ afterRegrading (st .k) ws x v stand
+      → cells′ ≡ laidInto cells s (closes st s)
+      → leaves course (Regraded old) cells′ words
+  acts-regrades {x = x} {v = v} {old = old} {cells′ = cells′} {words = words} is made e =
+      subst (λ (c : Course). leaves c (Regraded old) cells′ words) (sym is)
+      (acts-change (Regraded old) (λ leaf fathers. regrading (pageAt (st .k) ws) x v leaf) made e)
 
 -- what a change may count on
 module _ {st : State} {ws : List ℕ} {s : ℕ} {op : Op} {stand : Slot} (a : Acts st ws s op stand) where
@@ -317,3 +336,9 @@ module _ {st : State} {ws : List ℕ} {s : ℕ} {op : Op} {stand : Slot} (a : Ac
     deletes-stands {x = x} is =
         let sure = subst (ready op (pageAt (st .k) ws) (pathOf stand)) is fit in
         stand-deleting (a .stands) x (sure .0) (sure .1)
+
+    pub regrades-stands : {x v old : ℕ} → course ≡ Regrades x v old
+        → Holding (st .k) (st .n) ws (stand .path) (stand .depth) × (has x (pageAt (st .k) ws (standLeaf stand) .entries) ≡ true)
+    regrades-stands {x = x} is =
+        let there = subst (ready op (pageAt (st .k) ws) (pathOf stand)) is fit in
+        (standing-holding (a .stands), subst (standsLast (pageAt (st .k) ws) x) (stand-upward (a .stands)) there)

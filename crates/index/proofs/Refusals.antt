@@ -19,7 +19,7 @@ use Rattle.pool.specs.Pool.{poolLength, kInRange, nInRange, pageAt, freePages}
 use Rattle.change.specs.Insertion.{room}
 use Rattle.change.specs.Deletion.{Need, nothing, sibling, astray, needs}
 use Rattle.slots.specs.declared.Op.{Op}
-use Rattle.slots.specs.declared.Op.the-variants.{Search, Insert, Delete, Next}
+use Rattle.slots.specs.declared.Op.the-variants.{Search, Insert, Delete, Next, Regrade}
 use Rattle.slots.specs.declared.Task.{Task}
 use Rattle.slots.specs.declared.Task.the-variants.{Closed, Open}
 use Rattle.slots.specs.declared.Slot.{Slot}
@@ -78,6 +78,7 @@ leaf-answers (Delete x) k memory free path leaf fathers =
     cond-ind Answers (has x (memory leaf .entries)) (λ _. deletes-answers k memory x path leaf fathers []) (λ _. refl)
 leaf-answers (Next x) k memory free path leaf fathers =
     by-nearest (crosses (Next x) k memory path) (atOrAbove x (memory leaf .entries)) (crosses-answers (Next x) k memory path)
+leaf-answers (Regrade x v) k memory free path leaf fathers = cond-ind Answers (has x (memory leaf .entries)) (λ _. refl) (λ _. refl)
 
 from-leaf : (act : ℕ → List ℕ → Verdict) → ((leaf : ℕ) (fathers : List ℕ) → Answers (act leaf fathers)) → (up : List ℕ) → Answers (fromLeaf act up)
 from-leaf act h [] = tt

@@ -10,6 +10,7 @@ use Rattle.ground.specs.Tests.{member}
 use Rattle.pool.specs.Pool.{pageAt, freePages, applied}
 use Rattle.change.specs.Insertion.{room, insertion}
 use Rattle.change.specs.Deletion.{deletion}
+use Rattle.change.specs.Regrading.{regrading}
 use Rattle.change.specs.Held.{leafOf, fathersOf}
 use Rattle.slots.specs.declared.Op.{Op}
 use Rattle.slots.specs.declared.Slot.{Slot}
@@ -74,3 +75,7 @@ afterInsertion k n ws x v stand =
 -- the words that a deletion leaves
 abbrev pub afterDeletion : ℕ → List ℕ → ℕ → Slot → List ℕ
 afterDeletion k ws x stand = applied k (deletion k (pageAt k ws) x (standLeaf stand) (standFathers stand) (siblingsOf stand)) ws
+
+-- the words that a regrading leaves
+abbrev pub afterRegrading : ℕ → List ℕ → ℕ → ℕ → Slot → List ℕ
+afterRegrading k ws x v stand = applied k (regrading (pageAt k ws) x v (standLeaf stand)) ws

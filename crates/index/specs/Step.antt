@@ -31,7 +31,8 @@ abbrev pub left : Answer → State → List ℕ → Left
 left a st ws = record { answer = a; state = st; words = ws }
 
 -- "Step answers: Waiting, Moved, Found (information), NotFound, Inserted, AlreadyThere, Deleted (information), NoSuchKey,
--- NoRoom." All but Waiting are answers of a granted step: Moved, and those that end an operation, Next and None of 02 (i) among them.
+-- NoRoom." All but Waiting are answers of a granted step: Moved, and those that end an operation, Next and None of 02 (i) and Regraded
+-- of 02 (iv) among them.
 abbrev pub ofGranted : Answer → Bool
 ofGranted a = isOneOf a (Moved ∷ ending)
 

@@ -13,13 +13,16 @@ use lent::book::closes;
 use lent::book::requeues;
 use lent::cells::sized;
 use pool::lying::take_pages;
+use pool::pages::regrade_at;
 use slots::Answer;
 use slots::Op;
 use slots::Slot;
 ghost use mathlib.Core.Path.{_≡_};
 ghost use mathlib.Core.Bool.{true};
 ghost use Prim.Native.Nat.{_≤_};
+ghost use Rattle.page.specs.Place.{has};
 ghost use Rattle.pool.specs.Pool.{pageAt, freePages};
+ghost use Rattle.change.specs.Held.{Holding};
 ghost use Rattle.deletion.specs.Deleting.{Deleting};
 ghost use Rattle.slots.specs.declared.Op.the-variants.{Insert};
 ghost use Rattle.slots.specs.Parts.{pathOf, siblingsOf};
@@ -28,7 +31,7 @@ ghost use Rattle.lent.specs.Words.{asRead, known, laidInto};
 ghost use Rattle.footing.specs.Fitting.{verdict};
 ghost use Rattle.footing.specs.Standing.{Asks, SlotStanding};
 ghost use Rattle.course.specs.Judged.{courseOf, ready};
-ghost use Rattle.index.specs.Acting.{Waits, Acts, Leaves, wanting, roomAnswer, afterInsertion, afterDeletion};
+ghost use Rattle.index.specs.Acting.{Waits, Acts, Leaves, wanting, standLeaf, roomAnswer, afterInsertion, afterDeletion, afterRegrading};
 
 // The whole change of an insertion, if there is room. Room is counted before anything is written.
 pub fn insert_lot(words: &mut [u32], k: usize, n: usize, x: u32, v: u32, stand: Slot) -> Answer
@@ -56,6 +59,16 @@ pub fn delete_lot(words: &mut [u32], k: usize, n: usize, x: u32, stand: Slot)
     let path = stand.path;
     let siblings = stand.siblings;
     delete(words, k, n, x, &path, stand.depth, &siblings, stand.beside);
+}
+
+// The whole change of a regrading: one word of its leaf.
+pub fn regrade_lot(words: &mut [u32], k: usize, n: usize, x: u32, v: u32, stand: Slot)
+    requires { ⌜ Holding k n (now words) (stand .path) (stand .depth) ⌝ }
+    requires { ⌜ has x (pageAt k (now words) (standLeaf stand) .entries) ≡ true ⌝ }
+    ensures { λ _. ⌜ now (words .exit) ≡ afterRegrading k (now (words .entry)) x v stand ⌝ }
+{
+    let path = stand.path;
+    regrade_at(words, k, n, path[stand.depth - 1], x, v);
 }
 
 // The slot goes on from where it stands and wants this page.
@@ -103,6 +116,11 @@ pub fn act(
             delete_lot(words, k, n, x, stand);
             closes(state, s);
             Answer::Deleted(v)
+        }
+        Course::Regrades(x, v, old) => {
+            regrade_lot(words, k, n, x, v, stand);
+            closes(state, s);
+            Answer::Regraded(old)
         }
     }
 }

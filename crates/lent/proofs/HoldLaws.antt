@@ -161,13 +161,14 @@ module _ (ws : List ℕ) (s : ℕ) (any : Bool) (p : ℕ) where
 
 -- ---- locks by kind
 
-pub by-kind : (P : ℕ → Type 0) → P 0 → P 1 → P 2 → P 3 → P 4 → (a : ℕ) → a ≤ highestKind → P a
-by-kind P a b c d e zero h = a
-by-kind P a b c d e (suc zero) h = b
-by-kind P a b c d e (suc (suc zero)) h = c
-by-kind P a b c d e (suc (suc (suc zero))) h = d
-by-kind P a b c d e (suc (suc (suc (suc zero)))) h = e
-by-kind P a b c d e (suc (suc (suc (suc (suc n))))) h = absurd (omega arith)
+pub by-kind : (P : ℕ → Type 0) → P 0 → P 1 → P 2 → P 3 → P 4 → P 5 → (a : ℕ) → a ≤ highestKind → P a
+by-kind P a b c d e f zero h = a
+by-kind P a b c d e f (suc zero) h = b
+by-kind P a b c d e f (suc (suc zero)) h = c
+by-kind P a b c d e f (suc (suc (suc zero))) h = d
+by-kind P a b c d e f (suc (suc (suc (suc zero)))) h = e
+by-kind P a b c d e f (suc (suc (suc (suc (suc zero))))) h = f
+by-kind P a b c d e f (suc (suc (suc (suc (suc (suc n)))))) h = absurd (omega arith)
 
 pub kind-known : (ws : List ℕ) → known ws ≡ true → (t : ℕ) → t < 16 → cell ws 0 t ≤ highestKind
 unfolding known slotCount
@@ -189,7 +190,7 @@ abbrev kindLock : ℕ → Lock
 kindLock kind = cond (eqb kind 0) None (openLock (updatesKind kind))
 
 lock-kind : (key information kind : ℕ) → kind ≤ highestKind → lockOf (taskFrom kind key information) ≡ kindLock kind
-lock-kind key information = by-kind (λ (k : ℕ). lockOf (taskFrom k key information) ≡ kindLock k) refl refl refl refl refl
+lock-kind key information = by-kind (λ (k : ℕ). lockOf (taskFrom k key information) ≡ kindLock k) refl refl refl refl refl refl
 
 -- it clashes with that of an open slot if one of the two is ξ
 clash-open : (shut a b : Bool) → clash (cond shut None (openLock a)) (openLock b) ≡ not shut && (b || a)

@@ -107,19 +107,19 @@ pub record Clean (ws : List ℕ) : Type 0 where
   pub long : length ws ≡ 435
   pub exist : (s : ℕ) → s < 16 → cell ws 0 s ≤ highestKind
   pub key : (s : ℕ) → s < 16 → cell ws 0 s ≡ 0 → cell ws 1 s ≡ 0
-  pub information : (s : ℕ) → s < 16 → cell ws 0 s ≢ 2 → cell ws 2 s ≡ 0
+  pub information : (s : ℕ) → s < 16 → cell ws 0 s ≢ 2 → cell ws 0 s ≢ 5 → cell ws 2 s ≡ 0
 
 kind-back : (key information kind : ℕ) → kind ≤ highestKind → kindOf (taskFrom kind key information) ≡ kind
-kind-back key information = by-kind (λ (k : ℕ). kindOf (taskFrom k key information) ≡ k) refl refl refl refl refl
+kind-back key information = by-kind (λ (k : ℕ). kindOf (taskFrom k key information) ≡ k) refl refl refl refl refl refl
 
 key-back : (key information kind : ℕ) → kind ≤ highestKind → (kind ≡ 0 → key ≡ 0) → keyIn (taskFrom kind key information) ≡ key
 key-back key information =
-    by-kind (λ (k : ℕ). (k ≡ 0 → key ≡ 0) → keyIn (taskFrom k key information) ≡ key) (λ e. sym (e refl)) (λ _. refl) (λ _. refl) (λ _. refl) (λ _. refl)
+    by-kind (λ (k : ℕ). (k ≡ 0 → key ≡ 0) → keyIn (taskFrom k key information) ≡ key) (λ e. sym (e refl)) (λ _. refl) (λ _. refl) (λ _. refl) (λ _. refl) (λ _. refl)
 
-information-back : (key information kind : ℕ) → kind ≤ highestKind → (kind ≢ 2 → information ≡ 0) → informationIn (taskFrom kind key information) ≡ information
+information-back : (key information kind : ℕ) → kind ≤ highestKind → (kind ≢ 2 → kind ≢ 5 → information ≡ 0) → informationIn (taskFrom kind key information) ≡ information
 information-back key information =
-    by-kind (λ (k : ℕ). (k ≢ 2 → information ≡ 0) → informationIn (taskFrom k key information) ≡ information)
-    (λ e. sym (e (λ q. absurd (omega arith)))) (λ e. sym (e (λ q. absurd (omega arith)))) (λ _. refl) (λ e. sym (e (λ q. absurd (omega arith)))) (λ e. sym (e (λ q. absurd (omega arith))))
+    by-kind (λ (k : ℕ). (k ≢ 2 → k ≢ 5 → information ≡ 0) → informationIn (taskFrom k key information) ≡ information)
+    (λ e. sym (e (λ q. absurd (omega arith)) (λ q. absurd (omega arith)))) (λ e. sym (e (λ q. absurd (omega arith)) (λ q. absurd (omega arith)))) (λ _. refl) (λ e. sym (e (λ q. absurd (omega arith)) (λ q. absurd (omega arith)))) (λ e. sym (e (λ q. absurd (omega arith)) (λ q. absurd (omega arith)))) (λ _. refl)
 
 module _ (ws : List ℕ) (clean : Clean ws) (s : ℕ) (h : s < 16) where
   -- behind the six numbers

@@ -14,7 +14,7 @@ use Rattle.ground.specs.Limits.{slotCount, pathHolds}
 use Rattle.ground.specs.Tests.{padded}
 use Rattle.ground.proofs.Choice.{cond-true}
 use Rattle.ground.proofs.Tests.{allBelow-at, allBelow-from}
-use Rattle.slots.specs.declared.Op.the-variants.{Search, Insert, Delete, Next}
+use Rattle.slots.specs.declared.Op.the-variants.{Search, Insert, Delete, Next, Regrade}
 use Rattle.slots.specs.declared.Task.{Task}
 use Rattle.slots.specs.declared.Task.the-variants.{Closed, Open}
 use Rattle.slots.specs.declared.Slot.{Slot}
@@ -55,6 +55,7 @@ task-back (Open (Search x)) = refl
 task-back (Open (Insert x v)) = refl
 task-back (Open (Delete x)) = refl
 task-back (Open (Next x)) = refl
+task-back (Open (Regrade x v)) = refl
 
 kind-exists : (t : Task) → kindOf t ≤ highestKind
 kind-exists Closed = omega arith
@@ -62,6 +63,7 @@ kind-exists (Open (Search x)) = omega arith
 kind-exists (Open (Insert x v)) = omega arith
 kind-exists (Open (Delete x)) = omega arith
 kind-exists (Open (Next x)) = omega arith
+kind-exists (Open (Regrade x v)) = omega arith
 
 -- A slot whose numbers stand in these rows.
 module _ (ws : List ℕ) (s : ℕ) (slot : Slot) (path : length (slot .path) ≡ 10) (beside : length (slot .siblings) ≡ 10)

@@ -24,7 +24,7 @@ pub record OpenOrder (ws : List ℕ) : Type 0 where
 
 -- the kinds whose lock is ξ
 abbrev pub updatesKind : ℕ → Bool
-updatesKind kind = eqb kind 2 || eqb kind 3
+updatesKind kind = eqb kind 2 || eqb kind 3 || eqb kind 5
 
 -- "Two ρ on a page go together; ξ goes with nothing.": a lock of this kind clashes with an update's (any lock does), or with a reader's
 -- (ξ alone does)

@@ -7,7 +7,7 @@ use lib.Dec.{eqb, leb}
 use lib.ListN.{getD, take, drop, set}
 use Rattle.ground.specs.Limits.{slotCount}
 use Rattle.ground.specs.Tests.{allBelow}
-use Rattle.slots.specs.declared.Op.the-variants.{Search, Insert, Delete, Next}
+use Rattle.slots.specs.declared.Op.the-variants.{Search, Insert, Delete, Next, Regrade}
 use Rattle.slots.specs.declared.Task.{Task}
 use Rattle.slots.specs.declared.Task.the-variants.{Closed, Open}
 use Rattle.slots.specs.declared.Slot.{Slot}
@@ -37,14 +37,18 @@ column ws r s = listOf 10 (λ (j : ℕ). cell ws (r + j) s)
 
 -- the highest kind of task
 abbrev pub highestKind : ℕ
-highestKind = 4
+highestKind = 5
 
--- "closed, or open with an operation enum carrying key and information": kinds 0 to 4
+-- "closed, or open with an operation enum carrying key and information": kinds 0 to 5
 abbrev pub taskFrom : ℕ → ℕ → ℕ → Task
 taskFrom kind key information =
     cond (eqb kind 1)
     (Open (Search key))
-    (cond (eqb kind 2) (Open (Insert key information)) (cond (eqb kind 3) (Open (Delete key)) (cond (eqb kind 4) (Open (Next key)) Closed)))
+    (cond (eqb kind 2)
+    (Open (Insert key information))
+    (cond (eqb kind 3)
+    (Open (Delete key))
+    (cond (eqb kind 4) (Open (Next key)) (cond (eqb kind 5) (Open (Regrade key information)) Closed))))
 
 -- slot s of these words
 abbrev pub slotIn : List ℕ → ℕ → Slot
@@ -82,6 +86,7 @@ kindOf (Open (Search x)) = 1
 kindOf (Open (Insert x v)) = 2
 kindOf (Open (Delete x)) = 3
 kindOf (Open (Next x)) = 4
+kindOf (Open (Regrade x v)) = 5
 
 -- a task's key, and its information; where it has none, 0
 abbrev pub keyIn : Task → ℕ
@@ -90,6 +95,7 @@ keyIn (Open (Search x)) = x
 keyIn (Open (Insert x v)) = x
 keyIn (Open (Delete x)) = x
 keyIn (Open (Next x)) = x
+keyIn (Open (Regrade x v)) = x
 
 abbrev pub informationIn : Task → ℕ
 informationIn Closed = 0
@@ -97,6 +103,7 @@ informationIn (Open (Search x)) = 0
 informationIn (Open (Insert x v)) = v
 informationIn (Open (Delete x)) = 0
 informationIn (Open (Next x)) = 0
+informationIn (Open (Regrade x v)) = v
 
 -- the numbers of a slot, row by row
 abbrev pub rowsOf : Slot → List ℕ

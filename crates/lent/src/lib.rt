@@ -49,4 +49,6 @@ pub const DELETES: u32 = 3;
 
 pub const NEXTS: u32 = 4;
 
-pub const HIGHEST_KIND: u32 = NEXTS;
+pub const REGRADES: u32 = 5;
+
+pub const HIGHEST_KIND: u32 = REGRADES;

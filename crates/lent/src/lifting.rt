@@ -7,6 +7,7 @@ use crate::INSERTS;
 use crate::KEY;
 use crate::NEXTS;
 use crate::PATH;
+use crate::REGRADES;
 use crate::ROWS_FROM;
 use crate::SEARCHES;
 use crate::SIBLINGS;
@@ -44,6 +45,9 @@ pub fn task_of(kind: u32, key: u32, information: u32) -> Task
     }
     if kind == NEXTS {
         return Task::Open(Op::Next(key));
+    }
+    if kind == REGRADES {
+        return Task::Open(Op::Regrade(key, information));
     }
     Task::Closed
 }
@@ -102,6 +106,7 @@ pub fn kind_of(task: Task) -> u32
             Op::Insert(_, _) => INSERTS,
             Op::Delete(_) => DELETES,
             Op::Next(_) => NEXTS,
+            Op::Regrade(_, _) => REGRADES,
         },
     }
 }
@@ -116,6 +121,7 @@ pub fn key_of(task: Task) -> u32
             Op::Insert(x, _) => x,
             Op::Delete(x) => x,
             Op::Next(x) => x,
+            Op::Regrade(x, _) => x,
         },
     }
 }
@@ -130,6 +136,7 @@ pub fn information_of(task: Task) -> u32
             Op::Insert(_, v) => v,
             Op::Delete(_) => 0,
             Op::Next(_) => 0,
+            Op::Regrade(_, v) => v,
         },
     }
 }

@@ -4,13 +4,13 @@ use Prim.Native.Nat.{ℕ}
 use Prim.Native.String.{String}
 use mathlib.Core.List.{List, [], _∷_, map}
 use mathlib.Core.Path.{_≡_, refl}
-use Rattle.slots.specs.declared.Op.the-variants.{Search, Insert, Delete, Next}
+use Rattle.slots.specs.declared.Op.the-variants.{Search, Insert, Delete, Next, Regrade}
 use Rattle.slots.specs.declared.Answer.{Answer}
-use Rattle.slots.specs.declared.Answer.the-variants.{Begun, Waiting, Inserted, Found, SlotIdle, Deleted, Next as NextLot, None as NoLot}
+use Rattle.slots.specs.declared.Answer.the-variants.{Begun, Waiting, Inserted, Found, SlotIdle, AlreadyThere, Deleted, Next as NextLot, None as NoLot, Regraded}
 use Rattle.lines.specs.declared.Command.{Command}
 use Rattle.lines.specs.declared.Command.the-variants.{Begin, Step, Bad}
 use Rattle.lines.specs.Text.{bytes, startsWith}
-use Rattle.lines.specs.Meaning.{digits, value, front, stepping, searching, deleting, askingNext, informing, inserting, asking, beginning, meaning}
+use Rattle.lines.specs.Meaning.{digits, value, front, stepping, searching, deleting, askingNext, informing, keyed, inserting, askingRegrade, asking, beginning, meaning}
 use Rattle.lines.specs.Decimal.{digitsWithin, decimal}
 use Rattle.lines.specs.Names.{answerLine}
 
@@ -18,7 +18,7 @@ meanings : List String → List Command
 meanings = map (λ line. meaning (bytes line))
 
 good-lines :
-    meanings ("b 0 i 12 3" ∷ "b 1 s 12" ∷ "t 1" ∷ "b 16 d 0" ∷ "t 0015" ∷ "b 4294967295 s 00004294967295" ∷ "b 3 n 12" ∷ [])
+    meanings ("b 0 i 12 3" ∷ "b 1 s 12" ∷ "t 1" ∷ "b 16 d 0" ∷ "t 0015" ∷ "b 4294967295 s 00004294967295" ∷ "b 3 n 12" ∷ "b 2 g 12 4294967295" ∷ [])
     ≡ Begin 0 (Insert 12 3)
     ∷ Begin 1 (Search 12)
     ∷ Step 1
@@ -26,8 +26,9 @@ good-lines :
     ∷ Step 15
     ∷ Begin 4294967295 (Search 4294967295)
     ∷ Begin 3 (Next 12)
+    ∷ Begin 2 (Regrade 12 4294967295)
     ∷ []
-unfolding meanings startsWith digits value front stepping searching deleting askingNext informing inserting asking beginning meaning
+unfolding meanings startsWith digits value front stepping searching deleting askingNext informing keyed inserting askingRegrade asking beginning meaning
 good-lines = refl
 
 bad-lines :
@@ -50,11 +51,15 @@ bad-lines :
     ∷ "b 1 n"
     ∷ "b 1 n x"
     ∷ "b 1 n 2 3"
+    ∷ "b 1 g 2"
+    ∷ "b 1 g 2 3 "
+    ∷ "b 1 g 2 4294967296"
+    ∷ "b 1 G 2 3"
     ∷ "b 1 x 2"
     ∷ []
     )
-    ≡ Bad ∷ Bad ∷ Bad ∷ Bad ∷ Bad ∷ Bad ∷ Bad ∷ Bad ∷ Bad ∷ Bad ∷ Bad ∷ Bad ∷ Bad ∷ Bad ∷ Bad ∷ Bad ∷ Bad ∷ Bad ∷ Bad ∷ []
-unfolding meanings startsWith digits value front stepping searching deleting askingNext informing inserting asking beginning meaning
+    ≡ Bad ∷ Bad ∷ Bad ∷ Bad ∷ Bad ∷ Bad ∷ Bad ∷ Bad ∷ Bad ∷ Bad ∷ Bad ∷ Bad ∷ Bad ∷ Bad ∷ Bad ∷ Bad ∷ Bad ∷ Bad ∷ Bad ∷ Bad ∷ Bad ∷ Bad ∷ Bad ∷ []
+unfolding meanings startsWith digits value front stepping searching deleting askingNext informing keyed inserting askingRegrade asking beginning meaning
 bad-lines = refl
 
 -- ---- answers
@@ -63,7 +68,7 @@ lines-written : List Answer → List (List ℕ)
 lines-written = map answerLine
 
 answers :
-    lines-written (Begun ∷ Waiting ∷ Inserted ∷ Found 3 ∷ SlotIdle ∷ Found 0 ∷ Deleted 4294967295 ∷ NextLot 4294967295 0 ∷ NoLot ∷ [])
-    ≡ map bytes ("Begun\n" ∷ "Waiting\n" ∷ "Inserted\n" ∷ "Found 3\n" ∷ "SlotIdle\n" ∷ "Found 0\n" ∷ "Deleted 4294967295\n" ∷ "Next 4294967295 0\n" ∷ "None\n" ∷ [])
+    lines-written (Begun ∷ Waiting ∷ Inserted ∷ Found 3 ∷ SlotIdle ∷ Found 0 ∷ Deleted 4294967295 ∷ NextLot 4294967295 0 ∷ NoLot ∷ AlreadyThere 7 ∷ Regraded 4294967295 ∷ [])
+    ≡ map bytes ("Begun\n" ∷ "Waiting\n" ∷ "Inserted\n" ∷ "Found 3\n" ∷ "SlotIdle\n" ∷ "Found 0\n" ∷ "Deleted 4294967295\n" ∷ "Next 4294967295 0\n" ∷ "None\n" ∷ "AlreadyThere 7\n" ∷ "Regraded 4294967295\n" ∷ [])
 unfolding lines-written digitsWithin decimal
 answers = refl

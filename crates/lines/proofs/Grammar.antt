@@ -14,12 +14,12 @@ use lib.Seq.{drop-append-seam}
 use Rattle.ground.specs.Tests.{all}
 use Rattle.ground.proofs.Bools.{and-first, and-second, and-both}
 use Rattle.ground.proofs.Choice.{cond-ind, cond-true}
-use Rattle.slots.specs.declared.Op.the-variants.{Search, Insert, Delete, Next}
+use Rattle.slots.specs.declared.Op.the-variants.{Search, Insert, Delete, Next, Regrade}
 use Rattle.lines.specs.declared.Command.{Command}
 use Rattle.lines.specs.declared.Command.the-variants.{Begin, Step, Bad}
 use Rattle.lines.specs.Text.{bytes, startsWith}
-use Rattle.lines.specs.Meaning.{isDigit, digits, value, largest, Front, noNumber, number, counted, front, alone, numbered, after, stepping, searching, deleting, askingNext, informing, inserting, asking, beginning, meaning}
-use Rattle.lines.specs.Forms.{Numeral, Good, toSearch, toInsert, toDelete, toNext, toStep}
+use Rattle.lines.specs.Meaning.{isDigit, digits, value, largest, Front, noNumber, number, counted, front, alone, numbered, after, stepping, searching, deleting, askingNext, informing, keyed, inserting, askingRegrade, asking, beginning, meaning}
+use Rattle.lines.specs.Forms.{Numeral, Good, toSearch, toInsert, toDelete, toNext, toRegrade, toStep}
 
 -- ---- a number at the front
 
@@ -62,17 +62,24 @@ alone-numeral {ds} {n} h = ap (λ (l : List ℕ). alone (front l)) (sym (append-
 
 -- ---- a good line means its command
 
+-- a key, a space and information mean what the two mean
+lot-means : {key information : ℕ} (means : ℕ → ℕ → Command) (ks is : List ℕ) → Numeral ks key → Numeral is information
+    → keyed means (ks ++ (bytes " " ++ is)) ≡ means key information
+unfolding startsWith digits informing keyed
+lot-means {key} means ks is hk hi =
+    ap (λ (f : Front). numbered f (λ key rest. after " " rest (informing (means key)) Bad)) (front-numeral (bytes " " ++ is) hk refl)
+    ∙ ap (λ (f : Front). numbered f (λ information rest. means key information)) (alone-numeral hi)
+
 pub good-means : (line : List ℕ) {c : Command} → Good line c → meaning line ≡ c
-unfolding startsWith digits stepping searching deleting askingNext informing inserting asking beginning meaning
+unfolding startsWith digits stepping searching deleting askingNext informing keyed inserting askingRegrade asking beginning meaning
 good-means line (toSearch {slot = slot} ss ks hs hk e) =
     ap meaning e
     ∙ ap (λ (f : Front). numbered f asking) (front-numeral (bytes " s " ++ ks) hs refl)
     ∙ ap (λ (f : Front). numbered f (λ key rest. Begin slot (Search key))) (alone-numeral hk)
-good-means line (toInsert {slot = slot} {key = key} ss ks is hs hk hi e) =
+good-means line (toInsert {slot = slot} ss ks is hs hk hi e) =
     ap meaning e
     ∙ ap (λ (f : Front). numbered f asking) (front-numeral (bytes " i " ++ (ks ++ (bytes " " ++ is))) hs refl)
-    ∙ ap (λ (f : Front). numbered f (λ key rest. after " " rest (informing slot key) Bad)) (front-numeral (bytes " " ++ is) hk refl)
-    ∙ ap (λ (f : Front). numbered f (λ information rest. Begin slot (Insert key information))) (alone-numeral hi)
+    ∙ lot-means (λ key information. Begin slot (Insert key information)) ks is hk hi
 good-means line (toDelete {slot = slot} ss ks hs hk e) =
     ap meaning e
     ∙ ap (λ (f : Front). numbered f asking) (front-numeral (bytes " d " ++ ks) hs refl)
@@ -81,6 +88,10 @@ good-means line (toNext {slot = slot} ss ks hs hk e) =
     ap meaning e
     ∙ ap (λ (f : Front). numbered f asking) (front-numeral (bytes " n " ++ ks) hs refl)
     ∙ ap (λ (f : Front). numbered f (λ key rest. Begin slot (Next key))) (alone-numeral hk)
+good-means line (toRegrade {slot = slot} ss ks is hs hk hi e) =
+    ap meaning e
+    ∙ ap (λ (f : Front). numbered f asking) (front-numeral (bytes " g " ++ (ks ++ (bytes " " ++ is))) hs refl)
+    ∙ lot-means (λ key information. Begin slot (Regrade key information)) ks is hk hi
 good-means line (toStep ss hs e) = ap meaning e ∙ ap (λ (f : Front). numbered f (λ slot rest. Step slot)) (alone-numeral hs)
 
 -- ---- a line that means a command is good
@@ -146,6 +157,20 @@ module _ (line : List ℕ) where
       numbered-ind (Meant line) (alone (front ss)) (λ slot rest. Step slot) (inl refl)
       (λ slot rest f. inr (toStep ss (last-numeral ss f) e))
 
+  -- a key, a space and information mean nothing, or what is good for them
+  lot-meant : (means : ℕ → ℕ → Command) (bs : List ℕ)
+      → ((key information : ℕ) (ks is : List ℕ) → Numeral ks key → Numeral is information → bs ≡ ks ++ (bytes " " ++ is) → Good line (means key information))
+      → Meant line (keyed means bs)
+  unfolding informing keyed
+  lot-meant means bs good =
+      numbered-ind (Meant line) (front bs) (λ key rest. after " " rest (informing (means key)) Bad) (inl refl)
+      (λ key rest f. let found = front-split bs f in
+      cond-ind (Meant line) (startsWith (bytes " ") rest)
+      (λ t. numbered-ind (Meant line) (alone (front (drop 1 rest))) (λ information end. means key information) (inl refl)
+      (λ information end g. inr (good key information (digits bs) (drop 1 rest) (found .0) (last-numeral (drop 1 rest) g)
+      (found .1 ∙ ap (λ (l : List ℕ). digits bs ++ l) (begins-split (bytes " ") rest t)))))
+      (λ n. inl refl))
+
   module _ {slot : ℕ} (ss : List ℕ) (hs : Numeral ss slot) where
     searching-meant : (ks : List ℕ) → line ≡ bytes "b " ++ (ss ++ (bytes " s " ++ ks)) → Meant line (searching slot ks)
     unfolding searching
@@ -165,22 +190,17 @@ module _ (line : List ℕ) where
         numbered-ind (Meant line) (alone (front ks)) (λ key rest. Begin slot (Next key)) (inl refl)
         (λ key rest f. inr (toNext ss ks hs (last-numeral ks f) e))
 
-    informing-meant : {key : ℕ} (ks is : List ℕ) → Numeral ks key
-        → line ≡ bytes "b " ++ (ss ++ (bytes " i " ++ (ks ++ (bytes " " ++ is)))) → Meant line (informing slot key is)
-    unfolding informing
-    informing-meant {key} ks is hk e =
-        numbered-ind (Meant line) (alone (front is)) (λ information rest. Begin slot (Insert key information)) (inl refl)
-        (λ information rest f. inr (toInsert ss ks is hs hk (last-numeral is f) e))
-
     inserting-meant : (bs : List ℕ) → line ≡ bytes "b " ++ (ss ++ (bytes " i " ++ bs)) → Meant line (inserting slot bs)
     unfolding inserting
     inserting-meant bs e =
-        numbered-ind (Meant line) (front bs) (λ key rest. after " " rest (informing slot key) Bad) (inl refl)
-        (λ key rest f. let found = front-split bs f in
-        cond-ind (Meant line) (startsWith (bytes " ") rest)
-        (λ t. informing-meant (digits bs) (drop 1 rest) (found .0)
-        (e ∙ ap (λ (l : List ℕ). bytes "b " ++ (ss ++ (bytes " i " ++ l))) (found .1 ∙ ap (λ (l : List ℕ). digits bs ++ l) (begins-split (bytes " ") rest t))))
-        (λ n. inl refl))
+        lot-meant (λ key information. Begin slot (Insert key information)) bs
+        (λ key information ks is hk hi f. toInsert ss ks is hs hk hi (e ∙ ap (λ (l : List ℕ). bytes "b " ++ (ss ++ (bytes " i " ++ l))) f))
+
+    regrading-meant : (bs : List ℕ) → line ≡ bytes "b " ++ (ss ++ (bytes " g " ++ bs)) → Meant line (askingRegrade slot bs)
+    unfolding askingRegrade
+    regrading-meant bs e =
+        lot-meant (λ key information. Begin slot (Regrade key information)) bs
+        (λ key information ks is hk hi f. toRegrade ss ks is hs hk hi (e ∙ ap (λ (l : List ℕ). bytes "b " ++ (ss ++ (bytes " g " ++ l))) f))
 
     asking-meant : (bs : List ℕ) → line ≡ bytes "b " ++ (ss ++ bs) → Meant line (asking slot bs)
     unfolding asking
@@ -189,7 +209,8 @@ module _ (line : List ℕ) where
         cond-ind (Meant line) (startsWith (bytes " s ") bs) (λ t. searching-meant (drop 3 bs) (behind (bytes " s ") t))
         (λ n. cond-ind (Meant line) (startsWith (bytes " i ") bs) (λ t. inserting-meant (drop 3 bs) (behind (bytes " i ") t))
         (λ m. cond-ind (Meant line) (startsWith (bytes " d ") bs) (λ t. deleting-meant (drop 3 bs) (behind (bytes " d ") t))
-        (λ k. cond-ind (Meant line) (startsWith (bytes " n ") bs) (λ t. next-meant (drop 3 bs) (behind (bytes " n ") t)) (λ l. inl refl))))
+        (λ k. cond-ind (Meant line) (startsWith (bytes " n ") bs) (λ t. next-meant (drop 3 bs) (behind (bytes " n ") t))
+        (λ l. cond-ind (Meant line) (startsWith (bytes " g ") bs) (λ t. regrading-meant (drop 3 bs) (behind (bytes " g ") t)) (λ j. inl refl)))))
 
   beginning-meant : (bs : List ℕ) → line ≡ bytes "b " ++ bs → Meant line (beginning bs)
   unfolding beginning

@@ -11,8 +11,10 @@ use Rattle.ground.proofs.Bools.{and-both, and-first-fails, and-second-fails}
 use Rattle.ground.proofs.Choice.{cond-true, cond-false}
 use Rattle.lines.specs.declared.reading.Number.{Number}
 use Rattle.lines.specs.declared.reading.Number.the-variants.{Read}
-use Rattle.lines.specs.Meaning.{digits, value, largest, Front, noNumber, number, front, alone}
-use Rattle.lines.specs.Positions.{Counted, frontOf, behind}
+use Rattle.lines.specs.declared.reading.Lot.{Lot}
+use Rattle.lines.specs.declared.Command.{Command}
+use Rattle.lines.specs.Meaning.{digits, value, largest, Front, noNumber, number, front, alone, keyed}
+use Rattle.lines.specs.Positions.{Counted, frontOf, behind, lotMeans, IsLot}
 
 module _ (line : List ℕ) (from : ℕ) {worth end : ℕ} (c : Counted line from worth end) where
   -- no digit, no number
@@ -54,3 +56,7 @@ module _ (line : List ℕ) (n : ℕ) {end : ℕ} where
 -- the position behind a number that was found lies within the line
 pub told-within : {r : Number} {n end m : ℕ} → behind r ≤ m → r ≡ Read n end → end ≤ m
 told-within {m = m} h t = subst (λ (x : Number). behind x ≤ m) t h
+
+-- what an answer tells of a key and information
+pub lot-told : (bs : List ℕ) {r x : Lot} → IsLot bs r → r ≡ x → (means : ℕ → ℕ → Command) → lotMeans x means ≡ keyed means bs
+lot-told bs is t means = sym (ap (λ (lot : Lot). lotMeans lot means) t) ∙ is means

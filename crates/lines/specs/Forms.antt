@@ -1,13 +1,13 @@
 -- The good lines as a grammar, a form each: `b SLOT s KEY`, `b SLOT i KEY INFO`, `b SLOT d KEY`, `b SLOT n KEY`,
--- `t SLOT`. `Meaning` computes what a line means; that it gives a good line its command, and every other line none, is in
--- `proofs/Grammar.antt`.
+-- `b SLOT g KEY INFO`, `t SLOT`. `Meaning` computes what a line means; that it gives a good line its command, and every
+-- other line none, is in `proofs/Grammar.antt`.
 use Prim.Native.Nat.{ℕ, _≤_, _<_}
 use mathlib.Core.Bool.{true}
 use mathlib.Core.List.{List, _++_}
 use mathlib.Core.Path.{_≡_}
 use lib.ListN.{length}
 use Rattle.ground.specs.Tests.{all}
-use Rattle.slots.specs.declared.Op.the-variants.{Search, Insert, Delete, Next}
+use Rattle.slots.specs.declared.Op.the-variants.{Search, Insert, Delete, Next, Regrade}
 use Rattle.lines.specs.declared.Command.{Command}
 use Rattle.lines.specs.declared.Command.the-variants.{Begin, Step}
 use Rattle.lines.specs.Text.{bytes}
@@ -33,6 +33,9 @@ pub data Good (line : List ℕ) : Command → Type 0 where
   toNext : {slot key : ℕ} (ss ks : List ℕ) → Numeral ss slot → Numeral ks key
       → line ≡ bytes "b " ++ (ss ++ (bytes " n " ++ ks))
       → Good line (Begin slot (Next key))
+  toRegrade : {slot key information : ℕ} (ss ks is : List ℕ) → Numeral ss slot → Numeral ks key → Numeral is information
+      → line ≡ bytes "b " ++ (ss ++ (bytes " g " ++ (ks ++ (bytes " " ++ is))))
+      → Good line (Begin slot (Regrade key information))
   toStep : {slot : ℕ} (ss : List ℕ) → Numeral ss slot
       → line ≡ bytes "t " ++ ss
       → Good line (Step slot)

@@ -7,7 +7,7 @@ use lib.Dec.{leb, ltb}
 use lib.ListN.{length, drop}
 use Rattle.lines.specs.declared.Command.{Command}
 use Rattle.lines.specs.declared.Command.the-variants.{Begin, Step, Bad}
-use Rattle.slots.specs.declared.Op.the-variants.{Search, Insert, Delete, Next}
+use Rattle.slots.specs.declared.Op.the-variants.{Search, Insert, Delete, Next, Regrade}
 use Rattle.lines.specs.Text.{bytes, startsWith}
 
 -- ---- "Numbers are decimal"
@@ -48,7 +48,7 @@ alone noNumber = noNumber
 alone (number n []) = number n []
 alone (number n (b ∷ bs)) = noNumber
 
--- ---- the five forms of a line: "Another line .. gives BadLine"
+-- ---- the six forms of a line: "Another line .. gives BadLine"
 
 -- what a number means, with the bytes behind it; where there is none, the line is bad
 abbrev pub numbered : Front → (ℕ → List ℕ → Command) → Command
@@ -75,18 +75,27 @@ deleting slot bs = numbered (alone (front bs)) (λ key rest. Begin slot (Delete 
 unfoldable pub askingNext : ℕ → List ℕ → Command
 askingNext slot bs = numbered (alone (front bs)) (λ key rest. Begin slot (Next key))
 
--- `b SLOT i KEY INFO`, "one space between"
-unfoldable pub informing : ℕ → ℕ → List ℕ → Command
-informing slot key bs = numbered (alone (front bs)) (λ information rest. Begin slot (Insert key information))
+-- `KEY INFO`, "one space between": what the two mean
+unfoldable pub informing : (ℕ → Command) → List ℕ → Command
+informing means bs = numbered (alone (front bs)) (λ information rest. means information)
 
+unfoldable pub keyed : (ℕ → ℕ → Command) → List ℕ → Command
+keyed means bs = numbered (front bs) (λ key rest. after " " rest (informing (means key)) Bad)
+
+-- `b SLOT i KEY INFO`
 unfoldable pub inserting : ℕ → List ℕ → Command
-inserting slot bs = numbered (front bs) (λ key rest. after " " rest (informing slot key) Bad)
+inserting slot = keyed (λ key information. Begin slot (Insert key information))
 
--- `b SLOT s KEY`, `b SLOT i KEY INFO`, `b SLOT d KEY`, `b SLOT n KEY`
+-- `b SLOT g KEY INFO`
+unfoldable pub askingRegrade : ℕ → List ℕ → Command
+askingRegrade slot = keyed (λ key information. Begin slot (Regrade key information))
+
+-- `b SLOT s KEY`, `b SLOT i KEY INFO`, `b SLOT d KEY`, `b SLOT n KEY`, `b SLOT g KEY INFO`
 unfoldable pub asking : ℕ → List ℕ → Command
 asking slot bs =
     after " s " bs (searching slot)
-    (after " i " bs (inserting slot) (after " d " bs (deleting slot) (after " n " bs (askingNext slot) Bad)))
+    (after " i " bs (inserting slot)
+    (after " d " bs (deleting slot) (after " n " bs (askingNext slot) (after " g " bs (askingRegrade slot) Bad))))
 
 unfoldable pub beginning : List ℕ → Command
 beginning bs = numbered (front bs) asking

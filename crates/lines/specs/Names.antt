@@ -1,10 +1,11 @@
 -- How an answer is written. "Each line is answered by one: the answer's or refusal's name, and for Found and Deleted a
--- space and the information." Next has its key in front of the information. The line feed is written with it.
+-- space and the information." 02 (iv) of Regraded and AlreadyThere: "The program writes either after a space." Next has its key in
+-- front of the information. The line feed is written with it.
 use Prim.Native.Nat.{ℕ}
 use Prim.Native.String.{String}
 use mathlib.Core.List.{List, _++_}
 use Rattle.slots.specs.declared.Answer.{Answer}
-use Rattle.slots.specs.declared.Answer.the-variants.{Waiting, Moved, Found, NotFound, Inserted, AlreadyThere, Deleted, NoSuchKey, NoRoom, Begun, Made, Reported, Next, None, BadState, BadPool, BadSlot, SlotBusy, SlotIdle, Damaged, BadPage}
+use Rattle.slots.specs.declared.Answer.the-variants.{Waiting, Moved, Found, NotFound, Inserted, AlreadyThere, Deleted, NoSuchKey, NoRoom, Begun, Made, Reported, Next, None, Regraded, BadState, BadPool, BadSlot, SlotBusy, SlotIdle, Damaged, BadPage}
 use Rattle.lines.specs.Text.{bytes}
 use Rattle.lines.specs.Decimal.{decimal}
 
@@ -27,7 +28,7 @@ answerLine Moved = nameLine "Moved"
 answerLine (Found information) = informed "Found" information
 answerLine NotFound = nameLine "NotFound"
 answerLine Inserted = nameLine "Inserted"
-answerLine AlreadyThere = nameLine "AlreadyThere"
+answerLine (AlreadyThere information) = informed "AlreadyThere" information
 answerLine (Deleted information) = informed "Deleted" information
 answerLine NoSuchKey = nameLine "NoSuchKey"
 answerLine NoRoom = nameLine "NoRoom"
@@ -36,6 +37,7 @@ answerLine Made = nameLine "Made"
 answerLine (Reported kind holders lowest) = nameLine "Reported"
 answerLine (Next key information) = lotLine "Next" key information
 answerLine None = nameLine "None"
+answerLine (Regraded information) = informed "Regraded" information
 answerLine BadState = nameLine "BadState"
 answerLine BadPool = nameLine "BadPool"
 answerLine BadSlot = nameLine "BadSlot"

@@ -5,7 +5,11 @@ use mathlib.Core.List.{List}
 use lib.ListN.{length, drop}
 use Rattle.lines.specs.declared.reading.Number.{Number}
 use Rattle.lines.specs.declared.reading.Number.the-variants.{Read, None}
-use Rattle.lines.specs.Meaning.{Front, noNumber, number, digits, value, largest}
+use Rattle.lines.specs.declared.reading.Lot.{Lot}
+use Rattle.lines.specs.declared.reading.Lot.the-variants.{Read as ReadLot, None as NoLot}
+use Rattle.lines.specs.declared.Command.{Command}
+use Rattle.lines.specs.declared.Command.the-variants.{Bad}
+use Rattle.lines.specs.Meaning.{Front, noNumber, number, digits, value, largest, keyed}
 
 -- the front that an answer stands for
 abbrev pub frontOf : List ℕ → Number → Front
@@ -16,6 +20,15 @@ frontOf line (Read n end) = number n (drop end line)
 abbrev pub behind : Number → ℕ
 behind None = 0
 behind (Read n end) = end
+
+-- what a key and information mean; where there are none, the line is bad
+abbrev pub lotMeans : Lot → (ℕ → ℕ → Command) → Command
+lotMeans NoLot means = Bad
+lotMeans (ReadLot key information) means = means key information
+
+-- an answer stands for these bytes, whatever a key and information mean
+abbrev pub IsLot : List ℕ → Lot → Type 0
+IsLot bs r = (means : ℕ → ℕ → Command) → lotMeans r means ≡ keyed means bs
 
 -- two numbers are the same, or both above the largest
 abbrev pub Alike : ℕ → ℕ → Type 0

@@ -6,9 +6,9 @@ ghost use mathlib.Core.Path.{_≡_};
 ghost use Prim.Native.Nat.{_≤_, max};
 ghost use lib.ListN.{length, drop};
 ghost use Rattle.lines.specs.Text.{startsWith};
-ghost use Rattle.lines.specs.Meaning.{isDigit, front, alone, stepping, searching, deleting, askingNext, informing, inserting, asking, beginning, meaning};
+ghost use Rattle.lines.specs.Meaning.{isDigit, front, alone, stepping, searching, deleting, askingNext, inserting, askingRegrade, asking, beginning, meaning};
 ghost use Rattle.lines.specs.Ends.{lineEnd};
-ghost use Rattle.lines.specs.Positions.{frontOf, behind, Capped, Counted};
+ghost use Rattle.lines.specs.Positions.{frontOf, behind, IsLot, Capped, Counted};
 
 // "a number above 4,294,967,295, gives BadLine"
 const LARGEST: u64 = 4294967295;
@@ -16,6 +16,12 @@ const LARGEST: u64 = 4294967295;
 // A number with the position behind its last digit, or none.
 pub enum Number {
     Read(u32, usize),
+    None,
+}
+
+// A key and information, or none.
+pub enum Lot {
+    Read(u32, u32),
     None,
 }
 
@@ -167,29 +173,43 @@ fn read_next(line: &[u8], at: usize, slot: u32) -> Command
     Command::Begin(slot, Op::Next(key))
 }
 
-// `b SLOT i KEY INFO`, from the information on
-fn read_information(line: &[u8], at: usize, slot: u32, key: u32) -> Command
+// `KEY INFO`, if the line ends behind it
+fn read_lot(line: &[u8], at: usize) -> Lot
     requires { ⌜ at ≤ length (now line) ⌝ }
-    ensures { λ r. ⌜ r ≡ informing slot key (drop at (now (line .entry))) ⌝ }
+    ensures { λ r. ⌜ IsLot (drop at (now (line .entry))) r ⌝ }
 {
-    let Number::Read(information, _) = read_last(line, at) else {
+    let Number::Read(key, end) = read_number(line, at) else {
+        return Lot::None;
+    };
+    if !goes_on(line, end, b" ") {
+        return Lot::None;
+    }
+    let Number::Read(information, _) = read_last(line, end + 1) else {
+        return Lot::None;
+    };
+    Lot::Read(key, information)
+}
+
+// `b SLOT i KEY INFO`
+fn read_insert(line: &[u8], at: usize, slot: u32) -> Command
+    requires { ⌜ at ≤ length (now line) ⌝ }
+    ensures { λ r. ⌜ r ≡ inserting slot (drop at (now (line .entry))) ⌝ }
+{
+    let Lot::Read(key, information) = read_lot(line, at) else {
         return Command::Bad;
     };
     Command::Begin(slot, Op::Insert(key, information))
 }
 
-// `b SLOT i KEY INFO`, from the key on
-fn read_insert(line: &[u8], at: usize, slot: u32) -> Command
+// `b SLOT g KEY INFO`
+fn read_regrade(line: &[u8], at: usize, slot: u32) -> Command
     requires { ⌜ at ≤ length (now line) ⌝ }
-    ensures { λ r. ⌜ r ≡ inserting slot (drop at (now (line .entry))) ⌝ }
+    ensures { λ r. ⌜ r ≡ askingRegrade slot (drop at (now (line .entry))) ⌝ }
 {
-    let Number::Read(key, end) = read_number(line, at) else {
+    let Lot::Read(key, information) = read_lot(line, at) else {
         return Command::Bad;
     };
-    if goes_on(line, end, b" ") {
-        return read_information(line, end + 1, slot, key);
-    }
-    Command::Bad
+    Command::Begin(slot, Op::Regrade(key, information))
 }
 
 // Behind the slot: what is asked.
@@ -208,6 +228,9 @@ fn read_asked(line: &[u8], at: usize, slot: u32) -> Command
     }
     if goes_on(line, at, b" n ") {
         return read_next(line, at + 3, slot);
+    }
+    if goes_on(line, at, b" g ") {
+        return read_regrade(line, at + 3, slot);
     }
     Command::Bad
 }

@@ -10,3 +10,4 @@ pub mod HalvingLaws
 pub mod ReadingLaws
 pub mod SofarLaws
 pub mod CheckingLaws
+pub mod RegradeLaws

@@ -5,7 +5,7 @@ use mathlib.Core.List.{List, [], _∷_}
 use lib.Dec.{leb, eqb}
 use lib.ListN.{getD}
 use Rattle.ground.specs.Tests.{count}
-use Rattle.page.specs.Words.{Keyed, Entry, Page, pointers}
+use Rattle.page.specs.Words.{Keyed, Entry, Page, entry, pointers}
 
 -- "how many reference keys are at most the key". In a leaf: how many keys are, which is where a new key goes.
 unfoldable pub place : {A : Type 0} → ℕ → List (Keyed A) → ℕ
@@ -38,3 +38,8 @@ atOrAbove x (e ∷ es) = cond (leb x (e .key)) (e ∷ es) (atOrAbove x es)
 unfoldable pub without : ℕ → List Entry → List Entry
 without x [] = []
 without x (e ∷ es) = cond (eqb (e .key) x) es (e ∷ without x es)
+
+-- the entries with new information under the key: the same keys, where the key does not stand the same entries
+unfoldable pub regraded : ℕ → ℕ → List Entry → List Entry
+regraded x v [] = []
+regraded x v (e ∷ es) = cond (eqb (e .key) x) (entry (e .key) v ∷ es) (e ∷ regraded x v es)

@@ -5,16 +5,17 @@ use mathlib.Core.Path.{_≡_, refl, ap₂}
 use mathlib.Core.List.{List, [], _∷_}
 use lib.Dec.{eqb}
 use borrow.Author.Tests.{eqb-true}
-use Rattle.ground.specs.Limits.{largestK, largestN, tallest, slotCount, searchHolds, pathHolds, siblingHolds}
+use Rattle.ground.specs.Limits.{largestK, largestN, tallest, slotCount, searchHolds, regradeHolds, pathHolds, siblingHolds}
 use Rattle.ground.specs.Tests.{all, count, member, distinct, apart, allBelow, anyBelow, countBelow, listBelow, firstBelow, padded}
 use Rattle.page.specs.Words.{flat, encode, pairs, view}
-use Rattle.page.specs.Place.{place, has, information, atOrAbove, without}
+use Rattle.page.specs.Place.{place, has, information, atOrAbove, without, regraded}
 use Rattle.page.specs.Sound.{risesFrom, rises, soundByItself}
 use Rattle.page.specs.Splits.{put, split}
 use Rattle.page.specs.Short.{neighbour, betweenAt, fromRight, fromLeft, joined, lessKey, rekeyed}
 use Rattle.pool.specs.Pool.{poolLength, start, wordsOf, pageAt, written, applied, isFree, freePages, fresh}
 use Rattle.change.specs.Insertion.{room, settled, insertion}
 use Rattle.change.specs.Deletion.{needs, shares, shrunk, deletion}
+use Rattle.change.specs.Regrading.{regrading}
 use Rattle.slots.specs.Parts.{pathOf, siblingsOf, waitingOrder}
 use Rattle.slots.specs.Grant.{olderThan, noClash, noOlder}
 use Rattle.slots.specs.Book.{leaving, begins, goesOn, closes}
@@ -30,10 +31,11 @@ use Rattle.promises.specs.Bench.{Row, RowsHold, bench}
 use Rattle.promises.specs.MoreRows.{more}
 use Rattle.promises.specs.LongRun.{again, longRows}
 use Rattle.promises.specs.NextRows.{nextRows}
+use Rattle.promises.specs.RegradeRows.{regradeRows}
 
 -- Everything that a call unfolds to: who unfolds this unfolds all of it.
 calls : Unit {0}
-unfolding largestK largestN tallest slotCount searchHolds pathHolds siblingHolds all count member distinct apart allBelow anyBelow countBelow listBelow firstBelow padded flat encode pairs view place has information atOrAbove without risesFrom rises soundByItself put split neighbour betweenAt fromRight fromLeft joined lessKey rekeyed poolLength start wordsOf pageAt written applied isFree freePages fresh room settled insertion needs shares shrunk deletion pathOf siblingsOf waitingOrder olderThan noClash noOlder leaving begins goesOn closes orderSound slotSound noClashingHolds sound begun reported deletes atLeaf comesDown goesLeft besides granted pagesSound descends sameLevels leftmost fitting soundForStep verdict stepped made called run runFrom
+unfolding largestK largestN tallest slotCount searchHolds regradeHolds pathHolds siblingHolds all count member distinct apart allBelow anyBelow countBelow listBelow firstBelow padded flat encode pairs view place has information atOrAbove without regraded risesFrom rises soundByItself put split neighbour betweenAt fromRight fromLeft joined lessKey rekeyed poolLength start wordsOf pageAt written applied isFree freePages fresh room settled insertion needs shares shrunk deletion regrading pathOf siblingsOf waitingOrder olderThan noClash noOlder leaving begins goesOn closes orderSound slotSound noClashingHolds sound begun reported deletes atLeaf comesDown goesLeft besides granted pagesSound descends sameLevels leftmost fitting soundForStep verdict stepped made called run runFrom
 calls = tt
 
 -- Two lists are compared number by number, so that the prover computes a test and compares no terms.
@@ -97,3 +99,7 @@ long-holds = agree-holds longRows refl
 pub next-holds : RowsHold nextRows
 unfolding calls same sames agree
 next-holds = agree-holds nextRows refl
+
+pub regrade-holds : RowsHold regradeRows
+unfolding calls same sames agree
+regrade-holds = agree-holds regradeRows refl

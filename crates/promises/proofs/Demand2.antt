@@ -6,7 +6,7 @@ use mathlib.Core.List.{List, [], _∷_, _++_, map}
 use mathlib.Core.Path.{_≡_, refl, sym, ap, ap₂, subst, _∙_}
 use native.Mathlib.Omega.{arith}
 use lib.Dec.{leb, ltb, eqb}
-use lib.ListN.{length, take}
+use lib.ListN.{length, take, length-append}
 use borrow.Author.Tests.{leb-true, eqb-true, eqb-false, ne-eqb, ltb-true, lt-ltb, le-ltb, not-true}
 use Rattle.ground.specs.Limits.{slotCount}
 use Rattle.ground.specs.Tests.{member, padded}
@@ -20,7 +20,7 @@ use Rattle.page.proofs.WordLaws.{encode-free}
 use Rattle.pool.specs.Pool.{Write, wordsOf, applied, pageAt}
 use Rattle.pool.proofs.WriteLaws.{wordsOf-applied-other}
 use Rattle.slots.specs.declared.Op.{Op}
-use Rattle.slots.specs.declared.Op.the-variants.{Search, Insert, Delete, Next}
+use Rattle.slots.specs.declared.Op.the-variants.{Search, Insert, Delete, Next, Regrade}
 use Rattle.slots.specs.declared.Task.{Task}
 use Rattle.slots.specs.declared.Task.the-variants.{Closed, Open}
 use Rattle.slots.specs.declared.Slot.{Slot}
@@ -44,14 +44,15 @@ use Rattle.slots.proofs.OrderLaws.{order-has-room, leaving-between, waiting-beg
 use Rattle.slots.proofs.Keeping.{slot-here, slot-other, path-new, siblings-new, held-new}
 use Rattle.footing.specs.Granted.{isSafe}
 use Rattle.index.specs.Step.{Left, left, stepped}
-use Rattle.tree.specs.Tree.{entriesOf}
+use Rattle.tree.specs.Tree.{Tr, entriesOf}
 use Rattle.tree.specs.Change.{writtenPages}
 use Rattle.tree.proofs.Words.{fit-writes}
 use Rattle.runs.specs.Run.{Call, begin, step, report, called, runFrom}
-use Rattle.runs.specs.Stance.{Safe, Takes}
+use Rattle.runs.specs.Stance.{Safe, Stance, Takes}
 use Rattle.runs.specs.Waits.{Barred}
 use Rattle.runs.specs.Step.{Ended}
 use Rattle.runs.proofs.Invariant.{Invariant}
+use Rattle.runs.proofs.Placing.{one-held}
 use Rattle.runs.proofs.Calls.{StepOf, noSlot, idle, waits, onward, over, step-of}
 use Rattle.runs.proofs.Runs.{call-keeps, call-numbers, BeginOf, noSuch, busy, begins-so, begin-of, ReportOf, noPage, tells, report-of, holds-after, numbers-after}
 use Rattle.runs.proofs.Progress.{barred, barred-waits, older-other, older-waits}
@@ -74,6 +75,7 @@ lock-says (Search x) = shares refl tt
 lock-says (Insert x v) = excludes refl (λ r. r)
 lock-says (Delete x) = excludes refl (λ r. r)
 lock-says (Next x) = shares refl tt
+lock-says (Regrade x v) = excludes refl (λ r. r)
 
 -- the locks of two open slots go together just if both read only
 clashes-so : (op op′ : Op) → LockSays op → LockSays op′ → Exactly (clash (lockOf (Open op)) (lockOf (Open op′)) ≡ false) (Reader op × Reader op′)
@@ -133,6 +135,17 @@ closed-empty Closed depth beside path siblings h c =
     ap₂ (λ (i j : ℕ). take i path ++ take j siblings) d e
 closed-empty (Open op) depth beside path siblings h c = not-both refl c
 
+-- a regrading holds one page, and nothing beside it
+regrade-one : (x v k : ℕ) (memory : ℕ → Page) (l : ℕ) (t : Tr l) (path siblings : List ℕ) (want : ℕ)
+    → Stance (Regrade x v) k memory l t path siblings want → length (path ++ siblings) ≤ 1
+regrade-one x v k memory l t path siblings want (inl s) =
+    omega (arith, length-append path siblings, ap length (s .noPath), ap length (s .noSiblings))
+regrade-one x v k memory l t path siblings want (inr (inl c)) =
+    let few = one-held (Regrade x v) k memory path (λ P. refl) (c .rightly) in
+    omega (arith, length-append path siblings, ap length (c .noSiblings))
+regrade-one x v k memory l t path siblings want (inr (inr (inl b))) = absurd (false≢true (b .deletes))
+regrade-one x v k memory l t path siblings want (inr (inr (inr c))) = absurd (false≢true (c .asksNext))
+
 after-call : (st : State) (ws : List ℕ) → Invariant st ws → AfterEveryCall (st .k) (st .n) st ws
 unfolding pathOf siblingsOf
 after-call st ws inv = record {
@@ -149,6 +162,9 @@ after-call st ws inv = record {
       (no-two-locks-clash st (inv .sound) s u p b c n hs hu);
   stands = inv .stands;
   closed = λ s b c. closed-empty (slotAt st s .task) (slotAt st s .depth) (slotAt st s .beside) (slotAt st s .path) (slotAt st s .siblings) (inv .sound .slot s b .limits) c;
+  oneHeld = λ s x v b runs.
+      regrade-one x v (st .k) (pageAt (st .k) ws) (inv .height) (inv .tree) (pathOf (slotAt st s)) (siblingsOf (slotAt st s)) (wantAt st s)
+      (inv .stands s (Regrade x v) b runs);
 }
 
 -- ---- what one call takes and gives up
@@ -256,16 +272,23 @@ module _ (st : State) (ws : List ℕ) (inv : Invariant st ws) where
       here : slotAt (goesOn st s op want path siblings) s ≡ slot
       here = slot-here st (inv .shaped) s b slot [] 0
 
-  -- what an ended operation did not hold, and was not free, it did not write
+  -- a page that an ended operation did not write has its words as before
+  unwritten : (s : ℕ) (op : Op) (a : Answer) (writes : List Write)
+      → Ended op (st .k) (st .n) ws (inv .height) (inv .tree) (pathOf (slotAt st s)) (siblingsOf (slotAt st s)) (wantAt st s) a writes
+      → (q : ℕ) → (member q (writtenPages writes) ≡ true → ⊥) → wordsOf (st .k) q (applied (st .k) writes ws) ≡ wordsOf (st .k) q ws
+  unwritten s op a writes e q never =
+      wordsOf-applied-other (st .k) (st .n) q writes ws (fit-writes (st .k) (st .n) writes (e .leads .fitting) (e .leads .inside))
+      (false-if-not-true (member q (writtenPages writes)) never)
+
+  -- so one that it did not hold, and that was not free
   untouched : (s : ℕ) (op : Op) (a : Answer) (writes : List Write)
       → Ended op (st .k) (st .n) ws (inv .height) (inv .tree) (pathOf (slotAt st s)) (siblingsOf (slotAt st s)) (wantAt st s) a writes
       → (q : ℕ) → q < st .n → holdsAt st s q ≡ false → q ≢ wantAt st s → pageAt (st .k) ws q .level ≢ 0 → wordsOf (st .k) q (applied (st .k) writes ws) ≡ wordsOf (st .k) q ws
   untouched s op a writes e q b h n level =
-      wordsOf-applied-other (st .k) (st .n) q writes ws (fit-writes (st .k) (st .n) writes (e .leads .fitting) (e .leads .inside))
-      (false-if-not-true (member q (writtenPages writes)) (λ w. ⊎-elim
+      unwritten s op a writes e q (λ w. ⊎-elim
       (λ m. ⊎-elim (λ same. n same) (λ held-so. not-both held-so h) (member-cases q (wantAt st s) (held (slotAt st s)) m))
       (λ none. level (ap (λ (P : Page). P .level) (inv .forms .forms .others q b none)))
-      (e .only q w)))
+      (e .only q w))
 
   -- an operation ends with an answer that ends
   ends-so : (op : Op) (s : ℕ) (a : Answer) (writes : List Write)
@@ -301,6 +324,7 @@ module _ (st : State) (ws : List ℕ) (inv : Invariant st ws) where
       order = waiting-closes st s order-long (inv .sound .orderNames s b (ap isOpen runs));
       writes = untouched s op a writes e;
       reads = λ other. ap (λ (W : List Write). applied (st .k) W ws) (e .writers other);
+      regrades = λ old told-so q other. unwritten s op a writes e q (λ w. other (e .regrades old told-so q w));
       seen = subst (λ (r : Left). Seen (pageAt (st .k) ws (wantAt st s)) (r .answer)) told (step-seen st ws inv s op b runs g);
     }));
     others = λ u n. slot-other st (inv .shaped) s b closedSlot [] 0 u n;
@@ -388,6 +412,7 @@ safe-is k (Next x) P = (
   ),
   λ s. and-both (not-of-false (ne-eqb (P .level) 1 (s .0))) (lt-ltb (place x (P .entries)) (μ P) (s .1)),
 )
+safe-is k (Regrade x v) P = (λ _. tt, λ _. refl)
 
 -- a deletion, a Next, and what may hold pages beside its path, by name
 deletion-named : (op : Op) → isDelete op ≡ true → (x : ℕ) × (op ≡ Delete x)
@@ -395,23 +420,26 @@ deletion-named (Search x) e = absurd (false≢true e)
 deletion-named (Insert x v) e = absurd (false≢true e)
 deletion-named (Delete x) e = (x, refl)
 deletion-named (Next x) e = absurd (false≢true e)
+deletion-named (Regrade x v) e = absurd (false≢true e)
 
 next-named : (op : Op) → isNext op ≡ true → (x : ℕ) × (op ≡ Next x)
 next-named (Search x) e = absurd (false≢true e)
 next-named (Insert x v) e = absurd (false≢true e)
 next-named (Delete x) e = absurd (false≢true e)
 next-named (Next x) e = (x, refl)
+next-named (Regrade x v) e = absurd (false≢true e)
 
 beside-named : (op : Op) → goesBeside op ≡ true → (x : ℕ) × ((op ≡ Delete x) ⊎ (op ≡ Next x))
 beside-named (Search x) e = absurd (false≢true e)
 beside-named (Insert x v) e = absurd (false≢true e)
 beside-named (Delete x) e = (x, inl refl)
 beside-named (Next x) e = (x, inr refl)
+beside-named (Regrade x v) e = absurd (false≢true e)
 
 words-pinned : (k : ℕ) → Words k
 unfolding neighbour
 words-pinned k = record {
-  key = λ x v. (refl, refl, refl, refl);
+  key = λ x v. (refl, refl, refl, refl, refl);
   deletion = λ op. (deletion-named op, λ d. ap isDelete (d .1));
   asksNext = λ op. (next-named op, λ n. ap isNext (n .1));
   beside = λ op. (beside-named op, λ b. ⊎-elim (λ d. ap goesBeside d) (λ n. ap goesBeside n) (b .1));

@@ -45,11 +45,11 @@ agrees-so k n ws cs r =
     }
 
 -- the calls before a moment of a run are a run
-words-before : (before rest : List Call) → InWords (before ++ rest) → InWords before
+pub words-before : (before rest : List Call) → InWords (before ++ rest) → InWords before
 words-before [] rest h = tt
 words-before (c ∷ before) rest h = (h .0, words-before before rest (h .1))
 
-run-before : (k n : ℕ) (ws : List ℕ) (cs before rest : List Call) → cs ≡ before ++ rest → Run k n ws cs → Run k n ws before
+pub run-before : (k n : ℕ) (ws : List ℕ) (cs before rest : List Call) → cs ≡ before ++ rest → Run k n ws cs → Run k n ws before
 run-before k n ws cs before rest e r = record { numbers = r .numbers; whole = r .whole; inWords = words-before before rest (subst InWords e (r .inWords)) }
 
 -- ---- no standstill
@@ -63,7 +63,7 @@ some-goes st ws inv s b o =
 -- ---- the plain list
 
 -- from the empty list on its keys rise
-plain-rises : (ops : List Op) (es : List Entry) → rises es ≡ true → rises (plainEntries ops es) ≡ true
+pub plain-rises : (ops : List Op) (es : List Entry) → rises es ≡ true → rises (plainEntries ops es) ≡ true
 unfolding plainEntries
 plain-rises [] es h = h
 plain-rises (op ∷ ops) es h = plain-rises ops (plain op es .entries) (plain-facts es h .rising op)

@@ -12,7 +12,7 @@ use Rattle.ground.specs.Tests.{member}
 use Rattle.ground.proofs.Bools.{not-both}
 use Rattle.ground.proofs.Choice.{cond-true, cond-false}
 use Rattle.page.specs.Words.{Page, Entry, isLeaf}
-use Rattle.page.specs.Place.{has}
+use Rattle.page.specs.Place.{has, information}
 use Rattle.pool.specs.Pool.{Write, pageAt, freePages, applied}
 use Rattle.slots.specs.declared.Op.{Op}
 use Rattle.slots.specs.declared.Op.the-variants.{Insert}
@@ -92,9 +92,9 @@ module _ (st : State) (ws : List ℕ) (inv : Invariant st ws) (s x v : ℕ) (b :
       → (has x es ≡ false → treeRoom (st .k) x (inv .height) (inv .tree) ≤ length (freePages (st .k) (st .n) ws)) → Here (left a next words)
   unfolding plain
   plain-room a next words e enough = record {
-    there = λ h. e ∙ ap (λ (r : Reply). r .answer) (cond-true (reply AlreadyThere es) (reply Inserted (inserted x v es)) h);
+    there = λ h. e ∙ ap (λ (r : Reply). r .answer) (cond-true (reply (AlreadyThere (information x es)) es) (reply Inserted (inserted x v es)) h);
     noRoom = λ h few. let most = enough h in absurd (omega arith);
-    room = λ h most. e ∙ ap (λ (r : Reply). r .answer) (cond-false (reply AlreadyThere es) (reply Inserted (inserted x v es)) h);
+    room = λ h most. e ∙ ap (λ (r : Reply). r .answer) (cond-false (reply (AlreadyThere (information x es)) es) (reply Inserted (inserted x v es)) h);
   }
 
   ended-room : (a : Answer) (writes : List Write) (next : State) (words : List ℕ)

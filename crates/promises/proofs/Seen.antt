@@ -14,10 +14,10 @@ use Rattle.pool.specs.Pool.{pageAt, freePages}
 use Rattle.change.specs.Insertion.{room}
 use Rattle.change.specs.Deletion.{Need, nothing, sibling, astray, needs}
 use Rattle.slots.specs.declared.Op.{Op}
-use Rattle.slots.specs.declared.Op.the-variants.{Search, Insert, Delete, Next}
+use Rattle.slots.specs.declared.Op.the-variants.{Search, Insert, Delete, Next, Regrade}
 use Rattle.slots.specs.declared.State.{State}
 use Rattle.slots.specs.declared.Answer.{Answer}
-use Rattle.slots.specs.declared.Answer.the-variants.{Moved, Found, NotFound, Inserted, AlreadyThere, Deleted, NoSuchKey, NoRoom, Damaged, None as NoLot}
+use Rattle.slots.specs.declared.Answer.the-variants.{Moved, Found, NotFound, Inserted, AlreadyThere, Deleted, NoSuchKey, NoRoom, Damaged, None as NoLot, Regraded}
 use Rattle.slots.specs.Parts.{keyOf, isNext, pathOf, siblingsOf, slotAt, wantAt}
 use Rattle.slots.specs.Heard.{heard, numberOf}
 use Rattle.slots.specs.Grant.{grants}
@@ -91,7 +91,7 @@ leaf-seen (Search x) k memory free path leaf fathers h =
     (λ _. no-next (memory leaf) NotFound refl)
 leaf-seen (Insert x v) k memory free path leaf fathers h =
     cond-ind (SeenBy (memory leaf)) (has x (memory leaf .entries))
-    (λ _. no-next (memory leaf) AlreadyThere refl)
+    (λ _. no-next (memory leaf) (AlreadyThere (information x (memory leaf .entries))) refl)
     (λ _.
     cond-ind (SeenBy (memory leaf)) (ltb (length free) (room k memory leaf path))
     (λ _. no-next (memory leaf) NoRoom refl)
@@ -103,6 +103,10 @@ leaf-seen (Delete x) k memory free path leaf fathers h =
 leaf-seen (Next x) k memory free path leaf fathers h =
     nearest-seen (memory leaf) h (crosses (Next x) k memory path) (crosses-seen (memory leaf) (Next x) k memory path)
     (atOrAbove x (memory leaf .entries)) (above-among x (memory leaf .entries))
+leaf-seen (Regrade x v) k memory free path leaf fathers h =
+    cond-ind (SeenBy (memory leaf)) (has x (memory leaf .entries))
+    (λ _. no-next (memory leaf) (Regraded (information x (memory leaf .entries))) refl)
+    (λ _. no-next (memory leaf) NoSuchKey refl)
 
 -- ---- a granted step
 

@@ -108,7 +108,7 @@ bench =
     ∷ row (heardIn (goingOn (goingOn caseE delete10) delete20) ++ pages (goingOn (goingOn caseE delete10) delete20))
     (heard Begun ∷ heard Moved ∷ heard Moved ∷ heard (Deleted 7)
     ∷ (1 ∷ 1 ∷ 30 ∷ 7 ∷ 0 ∷ 0 ∷ 0 ∷ []) ∷ (0 ∷ 0 ∷ 0 ∷ 0 ∷ 0 ∷ 0 ∷ 0 ∷ []) ∷ (0 ∷ 0 ∷ 0 ∷ 0 ∷ 0 ∷ 0 ∷ 0 ∷ []) ∷ [])
-    -- "I: in E, insert 20: AlreadyThere, words unchanged."
+    -- "I: in E, insert 20: AlreadyThere, words unchanged." 02 (iv): "Case I becomes AlreadyThere 7."
     ∷ row (heardIn (goingOn caseE (runs 0 (Insert 20 7) 2)) ++ pages (goingOn caseE (runs 0 (Insert 20 7) 2)))
-    (heard Begun ∷ heard Moved ∷ heard AlreadyThere ∷ pages caseE)
+    (heard Begun ∷ heard Moved ∷ heard (AlreadyThere 7) ∷ pages caseE)
     ∷ []

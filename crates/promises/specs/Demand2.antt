@@ -1,14 +1,14 @@
 -- Demand 2, in the customer's words: "Search, insertion and deletion follow Bayer and Schkolnick's first solution as our paper
 -- fixes it. From a fresh pool, after every call, the pages form their B*-tree (an empty root leaf allowed), every other page is
 -- free, no two locks clash, and each step takes and gives up just the locks the rules name."
--- Next of 02 (i) is among the operations: whatever is said of every operation is said of it. 02 (iii): "Demands 2 and 3 stand, with
--- Waiting given exactly by the new rule.": `StepLocks`, its fields waits and waitsFor.
+-- Next of 02 (i) and the regrading of 02 (iv) are among the operations: whatever is said of every operation is said of them.
+-- 02 (iii): "Demands 2 and 3 stand, with Waiting given exactly by the new rule.": `StepLocks`, its fields waits and waitsFor.
 use Prim.Native.Nat.{ℕ, suc, _-_, _≤_, _<_}
 use mathlib.Core.Bool.{true, false}
 use mathlib.Core.List.{List, [], _∷_, _++_}
 use mathlib.Core.Logic.{_⊎_, _≢_}
 use mathlib.Core.Path.{_≡_}
-use lib.ListN.{replicate}
+use lib.ListN.{length, replicate}
 use Rattle.ground.specs.Limits.{slotCount}
 use Rattle.ground.specs.Tests.{member, distinct}
 use Rattle.page.specs.Words.{Entry, Page, μ, size}
@@ -16,12 +16,12 @@ use Rattle.page.specs.Place.{place, pointer, atOrAbove}
 use Rattle.page.specs.Short.{neighbour}
 use Rattle.pool.specs.Pool.{wordsOf, pageAt}
 use Rattle.slots.specs.declared.Op.{Op}
-use Rattle.slots.specs.declared.Op.the-variants.{Search, Insert, Delete, Next}
+use Rattle.slots.specs.declared.Op.the-variants.{Search, Insert, Delete, Next, Regrade}
 use Rattle.slots.specs.declared.Task.the-variants.{Open}
 use Rattle.slots.specs.declared.State.{State}
 use Rattle.slots.specs.declared.Lock.the-variants.{None}
 use Rattle.slots.specs.declared.Answer.{Answer}
-use Rattle.slots.specs.declared.Answer.the-variants.{Waiting, Moved, Begun, Reported, BadSlot, SlotBusy, SlotIdle, BadPage, Next as NextLot}
+use Rattle.slots.specs.declared.Answer.the-variants.{Waiting, Moved, Begun, Reported, BadSlot, SlotBusy, SlotIdle, BadPage, Next as NextLot, Regraded}
 use Rattle.slots.specs.Parts.{keyOf, isDelete, isNext, goesBeside, held, pathOf, siblingsOf, slotAt, openAt, wantAt, holdsAt, waitingOrder}
 use Rattle.slots.specs.Locks.{lockOf, clash}
 use Rattle.slots.specs.Grant.{olderThan}
@@ -50,12 +50,13 @@ Reader (Search x) = Unit {0}
 Reader (Insert x v) = ⊥
 Reader (Delete x) = ⊥
 Reader (Next x) = Unit {0}
+Reader (Regrade x v) = ⊥
 
 -- slot s only reads
 abbrev pub Reads : State → ℕ → Type 0
 Reads st s = (op : Op) × Opened st s op × Reader op
 
--- slot s updates: it inserts or deletes
+-- slot s updates: it inserts, deletes or regrades
 abbrev pub Updates : State → ℕ → Type 0
 Updates st s = (op : Op) × Opened st s op × (Reader op → ⊥)
 
@@ -76,6 +77,8 @@ pub record AfterEveryCall (k n : ℕ) (st : State) (ws : List ℕ) : Type 0 wher
   -- "just the locks the rules name", where everybody stands: an open slot as `Stance` says; a closed one holds nothing
   pub stands : (s : ℕ) (op : Op) → s < slotCount → Opened st s op → Stance op k (pageAt k ws) height tree (pathOf (slotAt st s)) (siblingsOf (slotAt st s)) (wantAt st s)
   pub closed : (s : ℕ) → s < slotCount → openAt st s ≡ false → held (slotAt st s) ≡ []
+  -- Regrading: "every page is safe for it, so it holds at most 1"
+  pub oneHeld : (s x v : ℕ) → s < slotCount → Opened st s (Regrade x v) → length (held (slotAt st s)) ≤ 1
 
 -- ---- what one call takes and gives up
 
@@ -114,8 +117,10 @@ pub record Ends (st : State) (ws : List ℕ) (s : ℕ) (after : Left) : Type 0 w
   -- what it writes it holds: every other page, unless it was free, has its words as before
   pub writes : (q : ℕ) → q < st .n → holdsAt st s q ≡ false → q ≢ wantAt st s → pageAt (st .k) ws q .level ≢ 0
       → wordsOf (st .k) q (after .words) ≡ wordsOf (st .k) q ws
-  -- and only where a lot was inserted or deleted does it write at all
+  -- and only where a lot was inserted, deleted or regraded does it write at all
   pub reads : isOneOf (after .answer) writing ≡ false → after .words ≡ ws
+  -- a regrading writes the page that this step was granted, and no other, held or free
+  pub regrades : (old : ℕ) → after .answer ≡ Regraded old → (q : ℕ) → q ≢ wantAt st s → wordsOf (st .k) q (after .words) ≡ wordsOf (st .k) q ws
   -- the lot that a Next answers it reads on the leaf that this step was granted, not on one without its lock
   pub seen : Seen (pageAt (st .k) ws (wantAt st s)) (after .answer)
 
@@ -166,7 +171,8 @@ answersOf (report p) = Reported None 0 0 ∷ BadPage ∷ []
 
 pub record Words (k : ℕ) : Type 0 where
   -- the key of an operation is the one that it names
-  pub key : (x v : ℕ) → (keyOf (Search x) ≡ x) × (keyOf (Insert x v) ≡ x) × (keyOf (Delete x) ≡ x) × (keyOf (Next x) ≡ x)
+  pub key : (x v : ℕ)
+      → (keyOf (Search x) ≡ x) × (keyOf (Insert x v) ≡ x) × (keyOf (Delete x) ≡ x) × (keyOf (Next x) ≡ x) × (keyOf (Regrade x v) ≡ x)
   -- a deletion is a Delete of some key, and nothing else is,
   pub deletion : (op : Op) → Exactly (isDelete op ≡ true) ((x : ℕ) × (op ≡ Delete x))
   -- what asks for the next lot is a Next of some key,

@@ -3,7 +3,8 @@
 -- operation after another, gives the same answers, and the tree holds its entries at every moment. "No room" changes nothing
 -- and comes exactly when a new key needs more pages than are free. While any operation is open, some open one can be granted
 -- its step, and if none is begun, 304 rounds that each step every open slot end them all."
--- Next of 02 (i) is among the operations: "Demand 3's sorted list learns this question."
+-- Next of 02 (i) is among the operations: "Demand 3's sorted list learns this question." So is the regrading of 02 (iv): "Demand 3's
+-- list learns the operation."
 use Prim.Native.Nat.{ℕ, _+_, _*_, _≤_, _<_}
 use mathlib.Core.Bool.{true, false}
 use mathlib.Core.List.{List, [], _++_}
@@ -11,7 +12,7 @@ use mathlib.Core.Path.{_≡_}
 use lib.ListN.{length}
 use Rattle.ground.specs.Limits.{slotCount, slotGrants, roundsEnough}
 use Rattle.page.specs.Words.{isLeaf}
-use Rattle.page.specs.Place.{has}
+use Rattle.page.specs.Place.{has, information}
 use Rattle.pool.specs.Pool.{pageAt, freePages}
 use Rattle.slots.specs.declared.Op.{Op}
 use Rattle.slots.specs.declared.Op.the-variants.{Insert}
@@ -52,8 +53,8 @@ pub record Agreement (k n : ℕ) (cs : List Call) (r : Told) : Type 0 where
 -- An insertion of x that is granted its leaf, in a pool that is the tree t. ""No room" .. comes exactly when a new key needs more
 -- pages than are free."
 pub record RoomExact (k n : ℕ) (ws : List ℕ) (l : ℕ) (t : Tr l) (x : ℕ) (after : Left) : Type 0 where
-  -- "a key already there is answered so"
-  pub there : has x (entriesOf l t) ≡ true → after .answer ≡ AlreadyThere
+  -- "a key already there is answered so", and AlreadyThere carries "the information there"
+  pub there : has x (entriesOf l t) ≡ true → after .answer ≡ AlreadyThere (information x (entriesOf l t))
   pub noRoom : has x (entriesOf l t) ≡ false → length (freePages k n ws) < treeRoom k x l t → after .answer ≡ NoRoom
   pub room : has x (entriesOf l t) ≡ false → treeRoom k x l t ≤ length (freePages k n ws) → after .answer ≡ Inserted
 
@@ -102,8 +103,8 @@ pub record Demand3 (k n : ℕ) (ws : List ℕ) (cs : List Call) : Type 0 where
   -- "and if none is begun, 304 rounds that each step every open slot end them all"
   pub rounds : RoundsClose (runFrom k n ws cs .state) (runFrom k n ws cs .words)
   -- 01: "Granted steps, with h the level of page 0 when it is granted: search and insertion take h, deletion h to 2h-1. So at
-  -- most 19 a slot, and 16 × 19 = 304." Next: "It takes at most 2h-1 grants, so 304 stands." Of whatever operation begins
-  -- here, in whatever calls follow
+  -- most 19 a slot, and 16 × 19 = 304." Next: "It takes at most 2h-1 grants, so 304 stands." A regrading takes h. Of whatever
+  -- operation begins here, in whatever calls follow
   pub grantCounts : CountsFrom (runFrom k n ws cs .state) (runFrom k n ws cs .words)
   pub roundsOfSlots : roundsEnough ≡ slotCount * slotGrants
 

@@ -5,3 +5,5 @@ pub mod Demand3
 pub mod MoreRows
 pub mod LongRun
 pub mod NextRows
+pub mod RegradeRows
+pub mod Regrading

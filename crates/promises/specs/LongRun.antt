@@ -30,7 +30,7 @@ abbrev pub entered : List ℕ
 entered = heard Inserted
 
 abbrev pub there : List ℕ
-there = heard AlreadyThere
+there = heard (AlreadyThere 7)
 
 abbrev pub deleted : List ℕ
 deleted = heard (Deleted 7)

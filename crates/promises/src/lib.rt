@@ -1,1 +1,1 @@
-// What is promised of the rules: the bench, and later the three demands.
+// What is promised of the rules: the bench, the three demands, and that a regraded lot is never nowhere.

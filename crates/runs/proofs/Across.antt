@@ -15,7 +15,7 @@ use Rattle.page.specs.Words.{Page, isLeaf}
 use Rattle.page.specs.Place.{pointer}
 use Rattle.page.specs.Short.{hasRight, neighbour}
 use Rattle.slots.specs.declared.Op.{Op}
-use Rattle.slots.specs.declared.Op.the-variants.{Search, Insert, Delete, Next}
+use Rattle.slots.specs.declared.Op.the-variants.{Search, Insert, Delete, Next, Regrade}
 use Rattle.slots.specs.Parts.{keyOf, isNext}
 use Rattle.footing.specs.Granted.{isSafe}
 use Rattle.tree.specs.Tree.{Tr, occurs, way, Forms}
@@ -53,6 +53,7 @@ next-right (Search x) k P asks safe = absurd (false≢true asks)
 next-right (Insert x v) k P asks safe = absurd (false≢true asks)
 next-right (Delete x) k P asks safe = absurd (false≢true asks)
 next-right (Next x) k P asks safe = and-second (not (isLeaf P)) (hasRight x P) safe
+next-right (Regrade x v) k P asks safe = absurd (false≢true asks)
 
 module _ (op : Op) (k n : ℕ) (memory : ℕ → Page) (l : ℕ) (t : Tr l) (one : 1 ≤ k) (forms : Forms k n memory l t)
     (key : keyOf op < wordRange) (path second : List ℕ) (want : ℕ) (c : Crossing op k memory l t path second want) where

@@ -12,7 +12,7 @@ use Rattle.page.specs.Words.{Entry}
 use Rattle.page.specs.Place.{has, atOrAbove}
 use Rattle.pool.specs.Pool.{Write, applied, fresh}
 use Rattle.slots.specs.declared.Op.{Op}
-use Rattle.slots.specs.declared.Op.the-variants.{Search, Insert, Delete, Next}
+use Rattle.slots.specs.declared.Op.the-variants.{Search, Insert, Delete, Next, Regrade}
 use Rattle.slots.specs.declared.Task.the-variants.{Open}
 use Rattle.slots.specs.declared.Slot.{Slot}
 use Rattle.slots.specs.declared.State.{State}
@@ -72,6 +72,7 @@ plain-counted (Search x) es = cond-ind (λ (a : Answer). isOneOf a countedAnswer
 plain-counted (Insert x v) es = cond-ind (λ (r : Reply). isOneOf (r .answer) countedAnswers ≡ true) (has x es) (λ _. refl) (λ _. refl)
 plain-counted (Delete x) es = cond-ind (λ (r : Reply). isOneOf (r .answer) countedAnswers ≡ true) (has x es) (λ _. refl) (λ _. refl)
 plain-counted (Next x) es = next-counted (atOrAbove x es)
+plain-counted (Regrade x v) es = cond-ind (λ (r : Reply). isOneOf (r .answer) countedAnswers ≡ true) (has x es) (λ _. refl) (λ _. refl)
 
 -- ---- what was asked stays known
 

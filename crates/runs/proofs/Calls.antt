@@ -16,7 +16,7 @@ use Rattle.ground.proofs.Tests.{member-none, member-there, member-cases, member
 use Rattle.page.specs.Words.{Page}
 use Rattle.pool.specs.Pool.{Write, poolLength, pageAt, applied}
 use Rattle.slots.specs.declared.Op.{Op}
-use Rattle.slots.specs.declared.Op.the-variants.{Search, Insert, Delete, Next}
+use Rattle.slots.specs.declared.Op.the-variants.{Search, Insert, Delete, Next, Regrade}
 use Rattle.slots.specs.declared.Task.{Task}
 use Rattle.slots.specs.declared.Task.the-variants.{Closed, Open}
 use Rattle.slots.specs.declared.Slot.{Slot}
@@ -64,6 +64,7 @@ reader-task (Search x) e = refl
 reader-task (Insert x v) e = not-both refl e
 reader-task (Delete x) e = not-both refl e
 reader-task (Next x) e = refl
+reader-task (Regrade x v) e = not-both refl e
 
 -- One slot is written anew, the words may change: what has to be shown of that slot, and of the others.
 module _ (st : State) (ws : List ℕ) (inv : Invariant st ws) (s : ℕ) (b : s < slotCount) where

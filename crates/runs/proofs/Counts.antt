@@ -16,7 +16,7 @@ use Rattle.ground.proofs.Choice.{cond-true, cond-false}
 use Rattle.page.specs.Words.{Page}
 use Rattle.pool.specs.Pool.{pageAt}
 use Rattle.slots.specs.declared.Op.{Op}
-use Rattle.slots.specs.declared.Op.the-variants.{Search, Insert, Delete, Next}
+use Rattle.slots.specs.declared.Op.the-variants.{Search, Insert, Delete, Next, Regrade}
 use Rattle.slots.specs.declared.Slot.{Slot}
 use Rattle.slots.specs.declared.State.{State}
 use Rattle.slots.specs.declared.Outcome.{Outcome}
@@ -237,8 +237,9 @@ straight-down (Search x) so = refl
 straight-down (Insert x v) so = refl
 straight-down (Delete x) so = absurd so
 straight-down (Next x) so = absurd so
+straight-down (Regrade x v) so = refl
 
--- So many grants were needed: at least m, and for a search or an insertion just m.
+-- So many grants were needed: at least m, and for what goes straight down just m.
 abbrev Needs : Op → ℕ → ℕ → Type 0
 Needs op m grants = (m ≤ grants) × (GoesStraight op → grants ≡ m)
 

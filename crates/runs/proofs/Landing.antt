@@ -1,4 +1,5 @@
--- At its leaf: a search answers, an insertion answers, lacks room or is made, a deletion answers, wants a sibling or is made.
+-- At its leaf: a search answers, an insertion answers, lacks room or is made, a deletion answers, wants a sibling or is made, a
+-- regrading answers or is made.
 -- (A Next at its leaf is in `NextSteps.antt`.)
 use Prim.Native.Nat.{ℕ, _+_, _*_, _≤_, _<_}
 use mathlib.Core.Bool.{Bool, true, false, cond, _&&_, true≢false, false≢true}
@@ -11,19 +12,21 @@ use lib.Dec.{ltb}
 use lib.ListN.{length, getD}
 use Rattle.ground.specs.Limits.{wordRange}
 use Rattle.ground.specs.Tests.{member}
-use Rattle.ground.proofs.Tests.{count-reverse, member-none, member-take, distinct-none}
+use Rattle.ground.proofs.Tests.{count-reverse, member-none, member-here, member-take, distinct-none}
 use Rattle.ground.proofs.Bools.{not-both}
 use Rattle.ground.proofs.Choice.{cond-ind, cond-true, cond-false}
 use Rattle.page.specs.Words.{Entry, Page, page, μ, isLeaf}
-use Rattle.page.specs.Place.{has, information, without}
+use Rattle.page.specs.Place.{has, information, without, regraded}
 use Rattle.pool.specs.Pool.{Write, pageAt, freePages}
 use Rattle.change.specs.Insertion.{isFull, room, insertion}
 use Rattle.change.specs.Deletion.{Need, nothing, sibling, astray, needs, deletion}
+use Rattle.change.specs.Regrading.{regrading}
 use Rattle.slots.specs.declared.Op.{Op}
-use Rattle.slots.specs.declared.Op.the-variants.{Search, Insert, Delete}
+use Rattle.slots.specs.declared.Op.the-variants.{Search, Insert, Delete, Next, Regrade}
 use Rattle.slots.specs.declared.Answer.{Answer}
-use Rattle.slots.specs.declared.Answer.the-variants.{Found, NotFound, Inserted, AlreadyThere, Deleted, NoSuchKey, NoRoom}
-use Rattle.slots.specs.Parts.{keyOf, onlyReads, isDelete}
+use Rattle.slots.specs.declared.Answer.the-variants.{Found, NotFound, Inserted, AlreadyThere, Deleted, NoSuchKey, NoRoom, Regraded}
+use Rattle.slots.specs.Parts.{keyOf}
+use Rattle.slots.specs.Heard.{numberOf}
 use Rattle.footing.specs.Granted.{Verdict, goes, ends, byNeed, deletes, atLeaf}
 use Rattle.tree.specs.Tree.{Tr, entriesOf, way, leafOn, Forms, PoolForms}
 use Rattle.tree.specs.Sorted.{inserted}
@@ -31,6 +34,7 @@ use Rattle.tree.specs.Change.{Leads}
 use Rattle.tree.specs.Insertion.{treeRoom, Inserts}
 use Rattle.tree.specs.Facts.{WayFacts}
 use Rattle.tree.proofs.Insertion.{insertionLeads, roomOfTree}
+use Rattle.tree.proofs.Regrading.{regradingLeads}
 use Rattle.tree.proofs.Words.{free-facts}
 use Rattle.runs.specs.Stance.{Rightly, Stance, Takes}
 use Rattle.runs.specs.Plain.{Reply, reply, plain}
@@ -47,6 +51,14 @@ pub data Does (op : Op) (k n : ℕ) (ws : List ℕ) (l : ℕ) (t : Tr l) (path s
       → Does op k n ws l t path siblings want v
   done : (a : Answer) (writes : List Write) → v ≡ ends a writes → Ended op k n ws l t path siblings want a writes
       → Does op k n ws l t path siblings want v
+
+-- only an insertion puts a key in
+abbrev isInsert : Op → Bool
+isInsert (Search x) = false
+isInsert (Insert x v) = true
+isInsert (Delete x) = false
+isInsert (Next x) = false
+isInsert (Regrade x v) = false
 
 -- ---- nothing is written
 
@@ -107,7 +119,19 @@ module _ (k n : ℕ) (ws : List ℕ) (l : ℕ) (t : Tr l) (pool : PoolForms k n 
     only = λ q m. not-both m (member-none q);
     reads = λ y. refl;
     writers = λ y. refl;
+    regrades = λ old e q m. not-both m (member-none q);
   }
+
+  -- the plain list stays as it is, and no new key is put in
+  unchanged-ends : (op : Op) (a : Answer) → plain op es ≡ reply a es → ((y u : ℕ) → op ≡ Insert y u → has y es ≡ false → ⊥)
+      → Ended op k n ws l t path₀ siblings₀ want a []
+  unchanged-ends op a same old =
+      nothing-ends op a
+      (inl (record {
+        answer = ap (λ (r : Reply). r .answer) (sym same);
+        entries = ap (λ (r : Reply). r .entries) (sym same);
+        room = λ y u e new. absurd (old y u e new);
+      }))
 
   module _ (x : ℕ) (facts : WayFacts memory x l t) (leaf : ℕ) (rest : List ℕ) (whole : way x l t ≡ leaf ∷ rest) where
     there-is : has x (memory leaf .entries) ≡ has x es
@@ -123,8 +147,7 @@ module _ (k n : ℕ) (ws : List ℕ) (l : ℕ) (t : Tr l) (pool : PoolForms k n 
     search-does path fathers =
         done (cond (has x es) (Found (information x es)) NotFound) []
         (ap₂ (λ (b : Bool) (v : ℕ). ends (cond b (Found v) NotFound) []) there-is told-is)
-        (nothing-ends (Search x) (cond (has x es) (Found (information x es)) NotFound)
-        (inl (record { answer = refl; entries = refl; room = λ y v e m. absurd (true≢false (ap onlyReads e)) })))
+        (unchanged-ends (Search x) (cond (has x es) (Found (information x es)) NotFound) refl (λ y v e m. false≢true (ap isInsert e)))
 
     -- ---- an insertion
 
@@ -147,16 +170,13 @@ module _ (k n : ℕ) (ws : List ℕ) (l : ℕ) (t : Tr l) (pool : PoolForms k n 
           (omega (arith, sym (ap (room k memory leaf) upward) ∙ sym (room-reverse k memory leaf path) ∙ room-is))
 
       -- a key that is there
-      already : has x es ≡ true → Ended (Insert x v) k n ws l t path₀ siblings₀ want AlreadyThere []
+      already : has x es ≡ true → Ended (Insert x v) k n ws l t path₀ siblings₀ want (AlreadyThere (information x (memory leaf .entries))) []
       unfolding plain
       already there =
-          let same : plain (Insert x v) es ≡ reply AlreadyThere es = cond-true (reply AlreadyThere es) (reply Inserted (inserted x v es)) there in
-          nothing-ends (Insert x v) AlreadyThere
-          (inl (record {
-            answer = ap (λ (r : Reply). r .answer) (sym same);
-            entries = ap (λ (r : Reply). r .entries) (sym same);
-            room = λ y u e new. not-both there (ap (λ (z : ℕ). has z es) (ap keyOf e) ∙ new);
-          }))
+          unchanged-ends (Insert x v) (AlreadyThere (information x (memory leaf .entries)))
+          (cond-true (reply (AlreadyThere (information x es)) es) (reply Inserted (inserted x v es)) there
+          ∙ ap (λ (w : ℕ). reply (AlreadyThere w) es) (sym told-is))
+          (λ y u e new. not-both there (ap (λ (z : ℕ). has z es) (ap keyOf e) ∙ new))
 
       -- a new key without room
       no-room : has x es ≡ false → length free < treeRoom k x l t → Ended (Insert x v) k n ws l t path₀ siblings₀ want NoRoom []
@@ -169,7 +189,8 @@ module _ (k n : ℕ) (ws : List ℕ) (l : ℕ) (t : Tr l) (pool : PoolForms k n 
           → Ended (Insert x v) k n ws l t path₀ siblings₀ want Inserted (insertion k memory x v free leaf fathers)
       unfolding plain member
       insertion-ends new enough =
-          let same : plain (Insert x v) es ≡ reply Inserted (inserted x v es) = cond-false (reply AlreadyThere es) (reply Inserted (inserted x v es)) new in
+          let same : plain (Insert x v) es ≡ reply Inserted (inserted x v es)
+          = cond-false (reply (AlreadyThere (information x es)) es) (reply Inserted (inserted x v es)) new in
           let change = changes new enough in
           record {
             entries = inserted x v es;
@@ -186,13 +207,14 @@ module _ (k n : ℕ) (ws : List ℕ) (l : ℕ) (t : Tr l) (pool : PoolForms k n 
                 (change .writes q m);
             reads = λ y. absurd (false≢true y);
             writers = λ y. absurd (true≢false y);
+            regrades = λ old e. absurd (omega (arith, ap numberOf e));
           }
 
       pub insert-does : Does (Insert x v) k n ws l t path₀ siblings₀ want (atLeaf (Insert x v) k memory free path leaf fathers)
       unfolding atLeaf
       insert-does =
           cond-ind (Does (Insert x v) k n ws l t path₀ siblings₀ want) (has x (memory leaf .entries))
-          (λ y. done AlreadyThere [] refl (already (sym there-is ∙ y)))
+          (λ y. done (AlreadyThere (information x (memory leaf .entries))) [] refl (already (sym there-is ∙ y)))
           (λ z.
           cond-ind (Does (Insert x v) k n ws l t path₀ siblings₀ want) (ltb (length free) (room k memory leaf path))
           (λ y.
@@ -208,14 +230,9 @@ module _ (k n : ℕ) (ws : List ℕ) (l : ℕ) (t : Tr l) (pool : PoolForms k n 
     pub missing-ends : has x es ≡ false → Ended (Delete x) k n ws l t path₀ siblings₀ want NoSuchKey []
     unfolding plain
     missing-ends missing =
-        let same : plain (Delete x) es ≡ reply NoSuchKey es
-        = cond-false (reply (Deleted (information x es)) (without x es)) (reply NoSuchKey es) missing in
-        nothing-ends (Delete x) NoSuchKey
-        (inl (record {
-          answer = ap (λ (r : Reply). r .answer) (sym same);
-          entries = ap (λ (r : Reply). r .entries) (sym same);
-          room = λ y u e m. absurd (true≢false (ap isDelete e));
-        }))
+        unchanged-ends (Delete x) NoSuchKey
+        (cond-false (reply (Deleted (information x es)) (without x es)) (reply NoSuchKey es) missing)
+        (λ y u e m. false≢true (ap isInsert e))
 
     -- a key that is there, with these pages held
     module _ (path fathers siblings : List ℕ) (at : AtLeaf k n memory l t x path leaf fathers siblings)
@@ -237,11 +254,12 @@ module _ (k n : ℕ) (ws : List ℕ) (l : ℕ) (t : Tr l) (pool : PoolForms k n 
             how = inl (record {
               answer = ap Deleted told-is ∙ ap (λ (r : Reply). r .answer) (sym same);
               entries = ap (λ (r : Reply). r .entries) (sym same);
-              room = λ y u e m. absurd (true≢false (ap isDelete e));
+              room = λ y u e m. absurd (false≢true (ap isInsert e));
             });
             only = λ q m. inl (inside q (made .writes q m));
             reads = λ y. absurd (false≢true y);
             writers = λ y. absurd (true≢false y);
+            regrades = λ old e. absurd (omega (arith, ap numberOf e));
           }
 
       by-need : (d : Need) → needs k memory x leaf fathers siblings ≡ d
@@ -253,3 +271,44 @@ module _ (k n : ℕ) (ws : List ℕ) (l : ℕ) (t : Tr l) (pool : PoolForms k n 
       pub delete-does : Does (Delete x) k n ws l t path₀ siblings₀ want (deletes k memory x path leaf fathers siblings)
       unfolding deletes
       delete-does = by-need (needs k memory x leaf fathers siblings) refl
+
+    -- ---- a regrading
+
+    module _ (key : x < wordRange) (v : ℕ) (last : leaf ≡ want) where
+      -- a missing key
+      none-ends : has x es ≡ false → Ended (Regrade x v) k n ws l t path₀ siblings₀ want NoSuchKey []
+      unfolding plain
+      none-ends missing =
+          unchanged-ends (Regrade x v) NoSuchKey
+          (cond-false (reply (Regraded (information x es)) (regraded x v es)) (reply NoSuchKey es) missing)
+          (λ y u e m. false≢true (ap isInsert e))
+
+      -- a key that is there
+      regrading-ends : has x es ≡ true
+          → Ended (Regrade x v) k n ws l t path₀ siblings₀ want (Regraded (information x (memory leaf .entries))) (regrading memory x v leaf)
+      unfolding plain member
+      regrading-ends there =
+          let same : plain (Regrade x v) es ≡ reply (Regraded (information x es)) (regraded x v es)
+          = cond-true (reply (Regraded (information x es)) (regraded x v es)) (reply NoSuchKey es) there in
+          let made = regradingLeads k n memory l t x v leaf rest (pool .forms) key whole in
+          record {
+            entries = regraded x v es;
+            leads = made .leads;
+            how = inl (record {
+              answer = ap Regraded told-is ∙ ap (λ (r : Reply). r .answer) (sym same);
+              entries = ap (λ (r : Reply). r .entries) (sym same);
+              room = λ y u e m. absurd (false≢true (ap isInsert e));
+            });
+            only = λ q m.
+                inl (ap (λ (p : ℕ). member p (want ∷ (path₀ ++ siblings₀))) (made .writes q m ∙ last) ∙ member-here want (path₀ ++ siblings₀));
+            reads = λ y. absurd (false≢true y);
+            writers = λ y. absurd (true≢false y);
+            regrades = λ old e q m. made .writes q m ∙ last;
+          }
+
+      pub regrade-does : (path fathers : List ℕ) → Does (Regrade x v) k n ws l t path₀ siblings₀ want (atLeaf (Regrade x v) k memory free path leaf fathers)
+      unfolding atLeaf
+      regrade-does path fathers =
+          cond-ind (Does (Regrade x v) k n ws l t path₀ siblings₀ want) (has x (memory leaf .entries))
+          (λ y. done (Regraded (information x (memory leaf .entries))) (regrading memory x v leaf) refl (regrading-ends (sym there-is ∙ y)))
+          (λ z. done NoSuchKey [] refl (none-ends (sym there-is ∙ z)))

@@ -13,7 +13,7 @@ use Rattle.ground.proofs.Limits.{grants-of-height}
 use Rattle.page.specs.Words.{Page}
 use Rattle.pool.specs.Pool.{pageAt}
 use Rattle.slots.specs.declared.Op.{Op}
-use Rattle.slots.specs.declared.Op.the-variants.{Search, Insert, Delete, Next}
+use Rattle.slots.specs.declared.Op.the-variants.{Search, Insert, Delete, Next, Regrade}
 use Rattle.slots.specs.declared.Task.{Task}
 use Rattle.slots.specs.declared.Task.the-variants.{Closed, Open}
 use Rattle.slots.specs.declared.Slot.{Slot}
@@ -65,6 +65,7 @@ deletes-beside (Search x) e = e
 deletes-beside (Insert x v) e = e
 deletes-beside (Delete x) e = refl
 deletes-beside (Next x) e = refl
+deletes-beside (Regrade x v) e = e
 
 module _ (op : Op) (k n : ℕ) (memory : ℕ → Page) (l : ℕ) (t : Tr l) (forms : Forms k n memory l t) (key : keyOf op < wordRange) where
   -- a page of the way is on the level of its index

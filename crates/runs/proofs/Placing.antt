@@ -1,25 +1,26 @@
 -- The pages that an open slot of a run holds and wants: as many as the rules allow, all of the tree, none twice.
 use Prim.Native.Nat.{ℕ, suc, _+_, _≤_, _<_}
 use native.Mathlib.Omega.{arith}
-use mathlib.Core.Bool.{true, true≢false, false≢true}
+use mathlib.Core.Bool.{true, false≢true}
 use mathlib.Core.List.{List, [], _∷_, _++_, reverse}
 use mathlib.Core.Logic.{⊎-elim}
 use mathlib.Core.Path.{_≡_, refl, sym, ap, _∙_, subst}
 use borrow.Author.Tests.{leb-true, leb-false, le-leb, lt-ltb, eqb-true, eq-eqb}
 use lib.Dec.{leb, ltb, eqb}
-use lib.ListN.{length, length-append, length-reverse}
-use Rattle.ground.specs.Limits.{largestN, searchHolds, pathHolds, siblingHolds, wordRange}
+use lib.ListN.{length, getD, length-append, length-reverse}
+use Rattle.ground.specs.Limits.{largestN, searchHolds, regradeHolds, pathHolds, siblingHolds, wordRange}
 use Rattle.ground.specs.Tests.{member, distinct}
-use Rattle.ground.proofs.Bools.{and-both, or-first, or-second}
+use Rattle.ground.proofs.Bools.{not-both, and-both, or-first, or-second}
 use Rattle.ground.proofs.Choice.{cond-false}
 use Rattle.ground.proofs.Limits.{path-is-way, siblings-below-top}
 use Rattle.page.specs.Words.{Page}
 use Rattle.pool.specs.Pool.{pageAt}
 use Rattle.slots.specs.declared.Op.{Op}
-use Rattle.slots.specs.declared.Op.the-variants.{Search, Insert, Delete, Next}
+use Rattle.slots.specs.declared.Op.the-variants.{Search, Insert, Delete, Next, Regrade}
 use Rattle.slots.specs.declared.Task.the-variants.{Open}
 use Rattle.slots.specs.Parts.{keyOf, isNext, goesBeside}
 use Rattle.slots.specs.Sound.{limitsOf, withinLimits}
+use Rattle.footing.specs.Granted.{isSafe}
 use Rattle.tree.specs.Tree.{Tr, pageNumber, once, occurs, way, Forms}
 use Rattle.ground.proofs.Choice.{by-test}
 use Rattle.tree.proofs.Memory.{once-same, times, times-append, member-times, absent-times, distinct-times, times-distinct, root-occurs, way-occurs, stands-occurs}
@@ -57,22 +58,24 @@ limits-beside (Delete x) depth beside both deep few fewer =
     and-both (and-both (le-leb depth pathHolds deep) (le-leb beside siblingHolds few)) (or-second (eqb beside 0) (lt-ltb beside depth fewer))
 limits-beside (Next x) depth beside both deep few fewer =
     and-both (and-both (le-leb depth pathHolds deep) (le-leb beside siblingHolds few)) (or-second (eqb beside 0) (lt-ltb beside depth fewer))
+limits-beside (Regrade x v) depth beside both deep few fewer = absurd (false≢true both)
 
--- for a search every page is safe, so it holds one
-search-holds : (x k : ℕ) (memory : ℕ → Page) (path : List ℕ) → Rightly (Search x) k memory path → length path ≤ searchHolds
-unfolding searchHolds
-search-holds x k memory path rightly =
-    by-test (leb (length path) searchHolds)
-    (λ t. leb-true (length path) searchHolds t)
-    (λ f. absurd (true≢false (rightly .unsafe 0 (leb-false (length path) searchHolds f))))
+-- an operation for which every page is safe holds one
+pub one-held : (op : Op) (k : ℕ) (memory : ℕ → Page) (path : List ℕ) → ((P : Page) → isSafe op k P ≡ true) → Rightly op k memory path → length path ≤ 1
+one-held op k memory path safe rightly =
+    by-test (leb (length path) 1)
+    (λ t. leb-true (length path) 1 t)
+    (λ f. not-both (safe (memory (getD path 1 0))) (rightly .unsafe 0 (leb-false (length path) 1 f)))
 
--- the others may hold as many as a way has
+-- so do a search and a regrading; the others may hold as many as a way has
 path-limit : (op : Op) (k : ℕ) (memory : ℕ → Page) (path : List ℕ) → Rightly op k memory path → length path ≤ pathHolds
     → length path ≤ limitsOf (Open op) .onPath
-path-limit (Search x) k memory path rightly deep = search-holds x k memory path rightly
+unfolding searchHolds regradeHolds
+path-limit (Search x) k memory path rightly deep = one-held (Search x) k memory path (λ P. refl) rightly
 path-limit (Insert x v) k memory path rightly deep = deep
 path-limit (Delete x) k memory path rightly deep = deep
 path-limit (Next x) k memory path rightly deep = deep
+path-limit (Regrade x v) k memory path rightly deep = one-held (Regrade x v) k memory path (λ P. refl) rightly
 
 -- ---- all of the tree, none twice
 
@@ -174,6 +177,7 @@ well-beside-any (Insert x v) k n memory l t path siblings want one most key form
 well-beside-any (Delete x) k n memory l t path siblings want one most key forms b =
     well-beside x k n memory l t path siblings want one most key forms b
 well-beside-any (Next x) k n memory l t path siblings want one most key forms b = absurd (false≢true (b .deletes))
+well-beside-any (Regrade x v) k n memory l t path siblings want one most key forms b = absurd (false≢true (b .deletes))
 
 -- a Next may hold pages beside its path
 pub next-beside : (op : Op) → isNext op ≡ true → goesBeside op ≡ true
@@ -181,6 +185,7 @@ next-beside (Search x) asks = absurd (false≢true asks)
 next-beside (Insert x v) asks = absurd (false≢true asks)
 next-beside (Delete x) asks = absurd (false≢true asks)
 next-beside (Next x) asks = refl
+next-beside (Regrade x v) asks = absurd (false≢true asks)
 
 -- past its leaf it holds the lower part of its way, and the upper part of its second way beside it
 well-crossing : (op : Op) (k n : ℕ) (memory : ℕ → Page) (l : ℕ) (t : Tr l) (path second : List ℕ) (want : ℕ) → 1 ≤ k → n ≤ largestN

@@ -1,26 +1,27 @@
 -- The laws of the plain sorted list.
 use Prim.Native.Nat.{ℕ, suc, _+_, _≤_}
 use mathlib.Core.Bool.{Bool, true, false, cond, _||_, false≢true}
-use mathlib.Core.List.{List, [], _∷_, _++_}
+use mathlib.Core.List.{List, [], _∷_, _++_, map}
 use mathlib.Core.Logic.{_⊎_, inl, inr, _≢_, ⊎-elim}
 use mathlib.Core.Path.{_≡_, refl, sym, ap, ap₂, _∙_, subst}
 use native.Mathlib.Omega.{arith}
 use borrow.Author.Tests.{leb-true, leb-false, eqb-true, eq-eqb, ne-eqb}
 use lib.Dec.{leb, eqb}
-use lib.ListN.{length, getD, take, drop, length-append, take-append-drop}
-use lib.Seq.{getD-append-seam}
+use lib.ListN.{length, getD, take, drop, set, length-append, take-append-drop}
+use lib.Seq.{getD-append-seam, set-split, set-append-seam}
 use Rattle.ground.proofs.Bools.{true-or-false, not-both, false-if-not-true, or-first-fails, or-cases}
 use Rattle.ground.proofs.Choice.{by-test, cond-ind, cond-true, cond-false}
 use Rattle.page.specs.Words.{Entry, entry, keyOf, valueOf, page}
-use Rattle.page.specs.Place.{place, has, information, atOrAbove, without}
+use Rattle.page.specs.Place.{place, has, information, atOrAbove, without, regraded}
 use Rattle.page.specs.Sound.{rises}
 use Rattle.page.proofs.PlaceLaws.{has-from, has-at, has-append, information-at, above-later, rises-without}
 use Rattle.page.proofs.RiseLaws.{rises-at, rises-drop}
 use Rattle.page.proofs.PutLaws.{put-entries, put-place-rises}
+use Rattle.page.proofs.RegradeLaws.{keys-regraded, rises-regraded, has-regraded, information-regraded, information-regraded-other, regraded-at}
 use Rattle.slots.specs.declared.Op.{Op}
-use Rattle.slots.specs.declared.Op.the-variants.{Search, Insert, Delete, Next}
+use Rattle.slots.specs.declared.Op.the-variants.{Search, Insert, Delete, Next, Regrade}
 use Rattle.slots.specs.declared.Answer.{Answer}
-use Rattle.slots.specs.declared.Answer.the-variants.{Found, NotFound, Inserted, AlreadyThere, Deleted, NoSuchKey, Next as NextLot, None as NoLot}
+use Rattle.slots.specs.declared.Answer.the-variants.{Found, NotFound, Inserted, AlreadyThere, Deleted, NoSuchKey, Next as NextLot, None as NoLot, Regraded}
 use Rattle.slots.specs.Heard.{heard, numberOf}
 use Rattle.slots.specs.Parts.{keyOf as keyOfOp}
 use Rattle.footing.specs.Granted.{nextAnswer}
@@ -153,6 +154,18 @@ has-without-rising x (e ∷ es) r =
     (λ t. subst (λ (k : ℕ). has k es ≡ false) (eqb-true (e .key) x t) (first-once e es r))
     (λ f. ap (λ (b : Bool). b || has x (without x es)) f ∙ has-without-rising x es (rises-drop 1 (e ∷ es) r))
 
+-- ---- regraded
+
+-- on rising keys an entry that stands is regraded in its place
+regraded-among : (x w v : ℕ) (es : List Entry) → rises es ≡ true → (a : Among x v es) → regraded x w es ≡ a .before ++ entry x w ∷ a .after
+regraded-among x w v es r a =
+    let i : ℕ = length (a .before) in
+    let long : length es ≡ length (a .before) + length (entry x v ∷ a .after) = ap length (a .whole) ∙ length-append (a .before) (entry x v ∷ a .after) in
+    regraded-at x w es r i (omega arith) (ap keyOf (at-seam x v es a))
+    ∙ sym (set-split es i (entry x w) (omega arith))
+    ∙ ap (λ (l : List Entry). set l i (entry x w)) (a .whole)
+    ∙ set-append-seam (a .before) (entry x v) (a .after) (entry x w)
+
 -- ---- at or above
 
 -- an entry of a longer list is its first, or stands behind it
@@ -238,14 +251,14 @@ search-same : (x : ℕ) (es fs : List Entry) → has x es ≡ has x fs → infor
 unfolding plain
 search-same x es fs h i = ap₂ (λ (b : Bool) (v : ℕ). cond b (Found v) NotFound) h i
 
--- an insertion and a deletion by whether the key stands
-insert-there : (x v : ℕ) (es : List Entry) → has x es ≡ true → plain (Insert x v) es ≡ reply AlreadyThere es
+-- an insertion, a deletion and a regrading by whether the key stands
+insert-there : (x v : ℕ) (es : List Entry) → has x es ≡ true → plain (Insert x v) es ≡ reply (AlreadyThere (information x es)) es
 unfolding plain
-insert-there x v es h = cond-true (reply AlreadyThere es) (reply Inserted (inserted x v es)) h
+insert-there x v es h = cond-true (reply (AlreadyThere (information x es)) es) (reply Inserted (inserted x v es)) h
 
 insert-missing : (x v : ℕ) (es : List Entry) → has x es ≡ false → plain (Insert x v) es ≡ reply Inserted (inserted x v es)
 unfolding plain
-insert-missing x v es h = cond-false (reply AlreadyThere es) (reply Inserted (inserted x v es)) h
+insert-missing x v es h = cond-false (reply (AlreadyThere (information x es)) es) (reply Inserted (inserted x v es)) h
 
 delete-there : (x : ℕ) (es : List Entry) → has x es ≡ true → plain (Delete x) es ≡ reply (Deleted (information x es)) (without x es)
 unfolding plain
@@ -254,6 +267,14 @@ delete-there x es h = cond-true (reply (Deleted (information x es)) (without x e
 delete-missing : (x : ℕ) (es : List Entry) → has x es ≡ false → plain (Delete x) es ≡ reply NoSuchKey es
 unfolding plain
 delete-missing x es h = cond-false (reply (Deleted (information x es)) (without x es)) (reply NoSuchKey es) h
+
+regrade-there : (x w : ℕ) (es : List Entry) → has x es ≡ true → plain (Regrade x w) es ≡ reply (Regraded (information x es)) (regraded x w es)
+unfolding plain
+regrade-there x w es h = cond-true (reply (Regraded (information x es)) (regraded x w es)) (reply NoSuchKey es) h
+
+regrade-missing : (x w : ℕ) (es : List Entry) → has x es ≡ false → plain (Regrade x w) es ≡ reply NoSuchKey es
+unfolding plain
+regrade-missing x w es h = cond-false (reply (Regraded (information x es)) (regraded x w es)) (reply NoSuchKey es) h
 
 pub search-keeps : (x : ℕ) (es : List Entry) → plain (Search x) es .entries ≡ es
 unfolding plain
@@ -280,7 +301,7 @@ abbrev toldToo : Answer → ℕ
 toldToo a = getD (heard a) 2 0
 
 -- two answers with different numbers are different
-clashes : {a b : Answer} {X : Type 0} → a ≡ b → (numberOf a ≡ numberOf b → ⊥) → X
+pub clashes : {a b : Answer} {X : Type 0} → a ≡ b → (numberOf a ≡ numberOf b → ⊥) → X
 clashes e n = absurd (n (ap numberOf e))
 
 module _ (es : List Entry) (r : rises es ≡ true) where
@@ -297,6 +318,11 @@ module _ (es : List Entry) (r : rises es ≡ true) where
       (λ f. ap (λ (p : Reply). rises (p .entries)) (delete-missing x es f) ∙ r)
       (true-or-false (has x es))
   rising (Next x) = ap rises (next-keeps x es) ∙ r
+  rising (Regrade x w) =
+      ⊎-elim
+      (λ t. ap (λ (p : Reply). rises (p .entries)) (regrade-there x w es t) ∙ rises-regraded x w es ∙ r)
+      (λ f. ap (λ (p : Reply). rises (p .entries)) (regrade-missing x w es f) ∙ r)
+      (true-or-false (has x es))
 
   found : (x v : ℕ) → plain (Search x) es .answer ≡ Found v → Among x v es
   found x v e =
@@ -357,6 +383,27 @@ module _ (es : List Entry) (r : rises es ≡ true) where
       by-nearest (nowhere none) = none-below x es none
       by-nearest (begins e rest some first) = clashes (sym (next-begins x es e rest some) ∙ h) (λ q. omega (arith, q))
 
+  regraded-old : (x w v : ℕ) → plain (Regrade x w) es .answer ≡ Regraded v → Among x v es
+  regraded-old x w v e =
+      ⊎-elim
+      (λ t. subst (λ (u : ℕ). Among x u es) (ap told (sym (ap (λ (p : Reply). p .answer) (regrade-there x w es t)) ∙ e)) (has-among x es t))
+      (λ f. clashes (sym (ap (λ (p : Reply). p .answer) (regrade-missing x w es f)) ∙ e) (λ q. omega (arith, q)))
+      (true-or-false (has x es))
+
+  regraded-found : (x w v : ℕ) → plain (Regrade x w) es .answer ≡ Regraded v → plain (Search x) (plain (Regrade x w) es .entries) .answer ≡ Found w
+  regraded-found x w v e =
+      let t : has x es ≡ true = among-has x v es (regraded-old x w v e) in
+      ap (λ (p : Reply). plain (Search x) (p .entries) .answer) (regrade-there x w es t)
+      ∙ search-there x (regraded x w es) (has-regraded x w x es ∙ t)
+      ∙ ap (λ (u : ℕ). Found u) (information-regraded x w es t)
+
+  regraded-keys : (x w : ℕ) → map keyOf (plain (Regrade x w) es .entries) ≡ map keyOf es
+  regraded-keys x w =
+      ⊎-elim
+      (λ t. ap (λ (p : Reply). map keyOf (p .entries)) (regrade-there x w es t) ∙ keys-regraded x w es)
+      (λ f. ap (λ (p : Reply). map keyOf (p .entries)) (regrade-missing x w es f))
+      (true-or-false (has x es))
+
   others : (op : Op) (y : ℕ) → y ≢ keyOfOp op → plain (Search y) (plain op es .entries) .answer ≡ plain (Search y) es .answer
   others (Search x) y n = ap (λ (l : List Entry). plain (Search y) l .answer) (search-keeps x es)
   others (Insert x v) y n =
@@ -372,6 +419,12 @@ module _ (es : List Entry) (r : rises es ≡ true) where
       (λ f. ap (λ (p : Reply). plain (Search y) (p .entries) .answer) (delete-missing x es f))
       (true-or-false (has x es))
   others (Next x) y n = ap (λ (l : List Entry). plain (Search y) l .answer) (next-keeps x es)
+  others (Regrade x w) y n =
+      ⊎-elim
+      (λ t. ap (λ (p : Reply). plain (Search y) (p .entries) .answer) (regrade-there x w es t)
+      ∙ search-same y (regraded x w es) es (has-regraded x w y es) (information-regraded-other x w y es n))
+      (λ f. ap (λ (p : Reply). plain (Search y) (p .entries) .answer) (regrade-missing x w es f))
+      (true-or-false (has x es))
 
   -- The plain list's laws hold of every list whose keys rise.
   pub plain-facts : PlainFacts es
@@ -383,7 +436,8 @@ module _ (es : List Entry) (r : rises es ≡ true) where
     searchKeeps = λ x. search-keeps x es;
     inserts = λ x v m. ap (λ (p : Reply). p .answer) (insert-missing x v es (missing-has x es m));
     insertedFound = inserted-found;
-    already = λ x v w a. ap (λ (p : Reply). p .answer) (insert-there x v es (among-has x w es a));
+    already = λ x v w a.
+        ap (λ (p : Reply). p .answer) (insert-there x v es (among-has x w es a)) ∙ ap (λ (u : ℕ). AlreadyThere u) (among-information x w es a r);
     alreadyKeeps = λ x v w a. ap (λ (p : Reply). p .entries) (insert-there x v es (among-has x w es a));
     deletes = λ x v a.
         ap (λ (p : Reply). p .answer) (delete-there x es (among-has x v es a)) ∙ ap (λ (w : ℕ). Deleted w) (among-information x v es a r);
@@ -396,5 +450,13 @@ module _ (es : List Entry) (r : rises es ≡ true) where
     none = none;
     noneAbove = none-above;
     nextKeeps = λ x. next-keeps x es;
+    regrades = λ x w v a.
+        ap (λ (p : Reply). p .answer) (regrade-there x w es (among-has x v es a)) ∙ ap (λ (u : ℕ). Regraded u) (among-information x v es a r);
+    regraded = regraded-old;
+    regradedFound = regraded-found;
+    regradedThere = λ x w v a. ap (λ (p : Reply). p .entries) (regrade-there x w es (among-has x v es a)) ∙ regraded-among x w v es r a;
+    regradedKeys = regraded-keys;
+    noneToRegrade = λ x w m. ap (λ (p : Reply). p .answer) (regrade-missing x w es (missing-has x es m));
+    noneToRegradeKeeps = λ x w m. ap (λ (p : Reply). p .entries) (regrade-missing x w es (missing-has x es m));
     others = others;
   }

@@ -99,7 +99,7 @@ nothing-left st ws closed =
     omega arith
 
 -- calls one behind the other
-run-append : (cs ds : List Call) (st : State) (ws : List ℕ)
+pub run-append : (cs ds : List Call) (st : State) (ws : List ℕ)
     → (run (cs ++ ds) st ws .state ≡ run ds (run cs st ws .state) (run cs st ws .words) .state)
     × (run (cs ++ ds) st ws .words ≡ run ds (run cs st ws .state) (run cs st ws .words) .words)
 unfolding run

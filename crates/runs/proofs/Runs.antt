@@ -12,7 +12,7 @@ use Rattle.ground.proofs.Bools.{true-or-false, and-first, and-second, and-both,
 use Rattle.ground.proofs.Choice.{cond-true, cond-false}
 use Rattle.pool.specs.Pool.{kInRange, nInRange, poolLength, fresh}
 use Rattle.slots.specs.declared.Op.{Op}
-use Rattle.slots.specs.declared.Op.the-variants.{Search, Insert, Delete, Next}
+use Rattle.slots.specs.declared.Op.the-variants.{Search, Insert, Delete, Next, Regrade}
 use Rattle.slots.specs.declared.Slot.{Slot}
 use Rattle.slots.specs.declared.State.{State}
 use Rattle.slots.specs.declared.Outcome.{Outcome}
@@ -38,6 +38,7 @@ key-in-words (Search x) h = h
 key-in-words (Insert x v) h = h .0
 key-in-words (Delete x) h = h
 key-in-words (Next x) h = h
+key-in-words (Regrade x v) h = h .0
 
 -- What a begin comes to in a run.
 pub data BeginOf (st : State) (s : ℕ) (op : Op) : Type 0 where

@@ -23,7 +23,7 @@ use Rattle.page.specs.Short.{neighbour}
 use Rattle.pool.specs.Pool.{wordsOf, pageAt, freePages}
 use Rattle.change.specs.Deletion.{Need, sibling, needs}
 use Rattle.slots.specs.declared.Op.{Op}
-use Rattle.slots.specs.declared.Op.the-variants.{Search, Insert, Delete, Next}
+use Rattle.slots.specs.declared.Op.the-variants.{Search, Insert, Delete, Next, Regrade}
 use Rattle.slots.specs.declared.Answer.the-variants.{NoSuchKey}
 use Rattle.slots.specs.Parts.{keyOf}
 use Rattle.footing.specs.Granted.{Verdict, broken, goes, ends, isSafe, kept, deletes, atLeaf, fromLeaf, comesDown, besides, atItsLeaf, granted}
@@ -40,7 +40,7 @@ use Rattle.runs.proofs.Paths.{member-reverse}
 use Rattle.runs.proofs.Placing.{well-held}
 use Rattle.runs.proofs.Needing.{AtLeaf, beside-leaf, beside-asked}
 use Rattle.runs.proofs.Granting.{Down, Reached, descends-way, rightly-test, starting-down, coming-down, down-above, down-fitting, down-reached, reached-next, reached-leaf}
-use Rattle.runs.proofs.Landing.{Does, on, done, leaf-is, leaf-has, search-does, insert-does, missing-ends, delete-does}
+use Rattle.runs.proofs.Landing.{Does, on, done, leaf-is, leaf-has, search-does, insert-does, missing-ends, delete-does, regrade-does}
 use Rattle.runs.proofs.NextSteps.{next-does, crossing-leaf, crossing-test, crossing-does}
 
 -- ---- pages in lists
@@ -140,7 +140,7 @@ test-at-leaf memory path test =
 
 -- at its leaf, by the operation
 module _ (k n : ℕ) (ws : List ℕ) (l : ℕ) (t : Tr l) (pool : PoolForms k n ws l t) (one : 1 ≤ k) (path₀ siblings₀ : List ℕ) (want : ℕ)
-    (path : List ℕ) (leaf : ℕ) (fathers upper : List ℕ) (upward : reverse path ≡ leaf ∷ fathers)
+    (path : List ℕ) (leaf : ℕ) (last : leaf ≡ want) (fathers upper : List ℕ) (upward : reverse path ≡ leaf ∷ fathers)
     (inside : (q : ℕ) → member q path ≡ true → member q (want ∷ (path₀ ++ siblings₀)) ≡ true) where
   landed-does : (op : Op) → keyOf op < wordRange → WayFacts (pageAt k ws) (keyOf op) l t → way (keyOf op) l t ≡ leaf ∷ (fathers ++ upper)
       → Rightly op k (pageAt k ws) path
@@ -175,6 +175,8 @@ module _ (k n : ℕ) (ws : List ℕ) (l : ℕ) (t : Tr l) (pool : PoolForms k n 
       (sym (leaf-has (pageAt k ws) y l t facts leaf (fathers ++ upper) whole) ∙ f)))
   landed-does (Next y) key facts whole rightly takes =
       next-does k n ws l t pool one path₀ siblings₀ want y key facts path leaf fathers upper upward whole rightly takes
+  landed-does (Regrade y v) key facts whole rightly takes =
+      regrade-does k n ws l t pool path₀ siblings₀ want y facts leaf (fathers ++ upper) whole key v last path fathers
 
 module _ (op : Op) (k n : ℕ) (ws : List ℕ) (l : ℕ) (t : Tr l) (path siblings : List ℕ) (want : ℕ)
     (scene : Scene op k n ws l t path siblings want) (none : siblings ≡ []) (down : Down op k (pageAt k ws) l t path want) where
@@ -208,7 +210,7 @@ module _ (op : Op) (k n : ℕ) (ws : List ℕ) (l : ℕ) (t : Tr l) (path siblin
       Does op k n ws l t path siblings want
       (fromLeaf (λ (leaf : ℕ) (fathers : List ℕ). atLeaf op k (pageAt k ws) (freePages k n ws) path′ leaf fathers) up))
       (sym (reached .upward))
-      (landed-does k n ws l t (scene .forms) (scene .kLeast) path siblings want path′ want (reached .fathers) (reached .upper) (reached .upward)
+      (landed-does k n ws l t (scene .forms) (scene .kLeast) path siblings want path′ want refl (reached .fathers) (reached .upper) (reached .upward)
       (kept-inside op k (pageAt k ws) path siblings want)
       op (scene .key) way-of (reached-leaf op k (pageAt k ws) l t way-of path′ want reached y) (reached .rightly) down-takes))
       (λ f.
@@ -367,6 +369,7 @@ stays (Search y) k n ws l t path siblings want scene b = absurd (false≢true (b
 stays (Insert y v) k n ws l t path siblings want scene b = absurd (false≢true (b .deletes))
 stays (Delete y) k n ws l t path siblings want scene b = deletion-comes y k n ws l t path siblings want scene b
 stays (Next y) k n ws l t path siblings want scene b = absurd (false≢true (b .deletes))
+stays (Regrade y v) k n ws l t path siblings want scene b = absurd (false≢true (b .deletes))
 
 -- ---- past its leaf
 
@@ -410,6 +413,7 @@ crosses-over (Search y) k n ws l t path second want scene c = absurd (false≢tr
 crosses-over (Insert y v) k n ws l t path second want scene c = absurd (false≢true (c .asksNext))
 crosses-over (Delete y) k n ws l t path second want scene c = absurd (false≢true (c .asksNext))
 crosses-over (Next y) k n ws l t path second want scene c = next-comes y k n ws l t path second want scene c
+crosses-over (Regrade y v) k n ws l t path second want scene c = absurd (false≢true (c .asksNext))
 
 -- A granted step of a slot that stands as it should.
 pub granted-comes : (op : Op) (k n : ℕ) (ws : List ℕ) (l : ℕ) (t : Tr l) (path siblings : List ℕ) (want : ℕ)

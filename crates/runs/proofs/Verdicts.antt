@@ -12,7 +12,7 @@ use Rattle.pool.specs.Pool.{Write, pageAt, freePages}
 use Rattle.change.specs.Insertion.{room}
 use Rattle.change.specs.Deletion.{Need, nothing, sibling, astray, needs}
 use Rattle.slots.specs.declared.Op.{Op}
-use Rattle.slots.specs.declared.Op.the-variants.{Search, Insert, Delete, Next}
+use Rattle.slots.specs.declared.Op.the-variants.{Search, Insert, Delete, Next, Regrade}
 use Rattle.slots.specs.declared.Answer.{Answer}
 use Rattle.slots.specs.Parts.{keyOf, isNext}
 use Rattle.footing.specs.Granted.{Verdict, broken, goes, ends, isSafe, kept, byNeed, deletes, crosses, byNearest, atLeaf, fromLeaf, comesDown, goesLeft, besides, atItsLeaf, granted}
@@ -64,6 +64,7 @@ leaf-goes (Delete x) k memory free path leaf fathers =
     cond-ind (GoesTo path []) (has x (memory leaf .entries)) (λ _. deletes-goes k memory x path leaf fathers []) (λ _. tt)
 leaf-goes (Next x) k memory free path leaf fathers =
     by-nearest-goes path (crosses (Next x) k memory path) (atOrAbove x (memory leaf .entries)) (crosses-goes (Next x) k memory path)
+leaf-goes (Regrade x v) k memory free path leaf fathers = cond-ind (GoesTo path []) (has x (memory leaf .entries)) (λ _. tt) (λ _. tt)
 
 from-leaf-goes : (path siblings : List ℕ) (act : ℕ → List ℕ → Verdict) → ((leaf : ℕ) (fathers : List ℕ) → GoesTo path siblings (act leaf fathers))
     → (up : List ℕ) → GoesTo path siblings (fromLeaf act up)

@@ -1,5 +1,6 @@
 -- "Granted steps, with h the level of page 0 when it is granted: search and insertion take h, deletion h to 2h-1. So at most 19 a
--- slot". Next: "It takes at most 2h-1 grants, so 304 stands." Counted in a run, from where an operation has begun to where it ends.
+-- slot". Next: "It takes at most 2h-1 grants, so 304 stands." A regrading goes down as a search does, and takes h. Counted in a run,
+-- from where an operation has begun to where it ends.
 use Prim.Native.Nat.{ℕ, _+_, _-_, _*_, _≤_}
 use mathlib.Core.Bool.{Bool, true, false, not, cond, _&&_}
 use mathlib.Core.List.{List, [], _∷_}
@@ -8,7 +9,7 @@ use lib.Dec.{eqb}
 use Rattle.ground.specs.Limits.{slotGrants}
 use Rattle.pool.specs.Pool.{pageAt}
 use Rattle.slots.specs.declared.Op.{Op}
-use Rattle.slots.specs.declared.Op.the-variants.{Search, Insert, Delete, Next}
+use Rattle.slots.specs.declared.Op.the-variants.{Search, Insert, Delete, Next, Regrade}
 use Rattle.slots.specs.declared.State.{State}
 use Rattle.slots.specs.declared.Answer.the-variants.{Begun}
 use Rattle.slots.specs.Heard.{changesNothing}
@@ -42,16 +43,17 @@ heightGranted s (c ∷ cs) st ws =
     let next = called st ws c in
     cond (grantedTo s st ws c) (pageAt (st .k) ws 0 .level) (heightGranted s cs (next .state) (next .words))
 
--- the operation goes straight down, and no further than its leaf: it is a search or an insertion
+-- the operation goes straight down, and no further than its leaf: it is a search, an insertion or a regrading
 abbrev pub GoesStraight : Op → Type 0
 GoesStraight (Search x) = Unit {0}
 GoesStraight (Insert x v) = Unit {0}
 GoesStraight (Delete x) = ⊥
 GoesStraight (Next x) = ⊥
+GoesStraight (Regrade x v) = Unit {0}
 
 -- The grants of slot s, which has just begun this operation in this state, among these calls.
 pub record GrantCounts (s : ℕ) (op : Op) (cs : List Call) (st : State) (ws : List ℕ) : Type 0 where
-  -- "search and insertion take h"
+  -- "search and insertion take h", and so does a regrading
   pub exactly : GoesStraight op → endsWithin s cs st ws ≡ true → grantsOf s cs st ws ≡ heightGranted s cs st ws
   -- "deletion h to 2h-1", and so does Next
   pub least : endsWithin s cs st ws ≡ true → heightGranted s cs st ws ≤ grantsOf s cs st ws

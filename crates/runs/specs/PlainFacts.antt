@@ -1,15 +1,15 @@
--- What the plain sorted list means, pinned by laws: what was inserted is found, what was deleted is not, other keys are
--- untouched, and keys rise. `plain` knows no pages, and neither do these.
+-- What the plain sorted list means, pinned by laws: what was inserted is found, what was deleted is not, what was regraded is found
+-- with its new information, other keys are untouched, and keys rise. `plain` knows no pages, and neither do these.
 use Prim.Native.Nat.{ℕ, _≤_, _<_}
 use mathlib.Core.Bool.{true}
-use mathlib.Core.List.{List, _∷_, _++_}
+use mathlib.Core.List.{List, _∷_, _++_, map}
 use mathlib.Core.Logic.{_≢_}
 use mathlib.Core.Path.{_≡_}
-use Rattle.page.specs.Words.{Entry, entry}
+use Rattle.page.specs.Words.{Entry, entry, keyOf as keyOfEntry}
 use Rattle.page.specs.Sound.{rises}
 use Rattle.slots.specs.declared.Op.{Op}
-use Rattle.slots.specs.declared.Op.the-variants.{Search, Insert, Delete, Next}
-use Rattle.slots.specs.declared.Answer.the-variants.{Found, NotFound, Inserted, AlreadyThere, Deleted, NoSuchKey, Next as NextLot, None as NoLot}
+use Rattle.slots.specs.declared.Op.the-variants.{Search, Insert, Delete, Next, Regrade}
+use Rattle.slots.specs.declared.Answer.the-variants.{Found, NotFound, Inserted, AlreadyThere, Deleted, NoSuchKey, Next as NextLot, None as NoLot, Regraded}
 use Rattle.slots.specs.Parts.{keyOf}
 use Rattle.runs.specs.Plain.{plain}
 
@@ -46,8 +46,8 @@ pub record PlainFacts (es : List Entry) : Type 0 where
   pub inserts : (x v : ℕ) → Missing x es → plain (Insert x v) es .answer ≡ Inserted
   pub insertedFound : (x v : ℕ) → plain (Insert x v) es .answer ≡ Inserted
       → plain (Search x) (plain (Insert x v) es .entries) .answer ≡ Found v
-  -- otherwise it is answered AlreadyThere, and changes nothing
-  pub already : (x v w : ℕ) → Among x w es → plain (Insert x v) es .answer ≡ AlreadyThere
+  -- otherwise it is answered AlreadyThere, with the information that is there, and changes nothing
+  pub already : (x v w : ℕ) → Among x w es → plain (Insert x v) es .answer ≡ AlreadyThere w
   pub alreadyKeeps : (x v w : ℕ) → Among x w es → plain (Insert x v) es .entries ≡ es
   -- Delete is answered Deleted, with the information that stood there, just if the key stands, and then it is not found
   pub deletes : (x v : ℕ) → Among x v es → plain (Delete x) es .answer ≡ Deleted v
@@ -63,5 +63,17 @@ pub record PlainFacts (es : List Entry) : Type 0 where
   pub none : (x : ℕ) → AllBelow x es → plain (Next x) es .answer ≡ NoLot
   pub noneAbove : (x : ℕ) → plain (Next x) es .answer ≡ NoLot → AllBelow x es
   pub nextKeeps : (x : ℕ) → plain (Next x) es .entries ≡ es
+  -- Regrade is answered Regraded, with the information that stood there, just if the key stands, and then the key is found with the
+  -- new information
+  pub regrades : (x w v : ℕ) → Among x v es → plain (Regrade x w) es .answer ≡ Regraded v
+  pub regraded : (x w v : ℕ) → plain (Regrade x w) es .answer ≡ Regraded v → Among x v es
+  pub regradedFound : (x w v : ℕ) → plain (Regrade x w) es .answer ≡ Regraded v
+      → plain (Search x) (plain (Regrade x w) es .entries) .answer ≡ Found w
+  -- the new information stands in the place of the old, and everything else as it was: so the keys stay
+  pub regradedThere : (x w v : ℕ) (a : Among x v es) → plain (Regrade x w) es .entries ≡ a .before ++ entry x w ∷ a .after
+  pub regradedKeys : (x w : ℕ) → map keyOfEntry (plain (Regrade x w) es .entries) ≡ map keyOfEntry es
+  -- where the key is missing it is answered NoSuchKey, and changes nothing
+  pub noneToRegrade : (x w : ℕ) → Missing x es → plain (Regrade x w) es .answer ≡ NoSuchKey
+  pub noneToRegradeKeeps : (x w : ℕ) → Missing x es → plain (Regrade x w) es .entries ≡ es
   -- other keys are untouched: a search of another key is answered as before
   pub others : (op : Op) (y : ℕ) → y ≢ keyOf op → plain (Search y) (plain op es .entries) .answer ≡ plain (Search y) es .answer

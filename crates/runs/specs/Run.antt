@@ -7,7 +7,7 @@ use lib.ListN.{length}
 use Rattle.ground.specs.Limits.{wordRange}
 use Rattle.pool.specs.Pool.{kInRange, nInRange, poolLength}
 use Rattle.slots.specs.declared.Op.{Op}
-use Rattle.slots.specs.declared.Op.the-variants.{Search, Insert, Delete, Next}
+use Rattle.slots.specs.declared.Op.the-variants.{Search, Insert, Delete, Next, Regrade}
 use Rattle.slots.specs.declared.Answer.{Answer}
 use Rattle.slots.specs.declared.State.{State}
 use Rattle.slots.specs.Begin.{begun}
@@ -54,6 +54,7 @@ OpInWords (Search x) = x < wordRange
 OpInWords (Insert x v) = (x < wordRange) × (v < wordRange)
 OpInWords (Delete x) = x < wordRange
 OpInWords (Next x) = x < wordRange
+OpInWords (Regrade x v) = (x < wordRange) × (v < wordRange)
 
 -- a call as a caller can make it: slots and pages are any numbers
 abbrev pub CallInWords : Call → Type 0

@@ -11,22 +11,23 @@ use Rattle.page.specs.Words.{Page, μ}
 use Rattle.page.specs.Place.{place, pointer, has, atOrAbove}
 use Rattle.page.specs.Short.{neighbour}
 use Rattle.slots.specs.declared.Op.{Op}
-use Rattle.slots.specs.declared.Op.the-variants.{Search, Insert, Delete, Next}
+use Rattle.slots.specs.declared.Op.the-variants.{Search, Insert, Delete, Next, Regrade}
 use Rattle.slots.specs.Parts.{keyOf, isDelete, isNext, goesBeside}
 use Rattle.footing.specs.Granted.{isSafe}
 use Rattle.tree.specs.Tree.{Tr, entriesOf, way}
 
 -- When a page is safe for an operation: then all its ancestors are given up. "Search gives up the father." "Insertion: if the page
--- has μ < 2k". "Deletion: the same with μ > k". Next: it is no leaf, and "still has a child to the right of the route". The rule's
--- test of it is `isSafe`, proved to be this.
+-- has μ < 2k". "Deletion: the same with μ > k". Next: it is no leaf, and "still has a child to the right of the route".
+-- Regrading: "every page is safe for it". The rule's test of it is `isSafe`, proved to be this.
 abbrev pub Safe : Op → ℕ → Page → Type 0
 Safe (Search x) k P = Unit {0}
 Safe (Insert x v) k P = μ P < 2 * k
 Safe (Delete x) k P = k < μ P
 Safe (Next x) k P = (P .level ≢ 1) × (place x (P .entries) < μ P)
+Safe (Regrade x v) k P = Unit {0}
 
 -- The pages of a path are those whose ancestors could not be given up: the top one is page 0 or safe for the operation, and
--- none below it is safe. (For a search every page is safe: so it holds one.)
+-- none below it is safe. (For a search and a regrading every page is safe: so they hold one.)
 pub record Rightly (op : Op) (k : ℕ) (memory : ℕ → Page) (path : List ℕ) : Type 0 where
   pub some : 1 ≤ length path
   pub top : (getD path 0 0 ≡ 0) ⊎ (isSafe op k (memory (getD path 0 0)) ≡ true)
@@ -95,8 +96,8 @@ abbrev pub StandsAtLeaf : (ℕ → Page) → List ℕ → Type 0
 StandsAtLeaf memory path = (1 ≤ length path) × (memory (getD (reverse path) 0 0) .level ≡ 1)
 
 -- "Search gives up the father." "Insertion: if the page has μ < 2k, all its ancestors are given up." "Deletion: the same with
--- μ > k". Next keeps its locks "from the lowest page on its way that still has a child to the right": coming down to a page that
--- is safe for the operation, it holds that page alone.
+-- μ > k". Next keeps its locks "from the lowest page on its way that still has a child to the right". Regrading: "every page is safe
+-- for it". Coming down to a page that is safe for the operation, it holds that page alone.
 pub record GivesUp (op : Op) (k : ℕ) (memory : ℕ → Page) (path siblings : List ℕ) (want : ℕ) (path′ siblings′ : List ℕ) : Type 0 where
   pub comesDown : StandsAtLeaf memory path → ⊥
   pub safe : isSafe op k (memory want) ≡ true

@@ -14,7 +14,7 @@ use Rattle.pool.specs.Pool.{Write, pageAt, freePages}
 use Rattle.slots.specs.declared.Op.{Op}
 use Rattle.slots.specs.declared.Op.the-variants.{Insert}
 use Rattle.slots.specs.declared.Answer.{Answer}
-use Rattle.slots.specs.declared.Answer.the-variants.{NoRoom}
+use Rattle.slots.specs.declared.Answer.the-variants.{NoRoom, Regraded}
 use Rattle.slots.specs.Parts.{keyOf, onlyReads}
 use Rattle.slots.specs.Heard.{isOneOf}
 use Rattle.footing.specs.Granted.{goes, ends}
@@ -59,9 +59,11 @@ pub record Ended (op : Op) (k n : ℕ) (ws : List ℕ) (l : ℕ) (t : Tr l) (pat
   pub how : AsPlain op k n ws l t a entries ⊎ (NoRoomLeft op k n ws l t a writes × (entries ≡ entriesOf l t))
   -- it writes no page but those that it held, the one that it wanted, and free ones
   pub only : (q : ℕ) → member q (writtenPages writes) ≡ true → (member q (want ∷ (path ++ siblings)) ≡ true) ⊎ (occurs q l t ≡ 0)
-  -- a search or a Next writes nothing, and of the answers only Inserted and Deleted write
+  -- a search or a Next writes nothing, and of the answers only Inserted, Deleted and Regraded write
   pub reads : onlyReads op ≡ true → writes ≡ []
   pub writers : isOneOf a writing ≡ false → writes ≡ []
+  -- a regrading writes the page that it wanted, and no other
+  pub regrades : (old : ℕ) → a ≡ Regraded old → (q : ℕ) → member q (writtenPages writes) ≡ true → q ≡ want
 
 -- A granted step: the slot goes on and stands as it should, or its operation ends. It is never broken.
 pub data Comes (op : Op) (k n : ℕ) (ws : List ℕ) (l : ℕ) (t : Tr l) (path siblings : List ℕ) (want : ℕ) : Type 0 where

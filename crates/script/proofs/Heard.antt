@@ -10,7 +10,7 @@ use Rattle.slots.specs.declared.Op.{Op}
 use Rattle.slots.specs.declared.Op.the-variants.{Search}
 use Rattle.slots.specs.declared.State.{State}
 use Rattle.slots.specs.declared.Answer.{Answer}
-use Rattle.slots.specs.declared.Answer.the-variants.{Waiting, Moved, Found, NotFound, Inserted, AlreadyThere, Deleted, NoSuchKey, NoRoom, Begun, Made, Reported, Next, None, BadState, BadPool, BadSlot, SlotBusy, SlotIdle, Damaged, BadPage}
+use Rattle.slots.specs.declared.Answer.the-variants.{Waiting, Moved, Found, NotFound, Inserted, AlreadyThere, Deleted, NoSuchKey, NoRoom, Begun, Made, Reported, Next, None, Regraded, BadState, BadPool, BadSlot, SlotBusy, SlotIdle, Damaged, BadPage}
 use Rattle.slots.specs.Heard.{numberOf, isOneOf}
 use Rattle.lines.specs.declared.Command.{Command}
 use Rattle.lines.specs.declared.Command.the-variants.{Begin, Step, Bad}
@@ -65,7 +65,7 @@ answer-quiet Moved h = refl
 answer-quiet (Found v) h = refl
 answer-quiet NotFound h = refl
 answer-quiet Inserted h = refl
-answer-quiet AlreadyThere h = refl
+answer-quiet (AlreadyThere v) h = refl
 answer-quiet (Deleted v) h = refl
 answer-quiet NoSuchKey h = refl
 answer-quiet NoRoom h = refl
@@ -74,6 +74,7 @@ answer-quiet Made h = refl
 answer-quiet (Reported kind holders lowest) h = refl
 answer-quiet (Next x v) h = refl
 answer-quiet None h = refl
+answer-quiet (Regraded v) h = refl
 answer-quiet BadState h = absurd (false≢true h)
 answer-quiet BadPool h = absurd (false≢true h)
 answer-quiet BadSlot h = refl

@@ -1,7 +1,7 @@
 -- Calls of the library, one after the other, are a run; so the demands hold of them.
 use Prim.Native.Nat.{ℕ, _<_}
 use mathlib.Core.Bool.{true, _&&_}
-use mathlib.Core.List.{List, [], _∷_, map}
+use mathlib.Core.List.{List, [], _∷_, _++_, map, append-nil}
 use mathlib.Core.Logic.{⊎-elim}
 use mathlib.Core.Path.{_≡_, refl, sym, ap, subst, _∙_}
 use native.Mathlib.Omega.{arith}
@@ -29,10 +29,12 @@ use Rattle.runs.proofs.Invariant.{Invariant}
 use Rattle.runs.proofs.Runs.{call-keeps, holds-after}
 use Rattle.promises.specs.Demand1.{MakingInRange}
 use Rattle.promises.specs.Demand2.{AfterEveryCall, answersOf}
+use Rattle.promises.specs.Regrading.{IsThere, NotDeleted, NeverNowhere}
 use Rattle.promises.proofs.Demand1.{range-tested, make-demand}
 use Rattle.promises.proofs.Demand2.{call-heard, demand2}
 use Rattle.promises.proofs.Demand3.{demand3}
-use Rattle.script.specs.Library.{Went, begins, steps, reports, Follow, beginsWith, callsIn, toldFirst, toldIn, quietNumber, quietFour, LibraryRuns, LibraryPromises}
+use Rattle.promises.proofs.Regrading.{regrading-holds}
+use Rattle.script.specs.Library.{Went, begins, steps, reports, Follow, beginsWith, callsIn, toldFirst, toldIn, quietNumber, quietFour, LibraryRuns, LibraryPromises, LibraryKeepsLots}
 
 -- ---- what is left and told
 
@@ -91,7 +93,9 @@ asked-in-words s kind key information cs hk hi h =
     (λ _. (hk, h))
     (λ _. cond-ind In (eqb kind 2)
     (λ _. ((hk, hi), h))
-    (λ _. cond-ind In (eqb kind 3) (λ _. (hk, h)) (λ _. cond-ind In (eqb kind 4) (λ _. (hk, h)) (λ _. h))))
+    (λ _. cond-ind In (eqb kind 3)
+    (λ _. (hk, h))
+    (λ _. cond-ind In (eqb kind 4) (λ _. (hk, h)) (λ _. cond-ind In (eqb kind 5) (λ _. ((hk, hi), h)) (λ _. h)))))
 
 follow-in-words : (calls : List Went) (cells ws last lastWs : List ℕ) → Follow cells ws calls last lastWs → InWords (callsIn calls)
 unfolding callsIn
@@ -162,4 +166,36 @@ library-promises k n ws calls last lastWs h =
       neverTold = ap (all quietFour) (is .answers) ∙ from-quiet k n ws cs (is .run);
       second = second;
       third = demand3 k n ws cs (is .run);
+    }
+
+-- ---- a lot that is not deleted
+
+-- calls as a caller can make them, one behind the other
+words-append : (cs ds : List Call) → InWords cs → InWords ds → InWords (cs ++ ds)
+words-append [] ds h g = g
+words-append (c ∷ cs) ds h g = (h .0, words-append cs ds (h .1) g)
+
+pub library-keeps-lots : LibraryKeepsLots
+library-keeps-lots k n ws before between mid midWs last lastWs x h f kept =
+    let cs : List Call = callsIn between in
+    let was = library-runs k n ws before mid midWs h in
+    let start : State = runFrom k n ws (callsIn before) .state in
+    let whole : Run k n ws (callsIn before ++ cs) = record {
+      numbers = was .run .numbers;
+      whole = was .run .whole;
+      inWords = words-append (callsIn before) cs (was .run .inWords) (follow-in-words between mid midWs last lastWs f);
+    } in
+    let never : NeverNowhere (stateOf mid) midWs cs x =
+    subst (λ (st : State). NotDeleted st midWs cs x → NeverNowhere st midWs cs x) (sym (was .state))
+    (subst (λ (after : List ℕ). NotDeleted start after cs x → NeverNowhere start after cs x) (sym (was .words))
+    (regrading-holds k n ws (callsIn before) cs x whole)) kept in
+    let g = follow-goes between mid midWs last lastWs f in
+    let (v, there, _) = never .always cs [] (sym (append-nil cs)) in
+    record {
+      never = never;
+      still = (
+        v,
+        subst (λ (st : State). IsThere st lastWs x v) (sym (g .state))
+            (subst (λ (after : List ℕ). IsThere (run cs (stateOf mid) midWs .state) after x v) (sym (g .words)) there),
+      );
     }

@@ -1,9 +1,9 @@
--- Demands 2 and 3 for the little program.
+-- Demands 2 and 3 and 02 (iv) for the little program.
 use Prim.Native.Nat.{ℕ}
 use mathlib.Core.Bool.{true}
 use mathlib.Core.List.{List, []}
 use mathlib.Core.Logic.{⊎-elim}
-use mathlib.Core.Path.{_≡_, refl, sym, ap, _∙_}
+use mathlib.Core.Path.{_≡_, refl, sym, ap, subst, _∙_}
 use borrow.Author.Tests.{ltb-false}
 use lib.Dec.{ltb}
 use lib.ListN.{length}
@@ -14,12 +14,13 @@ use Rattle.lines.specs.Text.{startsWith}
 use Rattle.lines.specs.Names.{tooLong}
 use Rattle.talk.specs.Split.{linesOf}
 use Rattle.talk.specs.Talk.{programK, programPages, blank, opening, mostBytes, programWrites}
-use Rattle.runs.specs.Run.{run, runFrom}
+use Rattle.runs.specs.Run.{run, runFrom, Run}
 use Rattle.runs.proofs.Invariant.{Invariant}
 use Rattle.runs.proofs.Runs.{holds-after}
 use Rattle.runs.proofs.Agreement.{agreement}
+use Rattle.promises.proofs.Regrading.{regrading-holds}
 use Rattle.script.specs.Script.{commandsIn, callsBy, scriptCalls, scriptRun}
-use Rattle.script.specs.Promises.{quiet, NeverSaid, ScriptAgrees}
+use Rattle.script.specs.Promises.{quiet, NeverSaid, ScriptAgrees, ScriptKeepsLots}
 use Rattle.script.proofs.Script.{program-is-run, script-in-words, script-runs}
 use Rattle.script.proofs.Heard.{isSpoken, script-hears, said-quiet}
 use Rattle.script.proofs.Reading.{answers-once, each-answered}
@@ -56,3 +57,7 @@ script-agrees input h = record {
       (ap linesOf (sym (r .whole) ∙ program-is-run input h));
   same = agreement programK programPages blank (scriptCalls input) (script-runs input) .answers;
 }
+
+pub script-keeps-lots : ScriptKeepsLots
+script-keeps-lots input before between x e =
+    regrading-holds programK programPages blank before between x (subst (Run programK programPages blank) e (script-runs input))

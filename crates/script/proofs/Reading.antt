@@ -16,7 +16,7 @@ use Rattle.ground.proofs.Tests.{all-member}
 use Rattle.slots.specs.declared.State.{State}
 use Rattle.slots.specs.declared.Lock.the-variants.{None}
 use Rattle.slots.specs.declared.Answer.{Answer}
-use Rattle.slots.specs.declared.Answer.the-variants.{Waiting, Moved, Found, NotFound, Inserted, AlreadyThere, Deleted, NoSuchKey, NoRoom, Begun, Made, Reported, Next, None as NoLot, BadState, BadPool, BadSlot, SlotBusy, SlotIdle, Damaged, BadPage}
+use Rattle.slots.specs.declared.Answer.the-variants.{Waiting, Moved, Found, NotFound, Inserted, AlreadyThere, Deleted, NoSuchKey, NoRoom, Begun, Made, Reported, Next, None as NoLot, Regraded, BadState, BadPool, BadSlot, SlotBusy, SlotIdle, Damaged, BadPage}
 use Rattle.slots.specs.Heard.{numberOf}
 use Rattle.lines.specs.declared.Command.{Command}
 use Rattle.lines.specs.declared.Command.the-variants.{Begin, Step, Bad}
@@ -49,7 +49,7 @@ readBack line =
     (cond (startsWith (bytes "Found ") line) (Found (value (drop (length (bytes "Found ")) line)))
     (cond (startsWith (bytes "NotFound") line) NotFound
     (cond (startsWith (bytes "Inserted") line) Inserted
-    (cond (startsWith (bytes "AlreadyThere") line) AlreadyThere
+    (cond (startsWith (bytes "AlreadyThere ") line) (AlreadyThere (value (drop (length (bytes "AlreadyThere ")) line)))
     (cond (startsWith (bytes "Deleted ") line) (Deleted (value (drop (length (bytes "Deleted ")) line)))
     (cond (startsWith (bytes "NoSuchKey") line) NoSuchKey
     (cond (startsWith (bytes "NoRoom") line) NoRoom
@@ -57,6 +57,7 @@ readBack line =
     (cond (startsWith (bytes "Made") line) Made
     (cond (startsWith (bytes "Next ") line) (lotBack (drop (length (bytes "Next ")) line))
     (cond (startsWith (bytes "None") line) NoLot
+    (cond (startsWith (bytes "Regraded ") line) (Regraded (value (drop (length (bytes "Regraded ")) line)))
     (cond (startsWith (bytes "BadState") line) BadState
     (cond (startsWith (bytes "BadPool") line) BadPool
     (cond (startsWith (bytes "BadSlot") line) BadSlot
@@ -64,7 +65,7 @@ readBack line =
     (cond (startsWith (bytes "SlotIdle") line) SlotIdle
     (cond (startsWith (bytes "Damaged") line) Damaged
     (cond (startsWith (bytes "BadPage") line) BadPage
-    (Reported None 0 0))))))))))))))))))))
+    (Reported None 0 0)))))))))))))))))))))
 
 isReport : Answer → Bool
 isReport a = eqb (numberOf a) (numberOf (Reported None 0 0))
@@ -93,7 +94,7 @@ reads-back Moved = refl
 reads-back (Found v) = ap Found (number-back v)
 reads-back NotFound = refl
 reads-back Inserted = refl
-reads-back AlreadyThere = refl
+reads-back (AlreadyThere v) = ap AlreadyThere (number-back v)
 reads-back (Deleted v) = ap Deleted (number-back v)
 reads-back NoSuchKey = refl
 reads-back NoRoom = refl
@@ -102,6 +103,7 @@ reads-back Made = refl
 reads-back (Reported kind holders lowest) = refl
 reads-back (Next x v) = lot-back x v
 reads-back NoLot = refl
+reads-back (Regraded v) = ap Regraded (number-back v)
 reads-back BadState = refl
 reads-back BadPool = refl
 reads-back BadSlot = refl

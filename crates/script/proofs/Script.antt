@@ -13,7 +13,7 @@ use Rattle.slots.specs.Begin.{begun}
 use Rattle.lines.specs.declared.Command.{Command}
 use Rattle.lines.specs.declared.Command.the-variants.{Begin, Step, Bad}
 use Rattle.lines.specs.Meaning.{meaning, largest}
-use Rattle.lines.specs.Forms.{Good, toSearch, toInsert, toDelete, toNext, toStep}
+use Rattle.lines.specs.Forms.{Good, toSearch, toInsert, toDelete, toNext, toRegrade, toStep}
 use Rattle.lines.specs.Names.{answerLine, badLine}
 use Rattle.lines.proofs.Grammar.{means-good}
 use Rattle.index.specs.Step.{stepped}
@@ -59,6 +59,7 @@ good-in-words line rest (toSearch ss ks hs hk e) h = (number-word (hk .small), h
 good-in-words line rest (toInsert ss ks is hs hk hi e) h = ((number-word (hk .small), number-word (hi .small)), h)
 good-in-words line rest (toDelete ss ks hs hk e) h = (number-word (hk .small), h)
 good-in-words line rest (toNext ss ks hs hk e) h = (number-word (hk .small), h)
+good-in-words line rest (toRegrade ss ks is hs hk hi e) h = ((number-word (hk .small), number-word (hi .small)), h)
 good-in-words line rest (toStep ss hs e) h = (tt, h)
 
 -- keys and informations of good lines are words

@@ -18,6 +18,7 @@ use Rattle.embed.specs.Statements.{MakeTells, BeginTells, StepTells, ReportTell
 use Rattle.runs.specs.Run.{Call, begin, step, report, runFrom, Run}
 use Rattle.promises.specs.Demand2.{AfterEveryCall, Demand2}
 use Rattle.promises.specs.Demand3.{Demand3}
+use Rattle.promises.specs.Regrading.{IsThere, NotDeleted, NeverNowhere}
 
 -- ---- calls of the library
 
@@ -101,3 +102,18 @@ pub record Kept (k n : ℕ) (ws : List ℕ) (calls : List Went) (last lastWs : L
 
 abbrev pub LibraryPromises : Type 0
 LibraryPromises = (k n : ℕ) (ws : List ℕ) (calls : List Went) (last lastWs : List ℕ) → Served k n ws calls last lastWs → Kept k n ws calls last lastWs
+
+-- ---- 02 (iv): a lot that is not deleted is at no moment nowhere
+
+-- The first of the calls is lent the words `mid` and `midWs`, the last leaves `last` and `lastWs`.
+pub record LotKept (mid midWs : List ℕ) (between : List Went) (last lastWs : List ℕ) (x : ℕ) : Type 0 where
+  -- what every search, insertion, regrading and Next is told, of the calls as a run
+  pub never : NeverNowhere (stateOf mid) midWs (callsIn between) x
+  -- and the words that are left hold the lot
+  pub still : (v : ℕ) × IsThere (stateOf last) lastWs x v
+
+-- Of whatever calls follow, and so after each of them.
+abbrev pub LibraryKeepsLots : Type 0
+LibraryKeepsLots =
+    (k n : ℕ) (ws : List ℕ) (before between : List Went) (mid midWs last lastWs : List ℕ) (x : ℕ) → Served k n ws before mid midWs
+    → Follow mid midWs between last lastWs → NotDeleted (stateOf mid) midWs (callsIn between) x → LotKept mid midWs between last lastWs x

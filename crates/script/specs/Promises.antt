@@ -1,15 +1,17 @@
--- What demands 2 and 3 come to for the little program: of the bytes that it reads and writes.
+-- What demands 2 and 3 come to for the little program: of the bytes that it reads and writes. And 02 (iv), of the calls of its lines.
 use Prim.Native.Nat.{ℕ, _≤_}
 use mathlib.Core.Bool.{Bool, true, not, _||_}
-use mathlib.Core.List.{List, [], flatten}
+use mathlib.Core.List.{List, [], _++_, flatten}
 use mathlib.Core.Path.{_≡_}
 use lib.ListN.{length}
 use Rattle.ground.specs.Tests.{all}
 use Rattle.slots.specs.declared.Answer.{Answer}
 use Rattle.lines.specs.Text.{bytes, startsWith}
 use Rattle.talk.specs.Split.{Line, ended, unended, linesOf}
-use Rattle.talk.specs.Talk.{mostBytes, programWrites}
+use Rattle.talk.specs.Talk.{programK, programPages, blank, mostBytes, programWrites}
+use Rattle.runs.specs.Run.{Call}
 use Rattle.runs.specs.Done.{Done, nobody, done, plainAnswers, opsOf, answersIn}
+use Rattle.promises.specs.Regrading.{LotStays}
 use Rattle.script.specs.Script.{saidBy, scriptCalls}
 
 -- ---- demand 2: BadState, BadPool and Damaged are never said
@@ -49,3 +51,11 @@ pub record SortedListSays (input : List ℕ) : Type 0 where
 
 abbrev pub ScriptAgrees : Type 0
 ScriptAgrees = (input : List ℕ) → length input ≤ mostBytes → SortedListSays input
+
+-- ---- 02 (iv): wherever the calls of its good lines are cut in two, a lot that is there, and that is not deleted from there on, is at no
+-- moment nowhere. What is written are the answers of these calls (`ProgramIsRun`).
+
+abbrev pub ScriptKeepsLots : Type 0
+ScriptKeepsLots =
+    (input : List ℕ) (before between : List Call) (x : ℕ) → scriptCalls input ≡ before ++ between
+    → LotStays programK programPages blank before between x

@@ -11,11 +11,15 @@ use lib.ListN.{length, getD, set, take, drop, replicate, length-append, length-d
 use lib.Seq.{paste, take-at, drop-at, set-at, drop-drop, drop-append-add, split-at, length-take-le}
 use Rattle.ground.specs.Limits.{largestK}
 use Rattle.page.specs.Words.{Entry, Page, entry, page, μ, flat, encode, view, pairsFrom, size}
-use Rattle.page.specs.Splits.{put, entryAt}
+use Rattle.page.specs.Place.{place, has, regraded}
+use Rattle.page.specs.Sound.{rises}
+use Rattle.page.specs.Splits.{withEntries, put, entryAt}
 use Rattle.page.specs.Short.{lessKey, rekeyed}
 use Rattle.page.specs.Exact.{Exact}
 use Rattle.sheet.specs.Sheets.{beforePairs}
 use Rattle.page.proofs.WordLaws.{length-flat, pairsFrom-most, view-μ}
+use Rattle.page.proofs.PlaceLaws.{place-most, has-place}
+use Rattle.page.proofs.RegradeLaws.{regraded-at}
 use Rattle.page.proofs.ReadingLaws.{view-level}
 use Rattle.sheet.proofs.FlatLaws.{flat-append, length-front, pairsFrom-least, encode-front}
 
@@ -83,6 +87,18 @@ module _ (F : List ℕ) (a : List Entry) where
       ∙ set-at (F ++ flat a) (e .key) (e .value ∷ (flat b ++ zs)) r p (cut-place ∙ sym place)
       ∙ sym (cut-words (entry r (e .value) ∷ b) zs)
 
+  -- another value at the cut: it is the word behind the key
+  revalue-words : (e : Entry) (b : List Entry) (zs : List ℕ) (v : ℕ) {p : ℕ} → p ≡ length F + 2 * length a + 1
+      → set (F ++ (flat (a ++ e ∷ b) ++ zs)) p v ≡ F ++ (flat (a ++ entry (e .key) v ∷ b) ++ zs)
+  unfolding flat
+  revalue-words e b zs v {p} place =
+      let A : List ℕ = F ++ flat a in
+      let key : List ℕ = e .key ∷ [] in
+      ap (λ (u : List ℕ). set u p v) (cut-words (e ∷ b) zs ∙ sym (append-assoc A key (e .value ∷ (flat b ++ zs))))
+      ∙ set-at (A ++ key) (e .value) (flat b ++ zs) v p (length-append A key ∙ ap (λ (n : ℕ). n + 1) cut-place ∙ sym place)
+      ∙ append-assoc A key (v ∷ (flat b ++ zs))
+      ∙ sym (cut-words (entry (e .key) v ∷ b) zs)
+
 module _ (k l f : ℕ) (a b : List Entry) where
   -- a pair put in between a and b
   put-encoded : (x v : ℕ) {p n : ℕ} {ws : List ℕ} → ws ≡ encode k (page l f (a ++ b)) → length (a ++ b) < 2 * k → p ≡ pairsFrom l + 2 * length a
@@ -123,17 +139,29 @@ module _ (k l f : ℕ) (a b : List Entry) where
       ∙ ap (λ (z : ℕ). beforePairs l z f ++ (flat (a ++ b) ++ replicate (size k - (pairsFrom l + 2 * length (a ++ b))) 0)) less
       ∙ sym (encode-front k (page l f (a ++ b)))
 
-  -- another key for the pair between a and b
+  -- one word set makes the pair e between a and b another one
+  pair-encoded : (e other : Entry) (r : ℕ) {p : ℕ} {ws : List ℕ} → ws ≡ encode k (page l f (a ++ e ∷ b))
+      → ((F zs : List ℕ) → length F ≡ pairsFrom l → set (F ++ (flat (a ++ e ∷ b) ++ zs)) p r ≡ F ++ (flat (a ++ other ∷ b) ++ zs))
+      → set ws p r ≡ encode k (page l f (a ++ other ∷ b))
+  pair-encoded e other r {p} {ws} same words =
+      let m : ℕ = length (a ++ e ∷ b) in
+      let as-many : length (a ++ other ∷ b) ≡ m = length-append a (other ∷ b) ∙ sym (length-append a (e ∷ b)) in
+      ap (λ (u : List ℕ). set u p r) (same ∙ encode-front k (page l f (a ++ e ∷ b)))
+      ∙ words (beforePairs l m f) (replicate (size k - (pairsFrom l + 2 * m)) 0) (length-front l m f)
+      ∙ ap (λ (z : ℕ). beforePairs l z f ++ (flat (a ++ other ∷ b) ++ replicate (size k - (pairsFrom l + 2 * z)) 0)) (sym as-many)
+      ∙ sym (encode-front k (page l f (a ++ other ∷ b)))
+
+  -- another key for it
   rekey-encoded : (e : Entry) (r : ℕ) {p : ℕ} {ws : List ℕ} → ws ≡ encode k (page l f (a ++ e ∷ b)) → p ≡ pairsFrom l + 2 * length a
       → set ws p r ≡ encode k (page l f (a ++ entry r (e .value) ∷ b))
-  rekey-encoded e r {p} {ws} same place =
-      let m : ℕ = length (a ++ e ∷ b) in
-      let as-many : length (a ++ entry r (e .value) ∷ b) ≡ m = length-append a (entry r (e .value) ∷ b) ∙ sym (length-append a (e ∷ b)) in
-      ap (λ (u : List ℕ). set u p r) (same ∙ encode-front k (page l f (a ++ e ∷ b)))
-      ∙ rekey-words (beforePairs l m f) a e b (replicate (size k - (pairsFrom l + 2 * m)) 0) r
-      (place ∙ ap (λ (z : ℕ). z + 2 * length a) (sym (length-front l m f)))
-      ∙ ap (λ (z : ℕ). beforePairs l z f ++ (flat (a ++ entry r (e .value) ∷ b) ++ replicate (size k - (pairsFrom l + 2 * z)) 0)) (sym as-many)
-      ∙ sym (encode-front k (page l f (a ++ entry r (e .value) ∷ b)))
+  rekey-encoded e r same place =
+      pair-encoded e (entry r (e .value)) r same (λ F zs long. rekey-words F a e b zs r (place ∙ ap (λ (z : ℕ). z + 2 * length a) (sym long)))
+
+  -- another value for it
+  revalue-encoded : (e : Entry) (v : ℕ) {p : ℕ} {ws : List ℕ} → ws ≡ encode k (page l f (a ++ e ∷ b)) → p ≡ pairsFrom l + 2 * length a + 1
+      → set ws p v ≡ encode k (page l f (a ++ entry (e .key) v ∷ b))
+  revalue-encoded e v same place =
+      pair-encoded e (entry (e .key) v) v same (λ F zs long. revalue-words F a e b zs v (place ∙ ap (λ (z : ℕ). z + 2 * length a + 1) (sym long)))
 
 -- Where things lie in words that are exactly a page's.
 pub record Bounds (k : ℕ) (ws : List ℕ) : Type 0 where
@@ -219,6 +247,24 @@ module _ {k : ℕ} {ws : List ℕ} (exact : Exact k ws) (i : ℕ) {at : ℕ} (fr
         let P : Page = view ws in
         let es : List Entry = P .entries in
         rekey-encoded k (P .level) (P .first) (take i es) (drop (suc i) es) (entryAt i es) r cut-exact place-exact
+
+-- what `regrade` leaves are the words of the page with new information under the key, which stands just before its place
+pub regrade-exact : {k : ℕ} {ws : List ℕ} → Exact k ws → (x v : ℕ) {behind at : ℕ} → behind ≡ place x (view ws .entries)
+    → at ≡ pairsFrom (getD ws 0 0) → rises (view ws .entries) ≡ true → has x (view ws .entries) ≡ true
+    → set ws (at + 2 * behind - 1) v ≡ encode k (withEntries (view ws) (regraded x v (view ws .entries)))
+regrade-exact {k} {ws} exact x v {behind} {at} place from up there =
+    let P : Page = view ws in
+    let es : List Entry = P .entries in
+    let stands = has-place x es up there in
+    let i : ℕ = behind - 1 in
+    let inside : i < length es = omega (arith, place-most x es) in
+    let index : at + 2 * behind - 1 ≡ at + 2 * i + 1 = omega arith in
+    let key : entryAt i es .key ≡ x = ap (λ (z : ℕ). entryAt (z - 1) es .key) place ∙ stands .1 in
+    ap (λ (z : ℕ). set ws z v) index
+    ∙ revalue-encoded k (P .level) (P .first) (take i es) (drop (suc i) es) (entryAt i es) v (cut-exact exact i from inside)
+    (ap (λ (z : ℕ). z + 1) (place-exact exact i from inside))
+    ∙ ap (λ (l : List Entry). encode k (withEntries P l))
+    (ap (λ (z : ℕ). take i es ++ entry z v ∷ drop (suc i) es) key ∙ sym (regraded-at x v es up i inside key))
 
 -- the words before a leaf's pairs
 pub leaf-front : (l m f : ℕ) (ws : List ℕ) → 3 ≤ length ws → l ≡ 1

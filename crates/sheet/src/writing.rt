@@ -1,7 +1,9 @@
-// How the words of one page change where they lie: runs of words are moved, copied and zeroed, and a pair is put in or
-// taken out with only what lies behind it moving.
+// How the words of one page change where they lie: runs of words are moved, copied and zeroed, a pair is put in or taken
+// out with only what lies behind it moving, and a key or information alone is written over.
 use page::reading::pairs_from;
+use page::reading::place;
 use page::reading::wide;
+ghost use mathlib.Core.Bool.{true};
 ghost use mathlib.Core.Path.{_≡_};
 ghost use mathlib.Core.List.{_∷_, [], _++_};
 ghost use Prim.Native.Nat.{_+_, _-_, _*_, _≤_, _<_};
@@ -9,7 +11,9 @@ ghost use lib.ListN.{length, take, drop, replicate};
 ghost use lib.Seq.{paste};
 ghost use Rattle.ground.specs.Limits.{largestK, wordRange};
 ghost use Rattle.page.specs.Words.{size, entry, page, μ, pairsFrom, encode, view};
-ghost use Rattle.page.specs.Splits.{put};
+ghost use Rattle.page.specs.Place.{has, regraded};
+ghost use Rattle.page.specs.Sound.{rises};
+ghost use Rattle.page.specs.Splits.{put, withEntries};
 ghost use Rattle.page.specs.Short.{lessKey, rekeyed};
 ghost use Rattle.page.specs.Exact.{Exact};
 ghost use Rattle.sheet.specs.Sheets.{beforePairs};
@@ -117,6 +121,17 @@ pub fn rekey(w: &mut [u32], k: usize, i: usize, r: u32)
 {
     let at = pairs_from(w[0]);
     w[at + 2 * i] = r;
+}
+
+// New information under key x: of the pair just before the place of x.
+pub fn regrade(w: &mut [u32], k: usize, x: u32, v: u32)
+    requires { ⌜ Exact k (now w) ⌝ }
+    requires { ⌜ (rises (view (now w) .entries) ≡ true) × (has x (view (now w) .entries) ≡ true) ⌝ }
+    ensures { λ _. ⌜ now (w .exit) ≡ encode k (withEntries (view (now (w .entry))) (regraded x v (view (now (w .entry)) .entries))) ⌝ }
+{
+    let behind = place(w, x);
+    let at = pairs_from(w[0]);
+    w[at + 2 * behind - 1] = v;
 }
 
 // A root over the pages a and b, with the reference key r between them, a level above theirs.

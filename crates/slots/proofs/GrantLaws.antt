@@ -12,7 +12,7 @@ use Rattle.ground.specs.Limits.{slotCount}
 use Rattle.ground.specs.Tests.{member, apart}
 use Rattle.ground.proofs.Bools.{not-both, false-if-not-true, and-first, and-second, and-both, or-cases}
 use Rattle.ground.proofs.Tests.{member-none, apart-member, apart-from, apart-swap, allBelow-at}
-use Rattle.slots.specs.declared.Op.the-variants.{Search, Insert, Delete, Next}
+use Rattle.slots.specs.declared.Op.the-variants.{Search, Insert, Delete, Next, Regrade}
 use Rattle.slots.specs.declared.Task.{Task}
 use Rattle.slots.specs.declared.Task.the-variants.{Closed, Open}
 use Rattle.slots.specs.declared.Slot.{Slot}
@@ -64,6 +64,7 @@ open-locks (Open (Search x)) o = refl
 open-locks (Open (Insert x v)) o = refl
 open-locks (Open (Delete x)) o = refl
 open-locks (Open (Next x)) o = refl
+open-locks (Open (Regrade x v)) o = refl
 
 -- ξ goes with nothing
 xi-clashes : (a b : Lock) → isLock a ≡ true → isLock b ≡ true → isXi b || isXi a ≡ true → clash a b ≡ true

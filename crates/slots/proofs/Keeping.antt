@@ -8,12 +8,12 @@ use mathlib.Core.List.{List, [], _∷_, _++_}
 use native.Mathlib.Omega.{arith}
 use lib.ListN.{length, getD, take, drop, set, replicate, length-set, length-append, length-drop, length-replicate}
 use lib.Seq.{getD-set-same, getD-set-other, take-append-seam}
-use Rattle.ground.specs.Limits.{largestK, largestN, slotCount, searchHolds, pathHolds, siblingHolds}
+use Rattle.ground.specs.Limits.{largestK, largestN, slotCount, searchHolds, regradeHolds, pathHolds, siblingHolds}
 use Rattle.ground.specs.Tests.{member, distinct, apart, padded}
 use Rattle.ground.proofs.Bools.{false-if-not-true, not-both, and-both, or-first, or-second}
 use Rattle.ground.proofs.Tests.{member-none, member-one, member-append, member-inside, member-last, distinct-none, distinct-snoc, apart-from, apart-swap}
 use Rattle.slots.specs.declared.Op.{Op}
-use Rattle.slots.specs.declared.Op.the-variants.{Search, Insert, Delete, Next}
+use Rattle.slots.specs.declared.Op.the-variants.{Search, Insert, Delete, Next, Regrade}
 use Rattle.slots.specs.declared.Task.the-variants.{Open}
 use Rattle.slots.specs.declared.Slot.{Slot}
 use Rattle.slots.specs.declared.State.{State}
@@ -116,11 +116,12 @@ closed-sound : (n : ℕ) → SoundSlot n closedSlot
 closed-sound n = record { limits = refl; below = λ o. not-both o refl; different = λ o. not-both o refl }
 
 begun-limits : (op : Op) → withinLimits (Open op) 0 0 ≡ true
-unfolding searchHolds pathHolds siblingHolds
+unfolding searchHolds regradeHolds pathHolds siblingHolds
 begun-limits (Search x) = refl
 begun-limits (Insert x v) = refl
 begun-limits (Delete x) = refl
 begun-limits (Next x) = refl
+begun-limits (Regrade x v) = refl
 
 -- another number behind a list
 member-before : (t s : ℕ) (xs : List ℕ) → t ≢ s → member t (xs ++ s ∷ []) ≡ member t xs

@@ -8,7 +8,7 @@ use lib.ListN.{getD}
 use Rattle.slots.specs.declared.Lock.{Lock}
 use Rattle.slots.specs.declared.Lock.the-variants.{None, Rho, Xi}
 use Rattle.slots.specs.declared.Answer.{Answer}
-use Rattle.slots.specs.declared.Answer.the-variants.{Waiting, Moved, Found, NotFound, Inserted, AlreadyThere, Deleted, NoSuchKey, NoRoom, Begun, Made, Reported, BadState, BadPool, BadSlot, SlotBusy, SlotIdle, Damaged, BadPage, Next, None as NoLot}
+use Rattle.slots.specs.declared.Answer.the-variants.{Waiting, Moved, Found, NotFound, Inserted, AlreadyThere, Deleted, NoSuchKey, NoRoom, Begun, Made, Reported, BadState, BadPool, BadSlot, SlotBusy, SlotIdle, Damaged, BadPage, Next, None as NoLot, Regraded}
 use Rattle.slots.specs.Heard.{heard, lockNumber}
 
 -- the lock kind of a number, and the answer of a number with its values
@@ -34,14 +34,15 @@ numbered i vs =
     (cond (eqb i 34) (Found (getD vs 0 0))
     (cond (eqb i 35) NotFound
     (cond (eqb i 36) Inserted
-    (cond (eqb i 37) AlreadyThere
+    (cond (eqb i 37) (AlreadyThere (getD vs 0 0))
     (cond (eqb i 38) (Deleted (getD vs 0 0))
     (cond (eqb i 39) NoSuchKey
     (cond (eqb i 40) NoRoom
     (cond (eqb i 41) Begun
     (cond (eqb i 42) Made
     (cond (eqb i 43) (Reported (lockNamed (getD vs 0 0)) (getD vs 1 0) (getD vs 2 0))
-    (cond (eqb i 44) (Next (getD vs 0 0) (getD vs 1 0)) NoLot)))))))))))))))))))
+    (cond (eqb i 44) (Next (getD vs 0 0) (getD vs 1 0))
+    (cond (eqb i 45) NoLot (Regraded (getD vs 0 0))))))))))))))))))))))
 
 abbrev said : List ℕ → Answer
 said [] = BadState
@@ -60,7 +61,7 @@ said-heard Moved = refl
 said-heard (Found v) = refl
 said-heard NotFound = refl
 said-heard Inserted = refl
-said-heard AlreadyThere = refl
+said-heard (AlreadyThere v) = refl
 said-heard (Deleted v) = refl
 said-heard NoSuchKey = refl
 said-heard NoRoom = refl
@@ -69,6 +70,7 @@ said-heard Made = refl
 said-heard (Reported l n i) = ap (λ (m : Lock). Reported m n i) (lock-back l)
 said-heard (Next x v) = refl
 said-heard NoLot = refl
+said-heard (Regraded v) = refl
 
 -- two answers that are heard alike are the same
 pub heard-once : (a b : Answer) → heard a ≡ heard b → a ≡ b

@@ -9,7 +9,7 @@ use Rattle.ground.specs.Tests.{member}
 use Rattle.slots.specs.declared.Lock.{Lock}
 use Rattle.slots.specs.declared.Lock.the-variants.{None, Rho, Xi}
 use Rattle.slots.specs.declared.Answer.{Answer}
-use Rattle.slots.specs.declared.Answer.the-variants.{Waiting, Moved, Found, NotFound, Inserted, AlreadyThere, Deleted, NoSuchKey, NoRoom, Begun, Made, Reported, BadState, BadPool, BadSlot, SlotBusy, SlotIdle, Damaged, BadPage, Next, None as NoLot}
+use Rattle.slots.specs.declared.Answer.the-variants.{Waiting, Moved, Found, NotFound, Inserted, AlreadyThere, Deleted, NoSuchKey, NoRoom, Begun, Made, Reported, BadState, BadPool, BadSlot, SlotBusy, SlotIdle, Damaged, BadPage, Next, None as NoLot, Regraded}
 
 -- none, ρ, ξ
 abbrev pub lockNumber : Lock → ℕ
@@ -31,7 +31,7 @@ heard Moved = 33 ∷ []
 heard (Found v) = 34 ∷ v ∷ []
 heard NotFound = 35 ∷ []
 heard Inserted = 36 ∷ []
-heard AlreadyThere = 37 ∷ []
+heard (AlreadyThere v) = 37 ∷ v ∷ []
 heard (Deleted v) = 38 ∷ v ∷ []
 heard NoSuchKey = 39 ∷ []
 heard NoRoom = 40 ∷ []
@@ -40,6 +40,7 @@ heard Made = 42 ∷ []
 heard (Reported kind holders lowest) = 43 ∷ lockNumber kind ∷ holders ∷ lowest ∷ []
 heard (Next x v) = 44 ∷ x ∷ v ∷ []
 heard NoLot = 45 ∷ []
+heard (Regraded v) = 46 ∷ v ∷ []
 
 -- the number alone
 abbrev pub numberOf : Answer → ℕ
@@ -59,7 +60,7 @@ isOneOf a list = member (numberOf a) (map numberOf list)
 
 -- the answers that end an operation, save NoRoom
 abbrev pub countedAnswers : List Answer
-countedAnswers = Found 0 ∷ NotFound ∷ Inserted ∷ AlreadyThere ∷ Deleted 0 ∷ NoSuchKey ∷ Next 0 0 ∷ NoLot ∷ []
+countedAnswers = Found 0 ∷ NotFound ∷ Inserted ∷ AlreadyThere 0 ∷ Deleted 0 ∷ NoSuchKey ∷ Next 0 0 ∷ NoLot ∷ Regraded 0 ∷ []
 
 -- all answers that end an operation
 abbrev pub ending : List Answer

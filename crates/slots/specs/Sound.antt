@@ -3,9 +3,9 @@ use Prim.Native.Nat.{ℕ}
 use mathlib.Core.Bool.{Bool, true, not, _&&_, _||_}
 use mathlib.Core.List.{_∷_}
 use lib.Dec.{leb, ltb, eqb}
-use Rattle.ground.specs.Limits.{largestK, largestN, slotCount, searchHolds, pathHolds, siblingHolds}
+use Rattle.ground.specs.Limits.{largestK, largestN, slotCount, searchHolds, regradeHolds, pathHolds, siblingHolds}
 use Rattle.ground.specs.Tests.{all, allBelow, member, distinct, apart}
-use Rattle.slots.specs.declared.Op.the-variants.{Search, Insert, Delete, Next}
+use Rattle.slots.specs.declared.Op.the-variants.{Search, Insert, Delete, Next, Regrade}
 use Rattle.slots.specs.declared.Task.{Task}
 use Rattle.slots.specs.declared.Task.the-variants.{Closed, Open}
 use Rattle.slots.specs.declared.Slot.{Slot}
@@ -35,13 +35,14 @@ mayHold onPath beside = record { onPath = onPath; beside = beside }
 
 -- "a search holds at most 1 page, an insertion at most 10, a deletion at most 10 on its path and 9 siblings ..; siblings only in
 -- deletions; a closed slot holds nothing". Next: "In a sound state it may hold up to 19 pages", 10 on its first way and 9 on
--- the second.
+-- the second. Regrading: "every page is safe for it, so it holds at most 1".
 abbrev pub limitsOf : Task → MayHold
 limitsOf Closed = mayHold 0 0
 limitsOf (Open (Search x)) = mayHold searchHolds 0
 limitsOf (Open (Insert x v)) = mayHold pathHolds 0
 limitsOf (Open (Delete x)) = mayHold pathHolds siblingHolds
 limitsOf (Open (Next x)) = mayHold pathHolds siblingHolds
+limitsOf (Open (Regrade x v)) = mayHold regradeHolds 0
 
 -- within these limits, and "with no siblings or fewer of them than path pages": so the limit beside the path is never what binds
 abbrev pub withinLimits : Task → ℕ → ℕ → Bool

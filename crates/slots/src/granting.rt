@@ -10,7 +10,7 @@ ghost use Rattle.ground.specs.Tests.{member};
 ghost use Rattle.slots.specs.Parts.{held};
 ghost use Rattle.slots.specs.Locks.{lockOf};
 
-// Searches and Next use ρ-locks, insertions and deletions ξ-locks.
+// Searches and Next use ρ-locks, insertions, deletions and regradings ξ-locks.
 pub fn lock_of(task: Task) -> Lock
     ensures { λ r. ⌜ r ≡ lockOf task ⌝ }
 {
@@ -21,6 +21,7 @@ pub fn lock_of(task: Task) -> Lock
             Op::Insert(_, _) => Lock::Xi,
             Op::Delete(_) => Lock::Xi,
             Op::Next(_) => Lock::Rho,
+            Op::Regrade(_, _) => Lock::Xi,
         },
     }
 }

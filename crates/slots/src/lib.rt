@@ -13,6 +13,8 @@ pub enum Op {
     Delete(u32),
     // the first lot at or above this key
     Next(u32),
+    // key, new information
+    Regrade(u32, u32),
 }
 
 // A slot is closed, or open with an operation.
@@ -57,7 +59,8 @@ pub enum Answer {
     Found(u32),
     NotFound,
     Inserted,
-    AlreadyThere,
+    // the information that is there
+    AlreadyThere(u32),
     // information
     Deleted(u32),
     NoSuchKey,
@@ -69,6 +72,8 @@ pub enum Answer {
     // key, information
     Next(u32, u32),
     None,
+    // the old information
+    Regraded(u32),
     BadState,
     BadPool,
     BadSlot,

@@ -80,7 +80,7 @@ module _ (ws : List ℕ) (s : ℕ) where
   xi-pairs false = allBelow-from (pair false) 16 (λ t h. or-first (apart (held (slotIn ws s)) (held (slotIn ws t))) (or-second (eqb s t) refl))
 
 xi-kind : (key information kind : ℕ) → kind ≤ highestKind → isXi (lockOf (taskFrom kind key information)) ≡ updatesKind kind
-xi-kind key information = by-kind (λ (k : ℕ). isXi (lockOf (taskFrom k key information)) ≡ updatesKind k) refl refl refl refl refl
+xi-kind key information = by-kind (λ (k : ℕ). isXi (lockOf (taskFrom k key information)) ≡ updatesKind k) refl refl refl refl refl refl
 
 pub no-clashes : (ws : List ℕ) → known ws ≡ true → noClashingHolds (asRead ws) ≡ allBelow 16 (xiAlone ws)
 unfolding noClashingHolds slotCount

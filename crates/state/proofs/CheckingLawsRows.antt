@@ -1,17 +1,17 @@
 -- Laws for the rows of the slots: what they tell of a slot's pages, and that with the slots that hold more than one page they
 -- are the rule of a sound slot.
 use Prim.Native.Nat.{ℕ, zero, suc, _≤_, _<_}
-use mathlib.Core.Bool.{Bool, true, false, not, _&&_, _||_, and-true, and-false, or-false}
+use mathlib.Core.Bool.{Bool, true, false, not, _&&_, _||_, and-true, and-false}
 use mathlib.Core.List.{List, [], _∷_, _++_}
 use mathlib.Core.Logic.{_⊎_, inl, inr, ⊎-elim}
 use mathlib.Core.Path.{_≡_, refl, sym, ap, ap₂, _∙_}
 use native.Mathlib.Omega.{arith}
-use borrow.Author.Tests.{eq-eqb, eqb-true, le-leb, leb-true, ltb-true, ltb-false, not-true}
+use borrow.Author.Tests.{eq-eqb, eqb-true, le-leb, lt-leb, leb-true, ltb-true, ltb-false, not-true}
 use lib.Dec.{eqb, ltb, leb}
 use lib.ListN.{length, getD, take}
-use Rattle.ground.specs.Limits.{searchHolds, pathHolds, siblingHolds}
+use Rattle.ground.specs.Limits.{searchHolds, regradeHolds, pathHolds, siblingHolds}
 use Rattle.ground.specs.Tests.{all, allBelow, member, distinct}
-use Rattle.ground.proofs.Bools.{and-first, and-second, and-both, or-cases, or-first, or-second, or-first-fails, or-second-fails, not-of-false, same-if-true-together}
+use Rattle.ground.proofs.Bools.{and-first, and-second, and-both, or-cases, or-second, or-first-fails, or-second-fails, not-of-false, same-if-true-together, true-or-false}
 use Rattle.ground.proofs.Tests.{allBelow-at}
 use Rattle.slots.specs.Parts.{pathOf, siblingsOf}
 use Rattle.slots.specs.Sound.{withinLimits, belowAndOnce, ifOpen, slotSound}
@@ -19,7 +19,7 @@ use Rattle.lent.specs.Words.{cell, column, highestKind, taskFrom, slotIn}
 use Rattle.lent.specs.Holds.{Short}
 use Rattle.lent.proofs.HoldLaws.{by-kind}
 use Rattle.lent.proofs.StateLaws.{length-column, column-cell}
-use Rattle.state.specs.Checking.{fineRow, rowFine, deepFine}
+use Rattle.state.specs.Checking.{fineRow, rowFine, mayHoldMore, deepFine}
 
 -- ---- what the rows tell of the pages
 
@@ -69,26 +69,80 @@ rows-of-pages n want (suc d) (x ∷ path) rest long e =
     let other = or-first-fails (eqb want x) (member want (take d path ++ rest)) (not-true (member want pages) (and-first (not (member want pages)) (distinct pages) differ)) in
     and-both (and-first (ltb want n) (all (λ (p : ℕ). ltb p n) pages) low) (or-second (eqb (suc d) 0) (and-both below (not-of-false other)))
 
--- ---- kind by kind
+-- ---- what a fine row says
+
+-- more than one page is held
+abbrev more : ℕ → ℕ → Bool
+more depth beside = ltb 1 depth || ltb 0 beside
+
+-- fewer beside the path than on it
+abbrev fewer : ℕ → ℕ → Bool
+fewer depth beside = eqb beside 0 || ltb beside depth
 
 -- the numbers of pages held, as the rows test them
 abbrev rowLimits : ℕ → ℕ → ℕ → Bool
-rowLimits kind depth beside = leb kind highestKind && leb depth 10 && (ltb 1 kind || leb depth kind) && (eqb beside 0 || (leb 3 kind && ltb beside depth))
+rowLimits kind depth beside = leb kind highestKind && leb depth 10 && (not (eqb kind 0) || eqb depth 0) && fewer depth beside
 
--- of two limits the lower counts
-lower : (d m l : ℕ) → m ≤ l → leb d l && leb d m ≡ leb d m
-lower d m l h =
-    same-if-true-together (leb d l && leb d m) (leb d m) (and-second (leb d l) (leb d m))
-    (λ t. let few = leb-true d m t in and-both (le-leb d l (omega arith)) t)
+pub record Row (kind depth beside : ℕ) : Type 0 where
+  pub exists : kind ≤ highestKind
+  pub path : depth ≤ 10
+  pub siblings : beside ≤ 10
+  pub closed : kind ≡ 0 → (depth ≡ 0) × (beside ≡ 0)
 
--- none beside is at most 0
-none-beside : (a : Bool) (depth beside : ℕ) → a && (eqb beside 0 || false) ≡ a && leb beside 0 && (eqb beside 0 || ltb beside depth)
-none-beside false depth beside = refl
-none-beside true depth beside =
-    or-false (eqb beside 0)
-    ∙ same-if-true-together (eqb beside 0) (leb beside 0 && (eqb beside 0 || ltb beside depth))
-    (λ t. let none = eqb-true beside 0 t in and-both (le-leb beside 0 (omega arith)) (or-first (ltb beside depth) t))
-    (λ t. let few = leb-true beside 0 (and-first (leb beside 0) (eqb beside 0 || ltb beside depth) t) in eq-eqb beside 0 (omega arith))
+pub row-says : (kind depth beside n want top : ℕ) → fineRow kind depth beside n want top ≡ true → Row kind depth beside
+row-says kind depth beside n want top e =
+    let g = not (eqb kind 0) || eqb depth 0 in
+    let w = eqb kind 0 || ltb want n in
+    let limits = and-first (rowLimits kind depth beside) w (and-first (rowLimits kind depth beside && w) (eqb depth 0 || (ltb top n && not (eqb want top))) e) in
+    let numbers = and-first (leb kind highestKind && leb depth 10 && g) (fewer depth beside) limits in
+    let both = and-first (leb kind highestKind && leb depth 10) g numbers in
+    let l = leb-true depth 10 (and-second (leb kind highestKind) (leb depth 10) both) in
+    let few : (beside ≡ 0) ⊎ (beside < depth) =
+    ⊎-elim (λ z. inl (eqb-true beside 0 z)) (λ d. inr (ltb-true beside depth d))
+    (or-cases (eqb beside 0) (ltb beside depth) (and-second (leb kind highestKind && leb depth 10 && g) (fewer depth beside) limits)) in
+    let none : kind ≡ 0 → depth ≡ 0 = λ z.
+    eqb-true depth 0
+    (ap (λ (k : ℕ). not (eqb k 0) || eqb depth 0) (sym z) ∙ and-second (leb kind highestKind && leb depth 10) g numbers) in
+    record {
+      exists = leb-true kind highestKind (and-first (leb kind highestKind) (leb depth 10) both);
+      path = l;
+      siblings = ⊎-elim (λ z. omega arith) (λ d. omega arith) few;
+      closed = λ z. (none z, ⊎-elim (λ y. y) (λ d. let empty = none z in absurd (omega arith)) few);
+    }
+
+-- ---- kind by kind
+
+-- the limits of a kind
+abbrev most : ℕ → ℕ → ℕ → ℕ → Bool
+most onPath aside depth beside = leb depth onPath && leb beside aside && fewer depth beside
+
+-- at most so many, and none
+at-most : (a b : ℕ) → not (ltb b a) ≡ leb a b
+at-most a b =
+    ⊎-elim
+    (λ t. ap not t ∙ sym (lt-leb a b (ltb-true b a t)))
+    (λ f. ap not f ∙ sym (le-leb a b (ltb-false b a f)))
+    (true-or-false (ltb b a))
+
+at-most-none : (b : ℕ) → eqb b 0 ≡ leb b 0
+at-most-none b =
+    same-if-true-together (eqb b 0) (leb b 0)
+    (λ t. let none = eqb-true b 0 t in le-leb b 0 (omega arith))
+    (λ t. let few = leb-true b 0 t in eq-eqb b 0 (omega arith))
+
+-- A kind that may hold one page at most. l: the path is no longer than its rows, x: more than one page is on it, y: some are beside it,
+-- f: those are fewer
+one-page : (l f x y : Bool) → (x ≡ false → l ≡ true) → l && true && f && (not (x || y) || false) ≡ not x && not y && f
+one-page l f true y h = and-false (l && true && f)
+one-page l f false true h = and-false (l && true && f)
+one-page l f false false h = and-true (l && true && f) ∙ ap (λ (b : Bool). b && true && f) (h refl)
+
+-- one that may hold more on its path alone
+path-alone : (l f x y : Bool) → l && true && f && (not (x || y) || not y) ≡ l && not y && f
+path-alone l f true true = and-false (l && true && f) ∙ sym (ap (λ (b : Bool). b && f) (and-false l))
+path-alone l f true false = and-true (l && true && f)
+path-alone l f false true = and-false (l && true && f) ∙ sym (ap (λ (b : Bool). b && f) (and-false l))
+path-alone l f false false = and-true (l && true && f)
 
 -- a test that follows from the others may be left out
 follows : (a f g : Bool) → (a ≡ true → g ≡ true → f ≡ true) → a && true && g ≡ a && f && g
@@ -98,79 +152,79 @@ follows true false true h = sym (h refl refl)
 follows true false false h = refl
 
 -- fewer siblings than path pages are few enough
-few-beside : (depth beside : ℕ) → leb depth 10 ≡ true → eqb beside 0 || ltb beside depth ≡ true → leb beside 9 ≡ true
+few-beside : (depth beside : ℕ) → leb depth 10 ≡ true → fewer depth beside ≡ true → leb beside 9 ≡ true
 few-beside depth beside a g =
     let short = leb-true depth 10 a in
     ⊎-elim
     (λ z. let none = eqb-true beside 0 z in le-leb beside 9 (omega arith))
-    (λ l. let fewer = ltb-true beside depth l in le-leb beside 9 (omega arith))
+    (λ l. let less = ltb-true beside depth l in le-leb beside 9 (omega arith))
     (or-cases (eqb beside 0) (ltb beside depth) g)
 
--- they are the rule's
-limits-fit : (key information depth beside kind : ℕ) → kind ≤ highestKind → rowLimits kind depth beside ≡ withinLimits (taskFrom kind key information) depth beside
-unfolding searchHolds pathHolds siblingHolds
-limits-fit key information depth beside =
-    by-kind (λ (kind : ℕ). rowLimits kind depth beside ≡ withinLimits (taskFrom kind key information) depth beside)
-    (ap (λ (a : Bool). a && (eqb beside 0 || false)) (lower depth 0 10 (omega arith)) ∙ none-beside (leb depth 0) depth beside)
-    (ap (λ (a : Bool). a && (eqb beside 0 || false)) (lower depth 1 10 (omega arith)) ∙ none-beside (leb depth 1) depth beside)
-    (ap (λ (a : Bool). a && (eqb beside 0 || false)) (and-true (leb depth 10)) ∙ none-beside (leb depth 10) depth beside)
-    many-beside
-    many-beside
-  where
-    many-beside : leb depth 10 && true && (eqb beside 0 || ltb beside depth) ≡ leb depth 10 && leb beside 9 && (eqb beside 0 || ltb beside depth)
-    many-beside = follows (leb depth 10) (leb beside 9) (eqb beside 0 || ltb beside depth) (few-beside depth beside)
+-- and one that may hold more beside it too
+beside-too : (depth beside : ℕ) → leb depth 10 && true && fewer depth beside && (not (more depth beside) || true) ≡ most 10 9 depth beside
+beside-too depth beside =
+    ap (λ (b : Bool). leb depth 10 && true && fewer depth beside && b) (or-second (not (more depth beside)) refl)
+    ∙ and-true (leb depth 10 && true && fewer depth beside)
+    ∙ follows (leb depth 10) (leb beside 9) (fewer depth beside) (few-beside depth beside)
 
-fits : (l w t d p : Bool) → (d ≡ false → w && t ≡ p) → (p ≡ true → w && t ≡ true) → l && w && t && (not d || p) ≡ l && p
-fits false w t d p f g = refl
-fits true w t false p f g = and-true (w && t) ∙ f refl
-fits true w t true true f g = and-true (w && t) ∙ g refl
-fits true w t true false f g = and-false (w && t)
-
-closed : (l t d p : Bool) → (l ≡ true → t ≡ true) → (l ≡ true → d ≡ false) → l && true && t && (not d || p) ≡ l && true
-closed false t d p f g = refl
-closed true t d p f g = ap₂ (λ (a b : Bool). a && (not b || p)) (f refl) (g refl)
+-- the kind's test stands before that of the pages, which asks what the rows ask
+fits : (r w t d m p : Bool) → (d ≡ false → w && t ≡ p) → (p ≡ true → w && t ≡ true) → r && w && t && (not d || (m && p)) ≡ r && (not d || m) && p
+fits false w t d m p f g = refl
+fits true w t false m p f g = and-true (w && t) ∙ f refl
+fits true w t true false p f g = and-false (w && t)
+fits true w t true true true f g = and-true (w && t) ∙ g refl
+fits true w t true true false f g = and-false (w && t)
 
 module _ (key information depth beside n want top : ℕ) (pages : Bool)
-    (same : ltb 1 depth || ltb 0 beside ≡ false → named depth n want top ≡ pages) (told : pages ≡ true → named depth n want top ≡ true) where
-  abbrev deep : Bool
-  deep = ltb 1 depth || ltb 0 beside
-
-  abbrev high : Bool
-  high = eqb depth 0 || (ltb top n && not (eqb want top))
-
+    (same : more depth beside ≡ false → named depth n want top ≡ pages) (told : pages ≡ true → named depth n want top ≡ true) where
   abbrev Fits : ℕ → Type 0
-  Fits kind = fineRow kind depth beside n want top && (not deep || pages)
+  Fits kind = fineRow kind depth beside n want top && (not (more depth beside) || (mayHoldMore kind beside && pages))
       ≡ withinLimits (taskFrom kind key information) depth beside && ifOpen (taskFrom kind key information) pages
 
-  -- the limits of a kind
-  abbrev most : ℕ → ℕ → Bool
-  most onPath aside = leb depth onPath && leb beside aside && (eqb beside 0 || ltb beside depth)
+  -- the limits of an open kind are the rule's; what is left are the pages
+  limited : (onPath aside : ℕ) (m : Bool)
+      → leb depth 10 && true && fewer depth beside && (not (more depth beside) || m) ≡ most onPath aside depth beside
+      → leb depth 10 && true && fewer depth beside && ltb want n && (eqb depth 0 || (ltb top n && not (eqb want top))) && (not (more depth beside) || (m && pages)) ≡ most onPath aside depth beside && pages
+  limited onPath aside m e =
+      fits (leb depth 10 && true && fewer depth beside) (ltb want n) (eqb depth 0 || (ltb top n && not (eqb want top))) (more depth beside) m pages same told
+      ∙ ap (λ (l : Bool). l && pages) e
 
-  nothing-held : most 0 0 ≡ true → (depth ≡ 0) × (beside ≡ 0)
-  nothing-held e =
-      let both = and-first (leb depth 0 && leb beside 0) (eqb beside 0 || ltb beside depth) e in
-      let d = leb-true depth 0 (and-first (leb depth 0) (leb beside 0) both) in
-      let b = leb-true beside 0 (and-second (leb depth 0) (leb beside 0) both) in
-      (omega arith, omega arith)
+  -- a closed slot: nothing is held, and nothing asked of its pages
+  nothing : Fits 0
+  nothing =
+      same-if-true-together (fineRow 0 depth beside n want top && (not (more depth beside) || false)) (most 0 0 depth beside && true)
+      (λ e.
+      let none = row-says 0 depth beside n want top (and-first (fineRow 0 depth beside n want top) (not (more depth beside) || false) e) .closed refl in
+      ap₂ (λ (d b : ℕ). most 0 0 d b && true) (none .0) (none .1))
+      (λ e.
+      let both = and-first (leb depth 0 && leb beside 0) (fewer depth beside) (and-first (most 0 0 depth beside) true e) in
+      let path = leb-true depth 0 (and-first (leb depth 0) (leb beside 0) both) in
+      let aside = leb-true beside 0 (and-second (leb depth 0) (leb beside 0) both) in
+      let no-path : depth ≡ 0 = omega arith in
+      let none-aside : beside ≡ 0 = omega arith in
+      ap₂ (λ (d b : ℕ). fineRow 0 d b n want top && (not (more d b) || false)) no-path none-aside)
 
-  -- the limits are the rule's; what is left are the pages
-  limited : (kind : ℕ) → kind ≤ highestKind → (w : Bool)
-      → withinLimits (taskFrom kind key information) depth beside && w && high && (not deep || pages) ≡ withinLimits (taskFrom kind key information) depth beside && ifOpen (taskFrom kind key information) pages
-      → rowLimits kind depth beside && w && high && (not deep || pages) ≡ withinLimits (taskFrom kind key information) depth beside && ifOpen (taskFrom kind key information) pages
-  limited kind k w e = ap (λ (l : Bool). l && w && high && (not deep || pages)) (limits-fit key information depth beside kind k) ∙ e
+  -- a search, and a regrading
+  at-most-one : Fits 1
+  unfolding searchHolds
+  at-most-one =
+      limited 1 0 false
+      (one-page (leb depth 10) (fewer depth beside) (ltb 1 depth) (ltb 0 beside) (λ e. let few = ltb-false 1 depth e in le-leb depth 10 (omega arith))
+      ∙ ap₂ (λ (a b : Bool). a && b && fewer depth beside) (at-most depth 1) (at-most beside 0))
 
   kind-fits : (kind : ℕ) → kind ≤ highestKind → Fits kind
-  unfolding searchHolds pathHolds siblingHolds
+  unfolding searchHolds regradeHolds pathHolds siblingHolds
   kind-fits =
       by-kind Fits
-      (limited 0 (omega arith) true
-      (closed (most 0 0) high deep pages
-      (λ e. or-first (ltb top n && not (eqb want top)) (eq-eqb depth 0 (nothing-held e .0)))
-      (λ e. ap₂ (λ (d b : ℕ). ltb 1 d || ltb 0 b) (nothing-held e .0) (nothing-held e .1))))
-      (limited 1 (omega arith) (ltb want n) (fits (most 1 0) (ltb want n) high deep pages same told))
-      (limited 2 (omega arith) (ltb want n) (fits (most 10 0) (ltb want n) high deep pages same told))
-      (limited 3 (omega arith) (ltb want n) (fits (most 10 9) (ltb want n) high deep pages same told))
-      (limited 4 (omega arith) (ltb want n) (fits (most 10 9) (ltb want n) high deep pages same told))
+      nothing
+      at-most-one
+      (limited 10 0 (eqb beside 0)
+      (ap (λ (m : Bool). leb depth 10 && true && fewer depth beside && (not (more depth beside) || m)) (at-most-none beside ∙ sym (at-most beside 0))
+      ∙ path-alone (leb depth 10) (fewer depth beside) (ltb 1 depth) (ltb 0 beside)
+      ∙ ap (λ (b : Bool). leb depth 10 && b && fewer depth beside) (at-most beside 0)))
+      (limited 10 9 true (beside-too depth beside))
+      (limited 10 9 true (beside-too depth beside))
+      at-most-one
 
 -- the rows and the pages of a slot that holds more are the rule
 pub slot-fits : (ws : List ℕ) (n s : ℕ) → cell ws 0 s ≤ highestKind → rowFine ws n s && deepFine ws n s ≡ slotSound n (slotIn ws s)
@@ -184,41 +238,7 @@ slot-fits ws n s known =
     ∙ rows-of-pages n (cell ws 3 s) (cell ws 4 s) path (take (cell ws 5 s) (column ws 16 s)) (length-column ws 6 s) e)
     (cell ws 0 s) known
 
--- ---- what a fine row says
-
-pub record Row (kind depth beside : ℕ) : Type 0 where
-  pub exists : kind ≤ highestKind
-  pub path : depth ≤ 10
-  pub siblings : beside ≤ 10
-  pub closed : kind ≡ 0 → (depth ≡ 0) × (beside ≡ 0)
-
-pub row-says : (kind depth beside n want top : ℕ) → fineRow kind depth beside n want top ≡ true → Row kind depth beside
-row-says kind depth beside n want top e =
-    let g = ltb 1 kind || leb depth kind in
-    let f = eqb beside 0 || (leb 3 kind && ltb beside depth) in
-    let w = eqb kind 0 || ltb want n in
-    let limits = and-first (rowLimits kind depth beside) w (and-first (rowLimits kind depth beside && w) (eqb depth 0 || (ltb top n && not (eqb want top))) e) in
-    let numbers = and-first (leb kind highestKind && leb depth 10 && g) f limits in
-    let both = and-first (leb kind highestKind && leb depth 10) g numbers in
-    let k = leb-true kind highestKind (and-first (leb kind highestKind) (leb depth 10) both) in
-    let l = leb-true depth 10 (and-second (leb kind highestKind) (leb depth 10) both) in
-    let few : (beside ≡ 0) ⊎ ((3 ≤ kind) × (beside < depth)) =
-    ⊎-elim
-    (λ z. inl (eqb-true beside 0 z))
-    (λ d. inr (leb-true 3 kind (and-first (leb 3 kind) (ltb beside depth) d), ltb-true beside depth (and-second (leb 3 kind) (ltb beside depth) d)))
-    (or-cases (eqb beside 0) (leb 3 kind && ltb beside depth) (and-second (leb kind highestKind && leb depth 10 && g) f limits)) in
-    let small : (1 < kind) ⊎ (depth ≤ kind) =
-    ⊎-elim (λ y. inl (ltb-true 1 kind y)) (λ y. inr (leb-true depth kind y))
-    (or-cases (ltb 1 kind) (leb depth kind) (and-second (leb kind highestKind && leb depth 10) g numbers)) in
-    record {
-      exists = k;
-      path = l;
-      siblings = ⊎-elim (λ z. omega arith) (λ d. let fewer = d .1 in omega arith) few;
-      closed = λ z. (
-        ⊎-elim (λ y. absurd (omega arith)) (λ y. omega arith) small,
-        ⊎-elim (λ y. y) (λ d. let high = d .0 in absurd (omega arith)) few,
-      );
-    }
+-- ---- the rows of every slot
 
 module _ (ws : List ℕ) (n : ℕ) (e : allBelow 16 (rowFine ws n) ≡ true) where
   pub row-at : (s : ℕ) → s < 16 → Row (cell ws 0 s) (cell ws 4 s) (cell ws 5 s)

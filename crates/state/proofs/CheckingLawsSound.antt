@@ -43,7 +43,7 @@ named-same p q waiting order same =
         (true-or-false (ltb s slotCount))
 
 open-kind : (key information kind : ℕ) → kind ≤ highestKind → isOpen (taskFrom kind key information) ≡ openKind kind
-open-kind key information = by-kind (λ (k : ℕ). isOpen (taskFrom k key information) ≡ openKind k) refl refl refl refl refl
+open-kind key information = by-kind (λ (k : ℕ). isOpen (taskFrom k key information) ≡ openKind k) refl refl refl refl refl refl
 
 -- a slot is open as its kind tells
 open-as : (ws : List ℕ) (s : ℕ) → known ws ≡ true → s < 16 → openAt (asRead ws) s ≡ openKind (cell ws 0 s)

@@ -12,7 +12,7 @@ use Rattle.ground.specs.Tests.{countBelow}
 use Rattle.ground.proofs.Bools.{true-or-false, not-both, false-if-not-true, and-first, and-second}
 use Rattle.ground.proofs.Choice.{cond-true, cond-false}
 use Rattle.ground.proofs.Tests.{below-or-at, anyBelow-fails, countBelow-passes, countBelow-skips, firstBelow-most, firstBelow-all-fail}
-use Rattle.slots.specs.declared.Op.the-variants.{Search, Insert, Delete, Next}
+use Rattle.slots.specs.declared.Op.the-variants.{Search, Insert, Delete, Next, Regrade}
 use Rattle.slots.specs.declared.Task.{Task}
 use Rattle.slots.specs.declared.Task.the-variants.{Closed, Open}
 use Rattle.slots.specs.declared.Lock.{Lock}
@@ -46,13 +46,14 @@ open-locks (Open (Search x)) o e = let z : _≡_ {A = ℕ} 1 0 = ap lockNumber e
 open-locks (Open (Insert x v)) o e = let z : _≡_ {A = ℕ} 2 0 = ap lockNumber e in omega arith
 open-locks (Open (Delete x)) o e = let z : _≡_ {A = ℕ} 2 0 = ap lockNumber e in omega arith
 open-locks (Open (Next x)) o e = let z : _≡_ {A = ℕ} 1 0 = ap lockNumber e in omega arith
+open-locks (Open (Regrade x v)) o e = let z : _≡_ {A = ℕ} 2 0 = ap lockNumber e in omega arith
 
 module _ (st : State) (f : SoundState st) (p : ℕ) where
   module _ (b : lowestHolder st p < slotCount) where
     low-holds : holdsAt st (lowestHolder st p) p ≡ true
     low-holds = lowest-holds st p b .holds
 
-    -- under a search no update holds the page too
+    -- under ρ no update holds the page too
     no-update : isXi (lockAt st (lowestHolder st p)) ≡ false → (s : ℕ) → s < slotCount → holdsAt st s p && isXi (lockAt st s) ≡ false
     no-update r s c =
         false-if-not-true (holdsAt st s p && isXi (lockAt st s))

@@ -29,23 +29,30 @@ namesEach opened waiting order =
 
 -- ---- the same of a state in words
 
--- what a slot of a kind may hold (pages beside the path are for deletions and Next, kinds 3 and 4), and what its rows tell of
--- its pages: the wanted page and the top of the path, if there is one, are below n and not the same
+-- what the rows tell of a slot: it holds nothing if it is closed, and fewer pages beside its path than on it, if any; the wanted page and
+-- the top of the path, if there is one, are below n and not the same
 abbrev pub fineRow : ℕ → ℕ → ℕ → ℕ → ℕ → ℕ → Bool
 fineRow kind depth beside n want top =
     leb kind highestKind
     && leb depth 10
-    && (ltb 1 kind || leb depth kind)
-    && (eqb beside 0 || (leb 3 kind && ltb beside depth))
+    && (not (eqb kind 0) || eqb depth 0)
+    && (eqb beside 0 || ltb beside depth)
     && (eqb kind 0 || ltb want n)
     && (eqb depth 0 || (ltb top n && not (eqb want top)))
 
 abbrev pub rowFine : List ℕ → ℕ → ℕ → Bool
 rowFine ws n s = fineRow (cell ws 0 s) (cell ws 4 s) (cell ws 5 s) n (cell ws 3 s) (cell ws 6 s)
 
--- the pages of a slot that holds more than one
+-- the kinds that may hold more than one page: deletions and Next, and insertions if none is beside the path
+abbrev pub mayHoldMore : ℕ → ℕ → Bool
+mayHoldMore kind beside = eqb kind 3 || eqb kind 4 || (eqb kind 2 && eqb beside 0)
+
+-- a slot that holds more than one page is of such a kind, and its pages are sound
+abbrev pub moreFine : List ℕ → ℕ → ℕ → Bool
+moreFine ws n s = mayHoldMore (cell ws 0 s) (cell ws 5 s) && belowAndOnce n (slotIn ws s)
+
 abbrev pub deepFine : List ℕ → ℕ → ℕ → Bool
-deepFine ws n s = not (isDeep ws s) || belowAndOnce n (slotIn ws s)
+deepFine ws n s = not (isDeep ws s) || moreFine ws n s
 
 -- the kinds of open slots
 abbrev pub openKind : ℕ → Bool

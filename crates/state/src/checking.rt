@@ -7,8 +7,9 @@ use ground::LARGEST_N;
 use ground::SLOTS;
 use lent::DELETES;
 use lent::HIGHEST_KIND;
+use lent::INSERTS;
+use lent::NEXTS;
 use lent::PATH;
-use lent::SEARCHES;
 use lent::SIBLINGS;
 use lent::STATE;
 use lent::cells::beside_at;
@@ -39,7 +40,7 @@ ghost use Rattle.slots.specs.Report.{maskBelow};
 ghost use Rattle.slots.specs.Sound.{belowAndOnce, sound};
 ghost use Rattle.lent.specs.Words.{cell, column, slotIn, orderIn, stateOf};
 ghost use Rattle.lent.specs.Holds.{Short, othersHold};
-ghost use Rattle.state.specs.Checking.{mayEnter, namesEach, fineRow, rowFine, deepFine, openKind, aloneIn, updates, xiAlone};
+ghost use Rattle.state.specs.Checking.{mayEnter, namesEach, fineRow, rowFine, mayHoldMore, moreFine, deepFine, openKind, aloneIn, updates, xiAlone};
 
 // The longest path, as the words have it.
 const DEPTH_LIMIT: u32 = HELD as u32;
@@ -60,16 +61,16 @@ pub fn numbers_in_range(k: usize, n: usize) -> bool
     n <= LARGEST_N
 }
 
-// A slot with these numbers holds what its kind may hold, as far as the rows tell. A closed slot holds nothing and a search
-// at most one page, so for both the path is no longer than the kind's number. Deletions and Next alone hold pages beside their
-// path, fewer than on it: so at most 9.
+// A slot with these numbers may be sound, as far as the rows tell. A closed slot holds nothing. No open kind is told from another
+// here, which keeps the rows quick: one page is within the limits of each, and what a kind may hold beyond that is asked only of the
+// slots that do (`more_fine`). Pages beside the path are fewer than on it: so at most 9.
 fn is_fine(kind: u32, depth: u32, beside: u32, n: u32, want: u32, top: u32) -> bool
     ensures { λ r. ⌜ r ≡ fineRow kind depth beside n want top ⌝ }
 {
     (kind <= HIGHEST_KIND)
         & (depth <= DEPTH_LIMIT)
-        & ((SEARCHES < kind) | (depth <= kind))
-        & ((beside == 0) | ((DELETES <= kind) & (beside < depth)))
+        & ((kind != 0) | (depth == 0))
+        & ((beside == 0) | (beside < depth))
         & ((kind == 0) | (want < n))
         & ((depth == 0) | ((top < n) & (want != top)))
 }
@@ -138,7 +139,26 @@ fn pages_fine(cells: &[u32; STATE], s: usize, n: u32) -> bool
     may_enter(cells, s, n, SIBLINGS, beside, depth)
 }
 
-// The same of every slot that holds more than one page.
+// A slot of this kind may hold more than one page, with so many beside its path: a deletion and a Next may, an insertion on its
+// path alone. A search and a regrading hold one page at most.
+fn may_hold_more(kind: u32, beside: u32) -> bool
+    ensures { λ r. ⌜ r ≡ mayHoldMore kind beside ⌝ }
+{
+    (kind == DELETES) | (kind == NEXTS) | ((kind == INSERTS) & (beside == 0))
+}
+
+// Slot s, which holds more than one page, may, and its pages are fine.
+fn more_fine(cells: &[u32; STATE], s: usize, n: u32) -> bool
+    requires { ⌜ (s < 16) × Short (now cells) ⌝ }
+    ensures { λ r. ⌜ r ≡ moreFine (now (cells .entry)) n s ⌝ }
+{
+    if !may_hold_more(kind_at(cells, s), beside_at(cells, s)) {
+        return false;
+    }
+    pages_fine(cells, s, n)
+}
+
+// Every slot that holds more than one page is so.
 fn deep_fine(cells: &[u32; STATE], n: u32) -> bool
     requires { ⌜ Short (now cells) ⌝ }
     ensures { λ r. ⌜ r ≡ allBelow 16 (deepFine (now (cells .entry)) n) ⌝ }
@@ -149,7 +169,7 @@ fn deep_fine(cells: &[u32; STATE], n: u32) -> bool
     let mut s = 0;
     while s < SLOTS {
         if is_deep(cells, s) {
-            if !pages_fine(cells, s, n) {
+            if !more_fine(cells, s, n) {
                 return false;
             }
         }

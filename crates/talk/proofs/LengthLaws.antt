@@ -10,7 +10,7 @@ use Rattle.slots.specs.declared.State.{State}
 use Rattle.lines.specs.declared.Command.{Command}
 use Rattle.lines.specs.Text.{bytes}
 use Rattle.lines.specs.Meaning.{meaning}
-use Rattle.lines.specs.Forms.{Good, toSearch, toInsert, toDelete, toNext, toStep}
+use Rattle.lines.specs.Forms.{Good, toSearch, toInsert, toDelete, toNext, toRegrade, toStep}
 use Rattle.lines.proofs.Grammar.{means-good}
 use Rattle.talk.specs.Talk.{commanded}
 
@@ -21,6 +21,8 @@ good-long line (toInsert ss ks is hs hk hi e) =
     omega (arith, ap length e, hs .some, length-append ss (bytes " i " ++ (ks ++ (bytes " " ++ is))))
 good-long line (toDelete ss ks hs hk e) = omega (arith, ap length e, hs .some, length-append ss (bytes " d " ++ ks))
 good-long line (toNext ss ks hs hk e) = omega (arith, ap length e, hs .some, length-append ss (bytes " n " ++ ks))
+good-long line (toRegrade ss ks is hs hk hi e) =
+    omega (arith, ap length e, hs .some, length-append ss (bytes " g " ++ (ks ++ (bytes " " ++ is))))
 good-long line (toStep ss hs e) = omega (arith, ap length e, hs .some)
 
 pub reply-short : (st : State) (ws line : List ℕ) → length (commanded st ws (meaning line) .said) ≤ 32

@@ -12,7 +12,7 @@ use Rattle.ground.proofs.Bools.{and-first, and-second, and-both}
 use Rattle.ground.proofs.Tests.{all-append}
 use Rattle.slots.specs.declared.State.{State}
 use Rattle.slots.specs.declared.Answer.{Answer}
-use Rattle.slots.specs.declared.Answer.the-variants.{Waiting, Moved, Found, NotFound, Inserted, AlreadyThere, Deleted, NoSuchKey, NoRoom, Begun, Made, Reported, Next, None, BadState, BadPool, BadSlot, SlotBusy, SlotIdle, Damaged, BadPage}
+use Rattle.slots.specs.declared.Answer.the-variants.{Waiting, Moved, Found, NotFound, Inserted, AlreadyThere, Deleted, NoSuchKey, NoRoom, Begun, Made, Reported, Next, None, Regraded, BadState, BadPool, BadSlot, SlotBusy, SlotIdle, Damaged, BadPage}
 use Rattle.slots.specs.Begin.{begun}
 use Rattle.lines.specs.declared.Command.{Command}
 use Rattle.lines.specs.declared.Command.the-variants.{Begin, Step, Bad}
@@ -75,7 +75,7 @@ answer-line Moved rest = one-line (bytes "Moved") rest refl
 answer-line (Found v) rest = one-line (bytes "Found " ++ decimal v) rest (digits-plain (decimal v) (decimal-digital v))
 answer-line NotFound rest = one-line (bytes "NotFound") rest refl
 answer-line Inserted rest = one-line (bytes "Inserted") rest refl
-answer-line AlreadyThere rest = one-line (bytes "AlreadyThere") rest refl
+answer-line (AlreadyThere v) rest = one-line (bytes "AlreadyThere " ++ decimal v) rest (digits-plain (decimal v) (decimal-digital v))
 answer-line (Deleted v) rest = one-line (bytes "Deleted " ++ decimal v) rest (digits-plain (decimal v) (decimal-digital v))
 answer-line NoSuchKey rest = one-line (bytes "NoSuchKey") rest refl
 answer-line NoRoom rest = one-line (bytes "NoRoom") rest refl
@@ -84,6 +84,7 @@ answer-line Made rest = one-line (bytes "Made") rest refl
 answer-line (Reported kind holders lowest) rest = one-line (bytes "Reported") rest refl
 answer-line (Next x v) rest = one-line (bytes "Next " ++ decimal x ++ bytes " " ++ decimal v) rest (lot-plain x v)
 answer-line None rest = one-line (bytes "None") rest refl
+answer-line (Regraded v) rest = one-line (bytes "Regraded " ++ decimal v) rest (digits-plain (decimal v) (decimal-digital v))
 answer-line BadState rest = one-line (bytes "BadState") rest refl
 answer-line BadPool rest = one-line (bytes "BadPool") rest refl
 answer-line BadSlot rest = one-line (bytes "BadSlot") rest refl

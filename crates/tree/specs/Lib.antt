@@ -5,3 +5,4 @@ pub mod Change
 pub mod Facts
 pub mod Insertion
 pub mod Deletion
+pub mod Regrading

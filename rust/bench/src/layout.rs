@@ -95,11 +95,12 @@ fn named(order: &[u32; SLOTS], waiting: usize) -> Option<u16> {
 /// Whether a kind may hold so many pages.
 fn holds_so_many(kind: u32, depth: u32, beside: u32) -> bool {
     let none = (kind == 0) & (depth == 0) & (beside == 0);
-    let search = (kind == 1) & (depth <= 1) & (beside == 0);
+    let single = (kind == 1) | (kind == 5);
+    let one = single & (depth <= 1) & (beside == 0);
     let insertion = (kind == 2) & (depth <= 10) & (beside == 0);
     let few = (beside == 0) | (beside < depth);
     let both = (kind == 3) | (kind == 4);
-    none | search | insertion | (both & (depth <= 10) & (beside <= 9) & few)
+    none | one | insertion | (both & (depth <= 10) & (beside <= 9) & few)
 }
 
 /// Whether a kind's locks go together: searches, and the next lot.

@@ -16,7 +16,7 @@ use layout::{Columns, Structs};
 use plot::{svg, Table};
 use proved::Proved;
 use rival::Rival;
-use schedule::{run, with_nexts, Outcome, Program, Schedule};
+use schedule::{run, with_others, Outcome, Program, Schedule};
 use second::Second;
 
 /// A program by name, as a function from a schedule to its nanoseconds a call and its outcome.
@@ -103,8 +103,8 @@ fn main() {
     println!("nanoseconds a call, medians of {runs} runs; nine searches to one update; same answers, same words");
     println!("\nk = 16, 1,024 pages, 16 slots, {count} operations");
     let schedule = Schedule::draw(16, 1024, 16, count, 1);
-    // the next lot is compared, and not timed
-    medians(&with_nexts(&schedule), 1, &PROGRAMS);
+    // the next lot and regradings are compared, and not timed
+    medians(&with_others(&schedule), 1, &PROGRAMS);
     let all = medians(&schedule, runs, &PROGRAMS);
     for ((name, _), time) in PROGRAMS.iter().zip(&all) {
         println!("{time:8.1}  {name:40} proved / this {:6.2}", all[0] / time);

@@ -67,6 +67,12 @@ impl Pool<'_> {
         (place > 0 && page[at] == key).then(|| page[at + 1])
     }
 
+    /// Puts new information under a key that is in a leaf.
+    pub fn regrade(&mut self, p: u32, key: u32, information: u32) {
+        let place = self.place(p, key);
+        self.page_mut(p)[2 * place + 1] = information;
+    }
+
     /// A leaf's first entry whose key is at or above this one.
     pub fn first_from(&self, p: u32, key: u32) -> Option<(u32, u32)> {
         let page = self.page(p);

@@ -31,6 +31,7 @@ impl Program for Proved {
             Op::Insert(key, information) => ghazfulit::Op::Insert { key, information },
             Op::Delete(key) => ghazfulit::Op::Delete { key },
             Op::Next(key) => ghazfulit::Op::Next { key },
+            Op::Regrade(key, information) => ghazfulit::Op::Regrade { key, information },
         };
         self.0
             .begin(slot, op)
@@ -44,12 +45,13 @@ impl Program for Proved {
             Ok(Step::Found(information)) => Answer::found(information),
             Ok(Step::NotFound) => Answer::NOT_FOUND,
             Ok(Step::Inserted) => Answer::INSERTED,
-            Ok(Step::AlreadyThere) => Answer::ALREADY_THERE,
+            Ok(Step::AlreadyThere(information)) => Answer::already_there(information),
             Ok(Step::Deleted(information)) => Answer::deleted(information),
             Ok(Step::NoSuchKey) => Answer::NO_SUCH_KEY,
             Ok(Step::NoRoom) => Answer::NO_ROOM,
             Ok(Step::Next { key, information }) => Answer::next(key, information),
             Ok(Step::None) => Answer::NONE,
+            Ok(Step::Regraded(information)) => Answer::regraded(information),
             Err(refusal) => refused(refusal),
         }
     }

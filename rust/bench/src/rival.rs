@@ -110,7 +110,7 @@ enum Course {
 /// Whether a page's ancestors are needed no more.
 fn is_safe(pool: &Pool, slot: &Slot, p: u32) -> bool {
     match slot.kind {
-        1 => true,
+        1 | 5 => true,
         2 => pool.count(p) < 2 * pool.k,
         3 => pool.count(p) > pool.k,
         _ => pool.right_of(p, slot.key).is_some(),
@@ -240,8 +240,12 @@ fn judge<const TESTS: bool>(pool: &mut Pool, n: u32, slot: &Slot) -> Course {
     match (slot.kind, found) {
         (1, Some(information)) => Course::Ends(Answer::found(information)),
         (1, None) => Course::Ends(Answer::NOT_FOUND),
-        (2, Some(_)) => Course::Ends(Answer::ALREADY_THERE),
+        (2, Some(information)) => Course::Ends(Answer::already_there(information)),
         (2, None) => Course::Ends(insert(pool, n, slot, path)),
+        (5, Some(old)) => {
+            pool.regrade(lowest, slot.key, slot.information);
+            Course::Ends(Answer::regraded(old))
+        }
         (_, None) => Course::Ends(Answer::NO_SUCH_KEY),
         (_, Some(_)) => match next_sibling(pool, slot) {
             Some(next) => goes(next),

@@ -10,6 +10,8 @@ pub enum Op {
     Delete(u32),
     /// The first lot at or above; it is compared, and no part of what is timed.
     Next(u32),
+    /// New information under a key; compared like the next lot.
+    Regrade(u32, u32),
 }
 
 impl Op {
@@ -20,6 +22,7 @@ impl Op {
             Op::Insert(key, information) => (2, key, information),
             Op::Delete(key) => (3, key, 0),
             Op::Next(key) => (4, key, 0),
+            Op::Regrade(key, information) => (5, key, information),
         }
     }
 }
@@ -39,7 +42,6 @@ impl Answer {
     pub const MOVED: Answer = Answer(33, 0, 0);
     pub const NOT_FOUND: Answer = Answer(35, 0, 0);
     pub const INSERTED: Answer = Answer(36, 0, 0);
-    pub const ALREADY_THERE: Answer = Answer(37, 0, 0);
     pub const NO_SUCH_KEY: Answer = Answer(39, 0, 0);
     pub const NO_ROOM: Answer = Answer(40, 0, 0);
     pub const BEGUN: Answer = Answer(41, 0, 0);
@@ -47,6 +49,10 @@ impl Answer {
 
     pub fn found(information: u32) -> Answer {
         Answer(34, information, 0)
+    }
+
+    pub fn already_there(information: u32) -> Answer {
+        Answer(37, information, 0)
     }
 
     pub fn deleted(information: u32) -> Answer {
@@ -57,9 +63,13 @@ impl Answer {
         Answer(44, key, information)
     }
 
+    pub fn regraded(information: u32) -> Answer {
+        Answer(46, information, 0)
+    }
+
     /// Whether it ends the operation.
     fn is_end(self) -> bool {
-        matches!(self.0, 34..=40 | 44 | 45)
+        matches!(self.0, 34..=40 | 44..=46)
     }
 }
 
@@ -110,13 +120,14 @@ impl Schedule {
     }
 }
 
-/// The same operations with the next lot asked for in place of every other search.
-pub fn with_nexts(schedule: &Schedule) -> Schedule {
+/// The same operations, but every other search asks for the next lot, and every other deletion regrades the lot.
+pub fn with_others(schedule: &Schedule) -> Schedule {
     let mut other = schedule.clone();
-    let searches = other.ops.iter_mut().enumerate();
-    for (_, op) in searches.filter(|(i, _)| i.is_multiple_of(2)) {
-        if let Op::Search(key) = *op {
-            *op = Op::Next(key);
+    for (i, op) in other.ops.iter_mut().enumerate().step_by(2) {
+        match *op {
+            Op::Search(key) => *op = Op::Next(key),
+            Op::Delete(key) => *op = Op::Regrade(key, i as u32),
+            _ => {}
         }
     }
     other

@@ -33,6 +33,7 @@ impl Program for Second {
             Op::Insert(key, information) => twin::Op::Insert(key, information),
             Op::Delete(key) => twin::Op::Delete(key),
             Op::Next(key) => twin::Op::Next(key),
+            Op::Regrade(key, information) => twin::Op::Regrade(key, information),
         };
         answer(begin_lent(&mut self.state, slot as usize, op))
     }

@@ -72,6 +72,7 @@ fn stand(moment: &Moment, slot: &Slot) -> String {
         Some(Op::Search(_)) => "search",
         Some(Op::Insert(..)) => "insertion",
         Some(Op::Next(_)) => "next",
+        Some(Op::Regrade(..)) => "regrading",
         _ => "deletion",
     };
     let leaf = if has_leaf(moment, slot) {

@@ -28,6 +28,7 @@ fn op(op: Op) -> String {
         Op::Insert(key, information) => format!("(Insert {key} {information})"),
         Op::Delete(key) => format!("(Delete {key})"),
         Op::Next(key) => format!("(Next {key})"),
+        Op::Regrade(key, information) => format!("(Regrade {key} {information})"),
     }
 }
 

@@ -127,6 +127,7 @@ impl<C: Calls> Drive<C> {
             2 => Op::Insert(key, information),
             3 => Op::Delete(key),
             4 => Op::Next(key),
+            5 => Op::Regrade(key, information),
             _ => return vec![BAD_KIND],
         };
         self.calls.begin(&mut self.state, slot, op).heard()

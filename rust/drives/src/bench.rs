@@ -1,9 +1,9 @@
-//! The lots on the bench and the shortcuts that lose a lot, each as document 01 says it; and the next lot, and who waits
-//! behind whom, as 02 does.
+//! The lots on the bench and the shortcuts that lose a lot, each as document 01 says it; and the next lot, who waits behind
+//! whom, and regrading, as 02 does.
 
 use crate::program::Program;
 
-/// Information throughout.
+/// Information throughout, but where a lot is regraded.
 const INFORMATION: u32 = 7;
 
 /// What a call must be answered, and now and then the pool's words behind it.
@@ -26,11 +26,12 @@ const WAITING: [u32; 4] = [32, 0, 0, 0];
 const FOUND: [u32; 4] = [34, INFORMATION, 0, 0];
 const NOT_FOUND: [u32; 4] = [35, 0, 0, 0];
 const INSERTED: [u32; 4] = [36, 0, 0, 0];
-const ALREADY_THERE: [u32; 4] = [37, 0, 0, 0];
+const ALREADY_THERE: [u32; 4] = [37, INFORMATION, 0, 0];
 const DELETED: [u32; 4] = [38, INFORMATION, 0, 0];
 const NO_SUCH_KEY: [u32; 4] = [39, 0, 0, 0];
 const NO_ROOM: [u32; 4] = [40, 0, 0, 0];
 const NONE: [u32; 4] = [45, 0, 0, 0];
+const REGRADED: [u32; 4] = [46, INFORMATION, 0, 0];
 const BAD_POOL: [u32; 4] = [2, 0, 0, 0];
 const BAD_SLOT: [u32; 4] = [3, 0, 0, 0];
 const BAD_KIND: [u32; 4] = [31, 0, 0, 0];
@@ -80,7 +81,12 @@ impl Case {
 
     /// An operation alone in slot 0, to its end after so many grants.
     fn alone(&mut self, kind: u32, key: u32, grants: usize, answer: [u32; 4]) {
-        self.call(&format!("b 0 {kind} {key} {INFORMATION}"), BEGUN);
+        self.alone_with(kind, key, INFORMATION, grants, answer);
+    }
+
+    /// The same with other information.
+    fn alone_with(&mut self, kind: u32, key: u32, with: u32, grants: usize, answer: [u32; 4]) {
+        self.call(&format!("b 0 {kind} {key} {with}"), BEGUN);
         for _ in 1..grants {
             self.call("t 0", MOVED);
         }
@@ -101,6 +107,10 @@ impl Case {
 
     fn next(&mut self, key: u32, grants: usize, answer: [u32; 4]) {
         self.alone(4, key, grants, answer);
+    }
+
+    fn regrade(&mut self, key: u32, with: u32, grants: usize, answer: [u32; 4]) {
+        self.alone_with(5, key, with, grants, answer);
     }
 
     /// What the program says otherwise, if anything.
@@ -128,10 +138,18 @@ impl Case {
 
 /// All cases.
 pub fn cases() -> Vec<Case> {
-    [bench(), together(), limits(), shortcuts(), nexts()]
-        .into_iter()
-        .flatten()
-        .collect()
+    [
+        bench(),
+        together(),
+        limits(),
+        shortcuts(),
+        nexts(),
+        regraded(),
+        regrade_locks(),
+    ]
+    .into_iter()
+    .flatten()
+    .collect()
 }
 
 /// A to I.
@@ -172,6 +190,7 @@ fn bench() -> Vec<Case> {
     h.delete(20, 3, DELETED);
     h.words(&[[1, 1, 30, 7, 0, 0, 0], [0; 7], [0; 7]]);
 
+    // "Case I becomes AlreadyThere 7."
     let mut i = Case::from_e("I");
     i.insert(20, 2, ALREADY_THERE);
     i.words(&E);
@@ -235,7 +254,7 @@ fn limits() -> Vec<Case> {
 
     let mut kinds = Case::fresh("kinds", 1);
     kinds.call("b 0 0 5 0", BAD_KIND);
-    kinds.call("b 0 5 5 0", BAD_KIND);
+    kinds.call("b 0 6 5 0", BAD_KIND);
     kinds.call("b 16 4294967295 5 0", BAD_KIND);
 
     vec![
@@ -411,5 +430,101 @@ fn next_shares() -> Case {
     case.call("t 1", FOUND);
     case.call("t 3", MOVED);
     case.call("t 3", next_is(30));
+    case
+}
+
+/// What a regrading answers and writes.
+fn regraded() -> Vec<Case> {
+    // "AlreadyThere shall now carry the information there", and not what was to be entered
+    let mut there = Case::from_e("AlreadyThere with what is there");
+    there.alone_with(2, 20, 9, 2, ALREADY_THERE);
+    there.words(&E);
+
+    // "puts new information under a key that is there and answers Regraded with the old information"
+    let mut regraded = Case::from_e("a lot is regraded");
+    regraded.regrade(20, 9, 2, REGRADED);
+    regraded.words(&[E[0], E[1], [1, 2, 20, 9, 30, 7, 0]]);
+    regraded.search(20, 2, [34, 9, 0, 0]);
+    regraded.regrade(20, 8, 2, [46, 9, 0, 0]);
+    regraded.next(11, 3, [44, 20, 8, 0]);
+
+    // its leaf has k entries, and stays as it is otherwise
+    let mut least = Case::from_e("the only lot of a leaf is regraded");
+    least.regrade(10, 9, 2, REGRADED);
+    least.words(&[E[0], [1, 1, 10, 9, 0, 0, 0], E[2]]);
+
+    // "or NoSuchKey"
+    let mut missing = Case::from_e("a lot that is not there is regraded");
+    missing.regrade(15, 9, 2, NO_SUCH_KEY);
+    missing.words(&E);
+
+    // no page is free, and none is needed
+    let mut full = Case::fresh("a lot of a full root leaf is regraded", 1);
+    full.insert(10, 1, INSERTED);
+    full.insert(20, 1, INSERTED);
+    full.regrade(20, 9, 1, REGRADED);
+    full.words(&[[1, 2, 10, 7, 20, 9, 0]]);
+    full.regrade(30, 9, 1, NO_SUCH_KEY);
+
+    vec![there, regraded, least, missing, full]
+}
+
+/// What a regrading holds, and who waits for whom.
+fn regrade_locks() -> Vec<Case> {
+    vec![
+        regrade_holds(),
+        regrade_waits(),
+        waits(
+            "a regrading behind an insertion",
+            (2, INSERTED),
+            (5, REGRADED),
+        ),
+        waits(
+            "a regrading behind a search",
+            (1, NOT_FOUND),
+            (5, NO_SUCH_KEY),
+        ),
+        waits(
+            "a search behind a regrading",
+            (5, NO_SUCH_KEY),
+            (1, NOT_FOUND),
+        ),
+    ]
+}
+
+/// "It takes ξ-locks; every page is safe for it, so it holds at most 1"
+fn regrade_holds() -> Case {
+    let mut case = three_levels("regrading holds one page, alone");
+    case.call("b 0 5 20 9", BEGUN);
+    case.call("t 0", MOVED);
+    case.call("r 0", [43, 2, 1, 0]);
+    case.call("t 0", MOVED);
+    case.call("r 0", [43, 0, 0, 16]);
+    case.call("r 5", [43, 2, 1, 0]);
+    case.call("t 0", REGRADED);
+    case.call("r 5", [43, 0, 0, 16]);
+    case.call("r 2", [43, 0, 0, 16]);
+    case
+}
+
+/// "During a downgrade the lot is for a moment nowhere": one search comes before it and one behind it, and both find the lot.
+fn regrade_waits() -> Case {
+    let mut case = three_levels("a lot is searched for while it is regraded");
+    case.call("b 0 1 20 0", BEGUN);
+    case.call("t 0", MOVED);
+    case.call("b 1 5 20 9", BEGUN);
+    case.call("b 2 1 20 0", BEGUN);
+    case.call("t 1", WAITING);
+    case.call("t 0", MOVED);
+    case.call("t 1", MOVED);
+    case.call("t 2", WAITING);
+    case.call("t 1", WAITING);
+    case.call("t 0", FOUND);
+    case.call("t 1", MOVED);
+    case.call("t 2", MOVED);
+    case.call("t 2", WAITING);
+    case.call("t 1", REGRADED);
+    case.call("t 2", MOVED);
+    case.call("t 2", [34, 9, 0, 0]);
     case
 }

@@ -53,7 +53,7 @@ impl Tally {
 }
 
 /// The answers by number.
-const NAMES: [(&str, &str); 22] = [
+const NAMES: [(&str, &str); 23] = [
     ("1", "BadState"),
     ("2", "BadPool"),
     ("3", "BadSlot"),
@@ -76,6 +76,7 @@ const NAMES: [(&str, &str); 22] = [
     ("43", "Reported"),
     ("44", "Next"),
     ("45", "None"),
+    ("46", "Regraded"),
 ];
 
 /// The first of some scenes that the program writes otherwise, all given in one run.

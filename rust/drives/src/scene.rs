@@ -92,6 +92,9 @@ pub fn call_line(call: Call) -> String {
         }
         Call::Begin(slot, Op::Delete(key)) => format!("b {slot} 3 {key} 0"),
         Call::Begin(slot, Op::Next(key)) => format!("b {slot} 4 {key} 0"),
+        Call::Begin(slot, Op::Regrade(key, information)) => {
+            format!("b {slot} 5 {key} {information}")
+        }
         Call::Step(slot) => format!("t {slot}"),
         Call::Report(page) => format!("r {page}"),
     }

@@ -277,7 +277,7 @@ fn state_place(random: &mut Random, scene: &Scene) -> usize {
 
 /// Another word: near the one that was, or at some limit.
 fn changed(random: &mut Random, draw: &Draw, was: u32) -> u32 {
-    let limits = [0, 1, 2, 3, 4, 9, 10, 11, 15, 16, 17, 1024, 1025, u32::MAX];
+    let limits = [0, 1, 2, 5, 6, 9, 10, 11, 15, 16, 17, 1024, 1025, u32::MAX];
     match random.below(8) {
         0 | 1 => was.wrapping_add(1),
         2 => was.wrapping_sub(1),
@@ -336,7 +336,7 @@ fn raw_scene(random: &mut Random, scene: &mut Scene) {
             for row in 0..26 {
                 state[19 + 16 * row + slot] = random.below(most) as u32;
             }
-            state[19 + slot] = random.from(1, 4) as u32;
+            state[19 + slot] = random.from(1, 5) as u32;
         } else if random.percent(20) {
             // a closed slot's key and information are not looked at
             state[19 + 16 * random.from(1, 3) as usize + slot] = 7;
@@ -353,7 +353,7 @@ fn raw_scene(random: &mut Random, scene: &mut Scene) {
     for _ in 0..4 {
         let slot = random.below(17);
         let line = match random.below(4) {
-            0 => format!("b {slot} {} {} 5", random.below(6), random.below(4)),
+            0 => format!("b {slot} {} {} 5", random.below(7), random.below(4)),
             1 => format!("r {}", random.below(u64::from(n) + 2)),
             _ => format!("t {slot}"),
         };

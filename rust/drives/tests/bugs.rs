@@ -4,7 +4,8 @@ use draw::Random;
 use drive_twin::{Calls, Twin};
 use drives::{cases, compare, draw_scene, smallest, Scene, KINDS};
 use twin::{
-    begin_lent, free_pages, make_lent, page_words, report_lent, step_lent, Answer, Op, STATE,
+    begin_lent, free_pages, make_lent, page_words, report_lent, step_lent, words_of, Answer, Op,
+    State, STATE,
 };
 
 /// A call that something is wrong with.
@@ -52,6 +53,22 @@ enum Bug {
     NextHoldsAlone,
     /// A next with pages beside its path is no sound state.
     NextBesideUnsound,
+    /// An insertion is told the information that it brings, not what is there.
+    ThereTellsNew,
+    /// A regrading is told the information that it brings.
+    RegradeTellsNew,
+    /// A regrading writes nothing.
+    RegradeWritesNothing,
+    /// A regrading takes ρ-locks.
+    RegradeReads,
+    /// A regrading keeps its father, like an insertion in full pages.
+    RegradeKeepsFather,
+    /// A regrading takes the lot out of the tree and enters it again.
+    RegradeTakesOut,
+    /// A regrading enters a lot that is not there.
+    RegradeEnters,
+    /// A regrading that holds two pages is a sound state.
+    RegradeHoldsTwo,
 }
 
 /// Those of who waits behind whom.
@@ -62,7 +79,7 @@ const WAITING_BUGS: [Bug; 4] = [
     Bug::ReaderBarsNoUpdate,
 ];
 
-const BUGS: [Bug; 11] = [
+const BUGS: [Bug; 12] = [
     Bug::FatherGivenUp,
     Bug::EqualKeyLeft,
     Bug::DeletionTestsFull,
@@ -74,6 +91,7 @@ const BUGS: [Bug; 11] = [
     Bug::RefusedMakingWrites,
     Bug::ClosedKeepsKey,
     Bug::UnknownKindClosed,
+    Bug::RegradeHoldsTwo,
 ];
 
 /// Those of the next lot.
@@ -86,6 +104,25 @@ const NEXT_BUGS: [Bug; 6] = [
     Bug::NextBesideUnsound,
 ];
 
+/// Those of regrading that a run can show.
+const REGRADE_BUGS: [Bug; 7] = [
+    Bug::ThereTellsNew,
+    Bug::RegradeTellsNew,
+    Bug::RegradeWritesNothing,
+    Bug::RegradeReads,
+    Bug::RegradeKeepsFather,
+    Bug::RegradeTakesOut,
+    Bug::RegradeEnters,
+];
+
+/// All that belong to one of 02's requests.
+fn request_bugs() -> impl Iterator<Item = Bug> {
+    WAITING_BUGS
+        .into_iter()
+        .chain(NEXT_BUGS)
+        .chain(REGRADE_BUGS)
+}
+
 /// Where a row has the word of a slot.
 fn at(row: usize, slot: usize) -> usize {
     19 + 16 * row + slot
@@ -93,6 +130,7 @@ fn at(row: usize, slot: usize) -> usize {
 
 const KIND: usize = 0;
 const KEY: usize = 1;
+const INFORMATION: usize = 2;
 const WANT: usize = 3;
 const DEPTH: usize = 4;
 const SIBLINGS: usize = 5;
@@ -109,13 +147,13 @@ impl Calls for Bug {
 
     fn begin(&self, state: &mut [u32; STATE], slot: usize, op: Op) -> Answer {
         self.spoil(state);
-        begin_lent(state, slot, op)
+        self.disguised(state, |state| begin_lent(state, slot, op))
     }
 
     fn step(&self, state: &mut [u32; STATE], words: &mut [u32], slot: usize) -> Answer {
         self.spoil(state);
         let (before, pages) = (*state, words.to_vec());
-        let answer = step_lent(state, words, slot);
+        let answer = self.disguised(state, |state| step_lent(state, words, slot));
         if slot >= 16 {
             return answer;
         }
@@ -130,6 +168,9 @@ impl Calls for Bug {
         let kind = before[at(KIND, slot)];
         if kind == 4 {
             return self.next(&before, state, words, slot, answer);
+        }
+        if kind == 5 {
+            return self.regrade(&before, &pages, state, words, slot, answer);
         }
         match (self, answer) {
             (Bug::FatherGivenUp, Answer::Moved) if kind == 1 => {
@@ -173,6 +214,9 @@ impl Calls for Bug {
                 }
                 answer
             }
+            (Bug::ThereTellsNew, Answer::AlreadyThere(_)) => {
+                Answer::AlreadyThere(before[at(INFORMATION, slot)])
+            }
             (Bug::ClosedKeepsKey, _) if state[at(KIND, slot)] == 0 && kind != 0 => {
                 state[at(KEY, slot)] = before[at(KEY, slot)];
                 answer
@@ -182,7 +226,7 @@ impl Calls for Bug {
     }
 
     fn report(&self, state: &[u32; STATE], page: u32) -> Answer {
-        let answer = report_lent(state, page);
+        let answer = self.disguised(&mut state.clone(), |state| report_lent(state, page));
         let wanting =
             (0..16).find(|&slot| state[at(KIND, slot)] != 0 && state[at(WANT, slot)] == page);
         match (self, answer, wanting) {
@@ -257,13 +301,78 @@ impl Bug {
         answer
     }
 
+    /// What is wrong with a step of a regrading.
+    fn regrade(
+        &self,
+        before: &[u32; STATE],
+        pages: &[u32],
+        state: &mut [u32; STATE],
+        words: &mut [u32],
+        slot: usize,
+        answer: Answer,
+    ) -> Answer {
+        let (key, new) = (before[at(KEY, slot)], before[at(INFORMATION, slot)]);
+        match (self, answer) {
+            (Bug::RegradeTellsNew, Answer::Regraded(_)) => Answer::Regraded(new),
+            (Bug::RegradeWritesNothing, Answer::Regraded(_)) => {
+                words.copy_from_slice(pages);
+                answer
+            }
+            (Bug::RegradeReads, Answer::Found(_)) => alone(before, words, Op::Regrade(key, new)),
+            (Bug::RegradeReads, Answer::NotFound) => Answer::NoSuchKey,
+            (Bug::RegradeKeepsFather, Answer::Moved) if before[at(DEPTH, slot)] == 1 => {
+                state[at(DEPTH, slot)] = 2;
+                state[at(PATH + 1, slot)] = state[at(PATH, slot)];
+                state[at(PATH, slot)] = before[at(PATH, slot)];
+                answer
+            }
+            (Bug::RegradeTakesOut, Answer::Regraded(_)) => {
+                words.copy_from_slice(pages);
+                alone(before, words, Op::Delete(key));
+                alone(before, words, Op::Insert(key, new));
+                answer
+            }
+            (Bug::RegradeEnters, Answer::NoSuchKey) => alone(before, words, Op::Insert(key, new)),
+            _ => answer,
+        }
+    }
+
+    /// A call to which regradings look like another kind: one that reads, or, where two pages are held, one that may hold them.
+    fn disguised(
+        &self,
+        state: &mut [u32; STATE],
+        call: impl FnOnce(&mut [u32; STATE]) -> Answer,
+    ) -> Answer {
+        let (kind, depths) = match self {
+            Bug::RegradeReads => (1, 0..2),
+            Bug::RegradeHoldsTwo => (2, 2..3),
+            _ => return call(state),
+        };
+        let before = *state;
+        let is_meant = |slot: &usize| {
+            before[at(KIND, *slot)] == 5 && depths.contains(&before[at(DEPTH, *slot)])
+        };
+        let meant: Vec<usize> = (0..16).filter(is_meant).collect();
+        for &slot in &meant {
+            state[at(KIND, slot)] = kind;
+        }
+        let answer = call(state);
+        for slot in meant {
+            if state[at(KIND, slot)] == kind {
+                state[at(KIND, slot)] = 5;
+                state[at(INFORMATION, slot)] = before[at(INFORMATION, slot)];
+            }
+        }
+        answer
+    }
+
     /// Changes the state before the twin looks at it.
     fn spoil(&self, state: &mut [u32; STATE]) {
         match self {
             Bug::LongOrderCut => state[2] = state[2].min(16),
             Bug::UnknownKindClosed => state[at(KIND, 0)..at(KEY, 0)]
                 .iter_mut()
-                .filter(|kind| **kind > 4)
+                .filter(|kind| **kind > 5)
                 .for_each(|kind| *kind = 0),
             _ => {}
         }
@@ -295,6 +404,18 @@ fn unbarred(state: &mut [u32; STATE], words: &mut [u32], slot: usize) -> Answer 
     answer
 }
 
+/// An operation from its beginning to its end, with no other slot open.
+fn alone(state: &[u32; STATE], words: &mut [u32], op: Op) -> Answer {
+    let mut idle = words_of(&State::empty(state[0], state[1]));
+    begin_lent(&mut idle, 0, op);
+    loop {
+        let answer = step_lent(&mut idle, words, 0);
+        if answer != Answer::Moved {
+            return answer;
+        }
+    }
+}
+
 /// Where the pool has the level of a slot's lowest path page.
 fn leaf_word(state: &[u32; STATE], slot: usize) -> usize {
     let lowest = state[at(PATH + state[at(DEPTH, slot)] as usize - 1, slot)];
@@ -314,7 +435,7 @@ fn scenes() -> Vec<Scene> {
 #[test]
 fn each_bug_is_found() {
     let scenes = scenes();
-    for bug in BUGS.into_iter().chain(WAITING_BUGS).chain(NEXT_BUGS) {
+    for bug in BUGS.into_iter().chain(request_bugs()) {
         let program = || bug;
         let found = scenes
             .chunks(28)
@@ -353,7 +474,7 @@ fn a_case_of_the_documents_finds_each_shortcut() {
         Bug::FreedNotZeroed,
         Bug::LastPageKept,
     ];
-    for bug in shortcuts.into_iter().chain(WAITING_BUGS).chain(NEXT_BUGS) {
+    for bug in shortcuts.into_iter().chain(request_bugs()) {
         let refuted = cases().iter().any(|case| case.refuted(&|| bug).is_some());
         assert!(refuted, "{bug:?}");
     }

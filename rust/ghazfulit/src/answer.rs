@@ -17,6 +17,8 @@ pub enum Op {
     Delete { key: u32 },
     /// The first lot whose key is at or above this one.
     Next { key: u32 },
+    /// New information under a key that is there.
+    Regrade { key: u32, information: u32 },
 }
 
 impl Op {
@@ -27,6 +29,7 @@ impl Op {
             Op::Insert { key, information } => (header::INSERT, key, information),
             Op::Delete { key } => (header::DELETE, key, 0),
             Op::Next { key } => (header::NEXT, key, 0),
+            Op::Regrade { key, information } => (header::REGRADE, key, information),
         }
     }
 }
@@ -44,11 +47,11 @@ pub enum Step {
     NotFound,
     /// The lot is entered.
     Inserted,
-    /// The key was there already; nothing has changed.
-    AlreadyThere,
+    /// The key was there already, with this information; nothing has changed.
+    AlreadyThere(u32),
     /// The lot is taken out; it had this information.
     Deleted(u32),
-    /// There is no such key to take out.
+    /// There is no such key to take out or to regrade.
     NoSuchKey,
     /// More pages would be needed than are free; nothing has changed.
     NoRoom,
@@ -56,6 +59,8 @@ pub enum Step {
     Next { key: u32, information: u32 },
     /// No lot has a key at or above it.
     None,
+    /// The lot has its new information; it had this one.
+    Regraded(u32),
 }
 
 impl Step {
@@ -73,12 +78,13 @@ impl Display for Step {
             Step::Found(information) => write!(f, "Found {information}"),
             Step::NotFound => write!(f, "NotFound"),
             Step::Inserted => write!(f, "Inserted"),
-            Step::AlreadyThere => write!(f, "AlreadyThere"),
+            Step::AlreadyThere(information) => write!(f, "AlreadyThere {information}"),
             Step::Deleted(information) => write!(f, "Deleted {information}"),
             Step::NoSuchKey => write!(f, "NoSuchKey"),
             Step::NoRoom => write!(f, "NoRoom"),
             Step::Next { key, information } => write!(f, "Next {key} {information}"),
             Step::None => write!(f, "None"),
+            Step::Regraded(information) => write!(f, "Regraded {information}"),
         }
     }
 }
@@ -173,7 +179,7 @@ pub(crate) fn stepped(answer: Answer) -> Result<Step, Refusal> {
         header::FOUND => Step::Found(answer[1]),
         header::NOT_FOUND => Step::NotFound,
         header::INSERTED => Step::Inserted,
-        header::ALREADY_THERE => Step::AlreadyThere,
+        header::ALREADY_THERE => Step::AlreadyThere(answer[1]),
         header::DELETED => Step::Deleted(answer[1]),
         header::NO_SUCH_KEY => Step::NoSuchKey,
         header::NO_ROOM => Step::NoRoom,
@@ -182,6 +188,7 @@ pub(crate) fn stepped(answer: Answer) -> Result<Step, Refusal> {
             information: answer[2],
         },
         header::NO_LOT => Step::None,
+        header::REGRADED => Step::Regraded(answer[1]),
         number => return Err(refusal(number).unwrap_or_else(|| unheard(answer))),
     })
 }

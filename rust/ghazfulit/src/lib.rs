@@ -15,6 +15,8 @@
 //! assert_eq!(index.step(1)?, Step::Found(3));
 //! index.begin(1, Op::Next { key: 10 })?;
 //! assert_eq!(index.step(1)?, Step::Next { key: 12, information: 3 });
+//! index.begin(0, Op::Regrade { key: 12, information: 4 })?;
+//! assert_eq!(index.step(0)?, Step::Regraded(3));
 //! # Ok::<(), ghazfulit::Refusal>(())
 //! ```
 //!

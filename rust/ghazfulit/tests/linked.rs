@@ -72,6 +72,34 @@ fn the_next_lot() {
 }
 
 #[test]
+fn a_lot_is_regraded() {
+    let mut index = Index::new(1, 1).expect("in range");
+    let key = 10;
+    let regrade = |information| Op::Regrade { key, information };
+    let insert = |information| Op::Insert { key, information };
+    for (op, answer, text, found) in [
+        (regrade(9), Step::NoSuchKey, "NoSuchKey", Step::NotFound),
+        (insert(7), Step::Inserted, "Inserted", Step::Found(7)),
+        (regrade(9), Step::Regraded(7), "Regraded 7", Step::Found(9)),
+        (
+            insert(8),
+            Step::AlreadyThere(9),
+            "AlreadyThere 9",
+            Step::Found(9),
+        ),
+    ] {
+        index.begin(0, op).expect("begun");
+        index.begin(1, Op::Search { key }).expect("begun");
+        // it goes with nothing, and the search behind it finds what it left
+        assert_eq!(index.step(1), Ok(Step::Waiting));
+        assert_eq!(index.step(0), Ok(answer));
+        assert_eq!((answer.is_end(), answer.to_string().as_str()), (true, text));
+        assert_eq!(index.step(1), Ok(found));
+    }
+    assert_eq!(index.words(), [1, 1, 10, 9, 0, 0, 0]);
+}
+
+#[test]
 fn a_search_does_not_wait_for_a_search() {
     let mut index = Index::new(1, 1).expect("in range");
     let (key, information) = (5, 7);

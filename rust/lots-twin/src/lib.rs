@@ -53,7 +53,10 @@ impl Talk {
         };
         self.state = next;
         match answer {
-            Answer::Found(information) | Answer::Deleted(information) => {
+            Answer::Found(information)
+            | Answer::Deleted(information)
+            | Answer::AlreadyThere(information)
+            | Answer::Regraded(information) => {
                 format!("{} {}\n", answer.name(), information).into_bytes()
             }
             Answer::Next(key, information) => {
@@ -64,7 +67,7 @@ impl Talk {
     }
 }
 
-/// What a line asks for, if it is one of the five.
+/// What a line asks for, if it is one of the six.
 fn parse(line: &[u8]) -> Option<Line> {
     let parts: Vec<&[u8]> = line.split(|&byte| byte == b' ').collect();
     match parts[..] {
@@ -75,6 +78,10 @@ fn parse(line: &[u8]) -> Option<Line> {
         )),
         [b"b", slot, b"d", key] => Some(Line::Begin(number(slot)?, Op::Delete(number(key)?))),
         [b"b", slot, b"n", key] => Some(Line::Begin(number(slot)?, Op::Next(number(key)?))),
+        [b"b", slot, b"g", key, information] => Some(Line::Begin(
+            number(slot)?,
+            Op::Regrade(number(key)?, number(information)?),
+        )),
         [b"t", slot] => Some(Line::Step(number(slot)?)),
         _ => None,
     }

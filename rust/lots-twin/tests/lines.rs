@@ -56,6 +56,16 @@ fn bad_lines() {
         "b 0 N 1\n",
         "n 0 1\n",
         "b 0 n 1",
+        "b 0 g\n",
+        "b 0 g 1\n",
+        "b 0 g 1 \n",
+        "b 0 g 1 2 3\n",
+        "b 0 g 1  2\n",
+        "b 0 g 1 4294967296\n",
+        "b 0 g 4294967296 1\n",
+        "b 0 G 1 2\n",
+        "g 0 1 2\n",
+        "b 0 g 1 2",
         "b 0 x 1\n",
         "b s 1\n",
         "t 4294967296\n",
@@ -108,6 +118,40 @@ fn the_next_lot_in_the_second_leaf() {
     input += "b 0 n 21\nt 0\nt 0\nb 1 d 30\nt 1\nt 0\nt 1\n";
     let told = "Begun\nMoved\nMoved\nBegun\nWaiting\nNext 30 30\nMoved\n";
     assert!(written(&input).ends_with(told), "{}", written(&input));
+}
+
+#[test]
+fn a_lot_is_regraded() {
+    let input =
+        "b 0 g 12 3\nt 0\nb 0 i 12 3\nt 0\nb 1 g 012 04\nt 1\nb 1 s 12\nt 1\nb 1 g 13 5\nt 1\n";
+    assert_eq!(
+        written(input),
+        "Begun\nNoSuchKey\nBegun\nInserted\nBegun\nRegraded 3\nBegun\nFound 4\nBegun\nNoSuchKey\n"
+    );
+    let largest = "b 0 i 4294967295 4294967295\nt 0\nb 15 g 4294967295 0\nt 15\nb 16 g 0 0\n";
+    assert_eq!(
+        written(largest),
+        "Begun\nInserted\nBegun\nRegraded 4294967295\nBadSlot\n"
+    );
+}
+
+/// The downgrade of a lot is one operation: a buyer's search finds the old information or the new.
+#[test]
+fn a_search_while_a_lot_is_regraded() {
+    let input = "b 0 i 12 3\nt 0\nb 0 g 12 4\nb 1 s 12\nt 1\nt 0\nt 1\nb 1 s 12\nb 0 g 12 5\nt 0\nt 1\nt 0\n";
+    assert_eq!(
+        written(input),
+        "Begun\nInserted\nBegun\nBegun\nWaiting\nRegraded 3\nFound 4\nBegun\nBegun\nWaiting\nFound 4\nRegraded 4\n"
+    );
+}
+
+#[test]
+fn what_is_there_already_is_told() {
+    let input = "b 0 i 12 3\nt 0\nb 0 i 12 8\nt 0\nb 0 d 12\nt 0\n";
+    assert_eq!(
+        written(input),
+        "Begun\nInserted\nBegun\nAlreadyThere 3\nBegun\nDeleted 3\n"
+    );
 }
 
 #[test]

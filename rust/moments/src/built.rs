@@ -47,7 +47,7 @@ fn spoil(random: &mut Random, build: &mut Build, slot: &mut Slot) {
     let drawn = random.below(build.keys) as u32;
     match random.below(16) {
         12..=15 => turn_back(random, build, slot),
-        0 => slot.op = Some(random.one(&[Op::Delete(key), Op::Next(key)])),
+        0 => slot.op = Some(random.one(&[Op::Delete(key), Op::Next(key), Op::Regrade(key, 1)])),
         1 => slot.op = Some(Op::Insert(key, 1)),
         2 => slot.op = Some(random.one(&[Op::Delete(drawn), Op::Next(drawn)])),
         3 | 4 => recount(random, build, page),
@@ -153,8 +153,9 @@ pub(crate) fn rubbish(random: &mut Random) -> Build {
 /// An operation on a key near the middle. There are enough keys below that of a `Next` to fill a page, and one above it.
 pub(crate) fn operation(random: &mut Random, build: &Build) -> Op {
     let key = random.below(build.keys) as u32;
-    match random.below(14) {
+    match random.below(16) {
         0 => Op::Search(key),
+        14 | 15 => Op::Regrade(key, random.below(1000) as u32),
         1..=4 => Op::Insert(key, random.below(1000) as u32),
         5..=8 => Op::Next(random.from(2 * u64::from(build.k), build.keys - 2) as u32),
         _ => Op::Delete(key),
@@ -188,7 +189,7 @@ pub(crate) fn path_count(
         _ => k,
     };
     let (from, to) = match (op, is_top, page) {
-        (Op::Search(_) | Op::Next(_), ..) | (_, true, 0) => (least, 2 * k),
+        (Op::Search(_) | Op::Next(_) | Op::Regrade(..), ..) | (_, true, 0) => (least, 2 * k),
         (Op::Insert(..), true, _) => (least, 2 * k - 1),
         (Op::Insert(..), false, _) => (2 * k, 2 * k),
         (Op::Delete(_), true, _) => (k + 1, 2 * k),
@@ -305,7 +306,7 @@ fn place_slot(random: &mut Random, build: &mut Build, op: Op) -> Option<Slot> {
 fn place_held(random: &mut Random, build: &mut Build, op: Op) -> Option<Slot> {
     let is_beside = matches!(op, Op::Delete(_)) && random.percent(65);
     let held = match op {
-        Op::Search(_) => 1,
+        Op::Search(_) | Op::Regrade(..) => 1,
         _ => random.one(&[1, 1, 2, 2, 2, 3, 3, 4, 5, 7, 9]) + u32::from(is_beside),
     };
     let last = if is_beside {
@@ -373,7 +374,7 @@ fn place_want(
     let (k, level) = (u64::from(build.k), last - 1);
     let any = random.from(k, 2 * k);
     let count = random.one(&[k, 2 * k, k + 1, any]) as u32;
-    let there = matches!(op, Op::Delete(_) | Op::Search(_)) ^ random.percent(15);
+    let there = !matches!(op, Op::Insert(..)) ^ random.percent(15);
     write(
         random,
         build,

@@ -79,13 +79,13 @@ fn odd_call(random: &mut Random, draw: &Draw) -> Call {
     }
 }
 
-/// A random operation; a deletion is mostly of a key that is there, and a `Next` is often from just behind one.
+/// A random operation; a deletion or a regrading is mostly of a key that is there, and a `Next` is often from just behind one.
 pub fn operation(random: &mut Random, draw: &Draw, grows: bool, there: &[u32]) -> Op {
     let key = match random.below(50) {
         0 => u32::MAX,
         _ => random.below(draw.keys) as u32,
     };
-    let (inserts, deletes) = if grows { (74, 8) } else { (6, 72) };
+    let (inserts, deletes) = if grows { (70, 8) } else { (6, 68) };
     match random.below(100) {
         drawn if drawn < inserts => Op::Insert(key, random.below(1000) as u32),
         drawn if drawn < inserts + deletes && !there.is_empty() && random.percent(85) => {
@@ -93,11 +93,22 @@ pub fn operation(random: &mut Random, draw: &Draw, grows: bool, there: &[u32]) -
         }
         drawn if drawn < inserts + deletes => Op::Delete(key),
         drawn if drawn >= 95 => Op::Search(key),
+        drawn if drawn >= 90 => regrade(random, key, there),
         _ if !there.is_empty() && random.percent(70) => {
             Op::Next(random.one(there).saturating_add(1))
         }
         _ => Op::Next(key),
     }
+}
+
+/// A regrading, mostly of a key that is there.
+fn regrade(random: &mut Random, key: u32, there: &[u32]) -> Op {
+    let key = if !there.is_empty() && random.percent(85) {
+        random.one(there)
+    } else {
+        key
+    };
+    Op::Regrade(key, random.below(1000) as u32)
 }
 
 /// Draws calls by trying them on a copy.

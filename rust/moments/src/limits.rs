@@ -47,8 +47,9 @@ fn drawn_counts(random: &mut Random) -> (Op, usize, usize) {
     let more = usize::from(random.percent(5));
     let both = random.one(&[1, 2, 5, 9, 10, 10]) + usize::from(random.percent(3));
     let beside = random.one(&[0, both / 2, both - 1]) + more;
-    match random.below(7) {
+    match random.below(8) {
         0 => (Op::Search(key), random.one(&[0, 1, 1]) + more, 0),
+        7 => (Op::Regrade(key, 3), random.one(&[0, 1, 1]) + more, 0),
         1 | 2 => (
             Op::Insert(key, 3),
             random.one(&[0, 1, 5, 9, 10, 10]) + more,

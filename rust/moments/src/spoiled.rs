@@ -142,7 +142,7 @@ fn spoil_state(random: &mut Random, draw: &Draw, state: &mut State, number: usiz
     let cell = random.one(&[0, 0, 0, 1, 1, 2, 3, 9]);
     let key = random.below(draw.keys) as u32;
     let slot = &mut state.slots[number];
-    match random.below(19) {
+    match random.below(20) {
         0 => state.k = odd,
         1 => state.n = random.one(&[odd, draw.n - 1, draw.n + 1]),
         2 => {
@@ -179,6 +179,7 @@ fn spoil_state(random: &mut Random, draw: &Draw, state: &mut State, number: usiz
         15 => slot.op = Some(Op::Delete(key)),
         16 => slot.op = Some(Op::Insert(key, odd)),
         17 => slot.op = Some(Op::Next(key)),
+        18 => slot.op = Some(Op::Regrade(key, odd)),
         _ => slot.op = Some(Op::Search(key)),
     }
 }

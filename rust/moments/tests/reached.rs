@@ -1,7 +1,7 @@
-//! The draws reach what they are for: long and broken second ways of a `Next`.
+//! The draws reach what they are for: long and broken second ways of a `Next`, and regradings of every outcome.
 
 use draw::Random;
-use moments::{built, spoiled_words, Call, Moment};
+use moments::{built, draw, draw_calls, made, spoiled_words, Call, Moment};
 use twin::{Answer, Op, Slot};
 
 /// A moment's slot that is stepped, and its answer.
@@ -42,4 +42,46 @@ fn spoiled_pages() {
     let steps: Vec<(Slot, Answer)> = drawn.filter_map(stepped).collect();
     assert!(count(&steps, |slot, _| slot.beside > 0) > 50);
     assert!(count(&steps, |slot, _| slot.beside > 1) > 10);
+}
+
+/// How many steps of a regrading are answered so.
+fn count_regradings(steps: &[(Slot, Answer)], name: &str) -> usize {
+    let is_so = |slot: &Slot, answer: Answer| {
+        matches!(slot.op, Some(Op::Regrade(..))) && answer.name() == name
+    };
+    let so = steps.iter().filter(|(slot, answer)| is_so(slot, *answer));
+    so.count()
+}
+
+#[test]
+fn regradings_on_built_and_spoiled_pages() {
+    let mut random = Random(6);
+    let drawn = (0..4000).filter_map(|_| built(&mut random));
+    let on_built: Vec<(Slot, Answer)> = drawn.filter_map(stepped).collect();
+    for name in ["Moved", "Regraded", "NoSuchKey", "Damaged"] {
+        assert!(count_regradings(&on_built, name) > 10, "{name}");
+    }
+    let drawn = (0..2000).filter_map(|_| spoiled_words(&mut random));
+    let on_spoiled: Vec<(Slot, Answer)> = drawn.filter_map(stepped).collect();
+    assert!(count_regradings(&on_spoiled, "Damaged") > 10);
+}
+
+#[test]
+fn regradings_in_schedules() {
+    let mut random = Random(7);
+    let mut steps = Vec::new();
+    for _ in 0..100 {
+        let draw = draw(&mut random);
+        let mut moment = made(draw.k, draw.n);
+        for call in draw_calls(&mut random, &draw, &moment.clone(), 0, 300) {
+            let before = moment.state;
+            let answer = moment.call(call);
+            if let Call::Step(slot @ ..16) = call {
+                steps.push((before.slots[slot], answer));
+            }
+        }
+    }
+    for name in ["Waiting", "Moved", "Regraded", "NoSuchKey"] {
+        assert!(count_regradings(&steps, name) > 50, "{name}");
+    }
 }

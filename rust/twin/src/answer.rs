@@ -15,7 +15,8 @@ pub enum Answer {
     Found(u32),
     NotFound,
     Inserted,
-    AlreadyThere,
+    /// The information that is there.
+    AlreadyThere(u32),
     Deleted(u32),
     NoSuchKey,
     NoRoom,
@@ -27,6 +28,8 @@ pub enum Answer {
     Next(u32, u32),
     /// There is no such entry.
     None,
+    /// The information that was there before.
+    Regraded(u32),
 }
 
 impl Answer {
@@ -45,7 +48,7 @@ impl Answer {
             Answer::Found(information) => vec![34, information],
             Answer::NotFound => vec![35],
             Answer::Inserted => vec![36],
-            Answer::AlreadyThere => vec![37],
+            Answer::AlreadyThere(information) => vec![37, information],
             Answer::Deleted(information) => vec![38, information],
             Answer::NoSuchKey => vec![39],
             Answer::NoRoom => vec![40],
@@ -54,6 +57,7 @@ impl Answer {
             Answer::Reported(kind, holders, lowest) => vec![43, kind, holders, lowest],
             Answer::Next(key, information) => vec![44, key, information],
             Answer::None => vec![45],
+            Answer::Regraded(information) => vec![46, information],
         }
     }
 
@@ -72,7 +76,7 @@ impl Answer {
             Answer::Found(_) => "Found",
             Answer::NotFound => "NotFound",
             Answer::Inserted => "Inserted",
-            Answer::AlreadyThere => "AlreadyThere",
+            Answer::AlreadyThere(_) => "AlreadyThere",
             Answer::Deleted(_) => "Deleted",
             Answer::NoSuchKey => "NoSuchKey",
             Answer::NoRoom => "NoRoom",
@@ -81,6 +85,7 @@ impl Answer {
             Answer::Reported(..) => "Reported",
             Answer::Next(..) => "Next",
             Answer::None => "None",
+            Answer::Regraded(_) => "Regraded",
         }
     }
 }

@@ -1,4 +1,4 @@
-//! How pages change: splits, moves, joins and the root collapse.
+//! How pages change: splits, moves, joins and the root collapse; and a leaf in which a lot is regraded.
 
 use crate::answer::Answer;
 use crate::grant::{Held, Reach, Shape};
@@ -93,6 +93,21 @@ fn write_new(shape: Shape, words: &mut [u32], page: &Page) -> u32 {
     let number = free_pages(words, shape.k, shape.n)[0];
     write_page(words, shape.k, number, page);
     number
+}
+
+/// Puts new information under the key, and tells the old. No other word changes.
+pub fn regrade(
+    shape: Shape,
+    words: &mut [u32],
+    key: u32,
+    information: u32,
+    mut path: Vec<Held>,
+) -> Answer {
+    let mut leaf = path.pop().expect("a regrading has its leaf");
+    let place = leaf.page.find(key).expect("the key is there");
+    let old = std::mem::replace(&mut leaf.page.with[place], information);
+    write_page(words, shape.k, leaf.number, &leaf.page);
+    Answer::Regraded(old)
 }
 
 /// Takes the entry out of the leaf, then moves or joins with each sibling held.

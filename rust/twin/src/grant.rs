@@ -2,7 +2,7 @@
 //! operation hold and want, and then the operation goes on or ends.
 
 use crate::answer::Answer;
-use crate::change::{delete, insert, room_is_short};
+use crate::change::{delete, insert, regrade, room_is_short};
 use crate::page::{read_page, Page};
 use crate::second_way;
 use crate::state::{Op, Slot};
@@ -89,7 +89,7 @@ fn is_beside_right(k: u32, op: Op, leaf: &Page, reach: &Reach) -> bool {
     match op {
         Op::Delete(key) => leaf.find(key).is_some() && are_siblings_right(k, op, reach),
         Op::Next(key) => leaf.first_from(key).is_none() && second_way::is_right(key, reach),
-        Op::Search(_) | Op::Insert(..) => false,
+        Op::Search(_) | Op::Insert(..) | Op::Regrade(..) => false,
     }
 }
 
@@ -117,7 +117,7 @@ fn is_top_right(k: u32, op: Op, path: &[Held]) -> bool {
 /// a `Next`, the page itself has a child to the right of the route.
 fn is_safe(k: u32, op: Op, page: &Page) -> bool {
     match op {
-        Op::Search(_) => true,
+        Op::Search(_) | Op::Regrade(..) => true,
         Op::Insert(..) => page.count() < 2 * k as usize,
         Op::Delete(_) => page.count() > k as usize,
         Op::Next(key) => page.right_of_route(key).is_some(),
@@ -180,7 +180,7 @@ fn next_want(k: u32, op: Op, reach: &Reach) -> Option<u32> {
     match op {
         Op::Delete(_) => next_sibling(k, op, reach),
         Op::Next(key) => second_way::next_want(key, reach),
-        Op::Search(_) | Op::Insert(..) => None,
+        Op::Search(_) | Op::Insert(..) | Op::Regrade(..) => None,
     }
 }
 
@@ -196,7 +196,7 @@ fn next_sibling(k: u32, op: Op, reach: &Reach) -> Option<u32> {
     sibling_at(k, op, reach, reach.siblings.len())
 }
 
-/// What is held after the grant: a safe page gives up its ancestors, and so a search its father.
+/// What is held after the grant: a safe page gives up its ancestors, and so a search or a regrading its father.
 fn take(k: u32, op: Op, reach: Reach, wanted: Held) -> Reach {
     let Reach {
         mut path,
@@ -221,8 +221,8 @@ fn answer_at_leaf(op: Op, reach: &Reach) -> Option<Answer> {
         (Op::Next(key), _) => next_entry(key, leaf, reach),
         (Op::Search(_), Some(information)) => Some(Answer::Found(information)),
         (Op::Search(_), None) => Some(Answer::NotFound),
-        (Op::Insert(..), Some(_)) => Some(Answer::AlreadyThere),
-        (Op::Delete(_), None) => Some(Answer::NoSuchKey),
+        (Op::Insert(..), Some(information)) => Some(Answer::AlreadyThere(information)),
+        (Op::Delete(_) | Op::Regrade(..), None) => Some(Answer::NoSuchKey),
         _ => None,
     }
 }
@@ -260,6 +260,7 @@ fn change(shape: Shape, words: &mut [u32], op: Op, reach: Reach) -> Answer {
         Op::Insert(..) if room_is_short(shape, words, &reach.path) => Answer::NoRoom,
         Op::Insert(key, information) => insert(shape, words, key, information, reach.path),
         Op::Delete(key) => delete(shape, words, key, reach),
+        Op::Regrade(key, information) => regrade(shape, words, key, information, reach.path),
         Op::Search(_) | Op::Next(_) => unreachable!("it changes no page"),
     }
 }

@@ -6,7 +6,8 @@
 //! | 3 to 18 | the waiting order, oldest first |
 //! | from 19 | rows of 16, one word a slot: kind, key, information, want, depth, number of pages beside, then 10 rows of the path and 10 of the pages beside |
 //!
-//! A kind is 0 for a closed slot, 1 for a search, 2 for an insertion, 3 for a deletion, 4 for a `Next`; any other is no state at all.
+//! A kind is 0 for a closed slot, 1 for a search, 2 for an insertion, 3 for a deletion, 4 for a `Next`, 5 for a regrading; any other
+//! is no state at all.
 //! Words that a slot's kind does not use are not looked at, and are 0 where a call writes the slot.
 
 use crate::answer::Answer;
@@ -49,6 +50,7 @@ fn slot_of(words: &[u32; STATE], number: usize) -> Option<Slot> {
         2 => Some(Op::Insert(word(1), word(2))),
         3 => Some(Op::Delete(word(1))),
         4 => Some(Op::Next(word(1))),
+        5 => Some(Op::Regrade(word(1), word(2))),
         _ => return None,
     };
     Some(Slot {
@@ -90,6 +92,7 @@ fn write_slot(words: &mut [u32; STATE], state: &State, number: usize) {
         Some(Op::Insert(key, information)) => (2, key, information),
         Some(Op::Delete(key)) => (3, key, 0),
         Some(Op::Next(key)) => (4, key, 0),
+        Some(Op::Regrade(key, information)) => (5, key, information),
     };
     let single = [
         kind,

@@ -7,7 +7,7 @@ pub const PATH: usize = 10;
 /// How many pages beside its path a slot has cells for.
 pub const SIBLINGS: usize = 10;
 
-/// What a buyer asks for: a key, and for an insertion its information.
+/// What a buyer asks for: a key, and for an insertion or a regrading its information.
 #[derive(Clone, Copy, Debug, PartialEq, Eq)]
 pub enum Op {
     Search(u32),
@@ -15,13 +15,19 @@ pub enum Op {
     Delete(u32),
     /// The first entry at or above the key.
     Next(u32),
+    /// New information under a key that is there.
+    Regrade(u32, u32),
 }
 
 impl Op {
     /// The key the operation is about.
     pub fn key(self) -> u32 {
         match self {
-            Op::Search(key) | Op::Insert(key, _) | Op::Delete(key) | Op::Next(key) => key,
+            Op::Search(key)
+            | Op::Insert(key, _)
+            | Op::Delete(key)
+            | Op::Next(key)
+            | Op::Regrade(key, _) => key,
         }
     }
 
@@ -166,6 +172,7 @@ fn limits(op: Option<Op>) -> (usize, usize) {
         Some(Op::Insert(..)) => (10, 0),
         Some(Op::Delete(_)) => (10, 9),
         Some(Op::Next(_)) => (10, 9),
+        Some(Op::Regrade(..)) => (1, 0),
     }
 }
 

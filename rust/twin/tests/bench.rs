@@ -2,6 +2,7 @@
 
 mod common;
 
+use common::pools::two_levels;
 use common::Run;
 use twin::{begin, make, page_words, report, step, Answer, Op};
 
@@ -22,12 +23,7 @@ fn alone(run: &mut Run, ops: &[Op]) -> Vec<(u32, Answer)> {
 
 /// Case E: 10, 20 and 30 in three pages.
 fn case_e() -> Run {
-    let mut run = Run::new(1, 3);
-    alone(
-        &mut run,
-        &[Op::Insert(10, 7), Op::Insert(20, 7), Op::Insert(30, 7)],
-    );
-    run
+    two_levels()
 }
 
 #[test]
@@ -98,15 +94,18 @@ fn h_join_and_collapse() {
     assert_eq!(run.words[7..], [0; 14]);
 }
 
+/// As 02 (iv) has it: "Case I becomes AlreadyThere 7", whatever information was to be entered.
 #[test]
 fn i_already_there() {
-    let mut run = case_e();
-    let words = run.words.clone();
-    assert_eq!(
-        alone(&mut run, &[Op::Insert(20, 7)]),
-        [(2, Answer::AlreadyThere)]
-    );
-    assert_eq!(run.words, words);
+    for information in [7, 9] {
+        let mut run = case_e();
+        let words = run.words.clone();
+        assert_eq!(
+            alone(&mut run, &[Op::Insert(20, information)]),
+            [(2, Answer::AlreadyThere(7))]
+        );
+        assert_eq!(run.words, words);
+    }
 }
 
 #[test]
@@ -132,7 +131,13 @@ fn k_a_search_passes_a_search() {
 /// "a want waits only for held locks and older wants that clash with it": of each two operations, who waits behind whom.
 #[test]
 fn older_wants_that_clash() {
-    let ops = [Op::Search(5), Op::Next(5), Op::Insert(5, 7), Op::Delete(5)];
+    let ops = [
+        Op::Search(5),
+        Op::Next(5),
+        Op::Insert(5, 7),
+        Op::Delete(5),
+        Op::Regrade(5, 7),
+    ];
     for (i, older) in ops.into_iter().enumerate() {
         for (j, younger) in ops.into_iter().enumerate() {
             let mut run = Run::new(1, 1);

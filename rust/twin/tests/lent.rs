@@ -55,11 +55,27 @@ fn a_next_is_kind_4_with_no_information() {
 }
 
 #[test]
+fn a_regrading_is_kind_5_with_its_information() {
+    let (mut state, mut words) = fresh();
+    let op = Op::Regrade(10, 7);
+    assert_eq!(begin_lent(&mut state, 2, op), Answer::Begun);
+    let mut expected = [0; STATE];
+    expected[..4].copy_from_slice(&[1, 1, 1, 2]);
+    expected[19 + 2] = 5;
+    expected[19 + 16 + 2] = 10;
+    expected[19 + 32 + 2] = 7;
+    assert_eq!(state, expected);
+    assert_eq!(step_lent(&mut state, &mut words, 2), Answer::NoSuchKey);
+    assert_eq!(state[..3], [1, 1, 0]);
+    assert_eq!(state[3..], [0; STATE - 3]);
+}
+
+#[test]
 fn words_and_state_give_each_other_back() {
     let mut random = Random(1);
     for _ in 0..2000 {
         let words: [u32; STATE] = std::array::from_fn(|at| match at {
-            19..=34 => random.below(5) as u32,
+            19..=34 => random.below(6) as u32,
             _ => random.bits() as u32 >> random.below(32),
         });
         let state = state_of(&words).expect("all kinds exist");
@@ -70,7 +86,7 @@ fn words_and_state_give_each_other_back() {
 #[test]
 fn a_kind_that_does_not_exist_is_no_state() {
     let (mut state, mut words) = fresh();
-    state[19 + 3] = 5;
+    state[19 + 3] = 6;
     let given = state;
     assert_eq!(begin_lent(&mut state, 0, Op::Search(1)), Answer::BadState);
     assert_eq!(step_lent(&mut state, &mut words, 0), Answer::BadState);

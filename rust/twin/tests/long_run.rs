@@ -50,7 +50,7 @@ fn named(name: &str) -> Answer {
         "found" => Answer::Found(7),
         "absent" => Answer::NotFound,
         "entered" => Answer::Inserted,
-        "there" => Answer::AlreadyThere,
+        "there" => Answer::AlreadyThere(7),
         "deleted" => Answer::Deleted(7),
         "missing" => Answer::NoSuchKey,
         "noPage" => Answer::NoRoom,

@@ -3,42 +3,11 @@
 
 mod common;
 
+use common::pools::{entered, three_levels, two_levels};
 use common::Run;
 use twin::{is_sound, make, page_words, report, step, Answer, Op, Slot, State};
 
 const NONE: &[u32] = &[];
-
-/// A run with these keys entered one by one, information 7; k = 1.
-fn entered(n: u32, keys: &[u32]) -> Run {
-    let mut run = Run::new(1, n);
-    for &key in keys {
-        run.begin(0, Op::Insert(key, 7));
-        run.finish();
-    }
-    run
-}
-
-/// Two levels: 0 above the leaves 1 (10) and 2 (20, 30).
-fn two_levels() -> Run {
-    entered(3, &[10, 20, 30])
-}
-
-/// Three levels: 0 above 5 and 6, 5 above the leaves 1 (10) and 2 (20), 6 above the leaves 3 (30) and 4 (40, 50).
-fn three_levels() -> Run {
-    let run = entered(8, &[10, 20, 30, 40, 50]);
-    let pages = [
-        [3, 1, 5, 30, 6, 0, 0],
-        [1, 1, 10, 7, 0, 0, 0],
-        [1, 1, 20, 7, 0, 0, 0],
-        [1, 1, 30, 7, 0, 0, 0],
-        [1, 2, 40, 7, 50, 7, 0],
-        [2, 1, 1, 20, 2, 0, 0],
-        [2, 1, 3, 40, 4, 0, 0],
-        [0; 7],
-    ];
-    assert_eq!(run.words, pages.concat());
-    run
-}
 
 /// The path, what is beside it, and the want of slot 0.
 fn stand(run: &Run) -> (&[u32], &[u32], u32) {
@@ -150,13 +119,7 @@ fn with_no_child_to_the_right_it_holds_from_page_0() {
 #[test]
 fn over_ten_levels() {
     let mut run = Run::new(1, 1024);
-    for key in 0.. {
-        run.begin(0, Op::Insert(2 * key, 7));
-        run.finish();
-        if run.tally.contains_key("NoRoom") {
-            break;
-        }
-    }
+    run.rise(2);
     assert_eq!(run.words[0], 10);
     let reference = run.words[3];
     run.begin(0, Op::Next(reference - 1));

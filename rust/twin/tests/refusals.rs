@@ -13,11 +13,12 @@ fn middle(random: &mut Random, k: u32, n: u32) -> Run {
     for _ in 0..200 + random.below(100) {
         let slot = random.below(16) as usize;
         let key = random.below(40) as u32;
-        match random.below(9) {
+        match random.below(10) {
             0 | 1 => run.begin(slot, Op::Insert(key, key)),
             2 => run.begin(slot, Op::Delete(key)),
             3 => run.begin(slot, Op::Search(key)),
             4 => run.begin(slot, Op::Next(key)),
+            5 => run.begin(slot, Op::Regrade(key, key + 1)),
             _ => run.step(slot),
         };
     }
@@ -31,7 +32,7 @@ fn spoil(random: &mut Random, state: &mut State) {
     let cell = random.below(10) as usize;
     let number = random.below(16) as usize;
     let slot = &mut state.slots[number];
-    match random.below(12) {
+    match random.below(13) {
         0 => state.k = drawn,
         1 => state.n = drawn,
         2 => state.waiting = drawn as usize,
@@ -43,6 +44,7 @@ fn spoil(random: &mut Random, state: &mut State) {
         8 => slot.siblings[cell] = drawn,
         9 => slot.op = None,
         10 => slot.op = Some(Op::Next(drawn)),
+        11 => slot.op = Some(Op::Regrade(drawn, 1)),
         _ => slot.op = Some(Op::Delete(drawn)),
     }
 }

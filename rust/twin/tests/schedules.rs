@@ -33,6 +33,7 @@ fn operation(random: &mut Random, run: &Run, draw: &Draw, grows: bool) -> Op {
     match random.below(100) {
         drawn if drawn < inserts => Op::Insert(key, random.bits() as u32),
         drawn if drawn < inserts + deletes => Op::Delete(key),
+        drawn if drawn < 90 => Op::Regrade(key, random.bits() as u32),
         _ => Op::Search(key),
     }
 }
@@ -173,7 +174,7 @@ fn every_kind_of_answer() {
         k: 1,
         n: 12,
         keys: 30,
-        calls: 20_000,
+        calls: 40_000,
         slots: 16,
         check_every: 1,
         nexts: 30,
@@ -202,6 +203,7 @@ fn every_kind_of_answer() {
         "NoRoom",
         "Next",
         "None",
+        "Regraded",
         "SlotIdle",
     ];
     for name in heard {
@@ -216,13 +218,7 @@ fn every_kind_of_answer() {
 #[test]
 fn rising_keys() {
     let mut run = Run::new(1, 1024);
-    for key in 0.. {
-        run.begin(0, Op::Insert(key, 7));
-        run.finish();
-        if run.tally.contains_key("NoRoom") {
-            break;
-        }
-    }
+    run.rise(1);
     run.check();
     assert_eq!(run.tallest, 10);
     empty(&mut run);

@@ -133,14 +133,17 @@ fn how_many_pages_an_operation_holds() {
     };
     let (search, insert, delete) = (Op::Search(5), Op::Insert(5, 1), Op::Delete(5));
     let next = Op::Next(5);
+    let regrade = Op::Regrade(5, 1);
     assert!(!held(search, 1, 0) && held(search, 2, 0));
+    assert!(!held(regrade, 0, 0) && !held(regrade, 1, 0) && held(regrade, 2, 0));
     assert!(!held(insert, 10, 0));
     assert!(!held(delete, 10, 9));
     assert!(!held(delete, 3, 0) && !held(delete, 3, 2) && held(delete, 3, 3));
     assert!(!held(next, 10, 9) && !held(next, 10, 0));
     assert!(!held(next, 3, 0) && !held(next, 3, 2) && held(next, 3, 3));
     assert!(!held(next, 0, 0) && held(next, 0, 1) && held(next, 1, 1));
-    assert!(held(search, 1, 1) && held(insert, 2, 1));
+    assert!(held(search, 1, 1) && held(insert, 2, 1) && held(regrade, 1, 1));
+    assert!(held(regrade, 2, 1) && held(regrade, 0, 1) && held(regrade, 10, 0));
     for op in [insert, delete, next] {
         let mut longer = with(&[(0, slot(op, 50, &pages(10), &[]))]);
         longer.slots[0].depth = 11;
@@ -184,6 +187,10 @@ fn no_updated_page_is_held_by_another_slot() {
             && both(insert, delete)
             && both(delete, delete)
     );
+    let regrade = Op::Regrade(5, 1);
+    for op in [search, next, insert, delete, regrade] {
+        assert!(both(regrade, op) && both(op, regrade), "{op:?}");
+    }
     let beside = |a, b| {
         bad(&with(&[
             (0, slot(a, 40, &[7, 8], &[9])),
@@ -192,6 +199,7 @@ fn no_updated_page_is_held_by_another_slot() {
     };
     assert!(beside(delete, search) && beside(delete, insert) && beside(delete, next));
     assert!(beside(next, insert) && beside(next, delete));
+    assert!(beside(next, regrade) && beside(delete, regrade));
     assert!(!beside(next, search) && !beside(next, next));
     let wanted = with(&[
         (0, slot(insert, 40, &[7], &[])),

@@ -55,5 +55,6 @@ pub fn begin_line(slot: u64, op: Op) -> String {
         Op::Insert(key, information) => format!("b {slot} i {key} {information}"),
         Op::Delete(key) => format!("b {slot} d {key}"),
         Op::Next(key) => format!("b {slot} n {key}"),
+        Op::Regrade(key, information) => format!("b {slot} g {key} {information}"),
     }
 }

@@ -63,7 +63,7 @@ fn next_line(random: &mut Random, kind: &Kind, input: &mut Input, grows: bool) {
     }
 }
 
-/// A line of one of the five forms, with zeros before the slot now and then.
+/// A line of one of the six forms, with zeros before the slot now and then.
 fn good_line(random: &mut Random, slot: u64, kind: &Kind, grows: bool) -> String {
     if random.percent(50) {
         let zeros = if random.percent(20) { "000" } else { "" };
@@ -79,11 +79,17 @@ fn operation(random: &mut Random, kind: &Kind, grows: bool) -> Op {
         0 => random.one(&[0, 1, u32::MAX - 1, u32::MAX]),
         _ => random.below(kind.keys) as u32,
     };
-    let weights = if grows { [8, 20, 78] } else { [8, 20, 30] };
+    let information = random.bits() as u32 >> random.below(32);
+    let weights = if grows {
+        [8, 20, 30, 82]
+    } else {
+        [8, 20, 30, 40]
+    };
     match random.below(100) {
         drawn if drawn < weights[0] => Op::Search(key),
         drawn if drawn < weights[1] => Op::Next(key),
-        drawn if drawn < weights[2] => Op::Insert(key, random.bits() as u32 >> random.below(32)),
+        drawn if drawn < weights[2] => Op::Regrade(key, information),
+        drawn if drawn < weights[3] => Op::Insert(key, information),
         _ => Op::Delete(key),
     }
 }

@@ -3,6 +3,7 @@
 
 #![allow(dead_code)]
 
+pub mod pools;
 mod ways;
 
 use std::collections::BTreeMap;
@@ -15,8 +16,10 @@ use twin::{
 /// and one of the two updates.
 fn is_in_the_way(state: &State, slot: usize) -> bool {
     let waits_since = |slot| state.order().iter().position(|&own| own == slot);
-    let updates =
-        |slot: usize| matches!(state.slots[slot].op, Some(Op::Insert(..) | Op::Delete(_)));
+    let updates = |slot: usize| {
+        let op = state.slots[slot].op;
+        matches!(op, Some(Op::Insert(..) | Op::Delete(_) | Op::Regrade(..)))
+    };
     let want = state.slots[slot].want;
     let mut others = (0..16).filter(|&other| other != slot && state.slots[other].op.is_some());
     others.any(|other| {
@@ -101,6 +104,7 @@ impl Run {
         self.state = next;
         self.tallest = self.tallest.max(self.words[0]);
         self.check_way(slot);
+        self.check_regrade(slot);
         if let (Op::Next(_), Answer::Moved) = (op, answer) {
             self.beside[self.state.slots[slot].beside] += 1;
         }
@@ -133,12 +137,28 @@ impl Run {
             self.words = given;
         }
         assert_eq!(answer, list_answer(&mut self.list, op));
-        if !matches!(answer, Answer::Inserted | Answer::Deleted(_)) {
-            assert_eq!(self.words, before);
+        match answer {
+            Answer::Inserted | Answer::Deleted(_) => {}
+            Answer::Regraded(old) => self.judge_regraded(op, old, before),
+            _ => assert_eq!(self.words, before),
         }
     }
 
-    /// Search and insertion take h grants, a deletion h to 2h-1, a `Next` just those of its ways.
+    /// A regrading changed one word at most: the information behind its key, in a leaf.
+    fn judge_regraded(&self, op: Op, old: u32, before: &[u32]) {
+        let Op::Regrade(key, information) = op else {
+            panic!("{op:?} is regraded")
+        };
+        let mut changed = (0..before.len()).filter(|&at| self.words[at] != before[at]);
+        if let Some(at) = changed.next() {
+            let start = at / page_words(self.k) * page_words(self.k);
+            assert_eq!((before[start], before[at - 1]), (1, key));
+            assert_eq!((before[at], self.words[at]), (old, information));
+        }
+        assert_eq!(changed.next(), None);
+    }
+
+    /// Search, insertion and regrading take h grants, a deletion h to 2h-1, a `Next` just those of its ways.
     fn judge_grants(&self, slot: usize, op: Op, answer: Answer) {
         let (taken, height) = (self.grants[slot], self.height[slot]);
         match op {
@@ -178,7 +198,10 @@ impl Run {
     pub fn check(&self) {
         self.check_tree();
         self.check_locks();
-        (0..16).for_each(|slot| self.check_way(slot));
+        for slot in 0..16 {
+            self.check_way(slot);
+            self.check_regrade(slot);
+        }
         let is_closed = self.state.slots.iter().all(|slot| slot.op.is_none());
         assert!(is_closed || !self.ready().is_empty());
     }
@@ -282,6 +305,17 @@ impl Run {
         assert!(self.state.slots.iter().all(|slot| slot.op.is_none()));
         assert_eq!(self.state.waiting, 0);
     }
+
+    /// Enters rising keys, so far apart, until there is no room. They leave pages half full, which gives the tallest tree of the pool.
+    pub fn rise(&mut self, apart: u32) {
+        for step in 0.. {
+            self.begin(0, Op::Insert(apart * step, 7));
+            self.finish();
+            if self.tally.contains_key("NoRoom") {
+                return;
+            }
+        }
+    }
 }
 
 /// The sorted list's answer.
@@ -295,10 +329,16 @@ fn list_answer(list: &mut BTreeMap<u32, u32>, op: Op) -> Answer {
             .next()
             .map_or(Answer::None, |(&own, &with)| Answer::Next(own, with)),
         Op::Delete(key) => list.remove(&key).map_or(Answer::NoSuchKey, Answer::Deleted),
-        Op::Insert(key, _) if list.contains_key(&key) => Answer::AlreadyThere,
-        Op::Insert(key, with) => {
-            list.insert(key, with);
-            Answer::Inserted
-        }
+        Op::Insert(key, with) => match list.get(&key) {
+            Some(&there) => Answer::AlreadyThere(there),
+            None => {
+                list.insert(key, with);
+                Answer::Inserted
+            }
+        },
+        Op::Regrade(key, with) => match list.get_mut(&key) {
+            Some(there) => Answer::Regraded(std::mem::replace(there, with)),
+            None => Answer::NoSuchKey,
+        },
     }
 }

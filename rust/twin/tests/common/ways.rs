@@ -1,4 +1,4 @@
-//! The pages that a `Next` holds, told again from the tree as it stands.
+//! The pages that a `Next` or a regrading holds, told again from the tree as it stands.
 
 use twin::{read_page, Op, Page};
 
@@ -61,6 +61,20 @@ impl Run {
         let second = self.down(right, |page| page.with[0]);
         let taken = [slot.siblings(), &[slot.want]].concat();
         assert_eq!(second[..taken.len()], taken);
+    }
+
+    /// An open regrading that holds something holds one page on the way of its key, and wants the next one there.
+    pub fn check_regrade(&self, slot: usize) {
+        let slot = &self.state.slots[slot];
+        let key = match slot.op {
+            Some(Op::Regrade(key, _)) if slot.depth > 0 => key,
+            _ => return,
+        };
+        assert_eq!((slot.depth, slot.beside), (1, 0));
+        let way = self.down(0, |page| page.route(key));
+        let at = way.iter().position(|&page| page == slot.path[0]);
+        let at = at.expect("a page on the way of the key");
+        assert_eq!(way.get(at + 1), Some(&slot.want));
     }
 
     /// How many grants a `Next` takes with this one: one a level, and if it crossed to a second way one a level below the top

@@ -2,8 +2,9 @@
 use mathlib.Core.Path.{refl}
 use native.Mathlib.Omega.{arith}
 use lib.Dec.{lit≤}
-use Rattle.slots.specs.declared.Answer.the-variants.{Waiting, Moved, Found, NotFound, Inserted, AlreadyThere, Deleted, NoSuchKey, NoRoom, Begun, Made, Reported, Next, None, BadState, BadPool, BadSlot, SlotBusy, SlotIdle, Damaged, BadPage}
-use Rattle.answers.proofs.Answers.{answered, room, found-short, deleted-short, next-short}
+use Rattle.slots.specs.declared.Answer.the-variants.{Waiting, Moved, Found, NotFound, Inserted, AlreadyThere, Deleted, NoSuchKey, NoRoom, Begun, Made, Reported, Next, None, Regraded, BadState, BadPool, BadSlot, SlotBusy, SlotIdle, Damaged, BadPage}
+use Rattle.lines.specs.Text.{bytes}
+use Rattle.answers.proofs.Answers.{answered, informed-short, next-short, room}
 use Rattle.answers.proofs.writing.write_answer.Statement.{statement}
 use Rattle.answers.proofs.writing.write_answer.Tie as tie
 
@@ -52,17 +53,8 @@ slice-aggregate-write-word-4 c = refl
 write-word-requires-4 : tie.Need-write-word-requires-4
 write-word-requires-4 c κs = room _ _ (c .before .before .before .before .before .pre) (lit≤ tt)
 
-enum-told-5 : tie.Need-enum-told-5
-enum-told-5 c = c .match .keys6
-
-slice-aggregate-write-word-5 : tie.Need-slice-aggregate-write-word-5
-slice-aggregate-write-word-5 c = refl
-
-write-word-requires-5 : tie.Need-write-word-requires-5
-write-word-requires-5 c κs = room _ _ (c .before .before .before .before .before .pre) (lit≤ tt)
-
 enum-known-a-2 : tie.Need-enum-known-a-2
-enum-known-a-2 c = c .match .keys7
+enum-known-a-2 c = c .match .keys6
 
 slice-aggregate-write-value-2 : tie.Need-slice-aggregate-write-value-2
 slice-aggregate-write-value-2 c = refl
@@ -70,8 +62,26 @@ slice-aggregate-write-value-2 c = refl
 write-value-requires-2 : tie.Need-write-value-requires-2
 write-value-requires-2 c κs = omega (arith, c .before .before .before .before .before .before .pre)
 
+enum-known-a-3 : tie.Need-enum-known-a-3
+enum-known-a-3 c = c .match .keys7
+
+slice-aggregate-write-value-3 : tie.Need-slice-aggregate-write-value-3
+slice-aggregate-write-value-3 c = refl
+
+write-value-requires-3 : tie.Need-write-value-requires-3
+write-value-requires-3 c κs = omega (arith, c .before .before .before .before .before .before .pre)
+
+enum-told-5 : tie.Need-enum-told-5
+enum-told-5 c = c .match .keys8
+
+slice-aggregate-write-word-5 : tie.Need-slice-aggregate-write-word-5
+slice-aggregate-write-word-5 c = refl
+
+write-word-requires-5 : tie.Need-write-word-requires-5
+write-word-requires-5 c κs = room _ _ (c .before .before .before .before .before .pre) (lit≤ tt)
+
 enum-told-6 : tie.Need-enum-told-6
-enum-told-6 c = c .match .keys8
+enum-told-6 c = c .match .keys9
 
 slice-aggregate-write-word-6 : tie.Need-slice-aggregate-write-word-6
 slice-aggregate-write-word-6 c = refl
@@ -80,7 +90,7 @@ write-word-requires-6 : tie.Need-write-word-requires-6
 write-word-requires-6 c κs = room _ _ (c .before .before .before .before .before .pre) (lit≤ tt)
 
 enum-told-7 : tie.Need-enum-told-7
-enum-told-7 c = c .match .keys9
+enum-told-7 c = c .match .keys10
 
 slice-aggregate-write-word-7 : tie.Need-slice-aggregate-write-word-7
 slice-aggregate-write-word-7 c = refl
@@ -89,7 +99,7 @@ write-word-requires-7 : tie.Need-write-word-requires-7
 write-word-requires-7 c κs = room _ _ (c .before .before .before .before .before .pre) (lit≤ tt)
 
 enum-told-8 : tie.Need-enum-told-8
-enum-told-8 c = c .match .keys10
+enum-told-8 c = c .match .keys11
 
 slice-aggregate-write-word-8 : tie.Need-slice-aggregate-write-word-8
 slice-aggregate-write-word-8 c = refl
@@ -98,7 +108,7 @@ write-word-requires-8 : tie.Need-write-word-requires-8
 write-word-requires-8 c κs = room _ _ (c .before .before .before .before .before .pre) (lit≤ tt)
 
 enum-told-9 : tie.Need-enum-told-9
-enum-told-9 c = c .match .keys11
+enum-told-9 c = c .match .keys12
 
 slice-aggregate-write-word-9 : tie.Need-slice-aggregate-write-word-9
 slice-aggregate-write-word-9 c = refl
@@ -106,17 +116,8 @@ slice-aggregate-write-word-9 c = refl
 write-word-requires-9 : tie.Need-write-word-requires-9
 write-word-requires-9 c κs = room _ _ (c .before .before .before .before .before .pre) (lit≤ tt)
 
-enum-told-10 : tie.Need-enum-told-10
-enum-told-10 c = c .match .keys12
-
-slice-aggregate-write-word-10 : tie.Need-slice-aggregate-write-word-10
-slice-aggregate-write-word-10 c = refl
-
-write-word-requires-10 : tie.Need-write-word-requires-10
-write-word-requires-10 c κs = room _ _ (c .before .before .before .before .before .pre) (lit≤ tt)
-
-enum-known-a-3 : tie.Need-enum-known-a-3
-enum-known-a-3 c = c .match .keys13
+enum-known-a-4 : tie.Need-enum-known-a-4
+enum-known-a-4 c = c .match .keys13
 
 slice-aggregate-write-lot : tie.Need-slice-aggregate-write-lot
 slice-aggregate-write-lot c = refl
@@ -124,8 +125,26 @@ slice-aggregate-write-lot c = refl
 write-lot-requires : tie.Need-write-lot-requires
 write-lot-requires c κs = omega (arith, c .before .before .before .before .before .before .pre)
 
+enum-told-10 : tie.Need-enum-told-10
+enum-told-10 c = c .match .keys14
+
+slice-aggregate-write-word-10 : tie.Need-slice-aggregate-write-word-10
+slice-aggregate-write-word-10 c = refl
+
+write-word-requires-10 : tie.Need-write-word-requires-10
+write-word-requires-10 c κs = room _ _ (c .before .before .before .before .before .pre) (lit≤ tt)
+
+enum-known-a-5 : tie.Need-enum-known-a-5
+enum-known-a-5 c = c .match .keys15
+
+slice-aggregate-write-value-4 : tie.Need-slice-aggregate-write-value-4
+slice-aggregate-write-value-4 c = refl
+
+write-value-requires-4 : tie.Need-write-value-requires-4
+write-value-requires-4 c κs = omega (arith, c .before .before .before .before .before .before .pre)
+
 enum-told-11 : tie.Need-enum-told-11
-enum-told-11 c = c .match .keys14
+enum-told-11 c = c .match .keys16
 
 slice-aggregate-write-word-11 : tie.Need-slice-aggregate-write-word-11
 slice-aggregate-write-word-11 c = refl
@@ -134,7 +153,7 @@ write-word-requires-11 : tie.Need-write-word-requires-11
 write-word-requires-11 c κs = room _ _ (c .before .before .before .before .before .pre) (lit≤ tt)
 
 enum-told-12 : tie.Need-enum-told-12
-enum-told-12 c = c .match .keys15
+enum-told-12 c = c .match .keys17
 
 slice-aggregate-write-word-12 : tie.Need-slice-aggregate-write-word-12
 slice-aggregate-write-word-12 c = refl
@@ -143,7 +162,7 @@ write-word-requires-12 : tie.Need-write-word-requires-12
 write-word-requires-12 c κs = room _ _ (c .before .before .before .before .before .pre) (lit≤ tt)
 
 enum-told-13 : tie.Need-enum-told-13
-enum-told-13 c = c .match .keys16
+enum-told-13 c = c .match .keys18
 
 slice-aggregate-write-word-13 : tie.Need-slice-aggregate-write-word-13
 slice-aggregate-write-word-13 c = refl
@@ -152,7 +171,7 @@ write-word-requires-13 : tie.Need-write-word-requires-13
 write-word-requires-13 c κs = room _ _ (c .before .before .before .before .before .pre) (lit≤ tt)
 
 enum-told-14 : tie.Need-enum-told-14
-enum-told-14 c = c .match .keys17
+enum-told-14 c = c .match .keys19
 
 slice-aggregate-write-word-14 : tie.Need-slice-aggregate-write-word-14
 slice-aggregate-write-word-14 c = refl
@@ -161,7 +180,7 @@ write-word-requires-14 : tie.Need-write-word-requires-14
 write-word-requires-14 c κs = room _ _ (c .before .before .before .before .before .pre) (lit≤ tt)
 
 enum-told-15 : tie.Need-enum-told-15
-enum-told-15 c = c .match .keys18
+enum-told-15 c = c .match .keys20
 
 slice-aggregate-write-word-15 : tie.Need-slice-aggregate-write-word-15
 slice-aggregate-write-word-15 c = refl
@@ -170,7 +189,7 @@ write-word-requires-15 : tie.Need-write-word-requires-15
 write-word-requires-15 c κs = room _ _ (c .before .before .before .before .before .pre) (lit≤ tt)
 
 enum-told-16 : tie.Need-enum-told-16
-enum-told-16 c = c .match .keys19
+enum-told-16 c = c .match .keys21
 
 slice-aggregate-write-word-16 : tie.Need-slice-aggregate-write-word-16
 slice-aggregate-write-word-16 c = refl
@@ -179,22 +198,13 @@ write-word-requires-16 : tie.Need-write-word-requires-16
 write-word-requires-16 c κs = room _ _ (c .before .before .before .before .before .pre) (lit≤ tt)
 
 enum-told-17 : tie.Need-enum-told-17
-enum-told-17 c = c .match .keys20
+enum-told-17 c = c .match .keys22
 
 slice-aggregate-write-word-17 : tie.Need-slice-aggregate-write-word-17
 slice-aggregate-write-word-17 c = refl
 
 write-word-requires-17 : tie.Need-write-word-requires-17
 write-word-requires-17 c κs = room _ _ (c .before .before .before .before .before .pre) (lit≤ tt)
-
-enum-told-18 : tie.Need-enum-told-18
-enum-told-18 c = c .match .keys21
-
-slice-aggregate-write-word-18 : tie.Need-slice-aggregate-write-word-18
-slice-aggregate-write-word-18 c = refl
-
-write-word-requires-18 : tie.Need-write-word-requires-18
-write-word-requires-18 c κs = room _ _ (c .before .before .before .before .before .pre) (lit≤ tt)
 
 same-length : tie.Need-same-length
 same-length c = c .before .before .write-word .kept .0
@@ -214,7 +224,7 @@ same-length-3 c = c .before .before .write-value .kept .0
 returns-3 : tie.Need-returns-3
 returns-3 c =
     let v = c .before .before .before .before .before .before .a .given .0 .0 in
-    answered (Found v) (c .before .before .before .before .before .before .before .before .before .args .out .now) (c .before .before .before .before .before .before .before .before .before .args .at) (c .before .before .before .before .before .before .a .given .1) (c .before .before .write-value .ensures) (found-short v (omega arith))
+    answered (Found v) (c .before .before .before .before .before .before .before .before .before .args .out .now) (c .before .before .before .before .before .before .before .before .before .args .at) (c .before .before .before .before .before .before .a .given .1) (c .before .before .write-value .ensures) (informed-short (bytes "Found ") v (lit≤ tt) (omega arith))
 
 same-length-4 : tie.Need-same-length-4
 same-length-4 c = c .before .before .write-word3 .kept .0
@@ -229,105 +239,115 @@ returns-5 : tie.Need-returns-5
 returns-5 c = answered Inserted (c .before .before .before .before .before .before .before .before .args .out .now) (c .before .before .before .before .before .before .before .before .args .at) (c .before .before .before .before .before .enum-told4 .given .1) (c .before .before .write-word4 .ensures) (lit≤ tt)
 
 same-length-6 : tie.Need-same-length-6
-same-length-6 c = c .before .before .write-word5 .kept .0
+same-length-6 c = c .before .before .write-value2 .kept .0
 
 returns-6 : tie.Need-returns-6
-returns-6 c = answered AlreadyThere (c .before .before .before .before .before .before .before .before .args .out .now) (c .before .before .before .before .before .before .before .before .args .at) (c .before .before .before .before .before .enum-told5 .given .1) (c .before .before .write-word5 .ensures) (lit≤ tt)
+returns-6 c =
+    let v = c .before .before .before .before .before .before .a2 .given .0 .0 in
+    answered (AlreadyThere v) (c .before .before .before .before .before .before .before .before .before .args .out .now) (c .before .before .before .before .before .before .before .before .before .args .at) (c .before .before .before .before .before .before .a2 .given .1) (c .before .before .write-value2 .ensures) (informed-short (bytes "AlreadyThere ") v (lit≤ tt) (omega arith))
 
 same-length-7 : tie.Need-same-length-7
-same-length-7 c = c .before .before .write-value2 .kept .0
+same-length-7 c = c .before .before .write-value3 .kept .0
 
 returns-7 : tie.Need-returns-7
 returns-7 c =
-    let v = c .before .before .before .before .before .before .a2 .given .0 .0 in
-    answered (Deleted v) (c .before .before .before .before .before .before .before .before .before .args .out .now) (c .before .before .before .before .before .before .before .before .before .args .at) (c .before .before .before .before .before .before .a2 .given .1) (c .before .before .write-value2 .ensures) (deleted-short v (omega arith))
+    let v = c .before .before .before .before .before .before .a3 .given .0 .0 in
+    answered (Deleted v) (c .before .before .before .before .before .before .before .before .before .args .out .now) (c .before .before .before .before .before .before .before .before .before .args .at) (c .before .before .before .before .before .before .a3 .given .1) (c .before .before .write-value3 .ensures) (informed-short (bytes "Deleted ") v (lit≤ tt) (omega arith))
 
 same-length-8 : tie.Need-same-length-8
-same-length-8 c = c .before .before .write-word6 .kept .0
+same-length-8 c = c .before .before .write-word5 .kept .0
 
 returns-8 : tie.Need-returns-8
-returns-8 c = answered NoSuchKey (c .before .before .before .before .before .before .before .before .args .out .now) (c .before .before .before .before .before .before .before .before .args .at) (c .before .before .before .before .before .enum-told6 .given .1) (c .before .before .write-word6 .ensures) (lit≤ tt)
+returns-8 c = answered NoSuchKey (c .before .before .before .before .before .before .before .before .args .out .now) (c .before .before .before .before .before .before .before .before .args .at) (c .before .before .before .before .before .enum-told5 .given .1) (c .before .before .write-word5 .ensures) (lit≤ tt)
 
 same-length-9 : tie.Need-same-length-9
-same-length-9 c = c .before .before .write-word7 .kept .0
+same-length-9 c = c .before .before .write-word6 .kept .0
 
 returns-9 : tie.Need-returns-9
-returns-9 c = answered NoRoom (c .before .before .before .before .before .before .before .before .args .out .now) (c .before .before .before .before .before .before .before .before .args .at) (c .before .before .before .before .before .enum-told7 .given .1) (c .before .before .write-word7 .ensures) (lit≤ tt)
+returns-9 c = answered NoRoom (c .before .before .before .before .before .before .before .before .args .out .now) (c .before .before .before .before .before .before .before .before .args .at) (c .before .before .before .before .before .enum-told6 .given .1) (c .before .before .write-word6 .ensures) (lit≤ tt)
 
 same-length-10 : tie.Need-same-length-10
-same-length-10 c = c .before .before .write-word8 .kept .0
+same-length-10 c = c .before .before .write-word7 .kept .0
 
 returns-10 : tie.Need-returns-10
-returns-10 c = answered Begun (c .before .before .before .before .before .before .before .before .args .out .now) (c .before .before .before .before .before .before .before .before .args .at) (c .before .before .before .before .before .enum-told8 .given .1) (c .before .before .write-word8 .ensures) (lit≤ tt)
+returns-10 c = answered Begun (c .before .before .before .before .before .before .before .before .args .out .now) (c .before .before .before .before .before .before .before .before .args .at) (c .before .before .before .before .before .enum-told7 .given .1) (c .before .before .write-word7 .ensures) (lit≤ tt)
 
 same-length-11 : tie.Need-same-length-11
-same-length-11 c = c .before .before .write-word9 .kept .0
+same-length-11 c = c .before .before .write-word8 .kept .0
 
 returns-11 : tie.Need-returns-11
-returns-11 c = answered Made (c .before .before .before .before .before .before .before .before .args .out .now) (c .before .before .before .before .before .before .before .before .args .at) (c .before .before .before .before .before .enum-told9 .given .1) (c .before .before .write-word9 .ensures) (lit≤ tt)
+returns-11 c = answered Made (c .before .before .before .before .before .before .before .before .args .out .now) (c .before .before .before .before .before .before .before .before .args .at) (c .before .before .before .before .before .enum-told8 .given .1) (c .before .before .write-word8 .ensures) (lit≤ tt)
 
 same-length-12 : tie.Need-same-length-12
-same-length-12 c = c .before .before .write-word10 .kept .0
+same-length-12 c = c .before .before .write-word9 .kept .0
 
 returns-12 : tie.Need-returns-12
-returns-12 c = answered (Reported _ _ _) (c .before .before .before .before .before .before .before .before .args .out .now) (c .before .before .before .before .before .before .before .before .args .at) (c .before .before .before .before .before .enum-told10 .given .1) (c .before .before .write-word10 .ensures) (lit≤ tt)
+returns-12 c = answered (Reported _ _ _) (c .before .before .before .before .before .before .before .before .args .out .now) (c .before .before .before .before .before .before .before .before .args .at) (c .before .before .before .before .before .enum-told9 .given .1) (c .before .before .write-word9 .ensures) (lit≤ tt)
 
 same-length-13 : tie.Need-same-length-13
 same-length-13 c = c .before .before .write-lot .kept .0
 
 returns-13 : tie.Need-returns-13
 returns-13 c =
-    let x = c .before .before .before .before .before .before .a3 .given .0 .0 in
-    let v = c .before .before .before .before .before .before .a3 .given .0 .1 .0 in
-    answered (Next x v) (c .before .before .before .before .before .before .before .before .before .args .out .now) (c .before .before .before .before .before .before .before .before .before .args .at) (c .before .before .before .before .before .before .a3 .given .1) (c .before .before .write-lot .ensures) (next-short x v (omega arith) (omega arith))
+    let x = c .before .before .before .before .before .before .a4 .given .0 .0 in
+    let v = c .before .before .before .before .before .before .a4 .given .0 .1 .0 in
+    answered (Next x v) (c .before .before .before .before .before .before .before .before .before .args .out .now) (c .before .before .before .before .before .before .before .before .before .args .at) (c .before .before .before .before .before .before .a4 .given .1) (c .before .before .write-lot .ensures) (next-short x v (omega arith) (omega arith))
 
 same-length-14 : tie.Need-same-length-14
-same-length-14 c = c .before .before .write-word11 .kept .0
+same-length-14 c = c .before .before .write-word10 .kept .0
 
 returns-14 : tie.Need-returns-14
-returns-14 c = answered None (c .before .before .before .before .before .before .before .before .args .out .now) (c .before .before .before .before .before .before .before .before .args .at) (c .before .before .before .before .before .enum-told11 .given .1) (c .before .before .write-word11 .ensures) (lit≤ tt)
+returns-14 c = answered None (c .before .before .before .before .before .before .before .before .args .out .now) (c .before .before .before .before .before .before .before .before .args .at) (c .before .before .before .before .before .enum-told10 .given .1) (c .before .before .write-word10 .ensures) (lit≤ tt)
 
 same-length-15 : tie.Need-same-length-15
-same-length-15 c = c .before .before .write-word12 .kept .0
+same-length-15 c = c .before .before .write-value4 .kept .0
 
 returns-15 : tie.Need-returns-15
-returns-15 c = answered BadState (c .before .before .before .before .before .before .before .before .args .out .now) (c .before .before .before .before .before .before .before .before .args .at) (c .before .before .before .before .before .enum-told12 .given .1) (c .before .before .write-word12 .ensures) (lit≤ tt)
+returns-15 c =
+    let v = c .before .before .before .before .before .before .a5 .given .0 .0 in
+    answered (Regraded v) (c .before .before .before .before .before .before .before .before .before .args .out .now) (c .before .before .before .before .before .before .before .before .before .args .at) (c .before .before .before .before .before .before .a5 .given .1) (c .before .before .write-value4 .ensures) (informed-short (bytes "Regraded ") v (lit≤ tt) (omega arith))
 
 same-length-16 : tie.Need-same-length-16
-same-length-16 c = c .before .before .write-word13 .kept .0
+same-length-16 c = c .before .before .write-word11 .kept .0
 
 returns-16 : tie.Need-returns-16
-returns-16 c = answered BadPool (c .before .before .before .before .before .before .before .before .args .out .now) (c .before .before .before .before .before .before .before .before .args .at) (c .before .before .before .before .before .enum-told13 .given .1) (c .before .before .write-word13 .ensures) (lit≤ tt)
+returns-16 c = answered BadState (c .before .before .before .before .before .before .before .before .args .out .now) (c .before .before .before .before .before .before .before .before .args .at) (c .before .before .before .before .before .enum-told11 .given .1) (c .before .before .write-word11 .ensures) (lit≤ tt)
 
 same-length-17 : tie.Need-same-length-17
-same-length-17 c = c .before .before .write-word14 .kept .0
+same-length-17 c = c .before .before .write-word12 .kept .0
 
 returns-17 : tie.Need-returns-17
-returns-17 c = answered BadSlot (c .before .before .before .before .before .before .before .before .args .out .now) (c .before .before .before .before .before .before .before .before .args .at) (c .before .before .before .before .before .enum-told14 .given .1) (c .before .before .write-word14 .ensures) (lit≤ tt)
+returns-17 c = answered BadPool (c .before .before .before .before .before .before .before .before .args .out .now) (c .before .before .before .before .before .before .before .before .args .at) (c .before .before .before .before .before .enum-told12 .given .1) (c .before .before .write-word12 .ensures) (lit≤ tt)
 
 same-length-18 : tie.Need-same-length-18
-same-length-18 c = c .before .before .write-word15 .kept .0
+same-length-18 c = c .before .before .write-word13 .kept .0
 
 returns-18 : tie.Need-returns-18
-returns-18 c = answered SlotBusy (c .before .before .before .before .before .before .before .before .args .out .now) (c .before .before .before .before .before .before .before .before .args .at) (c .before .before .before .before .before .enum-told15 .given .1) (c .before .before .write-word15 .ensures) (lit≤ tt)
+returns-18 c = answered BadSlot (c .before .before .before .before .before .before .before .before .args .out .now) (c .before .before .before .before .before .before .before .before .args .at) (c .before .before .before .before .before .enum-told13 .given .1) (c .before .before .write-word13 .ensures) (lit≤ tt)
 
 same-length-19 : tie.Need-same-length-19
-same-length-19 c = c .before .before .write-word16 .kept .0
+same-length-19 c = c .before .before .write-word14 .kept .0
 
 returns-19 : tie.Need-returns-19
-returns-19 c = answered SlotIdle (c .before .before .before .before .before .before .before .before .args .out .now) (c .before .before .before .before .before .before .before .before .args .at) (c .before .before .before .before .before .enum-told16 .given .1) (c .before .before .write-word16 .ensures) (lit≤ tt)
+returns-19 c = answered SlotBusy (c .before .before .before .before .before .before .before .before .args .out .now) (c .before .before .before .before .before .before .before .before .args .at) (c .before .before .before .before .before .enum-told14 .given .1) (c .before .before .write-word14 .ensures) (lit≤ tt)
 
 same-length-20 : tie.Need-same-length-20
-same-length-20 c = c .before .before .write-word17 .kept .0
+same-length-20 c = c .before .before .write-word15 .kept .0
 
 returns-20 : tie.Need-returns-20
-returns-20 c = answered Damaged (c .before .before .before .before .before .before .before .before .args .out .now) (c .before .before .before .before .before .before .before .before .args .at) (c .before .before .before .before .before .enum-told17 .given .1) (c .before .before .write-word17 .ensures) (lit≤ tt)
+returns-20 c = answered SlotIdle (c .before .before .before .before .before .before .before .before .args .out .now) (c .before .before .before .before .before .before .before .before .args .at) (c .before .before .before .before .before .enum-told15 .given .1) (c .before .before .write-word15 .ensures) (lit≤ tt)
 
 same-length-21 : tie.Need-same-length-21
-same-length-21 c = c .before .before .write-word18 .kept .0
+same-length-21 c = c .before .before .write-word16 .kept .0
 
 returns-21 : tie.Need-returns-21
-returns-21 c = answered BadPage (c .before .before .before .before .before .before .before .before .args .out .now) (c .before .before .before .before .before .before .before .before .args .at) (c .before .before .before .before .before .enum-told18 .given .1) (c .before .before .write-word18 .ensures) (lit≤ tt)
+returns-21 c = answered Damaged (c .before .before .before .before .before .before .before .before .args .out .now) (c .before .before .before .before .before .before .before .before .args .at) (c .before .before .before .before .before .enum-told16 .given .1) (c .before .before .write-word16 .ensures) (lit≤ tt)
+
+same-length-22 : tie.Need-same-length-22
+same-length-22 c = c .before .before .write-word17 .kept .0
+
+returns-22 : tie.Need-returns-22
+returns-22 c = answered BadPage (c .before .before .before .before .before .before .before .before .args .out .now) (c .before .before .before .before .before .before .before .before .args .at) (c .before .before .before .before .before .enum-told17 .given .1) (c .before .before .write-word17 .ensures) (lit≤ tt)
 
 pub write-answer-spec : {M : Type 1} → statement M
 write-answer-spec =
@@ -348,12 +368,15 @@ write-answer-spec =
     enum-told-4
     slice-aggregate-write-word-4
     write-word-requires-4
-    enum-told-5
-    slice-aggregate-write-word-5
-    write-word-requires-5
     enum-known-a-2
     slice-aggregate-write-value-2
     write-value-requires-2
+    enum-known-a-3
+    slice-aggregate-write-value-3
+    write-value-requires-3
+    enum-told-5
+    slice-aggregate-write-word-5
+    write-word-requires-5
     enum-told-6
     slice-aggregate-write-word-6
     write-word-requires-6
@@ -366,12 +389,15 @@ write-answer-spec =
     enum-told-9
     slice-aggregate-write-word-9
     write-word-requires-9
+    enum-known-a-4
+    slice-aggregate-write-lot
+    write-lot-requires
     enum-told-10
     slice-aggregate-write-word-10
     write-word-requires-10
-    enum-known-a-3
-    slice-aggregate-write-lot
-    write-lot-requires
+    enum-known-a-5
+    slice-aggregate-write-value-4
+    write-value-requires-4
     enum-told-11
     slice-aggregate-write-word-11
     write-word-requires-11
@@ -393,9 +419,6 @@ write-answer-spec =
     enum-told-17
     slice-aggregate-write-word-17
     write-word-requires-17
-    enum-told-18
-    slice-aggregate-write-word-18
-    write-word-requires-18
     same-length
     returns
     same-length-2
@@ -437,4 +460,6 @@ write-answer-spec =
     same-length-20
     returns-20
     same-length-21
-    returns-21)
+    returns-21
+    same-length-22
+    returns-22)

@@ -7,7 +7,7 @@ use Rattle.ground.specs.Limits.{pathHolds}
 use Rattle.pool.specs.Pool.{pageAt, freePages}
 use Rattle.slots.specs.declared.Op.{Op}
 use Rattle.footing.specs.Standing.{SlotStanding}
-use Rattle.course.proofs.JudgeLaws.{standing-needing, stand-upward, stand-known, goes-judges, search-judges, insert-judges, delete-judges}
+use Rattle.course.proofs.JudgeLaws.{standing-needing, stand-upward, stand-known, goes-judges, search-judges, insert-judges, regrade-judges, delete-judges}
 use Rattle.course.proofs.NextLaws.{next-does}
 use Rattle.course.proofs.judging.judge.Statement.{statement}
 use Rattle.course.proofs.judging.judge.Tie as tie
@@ -84,6 +84,15 @@ nexts-requires c κs =
     let was = start .args in
     subst (λ (o : Op). SlotStanding o (was .k) (was .n) (was .words .now) (was .stand)) (c .before .op4 .given .1) (start .pre)
 
+enum-known-op-5 : tie.Need-enum-known-op-5
+enum-known-op-5 c = search needs
+
+look-of-requires-4 : tie.Need-look-of-requires-4
+look-of-requires-4 c κs = let known = stand-known (c .before .before .before .before .before .before .before .before .pre) in (known .inPool, (known .readable, known .facts .rising))
+
+regrades-requires : tie.Need-regrades-requires
+regrades-requires c κs = search needs
+
 returns-2 : tie.Need-returns-2
 returns-2 c =
     let was = c .before .before .before .before .before .before .before .before .before .before .args in
@@ -112,6 +121,13 @@ returns-5 c =
     (sym (c .before .before .before .before .before .is-leaf-of .ensures) ∙ not-false (c .before .before .before .before .before .is-leaf-of .result) (c .before .before .before .before .if1 .left))
     (c .before .before .op4 .given .1) (c .nexts .ensures)
 
+returns-6 : tie.Need-returns-6
+returns-6 c =
+    let was = c .before .before .before .before .before .before .before .before .before .before .args in
+    regrade-judges (was .k) (pageAt (was .k) (was .words .now)) (freePages (was .k) (was .n) (was .words .now)) (was .stand) (stand-upward (c .before .before .before .before .before .before .before .before .before .before .pre))
+    (sym (c .before .before .before .before .before .before .is-leaf-of .ensures) ∙ not-false (c .before .before .before .before .before .before .is-leaf-of .result) (c .before .before .before .before .before .if1 .left))
+    (was .op) (c .before .look-of4 .result) (c .regrades .result) _ _ (c .before .look-of4 .ensures) (c .before .before .before .op5 .given .1) (c .regrades .ensures)
+
 pub judge-spec : {M : Type 1} → statement M
 judge-spec =
     tie.close
@@ -135,7 +151,11 @@ judge-spec =
     deletes-requires
     enum-known-op-4
     nexts-requires
+    enum-known-op-5
+    look-of-requires-4
+    regrades-requires
     returns-2
     returns-3
     returns-4
-    returns-5)
+    returns-5
+    returns-6)

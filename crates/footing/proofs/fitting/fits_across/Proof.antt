@@ -14,7 +14,7 @@ use Rattle.ground.specs.Tests.{padded}
 use Rattle.pool.specs.Pool.{pageAt}
 use Rattle.change.proofs.HeldLaws.{Known, held-front}
 use Rattle.slots.specs.declared.Op.{Op}
-use Rattle.slots.specs.declared.Op.the-variants.{Search, Insert, Delete, Next}
+use Rattle.slots.specs.declared.Op.the-variants.{Search, Insert, Delete, Next, Regrade}
 use Rattle.slots.specs.Parts.{isNext, pathOf, siblingsOf}
 use Rattle.slots.proofs.Op as op
 use Rattle.footing.proofs.KeepLaws.{cell-known, leaf-some, beside-added, beside-held}
@@ -23,11 +23,13 @@ use Rattle.footing.proofs.fitting.fits_across.Statement.{statement}
 use Rattle.footing.proofs.fitting.fits_across.Tie as tie
 
 -- an operation of another kind is no Next
-no-next : (o : Op) → OneOf (0 ∷ 1 ∷ 2 ∷ []) (tagOf op.the-type o) → isNext o ≡ false
+no-next : (o : Op) → OneOf (0 ∷ 1 ∷ 2 ∷ 4 ∷ []) (tagOf op.the-type o) → isNext o ≡ false
 no-next (Search x) t = refl
 no-next (Insert x v) t = refl
 no-next (Delete x) t = refl
-no-next (Next x) t = ⊎-elim (λ e. absurd (omega arith)) (λ r. ⊎-elim (λ e. absurd (omega arith)) (λ e. absurd (omega arith)) r) t
+no-next (Next x) t =
+    ⊎-elim (λ e. absurd (omega arith)) (λ r. ⊎-elim (λ e. absurd (omega arith)) (λ q. ⊎-elim (λ e. absurd (omega arith)) (λ e. absurd (omega arith)) q) r) t
+no-next (Regrade x v) t = refl
 
 -- the path has a page, and its cells are there
 some : (c : tie.Start) → 1 ≤ c .args .slot .depth

@@ -19,7 +19,7 @@ use Rattle.change.specs.declared.needing.Need.the-variants.{Nothing, Sibling, A
 use Rattle.change.proofs.NeedLaws.{path-known}
 use Rattle.change.proofs.needing.Need as need
 use Rattle.slots.specs.declared.Op.{Op}
-use Rattle.slots.specs.declared.Op.the-variants.{Search, Insert, Delete, Next}
+use Rattle.slots.specs.declared.Op.the-variants.{Search, Insert, Delete, Next, Regrade}
 use Rattle.slots.specs.Parts.{keyOf, isDelete, pathOf, siblingsOf}
 use Rattle.slots.proofs.Op as op
 use Rattle.footing.specs.Fitting.{isSibling}
@@ -28,11 +28,13 @@ use Rattle.footing.proofs.fitting.fits_beside.Statement.{statement}
 use Rattle.footing.proofs.fitting.fits_beside.Tie as tie
 
 -- an operation of another kind is no deletion
-no-deletion : (o : Op) → OneOf (0 ∷ 1 ∷ 3 ∷ []) (tagOf op.the-type o) → isDelete o ≡ false
+no-deletion : (o : Op) → OneOf (0 ∷ 1 ∷ 3 ∷ 4 ∷ []) (tagOf op.the-type o) → isDelete o ≡ false
 no-deletion (Search x) t = refl
 no-deletion (Insert x v) t = refl
-no-deletion (Delete x) t = ⊎-elim (λ e. absurd (omega arith)) (λ r. ⊎-elim (λ e. absurd (omega arith)) (λ e. absurd (omega arith)) r) t
+no-deletion (Delete x) t =
+    ⊎-elim (λ e. absurd (omega arith)) (λ r. ⊎-elim (λ e. absurd (omega arith)) (λ q. ⊎-elim (λ e. absurd (omega arith)) (λ e. absurd (omega arith)) q) r) t
 no-deletion (Next x) t = refl
+no-deletion (Regrade x v) t = refl
 
 -- another answer asks for no sibling
 no-sibling : (r : Need) (want : ℕ) → OneOf (0 ∷ 2 ∷ []) (tagOf need.the-type r) → isSibling (needOf r) want ≡ false

@@ -33,6 +33,9 @@ enum-known-op c = search needs
 has-child-right-requires : tie.Need-has-child-right-requires
 has-child-right-requires c κs = c .before .before .before .before .pre
 
+enum-told-4 : tie.Need-enum-told-4
+enum-told-4 c = search needs
+
 returns : tie.Need-returns
 returns c = rw (c .enum-told .given .1)
 
@@ -44,6 +47,9 @@ returns-3 c = rw (c .before .enum-told3 .given .1) (ap (ltb (c .before .before .
 
 returns-4 : tie.Need-returns-4
 returns-4 c = rw (c .before .before .op .given .1) (c .has-child-right .ensures)
+
+returns-5 : tie.Need-returns-5
+returns-5 c = rw (c .enum-told4 .given .1)
 
 pub is-safe-spec : {M : Type 1} → statement M
 is-safe-spec =
@@ -57,7 +63,9 @@ is-safe-spec =
     count-of-requires-2
     enum-known-op
     has-child-right-requires
+    enum-told-4
     returns
     returns-2
     returns-3
-    returns-4)
+    returns-4
+    returns-5)

@@ -1,6 +1,6 @@
 -- Each course is carried out as the rule's word for it.
 use Rattle.ground.specs.Limits.{largestK, largestN}
-use Rattle.index.proofs.ActLaws.{stand-short, acts-broken, acts-goes, acts-ends, acts-inserts, acts-deletes, inserts-stands, deletes-stands}
+use Rattle.index.proofs.ActLaws.{stand-short, acts-broken, acts-goes, acts-ends, acts-inserts, acts-deletes, acts-regrades, inserts-stands, deletes-stands, regrades-stands}
 use Rattle.ground.specs.Limits.{slotCount}
 use native.Mathlib.Omega.{arith}
 use borrow.Author.Needs.{needs}
@@ -63,6 +63,16 @@ closes-requires-3 : tie.Need-closes-requires-3
 unfolding slotCount
 closes-requires-3 c κs = let w = c .before .before .before .before .before .before .before .before .before .before .before .before .before .before .pre .0 .1 .waits in (w .inside, w .few, w .named)
 
+enum-known-course-5 : tie.Need-enum-known-course-5
+enum-known-course-5 c = search needs
+
+regrade-lot-requires : tie.Need-regrade-lot-requires
+regrade-lot-requires c κs = regrades-stands (c .before .before .before .before .before .before .before .before .before .before .pre .0 .1) (c .before .before .before .before .before .before .before .before .before .before .args .course) (c .before .before .before .before .before .before .before .before .before .before .pre .1) (c .before .before .course5 .given .1)
+
+closes-requires-4 : tie.Need-closes-requires-4
+unfolding slotCount
+closes-requires-4 c κs = let w = c .before .before .before .before .before .before .before .before .before .before .before .before .before .before .pre .0 .1 .waits in (w .inside, w .few, w .named)
+
 returns : tie.Need-returns
 returns c = acts-broken (c .before .before .before .before .before .before .before .before .args .state .now) (c .before .before .before .before .sized .ensures) (c .before .before .before .before .before .before .before .before .pre .0 .0) (c .before .before .before .before .before .before .before .before .pre .0 .1) (c .enum-told .given .1)
 
@@ -88,6 +98,14 @@ returns-5 c =
     acts-deletes (c .before .before .before .before .before .before .before .before .before .before .before .before .before .before .before .args .state .now) (c .before .before .before .before .before .before .before .before .before .before .before .sized .ensures) (c .before .before .before .before .before .before .before .before .before .before .before .before .before .before .before .pre .0 .0) (c .before .before .before .before .before .before .before .before .before .before .before .before .before .before .before .pre .0 .1) (c .before .before .before .before .before .before .before .course4 .given .1)
     (c .before .before .before .before .delete-lot .ensures) (c .closes3 .ensures)
 
+same-length-3 : tie.Need-same-length-3
+same-length-3 c = search needs
+
+returns-6 : tie.Need-returns-6
+returns-6 c =
+    acts-regrades (c .before .before .before .before .before .before .before .before .before .before .before .before .before .before .before .args .state .now) (c .before .before .before .before .before .before .before .before .before .before .before .sized .ensures) (c .before .before .before .before .before .before .before .before .before .before .before .before .before .before .before .pre .0 .0) (c .before .before .before .before .before .before .before .before .before .before .before .before .before .before .before .pre .0 .1) (c .before .before .before .before .before .before .before .course5 .given .1)
+    (c .before .before .before .before .regrade-lot .ensures) (c .closes4 .ensures)
+
 pub act-spec : {M : Type 1} → statement M
 act-spec =
     tie.close
@@ -108,10 +126,15 @@ act-spec =
     enum-known-course-4
     delete-lot-requires
     closes-requires-3
+    enum-known-course-5
+    regrade-lot-requires
+    closes-requires-4
     returns
     returns-2
     returns-3
     same-length
     returns-4
     same-length-2
-    returns-5)
+    returns-5
+    same-length-3
+    returns-6)

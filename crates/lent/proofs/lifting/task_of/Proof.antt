@@ -16,7 +16,10 @@ returns-4 : tie.Need-returns-4
 returns-4 c = rw (ne-eqb (c .before .before .before .before .args .kind) 1 (c .before .before .before .if1 .left), ne-eqb (c .before .before .before .before .args .kind) 2 (c .before .before .if2 .left), ne-eqb (c .before .before .before .before .args .kind) 3 (c .before .if3 .left), eq-eqb (c .before .before .before .before .args .kind) 4 (c .if4 .taken))
 
 returns-5 : tie.Need-returns-5
-returns-5 c = rw (ne-eqb (c .before .before .before .before .args .kind) 1 (c .before .before .before .if1 .left), ne-eqb (c .before .before .before .before .args .kind) 2 (c .before .before .if2 .left), ne-eqb (c .before .before .before .before .args .kind) 3 (c .before .if3 .left), ne-eqb (c .before .before .before .before .args .kind) 4 (c .if4 .left))
+returns-5 c = rw (ne-eqb (c .before .before .before .before .before .args .kind) 1 (c .before .before .before .before .if1 .left), ne-eqb (c .before .before .before .before .before .args .kind) 2 (c .before .before .before .if2 .left), ne-eqb (c .before .before .before .before .before .args .kind) 3 (c .before .before .if3 .left), ne-eqb (c .before .before .before .before .before .args .kind) 4 (c .before .if4 .left), eq-eqb (c .before .before .before .before .before .args .kind) 5 (c .if5 .taken))
+
+returns-6 : tie.Need-returns-6
+returns-6 c = rw (ne-eqb (c .before .before .before .before .before .args .kind) 1 (c .before .before .before .before .if1 .left), ne-eqb (c .before .before .before .before .before .args .kind) 2 (c .before .before .before .if2 .left), ne-eqb (c .before .before .before .before .before .args .kind) 3 (c .before .before .if3 .left), ne-eqb (c .before .before .before .before .before .args .kind) 4 (c .before .if4 .left), ne-eqb (c .before .before .before .before .before .args .kind) 5 (c .if5 .left))
 
 pub task-of-spec : {M : Type 1} → statement M
-task-of-spec = tie.close (tie.spec returns returns-2 returns-3 returns-4 returns-5)
+task-of-spec = tie.close (tie.spec returns returns-2 returns-3 returns-4 returns-5 returns-6)

@@ -75,10 +75,27 @@ unfolding asking
 returns-4 c =
     rw (sym (c .before .before .before .before .before .before .before .before .before .before .before .goes-on .ensures) ∙ c .before .before .before .before .before .before .before .before .before .before .if1 .left, sym (c .before .before .before .before .before .before .before .before .goes-on2 .ensures) ∙ c .before .before .before .before .before .before .before .if2 .left, sym (c .before .before .before .before .before .goes-on3 .ensures) ∙ c .before .before .before .before .if3 .left, sym (c .before .before .goes-on4 .ensures) ∙ c .before .if4 .taken, drop-drop 3 (c .before .before .before .before .before .before .before .before .before .before .before .before .before .before .args .at) (c .before .before .before .before .before .before .before .before .before .before .before .before .before .before .args .line .now)) (c .read-next .ensures)
 
+slice-aggregate-goes-on-5 : tie.Need-slice-aggregate-goes-on-5
+slice-aggregate-goes-on-5 c = search needs
+
+goes-on-requires-5 : tie.Need-goes-on-requires-5
+goes-on-requires-5 c κs = search needs
+
+add-read-regrade : tie.Need-add-read-regrade
+add-read-regrade c = search needs
+
+read-regrade-requires : tie.Need-read-regrade-requires
+read-regrade-requires c κs = begins-within _ _ _ (c .before .before .before .before .before .before .before .before .before .before .before .before .before .before .before .before .pre) (sym (c .before .goes-on5 .ensures) ∙ c .if5 .taken)
+
 returns-5 : tie.Need-returns-5
 unfolding asking
 returns-5 c =
-    rw (sym (c .before .before .before .before .before .before .before .before .before .before .goes-on .ensures) ∙ c .before .before .before .before .before .before .before .before .before .if1 .left, sym (c .before .before .before .before .before .before .before .goes-on2 .ensures) ∙ c .before .before .before .before .before .before .if2 .left, sym (c .before .before .before .before .goes-on3 .ensures) ∙ c .before .before .before .if3 .left, sym (c .before .goes-on4 .ensures) ∙ c .if4 .left)
+    rw (sym (c .before .before .before .before .before .before .before .before .before .before .before .before .before .before .goes-on .ensures) ∙ c .before .before .before .before .before .before .before .before .before .before .before .before .before .if1 .left, sym (c .before .before .before .before .before .before .before .before .before .before .before .goes-on2 .ensures) ∙ c .before .before .before .before .before .before .before .before .before .before .if2 .left, sym (c .before .before .before .before .before .before .before .before .goes-on3 .ensures) ∙ c .before .before .before .before .before .before .before .if3 .left, sym (c .before .before .before .before .before .goes-on4 .ensures) ∙ c .before .before .before .before .if4 .left, sym (c .before .before .goes-on5 .ensures) ∙ c .before .if5 .taken, drop-drop 3 (c .before .before .before .before .before .before .before .before .before .before .before .before .before .before .before .before .before .args .at) (c .before .before .before .before .before .before .before .before .before .before .before .before .before .before .before .before .before .args .line .now)) (c .read-regrade .ensures)
+
+returns-6 : tie.Need-returns-6
+unfolding asking
+returns-6 c =
+    rw (sym (c .before .before .before .before .before .before .before .before .before .before .before .before .before .goes-on .ensures) ∙ c .before .before .before .before .before .before .before .before .before .before .before .before .if1 .left, sym (c .before .before .before .before .before .before .before .before .before .before .goes-on2 .ensures) ∙ c .before .before .before .before .before .before .before .before .before .if2 .left, sym (c .before .before .before .before .before .before .before .goes-on3 .ensures) ∙ c .before .before .before .before .before .before .if3 .left, sym (c .before .before .before .before .goes-on4 .ensures) ∙ c .before .before .before .if4 .left, sym (c .before .goes-on5 .ensures) ∙ c .if5 .left)
 
 pub read-asked-spec : {M : Type 1} → statement M
 read-asked-spec =
@@ -104,4 +121,9 @@ read-asked-spec =
     add-read-next
     read-next-requires
     returns-4
-    returns-5)
+    slice-aggregate-goes-on-5
+    goes-on-requires-5
+    add-read-regrade
+    read-regrade-requires
+    returns-5
+    returns-6)

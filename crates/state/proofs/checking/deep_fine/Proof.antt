@@ -1,9 +1,7 @@
--- Where no slot holds more than one page there is nothing to look at. Of the slots passed those that hold more than one page have sound ones.
-use Rattle.state.specs.Checking.{deepFine}
+-- Where no slot holds more than one page there is nothing to look at. Of the slots passed those that hold more than one page are fine.
+use Rattle.state.specs.Checking.{moreFine, deepFine}
 use Rattle.lent.proofs.HoldLaws.{all-on}
 use Rattle.lent.specs.Holds.{isDeep}
-use Rattle.lent.specs.Words.{slotIn}
-use Rattle.slots.specs.Sound.{belowAndOnce}
 use Rattle.ground.proofs.Tests.{allBelow-none, allBelow-from, allBelow-stops, anyBelow-false-at}
 use Rattle.ground.proofs.Bools.{and-both, or-first, or-second, or-none, not-of-true, not-of-false}
 use Rattle.ground.specs.Tests.{allBelow}
@@ -32,7 +30,7 @@ returns c =
     let none = sym (c .before .some-deep .ensures) ∙ not-true (c .before .some-deep .result) (c .if1 .taken) in
     sym
     (allBelow-from (deepFine (was .cells .now) (was .n)) 16
-    (λ s b. or-first (belowAndOnce (was .n) (slotIn (was .cells .now) s)) (not-of-false (anyBelow-false-at (isDeep (was .cells .now)) 16 none s b))))
+    (λ s b. or-first (moreFine (was .cells .now) (was .n) s) (not-of-false (anyBelow-false-at (isDeep (was .cells .now)) 16 none s b))))
 
 loop-holds : tie.Need-loop-holds Inv-loop μ-loop
 loop-holds c =
@@ -42,8 +40,8 @@ loop-holds c =
 is-deep-requires : tie.Need-is-deep-requires Inv-loop μ-loop
 is-deep-requires c κs = omega arith
 
-pages-fine-requires : tie.Need-pages-fine-requires Inv-loop μ-loop
-pages-fine-requires c κs = search needs
+more-fine-requires : tie.Need-more-fine-requires Inv-loop μ-loop
+more-fine-requires c κs = search needs
 
 returns-2 : tie.Need-returns-2 Inv-loop μ-loop
 returns-2 c =
@@ -52,7 +50,7 @@ returns-2 c =
     let s : ℕ = c .before .before .before .before .before .loop .s in
     sym
     (allBelow-stops (deepFine ws n) 16 s (omega arith)
-    (or-none (not-of-true (sym (c .before .before .before .is-deep .ensures) ∙ c .before .before .if2 .taken)) (sym (c .before .pages-fine .ensures) ∙ not-true (c .before .pages-fine .result) (c .if3 .taken))))
+    (or-none (not-of-true (sym (c .before .before .before .is-deep .ensures) ∙ c .before .before .if2 .taken)) (sym (c .before .more-fine .ensures) ∙ not-true (c .before .more-fine .result) (c .if3 .taken))))
 
 add-s : tie.Need-add-s Inv-loop μ-loop
 add-s c = search needs
@@ -68,7 +66,7 @@ loop-again c =
     let this : deepFine ws n s ≡ true =
     ⊎-elim
     (λ w. or-second (not (isDeep ws s)) (sym (w .1 .ensures) ∙ not-false (w .1 .result) (w .2 .left)))
-    (λ w. or-first (belowAndOnce n (slotIn ws s)) (not-of-false (sym (c .before .is-deep .ensures) ∙ w .left)))
+    (λ w. or-first (moreFine ws n s) (not-of-false (sym (c .before .is-deep .ensures) ∙ w .left)))
     (c .if2 .came) in
     (omega arith, all-on (deepFine ws n) s ∙ and-both (c .before .before .before .loop .inv .1) this)
 
@@ -89,7 +87,7 @@ deep-fine-spec =
     returns
     loop-holds
     is-deep-requires
-    pages-fine-requires
+    more-fine-requires
     returns-2
     add-s
     loop-less

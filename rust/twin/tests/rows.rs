@@ -1,14 +1,20 @@
-//! The next lot on the bench: the rows of the proved table, read as they stand there, and answered by this program.
+//! The rows of proved tables, read as they stand there, and answered by this program.
 
 use std::iter::Peekable;
 use std::vec::IntoIter;
 
 use twin::{begin, make, page_words, report, step, Answer, Op, Slot, State};
 
-/// The proved table.
-const TABLE: &str = include_str!("../../../crates/promises/specs/NextRows.antt");
+/// The proved tables; a name may be defined in another one than it is used in.
+const TABLES: [&str; 5] = [
+    include_str!("../../../crates/promises/specs/Bench.antt"),
+    include_str!("../../../crates/promises/specs/MoreRows.antt"),
+    include_str!("../../../crates/promises/specs/LongRun.antt"),
+    include_str!("../../../crates/promises/specs/NextRows.antt"),
+    include_str!("../../../crates/promises/specs/RegradeRows.antt"),
+];
 
-/// What an expression of the table stands for.
+/// What an expression of a table stands for.
 #[derive(Clone, Debug, PartialEq)]
 enum Value {
     Number(u32),
@@ -64,9 +70,10 @@ impl Told {
 /// The words of an expression, from the left.
 type Tokens = Peekable<IntoIter<String>>;
 
-/// What is defined in the table by a name without arguments.
+/// What is defined in a table by a name without arguments.
 fn defined(name: &str) -> Option<Value> {
-    let text = TABLE.split(&format!("\n{name} =")).nth(1)?;
+    let start = format!("\n{name} =");
+    let text = TABLES.iter().find_map(|table| table.split(&start).nth(1))?;
     let lines = text.split("\n\n").next()?.lines();
     let lines: Vec<&str> = lines.filter_map(|line| line.split("--").next()).collect();
     Some(read(&lines.join("\n")))
@@ -105,7 +112,7 @@ fn application(tokens: &mut Tokens) -> Value {
         None => applied(&head, &arguments(tokens)),
     };
     match tokens.next_if_eq(".words") {
-        Some(_) => List(told(&value).words.into_iter().map(Number).collect()),
+        Some(_) => words(&told(&value).words),
         None => value,
     }
 }
@@ -133,7 +140,7 @@ fn standing_alone(token: &str, tokens: &mut Tokens) -> Option<Value> {
     }
 }
 
-/// What a name stands for: a name of the rules or of the other tables, or one that this table defines.
+/// What a name stands for: a name of the rules, a function of the tables, or a name that one of them defines without arguments.
 fn applied(name: &str, arguments: &[Value]) -> Value {
     let known = answer(name, arguments)
         .or_else(|| calls(name, arguments))
@@ -147,13 +154,20 @@ fn answer(name: &str, arguments: &[Value]) -> Option<Value> {
     let answer = match (name, arguments) {
         ("heard", [heard]) => return Some(heard.clone()),
         ("next", [Number(key)]) => Answer::Next(*key, 7),
+        ("Found", [Number(information)]) => Answer::Found(*information),
+        ("AlreadyThere", [Number(information)]) => Answer::AlreadyThere(*information),
+        ("Deleted", [Number(information)]) => Answer::Deleted(*information),
+        ("Regraded", [Number(information)]) => Answer::Regraded(*information),
+        ("NextLot", [Number(key), Number(information)]) => Answer::Next(*key, *information),
         ("Reported", [Number(lock), Number(count), Number(first)]) => {
             Answer::Reported(*lock, *count, *first)
         }
-        ("began", []) => Answer::Begun,
-        ("onward", []) => Answer::Moved,
-        ("waits", []) => Answer::Waiting,
-        ("entered", []) => Answer::Inserted,
+        ("Begun", []) => Answer::Begun,
+        ("Moved", []) => Answer::Moved,
+        ("Waiting", []) => Answer::Waiting,
+        ("NotFound", []) => Answer::NotFound,
+        ("Inserted", []) => Answer::Inserted,
+        ("NoSuchKey", []) => Answer::NoSuchKey,
         ("NoLot", []) => Answer::None,
         ("Damaged", []) => Answer::Damaged,
         ("BadState", []) => Answer::BadState,
@@ -168,9 +182,13 @@ fn calls(name: &str, arguments: &[Value]) -> Option<Value> {
         ("None", []) => Number(0),
         ("Rho", []) => Number(1),
         ("Xi", []) => Number(2),
+        ("Search", [Number(key)]) => Value::Op(Op::Search(*key)),
         ("Insert", [Number(key), Number(information)]) => Value::Op(Op::Insert(*key, *information)),
         ("Delete", [Number(key)]) => Value::Op(Op::Delete(*key)),
         ("Next", [Number(key)]) => Value::Op(Op::Next(*key)),
+        ("Regrade", [Number(key), Number(information)]) => {
+            Value::Op(Op::Regrade(*key, *information))
+        }
         ("begin", [Number(slot), Value::Op(op)]) => Value::Call(Call::Begin(*slot as usize, *op)),
         ("step", [Number(slot)]) => Value::Call(Call::Step(*slot as usize)),
         ("report", [Number(page)]) => Value::Call(Call::Report(*page)),
@@ -180,8 +198,6 @@ fn calls(name: &str, arguments: &[Value]) -> Option<Value> {
             List([vec![begun], vec![step; *steps as usize]].concat())
         }
         ("puts", [Number(key)]) => read(&format!("runs 0 (Insert {key} 7) 1")),
-        ("two", []) => read("puts 10 ++ puts 20"),
-        ("three", []) => read("two ++ puts 30"),
         ("watched", [Number(steps), List(pages)]) => {
             let reports = pages
                 .iter()
@@ -210,7 +226,6 @@ fn place(name: &str, arguments: &[Value]) -> Option<Value> {
             told.answers(calls);
             Value::Told(Box::new(told))
         }
-        ("caseE", []) => read("pool 3 three"),
         ("nextSlot", [n, want, path, second]) => {
             let next = Value::Op(Op::Next(25));
             let slot = [n, &next, want, path, second].map(Value::clone);
@@ -220,6 +235,12 @@ fn place(name: &str, arguments: &[Value]) -> Option<Value> {
         ("damaged", [from, Number(at), Number(word)]) => with_words(from, *at, &[*word]),
         ("withPage", [from, Number(page), words]) => with_words(from, page * 7, &numbers(words)),
         ("answers", [from, List(calls)]) => List(told(from).answers(calls)),
+        ("goingOn", [from, List(calls)]) => {
+            let mut told = told(from);
+            told.answers(calls);
+            Value::Told(Box::new(told))
+        }
+        ("pages", [from]) => List(told(from).words[..3 * 7].chunks(7).map(words).collect()),
         ("row", [List(given), List(said)]) => Value::Row(given.clone(), said.clone()),
         _ => return None,
     })
@@ -239,6 +260,10 @@ fn with_words(from: &Value, at: u32, words: &[u32]) -> Value {
     let mut told = told(from);
     told.words[at as usize..at as usize + words.len()].copy_from_slice(words);
     Value::Told(Box::new(told))
+}
+
+fn words(words: &[u32]) -> Value {
+    List(words.iter().copied().map(Number).collect())
 }
 
 fn told(value: &Value) -> Told {
@@ -265,12 +290,14 @@ fn numbers(value: &Value) -> Vec<u32> {
 
 #[test]
 fn every_row_is_heard() {
-    let rows = list(&defined("nextRows").expect("it is there"));
-    assert_eq!(rows.len(), 40);
-    for (at, row) in rows.into_iter().enumerate() {
-        match row {
-            Value::Row(given, said) => assert_eq!(given, said, "row {at}"),
-            _ => panic!("{row:?} is no row"),
+    for (name, length) in [("nextRows", 40), ("regradeRows", 15)] {
+        let rows = list(&defined(name).expect("it is there"));
+        assert_eq!(rows.len(), length, "{name}");
+        for (at, row) in rows.into_iter().enumerate() {
+            match row {
+                Value::Row(given, said) => assert_eq!(given, said, "{name}, row {at}"),
+                _ => panic!("{row:?} is no row"),
+            }
         }
     }
 }

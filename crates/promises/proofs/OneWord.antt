@@ -1,0 +1,197 @@
+-- A regrading writes one word, the information under its key: of every state and all words. The page that is written is sound by
+-- itself, for the step has tested it; so its words are those of its value, and the changed value's differ in one.
+use Prim.Native.Nat.{ℕ, _+_, _-_, _*_, _≤_, _<_}
+use mathlib.Core.Bool.{Bool, true, false, not, _&&_, false≢true}
+use mathlib.Core.List.{List, [], _∷_, _++_, reverse, append-assoc}
+use mathlib.Core.Path.{_≡_, refl, sym, ap, _∙_, subst}
+use native.Mathlib.Nat.{suc-add, zero-add}
+use native.Mathlib.Omega.{arith}
+use borrow.Author.Tests.{not-false, ltb-true, eqb-true}
+use lib.Dec.{ltb, eqb}
+use lib.ListN.{length, getD, set, take, drop, length-set, take-append-drop}
+use lib.Seq.{sets, sets-eq, set-append-left, getD-take, getD-drop, drop-drop, length-take-le}
+use Rattle.ground.specs.Limits.{slotCount}
+use Rattle.ground.specs.Tests.{member}
+use Rattle.ground.proofs.Bools.{and-first, or-second}
+use Rattle.ground.proofs.Choice.{cond-ind}
+use Rattle.ground.proofs.Tests.{all-member, member-append, member-here}
+use Rattle.page.specs.Words.{Entry, Page, size, isLeaf, pairsFrom, view}
+use Rattle.page.specs.Place.{place, has, information}
+use Rattle.page.specs.Sound.{soundByItself}
+use Rattle.page.proofs.PlaceLaws.{place-most, has-place, information-at}
+use Rattle.page.proofs.ReadingLaws.{value-word}
+use Rattle.sheet.proofs.WritingLaws.{Bounds, bounds, regrade-exact}
+use Rattle.pool.specs.Pool.{poolLength, start, wordsOf, pageAt, written, applied, freePages}
+use Rattle.pool.proofs.StretchLaws.{ends-in-pool}
+use Rattle.change.specs.Deletion.{Need, nothing, sibling, astray, needs}
+use Rattle.change.specs.Regrading.{regrading}
+use Rattle.change.proofs.HeldLaws.{Known, held-page}
+use Rattle.slots.specs.declared.Op.the-variants.{Regrade}
+use Rattle.slots.specs.declared.Task.{Task}
+use Rattle.slots.specs.declared.Slot.{Slot}
+use Rattle.slots.specs.declared.State.{State}
+use Rattle.slots.specs.declared.Answer.{Answer}
+use Rattle.slots.specs.declared.Answer.the-variants.{Waiting, Moved, Deleted, NoSuchKey, BadState, BadPool, BadSlot, Damaged, Regraded}
+use Rattle.slots.specs.Parts.{isOpen, held, pathOf, siblingsOf, slotAt}
+use Rattle.slots.specs.Heard.{heard, numberOf}
+use Rattle.slots.specs.Grant.{grants}
+use Rattle.slots.specs.Sound.{sound}
+use Rattle.slots.proofs.SoundFacts.{SoundState, sound-facts}
+use Rattle.footing.specs.Granted.{Verdict, broken, goes, ends, byNeed, deletes, atLeaf, fromLeaf, comesDown, besides, atItsLeaf, granted}
+use Rattle.footing.specs.Fitting.{pagesSound, fitting, nextIsNew, soundForStep, verdict}
+use Rattle.index.specs.Step.{Left, acted, steppedTask, stepped}
+use Rattle.promises.specs.Regrading.{OneWord, RegradingWrites}
+
+-- ---- one word of a part is one word of the whole
+
+set-behind : (xs ys : List ℕ) (j v : ℕ) → set (xs ++ ys) (length xs + j) v ≡ xs ++ set ys j v
+set-behind [] ys j v = ap (λ (i : ℕ). set ys i v) (zero-add j)
+set-behind (x ∷ xs) ys j v = ap (λ (i : ℕ). set (x ∷ (xs ++ ys)) i v) (suc-add (length xs) j) ∙ ap (λ (r : List ℕ). x ∷ r) (set-behind xs ys j v)
+
+part-set : (a m j v : ℕ) (ws : List ℕ) → a + m ≤ length ws → length (take m (drop a ws)) ≡ m → j < m
+    → sets ws a (set (take m (drop a ws)) j v) ≡ set ws (a + j) v
+part-set a m j v ws room long h =
+    let part : List ℕ = take m (drop a ws) in
+    let new : List ℕ = set part j v in
+    let same : length new ≡ m = length-set part j v ∙ long in
+    let front : length (take a ws) ≡ a = length-take-le a ws (omega arith) in
+    sets-eq new ws a (omega arith)
+    ∙ append-assoc (take a ws) new (drop (a + length new) ws)
+    ∙ ap (λ (z : ℕ). take a ws ++ (new ++ drop (a + z) ws)) same
+    ∙ ap (λ (r : List ℕ). take a ws ++ (new ++ r)) (sym (drop-drop m a ws))
+    ∙ ap (λ (r : List ℕ). take a ws ++ r) (sym (set-append-left part (drop m (drop a ws)) j v (omega arith)))
+    ∙ ap (λ (r : List ℕ). take a ws ++ set r j v) (take-append-drop m (drop a ws))
+    ∙ sym (set-behind (take a ws) (drop a ws) j v)
+    ∙ ap (λ (z : ℕ). set (take a ws ++ drop a ws) (z + j) v) front
+    ∙ ap (λ (r : List ℕ). set r (a + j) v) (take-append-drop a ws)
+
+-- ---- the page
+
+page-writes : {k n p : ℕ} {ws : List ℕ} (x new : ℕ) → Known k n ws p → has x (pageAt k ws p .entries) ≡ true
+    → OneWord ws (applied k (regrading (pageAt k ws) x new p) ws) (information x (pageAt k ws p .entries)) new
+unfolding pageAt wordsOf written applied regrading
+page-writes {k} {n} {p} {ws} x new known there =
+    let W : List ℕ = wordsOf k p ws in
+    let es : List Entry = view W .entries in
+    let from : ℕ = pairsFrom (getD W 0 0) in
+    let behind : ℕ = place x es in
+    let j : ℕ = from + 2 * behind - 1 in
+    let a : ℕ = start k p in
+    let near : Bounds k W = bounds (known .exact) in
+    let stands = has-place x es (known .facts .rising) there in
+    let before : behind ≤ length es = place-most x es in
+    let room : a + size k ≤ length ws = omega (arith, ends-in-pool k n p (known .inPool .inside), known .inPool .whole) in
+    let inside : j < size k = omega (arith, near, stands .0) in
+    let index : from + 2 * (behind - 1) + 1 ≡ j = omega (arith, stands .0) in
+    record {
+      at = a + j;
+      inside = omega arith;
+      was =
+          sym (getD-drop a ws j 0)
+          ∙ sym (getD-take (size k) (drop a ws) j 0 inside)
+          ∙ ap (λ (z : ℕ). getD W z 0) (sym index)
+          ∙ sym (value-word W (known .readable) from (behind - 1) refl (omega (arith, near, stands .0)))
+          ∙ sym (information-at x es (known .facts .rising) (behind - 1) (omega (arith, stands .0)) (stands .1));
+      words =
+          ap (sets ws a) (sym (regrade-exact (known .exact) x new refl refl (known .facts .rising) there))
+          ∙ part-set a (size k) j new ws room (near .long) inside;
+    }
+
+-- ---- the step
+
+-- a verdict that answers Regraded writes one word
+abbrev Writes : ℕ → List ℕ → ℕ → ℕ → Verdict → Type 0
+Writes k ws new old broken = Unit {0}
+Writes k ws new old (goes path siblings want) = Unit {0}
+Writes k ws new old (ends answer writes) = answer ≡ Regraded old → OneWord ws (applied k writes ws) old new
+
+-- another answer is not Regraded
+another : {A : Type 0} {old : ℕ} (a : Answer) → eqb (numberOf a) (numberOf (Regraded 0)) ≡ false → a ≡ Regraded old → A
+another a other e = absurd (false≢true (sym other ∙ ap (λ (b : Answer). eqb (numberOf b) (numberOf (Regraded 0))) e))
+
+module _ (k n : ℕ) (ws : List ℕ) (x new old : ℕ) (path siblings : List ℕ) (want : ℕ) where
+  abbrev memory : ℕ → Page
+  memory = pageAt k ws
+
+  abbrev Wrote : Verdict → Type 0
+  Wrote = Writes k ws new old
+
+  -- a deletion's verdict answers otherwise
+  need-writes : (beside : List ℕ) (whole : Verdict) → Wrote whole → (need : Need) → Wrote (byNeed path beside whole need)
+  need-writes beside whole h nothing = h
+  need-writes beside whole h (sibling s) = tt
+  need-writes beside whole h astray = tt
+
+  beside-writes : (up : List ℕ)
+      → Wrote (fromLeaf (λ (leaf : ℕ) (fathers : List ℕ). deletes k memory x path leaf fathers (siblings ++ want ∷ [])) up)
+  unfolding deletes
+  beside-writes [] = tt
+  beside-writes (leaf ∷ fathers) =
+      need-writes (siblings ++ want ∷ []) _ (another (Deleted (information x (memory leaf .entries))) refl) (needs k memory x leaf fathers (siblings ++ want ∷ []))
+
+  leaf-writes : Known k n ws want → Wrote (atLeaf (Regrade x new) k memory (freePages k n ws) (want ∷ []) want [])
+  unfolding atLeaf
+  leaf-writes known =
+      cond-ind Wrote (has x (memory want .entries))
+      (λ there e.
+      subst (λ (v : ℕ). OneWord ws (applied k (regrading memory x new want) ws) v new) (ap (λ (a : Answer). getD (heard a) 1 0) e) (page-writes x new known there))
+      (λ _. another NoSuchKey refl)
+
+  granted-writes : Known k n ws want → Wrote (granted (Regrade x new) k memory (freePages k n ws) path siblings want)
+  unfolding granted besides comesDown
+  granted-writes known =
+      cond-ind Wrote (atItsLeaf memory (reverse path))
+      (λ _. beside-writes (reverse path))
+      (λ _. cond-ind Wrote (isLeaf (memory want)) (λ _. leaf-writes known) (λ _. tt))
+
+  verdict-writes : (soundForStep (Regrade x new) k n ws path siblings want ≡ true → Known k n ws want)
+      → Wrote (verdict (Regrade x new) k n ws path siblings want)
+  unfolding verdict
+  verdict-writes known = cond-ind Wrote (soundForStep (Regrade x new) k n ws path siblings want) (λ sure. granted-writes (known sure)) (λ _. tt)
+
+  -- the wanted page is among those that are tested
+  want-sound : soundForStep (Regrade x new) k n ws path siblings want ≡ true
+      → soundByItself k n want (wordsOf k want ws) ≡ true
+  unfolding soundForStep pagesSound
+  want-sound sure =
+      let pages : Bool = pagesSound k n ws (path ++ siblings ++ want ∷ []) in
+      let fits : Bool = fitting (Regrade x new) k memory path siblings want in
+      all-member (λ (p : ℕ). soundByItself k n p (wordsOf k p ws)) (path ++ siblings ++ want ∷ [])
+      (and-first pages fits (and-first (pages && fits) (nextIsNew (granted (Regrade x new) k memory (freePages k n ws) path siblings want)) sure))
+      want
+      (member-append want (path ++ siblings) (want ∷ []) ∙ or-second (member want (path ++ siblings)) (member-here want []))
+
+acted-writes : (st : State) (ws : List ℕ) (s x new old : ℕ) (v : Verdict) → Writes (st .k) ws new old v
+    → acted st ws s (Regrade x new) v .answer ≡ Regraded old → OneWord ws (acted st ws s (Regrade x new) v .words) old new
+acted-writes st ws s x new old broken h = another Damaged refl
+acted-writes st ws s x new old (goes path siblings want) h = another Moved refl
+acted-writes st ws s x new old (ends answer writes) h = h
+
+pub regrading-writes : RegradingWrites
+unfolding stepped
+regrading-writes st ws s x new old opened =
+    cond-ind Told (not (sound st)) (λ _. another BadState refl)
+    (λ ok. cond-ind Told (not (eqb (length ws) (poolLength (st .k) (st .n)))) (λ _. another BadPool refl)
+    (λ whole. cond-ind Told (not (ltb s slotCount)) (λ _. another BadSlot refl)
+    (λ inside. subst (λ (task : Task). Told (steppedTask st ws s slot task)) (sym opened)
+    (cond-ind Told (grants st s)
+    (λ _. acted-writes st ws s x new old (verdict (Regrade x new) (st .k) (st .n) ws (pathOf slot) (siblingsOf slot) (slot .want))
+    (verdict-writes (st .k) (st .n) ws x new old (pathOf slot) (siblingsOf slot) (slot .want)
+    (known (not-false (sound st) ok) (eqb-true (length ws) (poolLength (st .k) (st .n)) (not-false (eqb (length ws) (poolLength (st .k) (st .n))) whole))
+    (ltb-true s slotCount (not-false (ltb s slotCount) inside)))))
+    (λ _. another Waiting refl)))))
+  where
+    slot : Slot
+    slot = slotAt st s
+
+    Told : Left → Type 0
+    Told r = r .answer ≡ Regraded old → OneWord ws (r .words) old new
+
+    -- the step has tested the page that it is granted
+    known : sound st ≡ true → length ws ≡ poolLength (st .k) (st .n) → s < slotCount
+        → soundForStep (Regrade x new) (st .k) (st .n) ws (pathOf slot) (siblingsOf slot) (slot .want) ≡ true → Known (st .k) (st .n) ws (slot .want)
+    known ok whole inside sure =
+        let facts : SoundState st = sound-facts st ok in
+        let below : slot .want < st .n = facts .slot s inside .below (ap isOpen opened) (slot .want) (member-here (slot .want) (held slot)) in
+        held-page (facts .kMost) (facts .nMost) whole
+        (record { inside = below; sound = want-sound (st .k) (st .n) ws x new old (pathOf slot) (siblingsOf slot) (slot .want) sure })

@@ -1,0 +1,102 @@
+-- The hope behind 02 (iv): "During a downgrade the lot is for a moment nowhere." A lot that is regraded, and not deleted, is at no moment
+-- nowhere: after every call it is there, and who asks for it is told the information that stands there just then.
+-- Of a run: its calls so far have left a state and words; from there on come the calls `between`.
+use Prim.Native.Nat.{ℕ, _≤_, _<_}
+use mathlib.Core.Bool.{true}
+use mathlib.Core.List.{List, [], _∷_, _++_}
+use mathlib.Core.Logic.{_⊎_}
+use mathlib.Core.Path.{_≡_}
+use lib.ListN.{length, getD, set}
+use Rattle.slots.specs.declared.Op.{Op}
+use Rattle.slots.specs.declared.Op.the-variants.{Search, Insert, Delete, Next, Regrade}
+use Rattle.slots.specs.declared.State.{State}
+use Rattle.slots.specs.declared.Answer.{Answer}
+use Rattle.slots.specs.declared.Answer.the-variants.{Found, NotFound, AlreadyThere, Deleted, NoSuchKey, Next as NextLot, Regraded}
+use Rattle.slots.specs.Heard.{isOneOf, ending}
+use Rattle.index.specs.Step.{stepped}
+use Rattle.tree.specs.Tree.{Tr, entriesOf, PoolForms}
+use Rattle.runs.specs.Run.{Call, step, run, runFrom, Run}
+use Rattle.runs.specs.PlainFacts.{Among}
+use Rattle.promises.specs.Demand2.{Opened}
+
+-- The lot x is there with information v: it is an entry of the tree that the words form. There is just one such tree (`pool-determined`).
+pub record IsThere (st : State) (ws : List ℕ) (x v : ℕ) : Type 0 where
+  pub height : ℕ
+  pub tree : Tr height
+  pub forms : PoolForms (st .k) (st .n) ws height tree
+  pub there : Among x v (entriesOf height tree)
+
+-- Among the calls `between`, behind those that come first, a step of slot s ends the operation op with the answer a.
+pub record EndsAmong (st : State) (ws : List ℕ) (between first : List Call) (s : ℕ) (op : Op) (a : Answer) : Type 0 where
+  pub rest : List Call
+  pub whole : between ≡ first ++ step s ∷ rest
+  pub opened : Opened (run first st ws .state) s op
+  pub answer : stepped (run first st ws .state) (run first st ws .words) s .answer ≡ a
+  pub ends : isOneOf a ending ≡ true
+
+-- A regrading that ended among the calls put the information v there.
+pub record PutBy (st : State) (ws : List ℕ) (between : List Call) (x v : ℕ) : Type 0 where
+  pub first : List Call
+  pub slot : ℕ
+  pub old : ℕ
+  pub ended : EndsAmong st ws between first slot (Regrade x v) (Regraded old)
+
+-- What is asked of the calls: the lot is there when they begin, and among them no deletion of it ends. Whatever else is begun, stepped
+-- and ended, of this lot and of others, is free; so are deletions of it that wait or are still on their way.
+pub record NotDeleted (st : State) (ws : List ℕ) (between : List Call) (x : ℕ) : Type 0 where
+  pub there : (v : ℕ) × IsThere st ws x v
+  pub kept : (first : List Call) (s v : ℕ) → EndsAmong st ws between first s (Delete x) (Deleted v) → ⊥
+
+pub record NeverNowhere (st : State) (ws : List ℕ) (between : List Call) (x : ℕ) : Type 0 where
+  -- after every call the lot is there, with the information that it had or with one that a regrading put there since. (This holds from
+  -- any moment on to any later one: so it is the one that was put there last.)
+  pub always : (first rest : List Call) → between ≡ first ++ rest
+      → (v : ℕ) × IsThere (run first st ws .state) (run first st ws .words) x v × (IsThere st ws x v ⊎ PutBy st ws first x v)
+  -- with one information only
+  pub single : (first rest : List Call) (v w : ℕ) → between ≡ first ++ rest
+      → IsThere (run first st ws .state) (run first st ws .words) x v → IsThere (run first st ws .state) (run first st ws .words) x w → v ≡ w
+  -- every search of it that ends answers Found, with the information that stands there at the moment of the answer,
+  pub searched : (first : List Call) (s : ℕ) (a : Answer) → EndsAmong st ws between first s (Search x) a
+      → (v : ℕ) × (a ≡ Found v) × IsThere (run first st ws .state) (run first st ws .words) x v
+  -- and so never NotFound
+  pub neverNotFound : (first : List Call) (s : ℕ) → EndsAmong st ws between first s (Search x) NotFound → ⊥
+  -- every regrading of it that ends answers Regraded, with the information that stood there, and leaves the new one,
+  pub regraded : (first : List Call) (s w : ℕ) (a : Answer) → EndsAmong st ws between first s (Regrade x w) a
+      → (v : ℕ) × (a ≡ Regraded v) × IsThere (run first st ws .state) (run first st ws .words) x v
+      × IsThere (run (first ++ step s ∷ []) st ws .state) (run (first ++ step s ∷ []) st ws .words) x w
+  -- and so never NoSuchKey
+  pub neverNoSuchKey : (first : List Call) (s w : ℕ) → EndsAmong st ws between first s (Regrade x w) NoSuchKey → ⊥
+  -- an insertion of it is told what is there,
+  pub already : (first : List Call) (s w : ℕ) (a : Answer) → EndsAmong st ws between first s (Insert x w) a
+      → (v : ℕ) × (a ≡ AlreadyThere v) × IsThere (run first st ws .state) (run first st ws .words) x v
+  -- a Next from its key or a lower one does not pass it over: it answers this lot, or another that is there and comes before it,
+  pub nexts : (first : List Call) (s y : ℕ) (a : Answer) → y ≤ x → EndsAmong st ws between first s (Next y) a
+      → (z : ℕ) × (v : ℕ) × (a ≡ NextLot z v) × (y ≤ z) × (z ≤ x) × IsThere (run first st ws .state) (run first st ws .words) z v
+  -- and no deletion of it ends, so that none says NoSuchKey either
+  pub neverDeleted : (first : List Call) (s : ℕ) (a : Answer) → EndsAmong st ws between first s (Delete x) a → ⊥
+
+-- the calls `between`, behind those before, as far as the lot x is concerned
+abbrev pub LotStays : ℕ → ℕ → List ℕ → List Call → List Call → ℕ → Type 0
+LotStays k n ws before between x =
+    NotDeleted (runFrom k n ws before .state) (runFrom k n ws before .words) between x
+    → NeverNowhere (runFrom k n ws before .state) (runFrom k n ws before .words) between x
+
+-- Between any two calls of a run.
+abbrev pub RegradingHolds : Type 0
+RegradingHolds =
+    (k n : ℕ) (ws : List ℕ) (before between : List Call) (x : ℕ) → Run k n ws (before ++ between) → LotStays k n ws before between x
+
+-- ---- what it writes
+
+-- One word is another: it was the old information, and it is the new one.
+pub record OneWord (ws after : List ℕ) (old new : ℕ) : Type 0 where
+  pub at : ℕ
+  pub inside : at < length ws
+  pub was : getD ws at 0 ≡ old
+  pub words : after ≡ set ws at new
+
+-- "answers Regraded with the old information": whatever state and words are, a regrading that is answered so has written one word.
+abbrev pub RegradingWrites : Type 0
+RegradingWrites =
+    (st : State) (ws : List ℕ) (s x new old : ℕ) → Opened st s (Regrade x new) → stepped st ws s .answer ≡ Regraded old
+    → OneWord ws (stepped st ws s .words) old new
