@@ -19,7 +19,7 @@ use Rattle.page.specs.Words.{Entry, Page, size, isLeaf, pairsFrom, view}
 use Rattle.page.specs.Place.{place, has, information}
 use Rattle.page.specs.Sound.{soundByItself}
 use Rattle.page.proofs.PlaceLaws.{place-most, has-place, information-at}
-use Rattle.page.proofs.ReadingLaws.{value-word}
+use Rattle.page.proofs.ReadingLaws.{key-word, value-word}
 use Rattle.sheet.proofs.WritingLaws.{Bounds, bounds, regrade-exact}
 use Rattle.pool.specs.Pool.{poolLength, start, wordsOf, pageAt, written, applied, freePages}
 use Rattle.pool.proofs.StretchLaws.{ends-in-pool}
@@ -68,42 +68,51 @@ part-set a m j v ws room long h =
 -- ---- the page
 
 page-writes : {k n p : ℕ} {ws : List ℕ} (x new : ℕ) → Known k n ws p → has x (pageAt k ws p .entries) ≡ true
-    → OneWord ws (applied k (regrading (pageAt k ws) x new p) ws) (information x (pageAt k ws p .entries)) new
+    → OneWord ws (applied k (regrading (pageAt k ws) x new p) ws) x (information x (pageAt k ws p .entries)) new
 unfolding pageAt wordsOf written applied regrading
 page-writes {k} {n} {p} {ws} x new known there =
     let W : List ℕ = wordsOf k p ws in
     let es : List Entry = view W .entries in
     let from : ℕ = pairsFrom (getD W 0 0) in
     let behind : ℕ = place x es in
-    let j : ℕ = from + 2 * behind - 1 in
+    let i : ℕ = from + 2 * (behind - 1) in
     let a : ℕ = start k p in
     let near : Bounds k W = bounds (known .exact) in
     let stands = has-place x es (known .facts .rising) there in
     let before : behind ≤ length es = place-most x es in
     let room : a + size k ≤ length ws = omega (arith, ends-in-pool k n p (known .inPool .inside), known .inPool .whole) in
-    let inside : j < size k = omega (arith, near, stands .0) in
-    let index : from + 2 * (behind - 1) + 1 ≡ j = omega (arith, stands .0) in
+    let inside : i + 1 < size k = omega (arith, near, stands .0) in
+    let next : from + 2 * behind - 1 ≡ i + 1 = omega (arith, stands .0) in
+    let word : a + (i + 1) ≡ a + i + 1 = omega arith in
+    -- word j of the page is word a + j of the pool
+    let read : (j : ℕ) → j < size k → getD ws (a + j) 0 ≡ getD W j 0 = λ j h.
+    sym (getD-drop a ws j 0) ∙ sym (getD-take (size k) (drop a ws) j 0 h) in
     record {
-      at = a + j;
+      at = a + i;
       inside = omega arith;
+      key =
+          read i (omega arith)
+          ∙ sym (key-word W (known .readable) from (behind - 1) refl (omega (arith, near, stands .0)))
+          ∙ stands .1;
       was =
-          sym (getD-drop a ws j 0)
-          ∙ sym (getD-take (size k) (drop a ws) j 0 inside)
-          ∙ ap (λ (z : ℕ). getD W z 0) (sym index)
+          ap (λ (z : ℕ). getD ws z 0) (sym word)
+          ∙ read (i + 1) inside
           ∙ sym (value-word W (known .readable) from (behind - 1) refl (omega (arith, near, stands .0)))
           ∙ sym (information-at x es (known .facts .rising) (behind - 1) (omega (arith, stands .0)) (stands .1));
       words =
           ap (sets ws a) (sym (regrade-exact (known .exact) x new refl refl (known .facts .rising) there))
-          ∙ part-set a (size k) j new ws room (near .long) inside;
+          ∙ ap (λ (j : ℕ). sets ws a (set W j new)) next
+          ∙ part-set a (size k) (i + 1) new ws room (near .long) inside
+          ∙ ap (λ (z : ℕ). set ws z new) word;
     }
 
 -- ---- the step
 
 -- a verdict that answers Regraded writes one word
-abbrev Writes : ℕ → List ℕ → ℕ → ℕ → Verdict → Type 0
-Writes k ws new old broken = Unit {0}
-Writes k ws new old (goes path siblings want) = Unit {0}
-Writes k ws new old (ends answer writes) = answer ≡ Regraded old → OneWord ws (applied k writes ws) old new
+abbrev Writes : ℕ → List ℕ → ℕ → ℕ → ℕ → Verdict → Type 0
+Writes k ws x new old broken = Unit {0}
+Writes k ws x new old (goes path siblings want) = Unit {0}
+Writes k ws x new old (ends answer writes) = answer ≡ Regraded old → OneWord ws (applied k writes ws) x old new
 
 -- another answer is not Regraded
 another : {A : Type 0} {old : ℕ} (a : Answer) → eqb (numberOf a) (numberOf (Regraded 0)) ≡ false → a ≡ Regraded old → A
@@ -114,7 +123,7 @@ module _ (k n : ℕ) (ws : List ℕ) (x new old : ℕ) (path siblings : List ℕ
   memory = pageAt k ws
 
   abbrev Wrote : Verdict → Type 0
-  Wrote = Writes k ws new old
+  Wrote = Writes k ws x new old
 
   -- a deletion's verdict answers otherwise
   need-writes : (beside : List ℕ) (whole : Verdict) → Wrote whole → (need : Need) → Wrote (byNeed path beside whole need)
@@ -134,7 +143,7 @@ module _ (k n : ℕ) (ws : List ℕ) (x new old : ℕ) (path siblings : List ℕ
   leaf-writes known =
       cond-ind Wrote (has x (memory want .entries))
       (λ there e.
-      subst (λ (v : ℕ). OneWord ws (applied k (regrading memory x new want) ws) v new) (ap (λ (a : Answer). getD (heard a) 1 0) e) (page-writes x new known there))
+      subst (λ (v : ℕ). OneWord ws (applied k (regrading memory x new want) ws) x v new) (ap (λ (a : Answer). getD (heard a) 1 0) e) (page-writes x new known there))
       (λ _. another NoSuchKey refl)
 
   granted-writes : Known k n ws want → Wrote (granted (Regrade x new) k memory (freePages k n ws) path siblings want)
@@ -161,8 +170,8 @@ module _ (k n : ℕ) (ws : List ℕ) (x new old : ℕ) (path siblings : List ℕ
       want
       (member-append want (path ++ siblings) (want ∷ []) ∙ or-second (member want (path ++ siblings)) (member-here want []))
 
-acted-writes : (st : State) (ws : List ℕ) (s x new old : ℕ) (v : Verdict) → Writes (st .k) ws new old v
-    → acted st ws s (Regrade x new) v .answer ≡ Regraded old → OneWord ws (acted st ws s (Regrade x new) v .words) old new
+acted-writes : (st : State) (ws : List ℕ) (s x new old : ℕ) (v : Verdict) → Writes (st .k) ws x new old v
+    → acted st ws s (Regrade x new) v .answer ≡ Regraded old → OneWord ws (acted st ws s (Regrade x new) v .words) x old new
 acted-writes st ws s x new old broken h = another Damaged refl
 acted-writes st ws s x new old (goes path siblings want) h = another Moved refl
 acted-writes st ws s x new old (ends answer writes) h = h
@@ -185,7 +194,7 @@ regrading-writes st ws s x new old opened =
     slot = slotAt st s
 
     Told : Left → Type 0
-    Told r = r .answer ≡ Regraded old → OneWord ws (r .words) old new
+    Told r = r .answer ≡ Regraded old → OneWord ws (r .words) x old new
 
     -- the step has tested the page that it is granted
     known : sound st ≡ true → length ws ≡ poolLength (st .k) (st .n) → s < slotCount

@@ -1,7 +1,7 @@
 -- The hope behind 02 (iv): "During a downgrade the lot is for a moment nowhere." A lot that is regraded, and not deleted, is at no moment
 -- nowhere: after every call it is there, and who asks for it is told the information that stands there just then.
 -- Of a run: its calls so far have left a state and words; from there on come the calls `between`.
-use Prim.Native.Nat.{ℕ, _≤_, _<_}
+use Prim.Native.Nat.{ℕ, _+_, _≤_, _<_}
 use mathlib.Core.Bool.{true}
 use mathlib.Core.List.{List, [], _∷_, _++_}
 use mathlib.Core.Logic.{_⊎_}
@@ -88,15 +88,17 @@ RegradingHolds =
 
 -- ---- what it writes
 
--- One word is another: it was the old information, and it is the new one.
-pub record OneWord (ws after : List ℕ) (old new : ℕ) : Type 0 where
+-- One word is another, the one behind the key x: it was the old information, and it is the new one.
+pub record OneWord (ws after : List ℕ) (x old new : ℕ) : Type 0 where
+  -- where the key stands
   pub at : ℕ
-  pub inside : at < length ws
-  pub was : getD ws at 0 ≡ old
-  pub words : after ≡ set ws at new
+  pub inside : at + 1 < length ws
+  pub key : getD ws at 0 ≡ x
+  pub was : getD ws (at + 1) 0 ≡ old
+  pub words : after ≡ set ws (at + 1) new
 
 -- "answers Regraded with the old information": whatever state and words are, a regrading that is answered so has written one word.
 abbrev pub RegradingWrites : Type 0
 RegradingWrites =
     (st : State) (ws : List ℕ) (s x new old : ℕ) → Opened st s (Regrade x new) → stepped st ws s .answer ≡ Regraded old
-    → OneWord ws (stepped st ws s .words) old new
+    → OneWord ws (stepped st ws s .words) x old new
