@@ -10,7 +10,7 @@ use Rattle.slots.specs.declared.Answer.the-variants.{Begun, Waiting, Inserted, 
 use Rattle.lines.specs.declared.Command.{Command}
 use Rattle.lines.specs.declared.Command.the-variants.{Begin, Step, Bad}
 use Rattle.lines.specs.Text.{bytes, startsWith}
-use Rattle.lines.specs.Meaning.{digits, value, front, stepping, searching, deleting, askingNext, informing, keyed, inserting, askingRegrade, asking, beginning, meaning}
+use Rattle.lines.specs.Meaning.{digits, value, front, stepping, searching, deleting, askingNext, informing, keying, inserting, askingRegrade, asking, beginning, meaning}
 use Rattle.lines.specs.Decimal.{digitsWithin, decimal}
 use Rattle.lines.specs.Names.{answerLine}
 
@@ -28,7 +28,7 @@ good-lines :
     ∷ Begin 3 (Next 12)
     ∷ Begin 2 (Regrade 12 4294967295)
     ∷ []
-unfolding meanings startsWith digits value front stepping searching deleting askingNext informing keyed inserting askingRegrade asking beginning meaning
+unfolding meanings startsWith digits value front stepping searching deleting askingNext informing keying inserting askingRegrade asking beginning meaning
 good-lines = refl
 
 bad-lines :
@@ -59,7 +59,7 @@ bad-lines :
     ∷ []
     )
     ≡ Bad ∷ Bad ∷ Bad ∷ Bad ∷ Bad ∷ Bad ∷ Bad ∷ Bad ∷ Bad ∷ Bad ∷ Bad ∷ Bad ∷ Bad ∷ Bad ∷ Bad ∷ Bad ∷ Bad ∷ Bad ∷ Bad ∷ Bad ∷ Bad ∷ Bad ∷ Bad ∷ []
-unfolding meanings startsWith digits value front stepping searching deleting askingNext informing keyed inserting askingRegrade asking beginning meaning
+unfolding meanings startsWith digits value front stepping searching deleting askingNext informing keying inserting askingRegrade asking beginning meaning
 bad-lines = refl
 
 -- ---- answers

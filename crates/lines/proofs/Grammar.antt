@@ -18,7 +18,7 @@ use Rattle.slots.specs.declared.Op.the-variants.{Search, Insert, Delete, Next, 
 use Rattle.lines.specs.declared.Command.{Command}
 use Rattle.lines.specs.declared.Command.the-variants.{Begin, Step, Bad}
 use Rattle.lines.specs.Text.{bytes, startsWith}
-use Rattle.lines.specs.Meaning.{isDigit, digits, value, largest, Front, noNumber, number, counted, front, alone, numbered, after, stepping, searching, deleting, askingNext, informing, keyed, inserting, askingRegrade, asking, beginning, meaning}
+use Rattle.lines.specs.Meaning.{isDigit, digits, value, largest, Front, noNumber, number, counted, front, alone, numbered, after, stepping, searching, deleting, askingNext, informing, keying, inserting, askingRegrade, asking, beginning, meaning}
 use Rattle.lines.specs.Forms.{Numeral, Good, toSearch, toInsert, toDelete, toNext, toRegrade, toStep}
 
 -- ---- a number at the front
@@ -64,14 +64,14 @@ alone-numeral {ds} {n} h = ap (λ (l : List ℕ). alone (front l)) (sym (append-
 
 -- a key, a space and information mean what the two mean
 lot-means : {key information : ℕ} (means : ℕ → ℕ → Command) (ks is : List ℕ) → Numeral ks key → Numeral is information
-    → keyed means (ks ++ (bytes " " ++ is)) ≡ means key information
-unfolding startsWith digits informing keyed
+    → keying means (ks ++ (bytes " " ++ is)) ≡ means key information
+unfolding startsWith digits informing keying
 lot-means {key} means ks is hk hi =
     ap (λ (f : Front). numbered f (λ key rest. after " " rest (informing (means key)) Bad)) (front-numeral (bytes " " ++ is) hk refl)
     ∙ ap (λ (f : Front). numbered f (λ information rest. means key information)) (alone-numeral hi)
 
 pub good-means : (line : List ℕ) {c : Command} → Good line c → meaning line ≡ c
-unfolding startsWith digits stepping searching deleting askingNext informing keyed inserting askingRegrade asking beginning meaning
+unfolding startsWith digits stepping searching deleting askingNext informing keying inserting askingRegrade asking beginning meaning
 good-means line (toSearch {slot = slot} ss ks hs hk e) =
     ap meaning e
     ∙ ap (λ (f : Front). numbered f asking) (front-numeral (bytes " s " ++ ks) hs refl)
@@ -160,8 +160,8 @@ module _ (line : List ℕ) where
   -- a key, a space and information mean nothing, or what is good for them
   lot-meant : (means : ℕ → ℕ → Command) (bs : List ℕ)
       → ((key information : ℕ) (ks is : List ℕ) → Numeral ks key → Numeral is information → bs ≡ ks ++ (bytes " " ++ is) → Good line (means key information))
-      → Meant line (keyed means bs)
-  unfolding informing keyed
+      → Meant line (keying means bs)
+  unfolding informing keying
   lot-meant means bs good =
       numbered-ind (Meant line) (front bs) (λ key rest. after " " rest (informing (means key)) Bad) (inl refl)
       (λ key rest f. let found = front-split bs f in

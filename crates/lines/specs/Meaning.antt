@@ -79,16 +79,16 @@ askingNext slot bs = numbered (alone (front bs)) (λ key rest. Begin slot (Next 
 unfoldable pub informing : (ℕ → Command) → List ℕ → Command
 informing means bs = numbered (alone (front bs)) (λ information rest. means information)
 
-unfoldable pub keyed : (ℕ → ℕ → Command) → List ℕ → Command
-keyed means bs = numbered (front bs) (λ key rest. after " " rest (informing (means key)) Bad)
+unfoldable pub keying : (ℕ → ℕ → Command) → List ℕ → Command
+keying means bs = numbered (front bs) (λ key rest. after " " rest (informing (means key)) Bad)
 
 -- `b SLOT i KEY INFO`
 unfoldable pub inserting : ℕ → List ℕ → Command
-inserting slot = keyed (λ key information. Begin slot (Insert key information))
+inserting slot = keying (λ key information. Begin slot (Insert key information))
 
 -- `b SLOT g KEY INFO`
 unfoldable pub askingRegrade : ℕ → List ℕ → Command
-askingRegrade slot = keyed (λ key information. Begin slot (Regrade key information))
+askingRegrade slot = keying (λ key information. Begin slot (Regrade key information))
 
 -- `b SLOT s KEY`, `b SLOT i KEY INFO`, `b SLOT d KEY`, `b SLOT n KEY`, `b SLOT g KEY INFO`
 unfoldable pub asking : ℕ → List ℕ → Command

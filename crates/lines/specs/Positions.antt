@@ -9,7 +9,7 @@ use Rattle.lines.specs.declared.reading.Lot.{Lot}
 use Rattle.lines.specs.declared.reading.Lot.the-variants.{Read as ReadLot, None as NoLot}
 use Rattle.lines.specs.declared.Command.{Command}
 use Rattle.lines.specs.declared.Command.the-variants.{Bad}
-use Rattle.lines.specs.Meaning.{Front, noNumber, number, digits, value, largest, keyed}
+use Rattle.lines.specs.Meaning.{Front, noNumber, number, digits, value, largest, keying}
 
 -- the front that an answer stands for
 abbrev pub frontOf : List ℕ → Number → Front
@@ -28,7 +28,7 @@ lotMeans (ReadLot key information) means = means key information
 
 -- an answer stands for these bytes, whatever a key and information mean
 abbrev pub IsLot : List ℕ → Lot → Type 0
-IsLot bs r = (means : ℕ → ℕ → Command) → lotMeans r means ≡ keyed means bs
+IsLot bs r = (means : ℕ → ℕ → Command) → lotMeans r means ≡ keying means bs
 
 -- two numbers are the same, or both above the largest
 abbrev pub Alike : ℕ → ℕ → Type 0

@@ -15,7 +15,7 @@ use Rattle.runs.specs.Run.{Call, runFrom, InWords, Run}
 use Rattle.runs.specs.Plain.{plain}
 use Rattle.runs.specs.Done.{plainEntries}
 use Rattle.runs.proofs.Invariant.{Invariant}
-use Rattle.runs.proofs.Runs.{holds-after, numbers-after}
+use Rattle.runs.proofs.Runs.{holds-after, numbers-after, forms-with, words-before}
 use Rattle.runs.proofs.Progress.{some-can-go, opened}
 use Rattle.runs.proofs.Agreement.{same-entries, agreement}
 use Rattle.runs.proofs.PlainLaws.{plain-facts}
@@ -32,9 +32,7 @@ agrees-so k n ws cs r =
     let after : List ℕ = runFrom k n ws cs .words in
     let inv : Invariant st after = holds-after k n ws cs r in
     let a = agreement k n ws cs r in
-    let numbers = numbers-after k n ws cs r in
-    let forms : PoolForms k n after (inv .height) (inv .tree) =
-    subst (λ (m : ℕ). PoolForms k m after (inv .height) (inv .tree)) (numbers .1) (subst (λ (m : ℕ). PoolForms m (st .n) after (inv .height) (inv .tree)) (numbers .0) (inv .forms)) in
+    let forms : PoolForms k n after (inv .height) (inv .tree) = forms-with inv (numbers-after k n ws cs r) in
     record {
       answers = a .answers;
       height = inv .height;
@@ -45,10 +43,6 @@ agrees-so k n ws cs r =
     }
 
 -- the calls before a moment of a run are a run
-pub words-before : (before rest : List Call) → InWords (before ++ rest) → InWords before
-words-before [] rest h = tt
-words-before (c ∷ before) rest h = (h .0, words-before before rest (h .1))
-
 pub run-before : (k n : ℕ) (ws : List ℕ) (cs before rest : List Call) → cs ≡ before ++ rest → Run k n ws cs → Run k n ws before
 run-before k n ws cs before rest e r = record { numbers = r .numbers; whole = r .whole; inWords = words-before before rest (subst InWords e (r .inWords)) }
 

@@ -1,15 +1,15 @@
 -- A regrading writes one word, the information under its key: of every state and all words. The page that is written is sound by
 -- itself, for the step has tested it; so its words are those of its value, and the changed value's differ in one.
 use Prim.Native.Nat.{ℕ, _+_, _-_, _*_, _≤_, _<_}
-use mathlib.Core.Bool.{Bool, true, false, not, _&&_, false≢true}
+use mathlib.Core.Bool.{Bool, true, false, not, _&&_}
 use mathlib.Core.List.{List, [], _∷_, _++_, reverse, append-assoc}
 use mathlib.Core.Path.{_≡_, refl, sym, ap, _∙_, subst}
-use native.Mathlib.Nat.{suc-add, zero-add}
 use native.Mathlib.Omega.{arith}
-use borrow.Author.Tests.{not-false, ltb-true, eqb-true}
+use borrow.Author.Tests.{not-false, ltb-true, eqb-true, eqb-false}
+use borrow.Rule.Slice.PartMut.{set-mid-at}
 use lib.Dec.{ltb, eqb}
-use lib.ListN.{length, getD, set, take, drop, length-set, take-append-drop}
-use lib.Seq.{sets, sets-eq, set-append-left, getD-take, getD-drop, drop-drop, length-take-le}
+use lib.ListN.{length, getD, set, take, drop, length-set}
+use lib.Seq.{sets, sets-eq, getD-take, getD-drop, drop-drop}
 use Rattle.ground.specs.Limits.{slotCount}
 use Rattle.ground.specs.Tests.{member}
 use Rattle.ground.proofs.Bools.{and-first, or-second}
@@ -40,30 +40,21 @@ use Rattle.slots.proofs.SoundFacts.{SoundState, sound-facts}
 use Rattle.footing.specs.Granted.{Verdict, broken, goes, ends, byNeed, deletes, atLeaf, fromLeaf, comesDown, besides, atItsLeaf, granted}
 use Rattle.footing.specs.Fitting.{pagesSound, fitting, nextIsNew, soundForStep, verdict}
 use Rattle.index.specs.Step.{Left, acted, steppedTask, stepped}
+use Rattle.runs.proofs.PlainLaws.{clashes}
 use Rattle.promises.specs.Regrading.{OneWord, RegradingWrites}
 
 -- ---- one word of a part is one word of the whole
 
-set-behind : (xs ys : List ℕ) (j v : ℕ) → set (xs ++ ys) (length xs + j) v ≡ xs ++ set ys j v
-set-behind [] ys j v = ap (λ (i : ℕ). set ys i v) (zero-add j)
-set-behind (x ∷ xs) ys j v = ap (λ (i : ℕ). set (x ∷ (xs ++ ys)) i v) (suc-add (length xs) j) ∙ ap (λ (r : List ℕ). x ∷ r) (set-behind xs ys j v)
-
 part-set : (a m j v : ℕ) (ws : List ℕ) → a + m ≤ length ws → length (take m (drop a ws)) ≡ m → j < m
     → sets ws a (set (take m (drop a ws)) j v) ≡ set ws (a + j) v
 part-set a m j v ws room long h =
-    let part : List ℕ = take m (drop a ws) in
-    let new : List ℕ = set part j v in
-    let same : length new ≡ m = length-set part j v ∙ long in
-    let front : length (take a ws) ≡ a = length-take-le a ws (omega arith) in
+    let new : List ℕ = set (take m (drop a ws)) j v in
+    let same : length new ≡ m = length-set (take m (drop a ws)) j v ∙ long in
     sets-eq new ws a (omega arith)
     ∙ append-assoc (take a ws) new (drop (a + length new) ws)
     ∙ ap (λ (z : ℕ). take a ws ++ (new ++ drop (a + z) ws)) same
     ∙ ap (λ (r : List ℕ). take a ws ++ (new ++ r)) (sym (drop-drop m a ws))
-    ∙ ap (λ (r : List ℕ). take a ws ++ r) (sym (set-append-left part (drop m (drop a ws)) j v (omega arith)))
-    ∙ ap (λ (r : List ℕ). take a ws ++ set r j v) (take-append-drop m (drop a ws))
-    ∙ sym (set-behind (take a ws) (drop a ws) j v)
-    ∙ ap (λ (z : ℕ). set (take a ws ++ drop a ws) (z + j) v) front
-    ∙ ap (λ (r : List ℕ). set r (a + j) v) (take-append-drop a ws)
+    ∙ set-mid-at a m j ws v (omega arith)
 
 -- ---- the page
 
@@ -116,7 +107,7 @@ Writes k ws x new old (ends answer writes) = answer ≡ Regraded old → OneWord
 
 -- another answer is not Regraded
 another : {A : Type 0} {old : ℕ} (a : Answer) → eqb (numberOf a) (numberOf (Regraded 0)) ≡ false → a ≡ Regraded old → A
-another a other e = absurd (false≢true (sym other ∙ ap (λ (b : Answer). eqb (numberOf b) (numberOf (Regraded 0))) e))
+another a other e = clashes e (eqb-false (numberOf a) (numberOf (Regraded 0)) other)
 
 module _ (k n : ℕ) (ws : List ℕ) (x new old : ℕ) (path siblings : List ℕ) (want : ℕ) where
   abbrev memory : ℕ → Page

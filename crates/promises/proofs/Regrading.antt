@@ -24,7 +24,6 @@ use Rattle.slots.specs.Book.{closes}
 use Rattle.footing.specs.Granted.{nextAnswer}
 use Rattle.index.specs.Step.{Left, left, stepped}
 use Rattle.tree.specs.Tree.{Tr, entriesOf, PoolForms}
-use Rattle.tree.proofs.Words.{pool-leads}
 use Rattle.runs.specs.Run.{Call, begin, step, report, called, run, runFrom, CallInWords, InWords, Run}
 use Rattle.runs.specs.Plain.{plain}
 use Rattle.runs.specs.PlainFacts.{Among, FirstFrom, PlainFacts}
@@ -32,13 +31,13 @@ use Rattle.runs.specs.Done.{nobody, done, opsOf}
 use Rattle.runs.specs.Step.{Ended}
 use Rattle.runs.proofs.Invariant.{Runs, Invariant}
 use Rattle.runs.proofs.Calls.{StepOf, noSlot, idle, waits, onward, over, step-of, same-op}
-use Rattle.runs.proofs.Runs.{call-keeps, call-numbers, holds-after}
+use Rattle.runs.proofs.Runs.{call-keeps, call-numbers, forms-with, words-before, words-behind, holds-after}
 use Rattle.runs.proofs.Rounds.{run-append}
-use Rattle.runs.proofs.Agreement.{entriesIn, same-entries, agreement}
+use Rattle.runs.proofs.Agreement.{entriesIn, same-entries, ended-entries, agreement}
 use Rattle.runs.proofs.PlainLaws.{plain-facts, among-has, among-information, clashes}
 use Rattle.promises.specs.Demand2.{Opened}
 use Rattle.promises.specs.Regrading.{IsThere, EndsAmong, PutBy, NotDeleted, NeverNowhere, RegradingHolds}
-use Rattle.promises.proofs.Demand3.{plain-rises, words-before, run-before}
+use Rattle.promises.proofs.Demand3.{plain-rises, run-before}
 
 -- ---- the plain list
 
@@ -92,10 +91,10 @@ module _ (x v : ℕ) (es : List Entry) (r : rises es ≡ true) (a : Among x v es
 -- ---- one call
 
 -- What a call does to the entries of the tree: nothing; or it is a step that ends an operation, and does what the plain list does.
-data Does (st : State) (ws : List ℕ) (inv : Invariant st ws) (c : Call) (es : List Entry) : Type 0 where
-  keeps : es ≡ entriesIn st ws inv → Does st ws inv c es
+data OnEntries (st : State) (ws : List ℕ) (inv : Invariant st ws) (c : Call) (es : List Entry) : Type 0 where
+  keeps : es ≡ entriesIn st ws inv → OnEntries st ws inv c es
   ends : (s : ℕ) (op : Op) → c ≡ step s → Runs st s op → stepped st ws s .answer ≡ plain op (entriesIn st ws inv) .answer
-      → es ≡ plain op (entriesIn st ws inv) .entries → Does st ws inv c es
+      → es ≡ plain op (entriesIn st ws inv) .entries → OnEntries st ws inv c es
 
 module _ (st : State) (ws : List ℕ) (inv : Invariant st ws) where
   abbrev es : List Entry
@@ -112,16 +111,14 @@ module _ (st : State) (ws : List ℕ) (inv : Invariant st ws) where
     -- the entries behind a step that ends an operation
     entries-after : (l : ℕ) (t : Tr l) → PoolForms (st .k) (st .n) (stepped st ws s .words) l t → entriesOf l t ≡ ended .entries
     entries-after l t f =
-        same-entries (st .k) (st .n) (applied (st .k) writes ws) l t (ended .leads .height) (ended .leads .tree)
+        ended-entries st ws inv op (pathOf (slotAt st s)) (siblingsOf (slotAt st s)) (wantAt st s) a writes ended l t
         (subst (λ (r : Left). PoolForms (st .k) (st .n) (r .words) l t) e f)
-        (pool-leads (st .k) (st .n) ws (inv .height) (inv .tree) writes (ended .entries) (inv .forms) (ended .leads))
-        ∙ ended .leads .entries
 
     answer-after : stepped st ws s .answer ≡ a
     answer-after = ap (λ (r : Left). r .answer) e
 
   step-does : (s : ℕ) → StepOf st ws inv s → (l : ℕ) (t : Tr l) → PoolForms (st .k) (st .n) (stepped st ws s .words) l t
-      → Does st ws inv (step s) (entriesOf l t)
+      → OnEntries st ws inv (step s) (entriesOf l t)
   step-does s (noSlot b e) l t f = keeps (same-words (stepped st ws s) BadSlot st e l t f)
   step-does s (idle b c e) l t f = keeps (same-words (stepped st ws s) SlotIdle st e l t f)
   step-does s (waits op b runs g e) l t f = keeps (same-words (stepped st ws s) Waiting st e l t f)
@@ -132,7 +129,7 @@ module _ (st : State) (ws : List ℕ) (inv : Invariant st ws) where
       (λ none. keeps (entries-after s op a writes e ended l t f ∙ none .1))
       (ended .how)
 
-  call-does : (c : Call) (l : ℕ) (t : Tr l) → PoolForms (st .k) (st .n) (called st ws c .words) l t → Does st ws inv c (entriesOf l t)
+  call-does : (c : Call) (l : ℕ) (t : Tr l) → PoolForms (st .k) (st .n) (called st ws c .words) l t → OnEntries st ws inv c (entriesOf l t)
   unfolding called
   call-does (begin s op) l t f = keeps (same-entries (st .k) (st .n) ws l t (inv .height) (inv .tree) f (inv .forms))
   call-does (step s) l t f = step-does s (step-of st ws inv s) l t f
@@ -140,11 +137,7 @@ module _ (st : State) (ws : List ℕ) (inv : Invariant st ws) where
 
   -- the tree that stands after a call, with the numbers from before
   forms-after : (c : Call) (h : CallInWords c) → PoolForms (st .k) (st .n) (called st ws c .words) (call-keeps st ws inv c h .height) (call-keeps st ws inv c h .tree)
-  forms-after c h =
-      let after : Invariant (called st ws c .state) (called st ws c .words) = call-keeps st ws inv c h in
-      let numbers = call-numbers st ws inv c in
-      subst (λ (m : ℕ). PoolForms (st .k) m (called st ws c .words) (after .height) (after .tree)) (numbers .1)
-      (subst (λ (m : ℕ). PoolForms m (called st ws c .state .n) (called st ws c .words) (after .height) (after .tree)) (numbers .0) (after .forms))
+  forms-after c h = forms-with (call-keeps st ws inv c h) (call-numbers st ws inv c)
 
   -- the step of slot s does what the plain list does with op
   abbrev AsPlainList : ℕ → Op → Type 0
@@ -204,8 +197,8 @@ ends-first st ws c between s op a e opened answer counts =
     record { rest = between; whole = ap (λ (d : Call). d ∷ between) e; opened = opened; answer = answer; ends = counts }
 
 -- No deletion of x ends among the calls.
-abbrev Kept : ℕ → State → List ℕ → List Call → Type 0
-Kept x st ws between = (first : List Call) (s v : ℕ) → EndsAmong st ws between first s (Delete x) (Deleted v) → ⊥
+abbrev Undeleted : ℕ → State → List ℕ → List Call → Type 0
+Undeleted x st ws between = (first : List Call) (s v : ℕ) → EndsAmong st ws between first s (Delete x) (Deleted v) → ⊥
 
 -- Where calls have left off, with the lot x there that was there with information v when they began.
 record Later (x v : ℕ) (st : State) (ws : List ℕ) (between : List Call) : Type 0 where
@@ -225,7 +218,7 @@ module _ (x : ℕ) where
   }
 
   module _ (st : State) (ws : List ℕ) (inv : Invariant st ws) (v : ℕ) (r : rises (entriesIn st ws inv) ≡ true) (a : Among x v (entriesIn st ws inv))
-      (c : Call) (cs : List Call) (kept : Kept x st ws (c ∷ cs)) where
+      (c : Call) (cs : List Call) (kept : Undeleted x st ws (c ∷ cs)) where
     -- the call is no deletion of it that ends
     not-deleted : (s : ℕ) (op : Op) → c ≡ step s → Runs st s op → stepped st ws s .answer ≡ plain op (entriesIn st ws inv) .answer → op ≡ Delete x → ⊥
     unfolding member
@@ -238,7 +231,7 @@ module _ (x : ℕ) where
     abbrev Next-so : List Entry → Type 0
     Next-so es = (w : ℕ) × Among x w es × (rises es ≡ true) × ((w ≡ v) ⊎ PutBy st ws (c ∷ cs) x w)
 
-    next-so : (es : List Entry) → Does st ws inv c es → Next-so es
+    next-so : (es : List Entry) → OnEntries st ws inv c es → Next-so es
     unfolding member
     next-so es (keeps e) = (v, subst (Among x v) (sym e) a, ap rises e ∙ r, inl refl)
     next-so es (ends s op e runs answer after) =
@@ -265,7 +258,7 @@ module _ (x : ℕ) where
   from-first st ws c cs v w u from (inr p) = inr (put-later st ws c cs u p)
 
   stays : (cs : List Call) (st : State) (ws : List ℕ) (inv : Invariant st ws) (v : ℕ) → rises (entriesIn st ws inv) ≡ true → Among x v (entriesIn st ws inv)
-      → InWords cs → Kept x st ws cs → Later x v st ws cs
+      → InWords cs → Undeleted x st ws cs → Later x v st ws cs
   unfolding run
   stays [] st ws inv v r a h kept = record { holds = inv; rising = r; now = v; there = a; from = inl refl }
   stays (c ∷ cs) st ws inv v r a h kept =
@@ -433,11 +426,6 @@ module _ (x : ℕ) (st : State) (ws : List ℕ) (inv : Invariant st ws) (r : ris
   }
 
 -- ---- the theorem
-
--- the calls behind a moment of a run are calls as a caller can make them
-words-behind : (before rest : List Call) → InWords (before ++ rest) → InWords rest
-words-behind [] rest h = h
-words-behind (c ∷ before) rest h = words-behind before rest (h .1)
 
 pub regrading-holds : RegradingHolds
 unfolding rises

@@ -36,7 +36,7 @@ use Rattle.runs.specs.Done.{Done, ended, nobody, asks, done, plainAnswer
 use Rattle.runs.specs.Step.{Ended, AsPlain, NoRoomLeft}
 use Rattle.runs.proofs.Invariant.{Runs, Invariant}
 use Rattle.runs.proofs.Calls.{StepOf, noSlot, idle, waits, onward, over, step-of, same-op, closed-open}
-use Rattle.runs.proofs.Runs.{BeginOf, noSuch, busy, begins-so, begin-of, call-keeps, call-numbers, made-told, idle-shut, fresh-keeps}
+use Rattle.runs.proofs.Runs.{BeginOf, noSuch, busy, begins-so, begin-of, call-keeps, call-numbers, forms-with, made-told, idle-shut, fresh-keeps}
 
 -- the entries of the tree that the words form
 abbrev pub entriesIn : (st : State) (ws : List ℕ) → Invariant st ws → List Entry
@@ -48,6 +48,15 @@ entriesAny t = entriesOf (t .0) (t .1)
 -- the words determine them
 pub same-entries : (k n : ℕ) (ws : List ℕ) (l : ℕ) (t : Tr l) (l′ : ℕ) (t′ : Tr l′) → PoolForms k n ws l t → PoolForms k n ws l′ t′ → entriesOf l t ≡ entriesOf l′ t′
 same-entries k n ws l t l′ t′ f f′ = ap entriesAny (pool-determined k n ws l t l′ t′ f f′)
+
+-- after an operation that ended they are those that it ended with
+pub ended-entries : (st : State) (ws : List ℕ) (inv : Invariant st ws) (op : Op) (path siblings : List ℕ) (want : ℕ) (a : Answer) (writes : List Write)
+    → (e : Ended op (st .k) (st .n) ws (inv .height) (inv .tree) path siblings want a writes)
+    → (l : ℕ) (t : Tr l) → PoolForms (st .k) (st .n) (applied (st .k) writes ws) l t → entriesOf l t ≡ e .entries
+ended-entries st ws inv op path siblings want a writes e l t f =
+    same-entries (st .k) (st .n) (applied (st .k) writes ws) l t (e .leads .height) (e .leads .tree) f
+    (pool-leads (st .k) (st .n) ws (inv .height) (inv .tree) writes (e .entries) (inv .forms) (e .leads))
+    ∙ e .leads .entries
 
 -- what was asked in a slot is what runs there
 abbrev pub Knows : State → (ℕ → Op) → Type 0
@@ -196,8 +205,7 @@ module _ (st : State) (ws : List ℕ) (inv : Invariant st ws) (asked : ℕ → O
       subst (λ (r : Left). (es : List Entry) × Adds (entriesIn st ws inv) (step s) asked r es × ((l : ℕ) (t : Tr l) → PoolForms (st .k) (st .n) (r .words) l t → entriesOf l t ≡ es)) (sym e) (
         ends .entries,
         ended-adds s op a writes b runs ends,
-        λ l t f. same-entries (st .k) (st .n) (applied (st .k) writes ws) l t (ends .leads .height) (ends .leads .tree) f
-            (pool-leads (st .k) (st .n) ws (inv .height) (inv .tree) writes (ends .entries) (inv .forms) (ends .leads)) ∙ ends .leads .entries,
+        ended-entries st ws inv op (pathOf (slotAt st s)) (siblingsOf (slotAt st s)) (wantAt st s) a writes ends,
       )
 
   -- every call
@@ -223,10 +231,7 @@ agrees (c ∷ cs) st ws inv asked knows h =
     let (es, adds, told) = call-adds st ws inv asked knows c in
     let one : Left = called st ws c in
     let inv′ : Invariant (one .state) (one .words) = call-keeps st ws inv c (h .0) in
-    let numbers = call-numbers st ws inv c in
-    let same : entriesIn (one .state) (one .words) inv′ ≡ es = told (inv′ .height) (inv′ .tree)
-    (subst (λ (m : ℕ). PoolForms (st .k) m (one .words) (inv′ .height) (inv′ .tree)) (numbers .1)
-    (subst (λ (m : ℕ). PoolForms m (one .state .n) (one .words) (inv′ .height) (inv′ .tree)) (numbers .0) (inv′ .forms))) in
+    let same : entriesIn (one .state) (one .words) inv′ ≡ es = told (inv′ .height) (inv′ .tree) (forms-with inv′ (call-numbers st ws inv c)) in
     let rest = agrees cs (one .state) (one .words) inv′ (adds .asked′) (adds .knows) (h .1) in
     let heard : List Answer = run cs (one .state) (one .words) .answers in
     let ds : List Done = done cs heard (adds .asked′) in

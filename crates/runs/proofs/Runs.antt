@@ -2,7 +2,7 @@
 use Prim.Native.Nat.{ℕ, _≤_, _<_}
 use mathlib.Core.Bool.{true, false, cond, not, _&&_, false≢true}
 use mathlib.Core.Logic.{⊎-elim}
-use mathlib.Core.List.{List, [], _∷_}
+use mathlib.Core.List.{List, [], _∷_, _++_}
 use mathlib.Core.Path.{_≡_, refl, sym, ap, subst, _∙_}
 use lib.Dec.{ltb, leb}
 use lib.ListN.{length}
@@ -112,6 +112,25 @@ unfolding called
 call-numbers st ws inv (begin s op) = begun-numbers st s op (begin-of st ws inv s op)
 call-numbers st ws inv (step s) = stepped-numbers st ws inv s (step-of st ws inv s)
 call-numbers st ws inv (report p) = (refl, refl)
+
+-- the tree that the words form, by other names of its k and N
+pub forms-with : {k n : ℕ} {st : State} {ws : List ℕ} (inv : Invariant st ws) → (st .k ≡ k) × (st .n ≡ n) → PoolForms k n ws (inv .height) (inv .tree)
+forms-with {k} {n} {st} {ws} inv numbers =
+    subst (λ (m : ℕ). PoolForms k m ws (inv .height) (inv .tree)) (numbers .1)
+    (subst (λ (m : ℕ). PoolForms m (st .n) ws (inv .height) (inv .tree)) (numbers .0) (inv .forms))
+
+-- Calls as a caller can make them: those before a moment, those behind it, and the two one behind the other.
+pub words-before : (before rest : List Call) → InWords (before ++ rest) → InWords before
+words-before [] rest h = tt
+words-before (c ∷ before) rest h = (h .0, words-before before rest (h .1))
+
+pub words-behind : (before rest : List Call) → InWords (before ++ rest) → InWords rest
+words-behind [] rest h = h
+words-behind (c ∷ before) rest h = words-behind before rest (h .1)
+
+pub words-append : (before rest : List Call) → InWords before → InWords rest → InWords (before ++ rest)
+words-append [] rest h g = g
+words-append (c ∷ before) rest h g = (h .0, words-append before rest (h .1) g)
 
 -- What every call keeps, every list of calls keeps.
 pub run-keeps : (cs : List Call) (st : State) (ws : List ℕ) → Invariant st ws → InWords cs → Invariant (run cs st ws .state) (run cs st ws .words)

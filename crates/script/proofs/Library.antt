@@ -26,7 +26,7 @@ use Rattle.embed.specs.Told.{told}
 use Rattle.embed.specs.Statements.{beginTold, beginNext}
 use Rattle.runs.specs.Run.{Call, begin, step, report, called, run, runFrom, InWords, Run}
 use Rattle.runs.proofs.Invariant.{Invariant}
-use Rattle.runs.proofs.Runs.{call-keeps, holds-after}
+use Rattle.runs.proofs.Runs.{call-keeps, holds-after, words-append}
 use Rattle.promises.specs.Demand1.{MakingInRange}
 use Rattle.promises.specs.Demand2.{AfterEveryCall, answersOf}
 use Rattle.promises.specs.Regrading.{IsThere, NotDeleted, NeverNowhere}
@@ -169,11 +169,6 @@ library-promises k n ws calls last lastWs h =
     }
 
 -- ---- a lot that is not deleted
-
--- calls as a caller can make them, one behind the other
-words-append : (cs ds : List Call) → InWords cs → InWords ds → InWords (cs ++ ds)
-words-append [] ds h g = g
-words-append (c ∷ cs) ds h g = (h .0, words-append cs ds (h .1) g)
 
 pub library-keeps-lots : LibraryKeepsLots
 library-keeps-lots k n ws before between mid midWs last lastWs x h f kept =

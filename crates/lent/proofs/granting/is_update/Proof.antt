@@ -1,6 +1,6 @@
 -- Kind by kind, up to the highest; above it both say no. The proof stands here so that a wrong operand is refused here.
 use Prim.Native.Nat.{ℕ, _/_, _%_, _<_}
-use mathlib.Core.Bool.{Bool, true, false, _&&_, _||_}
+use mathlib.Core.Bool.{Bool, false, _&&_, _||_, and-false}
 use mathlib.Core.Path.{_≡_, refl, sym, ap, _∙_}
 use native.Mathlib.Omega.{arith}
 use borrow.Author.Tests.{leb-true, leb-false, ne-eqb}
@@ -16,10 +16,6 @@ use Rattle.lent.proofs.granting.is_update.Tie as tie
 abbrev told : ℕ → Bool
 told kind = (eqb (kind / 2 % 2) 1 || eqb kind 5) && leb kind highestKind
 
-none : (b : Bool) → b && false ≡ false
-none true = refl
-none false = refl
-
 above : (kind : ℕ) → highestKind < kind → updatesKind kind ≡ false
 above kind high =
     let no : (n : ℕ) → n < 6 → eqb kind n ≡ false = λ n low. ne-eqb kind n (λ e. absurd (omega arith)) in
@@ -29,7 +25,7 @@ rule : (kind : ℕ) → told kind ≡ updatesKind kind
 rule kind =
     by-test (leb kind highestKind)
     (λ t. by-kind (λ (k : ℕ). told k ≡ updatesKind k) refl refl refl refl refl refl kind (leb-true kind highestKind t))
-    (λ f. ap (λ (b : Bool). (eqb (kind / 2 % 2) 1 || eqb kind 5) && b) f ∙ none (eqb (kind / 2 % 2) 1 || eqb kind 5) ∙ sym (above kind (leb-false kind highestKind f)))
+    (λ f. ap (λ (b : Bool). (eqb (kind / 2 % 2) 1 || eqb kind 5) && b) f ∙ and-false (eqb (kind / 2 % 2) 1 || eqb kind 5) ∙ sym (above kind (leb-false kind highestKind f)))
 
 returns : tie.Need-returns
 returns c = rule (c .args .kind)
