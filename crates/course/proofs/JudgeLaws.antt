@@ -30,12 +30,12 @@ use Rattle.slots.specs.declared.Op.the-variants.{Search, Insert, Delete, Next, 
 use Rattle.slots.specs.declared.Answer.{Answer}
 use Rattle.slots.specs.declared.Answer.the-variants.{Found, NotFound, Inserted, AlreadyThere, Deleted, NoSuchKey, NoRoom, Regraded}
 use Rattle.slots.specs.declared.Slot.{Slot}
-use Rattle.slots.specs.Parts.{keyOf, isNext, pathOf, siblingsOf, held}
+use Rattle.slots.specs.Parts.{keyOf, isNext, pathOf, besideOf, held}
 use Rattle.course.specs.declared.judging.Course.{Course}
 use Rattle.course.specs.declared.judging.Course.the-variants.{Broken, Goes}
 use Rattle.footing.specs.Granted.{Verdict, broken, goes, ends, isSafe, kept, deletes, byNeed, atLeaf, fromLeaf, comesDown, goesLeft, besides, atItsLeaf, granted}
 use Rattle.footing.specs.Fitting.{descends, rightlyKept, rightlyBeside, sameLevels, isSibling, isNone, rightlyAcross, fitting}
-use Rattle.footing.specs.Standing.{SlotStanding, standPath, standSiblings}
+use Rattle.footing.specs.Standing.{SlotStanding, standPath, standBeside}
 use Rattle.footing.proofs.AcrossLaws.{across-idle}
 use Rattle.course.specs.Judged.{onSecond, judgedAt, judged, ifNew, courseOf, ready, nextCourse, searchCourse, insertCourse, regradeCourse, needCourse, deleteCourse, standsLast}
 
@@ -104,7 +104,7 @@ module _ (k : ℕ) (memory : ℕ → Page) (free : List ℕ) where
 -- What a step comes to that is granted to an operation with the right pages is what the operation does from where it then stands.
 pub granted-judged : (op : Op) (k : ℕ) (memory : ℕ → Page) (free path siblings : List ℕ) (want : ℕ) → fitting op k memory path siblings want ≡ true
     → granted op k memory free path siblings want
-    ≡ judged op k memory free (standPath op k memory path want) (standSiblings memory path siblings want)
+    ≡ judged op k memory free (standPath op k memory path want) (standBeside memory path siblings want)
 unfolding granted judged fitting besides comesDown act
 granted-judged op k memory free path siblings want h =
     let leaf : Bool = atItsLeaf memory (reverse path) in
@@ -135,19 +135,19 @@ module _ {op : Op} {k n : ℕ} {ws : List ℕ} {stand : Slot} (h : SlotStanding 
   pub path-long : length (pathOf stand) ≡ stand .depth
   path-long = sym (ap (λ (s : Slot). s .depth) (h .exact))
 
-  pub siblings-long : length (siblingsOf stand) ≡ stand .beside
-  siblings-long = sym (ap (λ (s : Slot). s .beside) (h .exact))
+  pub siblings-long : length (besideOf stand) ≡ stand .breadth
+  siblings-long = sym (ap (λ (s : Slot). s .breadth) (h .exact))
 
   -- the arrays hold the pages as a deletion asks
-  pub standing-needing : Needing k n ws (stand .path) (stand .depth) (stand .siblings) (stand .beside)
-  unfolding pathOf siblingsOf
+  pub standing-needing : Needing k n ws (stand .path) (stand .depth) (stand .beside) (stand .breadth)
+  unfolding pathOf besideOf
   standing-needing =
       let depth = path-long in
       let beside = siblings-long in
       let s = h .standing in
       record {
         pathCells = ap length (ap (λ (t : Slot). t .path) (h .exact)) ∙ length-padded pathHolds (pathOf stand) (s .deep);
-        besideCells = ap length (ap (λ (t : Slot). t .siblings) (h .exact)) ∙ length-padded pathHolds (siblingsOf stand) (omega (arith, s .deep, s .few));
+        besideCells = ap length (ap (λ (t : Slot). t .beside) (h .exact)) ∙ length-padded pathHolds (besideOf stand) (omega (arith, s .deep, s .few));
         some = omega (arith, s .some);
         deep = omega (arith, s .deep);
         few = omega (arith, s .deep, s .few);
@@ -166,7 +166,7 @@ module _ {op : Op} {k n : ℕ} {ws : List ℕ} {stand : Slot} (h : SlotStanding 
         cells = f .pathCells;
         some = f .some;
         deep = f .deep;
-        held = held-front (take (stand .depth) (stand .path)) (take (stand .beside) (stand .siblings)) (f .held);
+        held = held-front (take (stand .depth) (stand .path)) (take (stand .breadth) (stand .beside)) (f .held);
       }
 
   -- the path upward: the leaf, or the page that the operation has come down to, and those above it
@@ -195,7 +195,7 @@ above stand = fathersOf (stand .depth) (stand .path)
 -- The course is what the rule says of an operation that stands so, and a change may count on what it asks.
 abbrev pub Judges : Op → ℕ → (ℕ → Page) → List ℕ → Slot → Course → Type 0
 Judges op k memory free stand course =
-    (courseOf k memory free (pathOf stand) (siblingsOf stand) course ≡ ifNew (judged op k memory free (pathOf stand) (siblingsOf stand)))
+    (courseOf k memory free (pathOf stand) (besideOf stand) course ≡ ifNew (judged op k memory free (pathOf stand) (besideOf stand)))
     × ready op memory (pathOf stand) course
 
 -- an answer, or the whole change, is no page to want next
@@ -206,31 +206,31 @@ ends-new false a a′ ws ws′ = refl
 module _ (k : ℕ) (memory : ℕ → Page) (free : List ℕ) (stand : Slot) where
   -- the rule's word for a course
   abbrev said : Course → Verdict
-  said = courseOf k memory free (pathOf stand) (siblingsOf stand)
+  said = courseOf k memory free (pathOf stand) (besideOf stand)
 
   -- on to a page that is none of those held
-  pub next-judges : (op : Op) (next : ℕ) → (said (nextCourse stand next) ≡ ifNew (goes (pathOf stand) (siblingsOf stand) next)) × ready op memory (pathOf stand) (nextCourse stand next)
+  pub next-judges : (op : Op) (next : ℕ) → (said (nextCourse stand next) ≡ ifNew (goes (pathOf stand) (besideOf stand) next)) × ready op memory (pathOf stand) (nextCourse stand next)
   next-judges op next = split (member next (held stand))
     where
-      split : (b : Bool) → (said (cond b Broken (Goes next)) ≡ cond (not b) (goes (pathOf stand) (siblingsOf stand) next) broken) × ready op memory (pathOf stand) (cond b Broken (Goes next))
+      split : (b : Bool) → (said (cond b Broken (Goes next)) ≡ cond (not b) (goes (pathOf stand) (besideOf stand) next) broken) × ready op memory (pathOf stand) (cond b Broken (Goes next))
       split true = (refl, tt)
       split false = (refl, tt)
 
   module _ (up : reverse (pathOf stand) ≡ lowest stand ∷ above stand) where
     -- what the rule says above the leaves, and at a leaf
     judged-above : (op : Op) → isLeaf (memory (lowest stand)) ≡ false
-        → judged op k memory free (pathOf stand) (siblingsOf stand) ≡ goes (pathOf stand) (siblingsOf stand) (route (keyOf op) (memory (lowest stand)))
+        → judged op k memory free (pathOf stand) (besideOf stand) ≡ goes (pathOf stand) (besideOf stand) (route (keyOf op) (memory (lowest stand)))
     unfolding judged act
     judged-above op high =
-        ap (fromLeaf (act k memory free op (pathOf stand) (siblingsOf stand))) up
-        ∙ cond-false (judgedAt op k memory free (pathOf stand) (siblingsOf stand) (lowest stand) (above stand)) (goes (pathOf stand) (siblingsOf stand) (route (keyOf op) (memory (lowest stand)))) high
+        ap (fromLeaf (act k memory free op (pathOf stand) (besideOf stand))) up
+        ∙ cond-false (judgedAt op k memory free (pathOf stand) (besideOf stand) (lowest stand) (above stand)) (goes (pathOf stand) (besideOf stand) (route (keyOf op) (memory (lowest stand)))) high
 
     pub judged-leaf : (op : Op) → isLeaf (memory (lowest stand)) ≡ true
-        → judged op k memory free (pathOf stand) (siblingsOf stand) ≡ judgedAt op k memory free (pathOf stand) (siblingsOf stand) (lowest stand) (above stand)
+        → judged op k memory free (pathOf stand) (besideOf stand) ≡ judgedAt op k memory free (pathOf stand) (besideOf stand) (lowest stand) (above stand)
     unfolding judged act
     judged-leaf op low =
-        ap (fromLeaf (act k memory free op (pathOf stand) (siblingsOf stand))) up
-        ∙ cond-true (judgedAt op k memory free (pathOf stand) (siblingsOf stand) (lowest stand) (above stand)) (goes (pathOf stand) (siblingsOf stand) (route (keyOf op) (memory (lowest stand)))) low
+        ap (fromLeaf (act k memory free op (pathOf stand) (besideOf stand))) up
+        ∙ cond-true (judgedAt op k memory free (pathOf stand) (besideOf stand) (lowest stand) (above stand)) (goes (pathOf stand) (besideOf stand) (route (keyOf op) (memory (lowest stand)))) low
 
     -- above the leaves the operation goes on to where its key leads
     pub goes-judges : (op : Op) (key next : ℕ) (course : Course) → isLeaf (memory (lowest stand)) ≡ false → key ≡ keyOf op
@@ -239,11 +239,11 @@ module _ (k : ℕ) (memory : ℕ → Page) (free : List ℕ) (stand : Slot) wher
         let on = next-judges op next in
         let leads : next ≡ route (keyOf op) (memory (lowest stand)) = read ∙ ap (λ (y : ℕ). route y (memory (lowest stand))) asked in
         subst (Judges op k memory free stand) (sym r)
-        (on .0 ∙ ap (λ (p : ℕ). ifNew (goes (pathOf stand) (siblingsOf stand) p)) leads ∙ sym (ap ifNew (judged-above op high)), on .1)
+        (on .0 ∙ ap (λ (p : ℕ). ifNew (goes (pathOf stand) (besideOf stand) p)) leads ∙ sym (ap ifNew (judged-above op high)), on .1)
 
     -- at a leaf the operation does this
     pub leaf-judges : isLeaf (memory (lowest stand)) ≡ true → (op o : Op) (course done : Course) → op ≡ o → course ≡ done
-        → (said done ≡ ifNew (judgedAt o k memory free (pathOf stand) (siblingsOf stand) (lowest stand) (above stand))) × ready o memory (pathOf stand) done
+        → (said done ≡ ifNew (judgedAt o k memory free (pathOf stand) (besideOf stand) (lowest stand) (above stand))) × ready o memory (pathOf stand) done
         → Judges op k memory free stand course
     leaf-judges low op o course done told r h =
         subst (λ (q : Op). Judges q k memory free stand course) (sym told)
@@ -253,7 +253,7 @@ module _ (k : ℕ) (memory : ℕ → Page) (free : List ℕ) (stand : Slot) wher
 
     module _ (low : isLeaf (memory (lowest stand)) ≡ true) (op : Op) (lot : Lot) (course : Course) where
       judges-at : (o : Op) (known : Lot → Course) → lot ≡ looked (keyOf o) (memory (lowest stand) .entries) → op ≡ o → course ≡ known lot
-          → (said (known (looked (keyOf o) (memory (lowest stand) .entries))) ≡ ifNew (judgedAt o k memory free (pathOf stand) (siblingsOf stand) (lowest stand) (above stand)))
+          → (said (known (looked (keyOf o) (memory (lowest stand) .entries))) ≡ ifNew (judgedAt o k memory free (pathOf stand) (besideOf stand) (lowest stand) (above stand)))
           × ready o memory (pathOf stand) (known (looked (keyOf o) (memory (lowest stand) .entries)))
           → Judges op k memory free stand course
       judges-at o known read told r h =
@@ -316,10 +316,10 @@ module _ (k : ℕ) (memory : ℕ → Page) (free : List ℕ) (stand : Slot) wher
 
           -- by what is needed, once the key is known to be there
           byNeeds : (need : Need) → has x (memory (lowest stand) .entries) ≡ true
-              → (said (needCourse stand x found need) ≡ ifNew (byNeed (pathOf stand) (siblingsOf stand) (ends (Deleted found) (deletion k memory x (lowest stand) (above stand) (siblingsOf stand))) need))
+              → (said (needCourse stand x found need) ≡ ifNew (byNeed (pathOf stand) (besideOf stand) (ends (Deleted found) (deletion k memory x (lowest stand) (above stand) (besideOf stand))) need))
               × ready (Delete x) memory (pathOf stand) (needCourse stand x found need)
           byNeeds nothing there = (
-            ap (fromLeaf (λ (leaf : ℕ) (fathers : List ℕ). ends (Deleted found) (deletion k memory x leaf fathers (siblingsOf stand)))) up,
+            ap (fromLeaf (λ (leaf : ℕ) (fathers : List ℕ). ends (Deleted found) (deletion k memory x leaf fathers (besideOf stand)))) up,
             (refl, subst (standsLast memory x) (sym up) there),
           )
           byNeeds (sibling s) there = next-judges (Delete x) s
@@ -327,7 +327,7 @@ module _ (k : ℕ) (memory : ℕ → Page) (free : List ℕ) (stand : Slot) wher
 
           split : (b : Bool) → has x (memory (lowest stand) .entries) ≡ b
               → (said (deleteCourse k memory x (cond b (There found) Missing) stand)
-              ≡ ifNew (cond b (deletes k memory x (pathOf stand) (lowest stand) (above stand) (siblingsOf stand)) (ends NoSuchKey [])))
+              ≡ ifNew (cond b (deletes k memory x (pathOf stand) (lowest stand) (above stand) (besideOf stand)) (ends NoSuchKey [])))
               × ready (Delete x) memory (pathOf stand) (deleteCourse k memory x (cond b (There found) Missing) stand)
-          split true there = byNeeds (needs k memory x (lowest stand) (above stand) (siblingsOf stand)) there
+          split true there = byNeeds (needs k memory x (lowest stand) (above stand) (besideOf stand)) there
           split false missing = (refl, tt)

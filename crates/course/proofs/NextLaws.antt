@@ -19,7 +19,7 @@ use Rattle.slots.specs.declared.Op.{Op}
 use Rattle.slots.specs.declared.Op.the-variants.{Next}
 use Rattle.slots.specs.declared.Answer.the-variants.{None as NoLot}
 use Rattle.slots.specs.declared.Slot.{Slot}
-use Rattle.slots.specs.Parts.{pathOf, siblingsOf}
+use Rattle.slots.specs.Parts.{pathOf, besideOf}
 use Rattle.course.specs.declared.judging.Course.{Course}
 use Rattle.course.specs.declared.judging.Course.the-variants.{Ends}
 use Rattle.footing.specs.Granted.{Verdict, goes, ends, isSafe, nextAnswer, crosses, byNearest, atLeaf}
@@ -41,34 +41,34 @@ module _ {op : Op} {k n : ℕ} {ws : List ℕ} {stand : Slot} (h : SlotStanding 
   top-known = let f = standing-holding h in holding-known f 0 (f .some)
 
   -- the page that it was granted last on its second way
-  pub second-known : stand .beside ≢ 0 → Known k n ws (leafOf (stand .beside) (stand .siblings))
+  pub second-known : stand .breadth ≢ 0 → Known k n ws (leafOf (stand .breadth) (stand .beside))
   second-known some =
       let f = standing-needing h in
-      held-known (f .held) (leafOf (stand .beside) (stand .siblings))
-      (among-siblings (take (stand .depth) (stand .path)) (stand .siblings) (stand .beside) (stand .beside - 1) (omega (arith, f .besideCells, f .few)) (omega arith))
+      held-known (f .held) (leafOf (stand .breadth) (stand .beside))
+      (among-siblings (take (stand .depth) (stand .path)) (stand .beside) (stand .breadth) (stand .breadth - 1) (omega (arith, f .besideCells, f .few)) (omega arith))
 
   -- its second way upward: the page that it was granted last, and those above it
-  second-upward : stand .beside ≢ 0 → reverse (siblingsOf stand) ≡ leafOf (stand .beside) (stand .siblings) ∷ fathersOf (stand .beside) (stand .siblings)
-  unfolding siblingsOf
+  second-upward : stand .breadth ≢ 0 → reverse (besideOf stand) ≡ leafOf (stand .breadth) (stand .beside) ∷ fathersOf (stand .breadth) (stand .beside)
+  unfolding besideOf
   second-upward some =
       let f = standing-needing h in
-      sym (upward-reverse (stand .beside) (stand .siblings) (omega (arith, f .besideCells, f .few)))
-      ∙ upward-father (stand .beside) (stand .siblings) (omega arith)
+      sym (upward-reverse (stand .breadth) (stand .beside) (omega (arith, f .besideCells, f .few)))
+      ∙ upward-father (stand .breadth) (stand .beside) (omega arith)
 
 -- no second way yet
-none-second : (stand : Slot) → stand .beside ≡ 0 → siblingsOf stand ≡ []
-unfolding siblingsOf
-none-second stand e = ap (λ (j : ℕ). take j (stand .siblings)) e
+none-second : (stand : Slot) → stand .breadth ≡ 0 → besideOf stand ≡ []
+unfolding besideOf
+none-second stand e = ap (λ (j : ℕ). take j (stand .beside)) e
 
 module _ (k : ℕ) (memory : ℕ → Page) (free : List ℕ) (x : ℕ) (stand : Slot) where
   -- the course is the rule's word, and nothing is to be counted on
   abbrev Says : Verdict → Course → Type 0
   Says verdict course =
-      (courseOf k memory free (pathOf stand) (siblingsOf stand) course ≡ ifNew verdict) × ready (Next x) memory (pathOf stand) course
+      (courseOf k memory free (pathOf stand) (besideOf stand) course ≡ ifNew verdict) × ready (Next x) memory (pathOf stand) course
 
   -- ---- at its first leaf
 
-  module _ (below : List ℕ) (top : pathOf stand ≡ getD (stand .path) 0 0 ∷ below) (none : siblingsOf stand ≡ []) where
+  module _ (below : List ℕ) (top : pathOf stand ≡ getD (stand .path) 0 0 ∷ below) (none : besideOf stand ≡ []) where
     -- by the top page of its path
     cross-says : Says (crosses (Next x) k memory (pathOf stand)) (crossCourse k memory x stand)
     cross-says =
@@ -96,7 +96,7 @@ module _ (k : ℕ) (memory : ℕ → Page) (free : List ℕ) (x : ℕ) (stand : 
   -- ---- on its second way, at page p
 
   left-says : (p : ℕ)
-      → Says (cond (isLeaf (memory p)) (ends (nextAnswer (memory p .entries)) []) (goes (pathOf stand) (siblingsOf stand) (pointer 0 (memory p))))
+      → Says (cond (isLeaf (memory p)) (ends (nextAnswer (memory p .entries)) []) (goes (pathOf stand) (besideOf stand) (pointer 0 (memory p))))
       (leftCourse memory stand p)
   left-says p = split (isLeaf (memory p))
     where
@@ -105,7 +105,7 @@ module _ (k : ℕ) (memory : ℕ → Page) (free : List ℕ) (x : ℕ) (stand : 
       first (e ∷ es) = (refl, tt)
 
       split : (b : Bool)
-          → Says (cond b (ends (nextAnswer (memory p .entries)) []) (goes (pathOf stand) (siblingsOf stand) (pointer 0 (memory p))))
+          → Says (cond b (ends (nextAnswer (memory p .entries)) []) (goes (pathOf stand) (besideOf stand) (pointer 0 (memory p))))
           (cond b (nearCourse (Ends NoLot) (nearest (memory p .entries))) (nextCourse stand (pointer 0 (memory p))))
       split true = first (memory p .entries)
       split false = next-judges k memory free stand (Next x) (pointer 0 (memory p))
@@ -116,22 +116,22 @@ pub next-does : {k n : ℕ} {ws : List ℕ} {stand : Slot} (op : Op) (x : ℕ) (
     → Judges op k memory free stand course
 unfolding judgedAt
 next-does {k} {stand = stand} op x memory free course h low told r =
-    leaf-judges k memory free stand (stand-upward h) low op (Next x) course (nextsCourse k memory x stand) told r (split (eqb (stand .beside) 0) refl)
+    leaf-judges k memory free stand (stand-upward h) low op (Next x) course (nextsCourse k memory x stand) told r (split (eqb (stand .breadth) 0) refl)
   where
     whole : Verdict
     whole = atLeaf (Next x) k memory free (pathOf stand) (lowest stand) (above stand)
 
-    split : (b : Bool) → eqb (stand .beside) 0 ≡ b
-        → Says k memory free x stand (onSecond whole memory (pathOf stand) (siblingsOf stand) (reverse (siblingsOf stand)))
-        (cond b (firstCourse k memory x stand) (leftCourse memory stand (getD (stand .siblings) (stand .beside - 1) 0)))
+    split : (b : Bool) → eqb (stand .breadth) 0 ≡ b
+        → Says k memory free x stand (onSecond whole memory (pathOf stand) (besideOf stand) (reverse (besideOf stand)))
+        (cond b (firstCourse k memory x stand) (leftCourse memory stand (getD (stand .beside) (stand .breadth - 1) 0)))
     split true e =
-        let none = none-second stand (eqb-true (stand .beside) 0 e) in
-        subst (λ (up : List ℕ). Says k memory free x stand (onSecond whole memory (pathOf stand) (siblingsOf stand) up) (firstCourse k memory x stand))
+        let none = none-second stand (eqb-true (stand .breadth) 0 e) in
+        subst (λ (up : List ℕ). Says k memory free x stand (onSecond whole memory (pathOf stand) (besideOf stand) up) (firstCourse k memory x stand))
         (sym (ap reverse none))
         (first-says k memory free x stand (drop 1 (pathOf stand)) (stand-top h) none)
     split false e =
         subst
-        (λ (up : List ℕ). Says k memory free x stand (onSecond whole memory (pathOf stand) (siblingsOf stand) up)
-        (leftCourse memory stand (getD (stand .siblings) (stand .beside - 1) 0)))
-        (sym (second-upward h (eqb-false (stand .beside) 0 e)))
-        (left-says k memory free x stand (getD (stand .siblings) (stand .beside - 1) 0))
+        (λ (up : List ℕ). Says k memory free x stand (onSecond whole memory (pathOf stand) (besideOf stand) up)
+        (leftCourse memory stand (getD (stand .beside) (stand .breadth - 1) 0)))
+        (sym (second-upward h (eqb-false (stand .breadth) 0 e)))
+        (left-says k memory free x stand (getD (stand .beside) (stand .breadth - 1) 0))

@@ -29,12 +29,12 @@ use Rattle.change.proofs.HeldLaws.{Known, held-known, held-front, held-back, he
 use Rattle.slots.specs.declared.Op.{Op}
 use Rattle.slots.specs.declared.Op.the-variants.{Search, Insert, Delete, Next, Regrade}
 use Rattle.slots.specs.declared.Slot.{Slot}
-use Rattle.slots.specs.Parts.{keyOf, isDelete, isNext, isOpen, openSlot, pathOf, siblingsOf, held}
+use Rattle.slots.specs.Parts.{keyOf, isDelete, isNext, isOpen, openSlot, pathOf, besideOf, held}
 use Rattle.slots.proofs.SoundFacts.{sound-slot}
-use Rattle.slots.proofs.Keeping.{path-new, siblings-new}
+use Rattle.slots.proofs.Keeping.{path-new, beside-new}
 use Rattle.footing.specs.Granted.{isSafe, kept, atItsLeaf}
 use Rattle.footing.specs.Fitting.{descends, pagesSound, rightlyKept, sameLevels, isSibling, rightlyBeside, isNone, leftmost, turnsRight, rightlyAcross, fitting}
-use Rattle.footing.specs.Standing.{Asks, fits, stood, standPath, standSiblings, Standing, SlotStanding}
+use Rattle.footing.specs.Standing.{Asks, fits, stood, standPath, standBeside, Standing, SlotStanding}
 use Rattle.footing.proofs.LookLaws.{descends-levels, leftmost-levels, pagesOf, asks-held}
 
 -- ---- a way down
@@ -380,10 +380,10 @@ stands-new : (op : Op) {k n : ℕ} {ws : List ℕ} (want : ℕ) (path siblings :
     → SlotStanding op k n ws (openSlot op want path siblings)
 stands-new op {k} {n} {ws} want path siblings h =
     let own = sym (path-new op want path siblings) in
-    let others = sym (siblings-new op want path siblings) in
+    let others = sym (beside-new op want path siblings) in
     record {
       exact = ap₂ (λ (ps ss : List ℕ). openSlot op want ps ss) own others;
-      standing = subst (λ (ps : List ℕ). Standing op k n ws ps (siblingsOf (openSlot op want path siblings))) own
+      standing = subst (λ (ps : List ℕ). Standing op k n ws ps (besideOf (openSlot op want path siblings))) own
           (subst (λ (ss : List ℕ). Standing op k n ws path ss) others h);
     }
 
@@ -392,10 +392,10 @@ module _ {op : Op} {k n : ℕ} {ws : List ℕ} {slot : Slot} (asks : Asks k n ws
   fits-held : Held k n ws (pagesOf slot)
   unfolding fits
   fits-held =
-      asks-held asks (sym (and-first (pagesSound k n ws (pagesOf slot)) (fitting op k (pageAt k ws) (pathOf slot) (siblingsOf slot) (slot .want)) fit)) refl
+      asks-held asks (sym (and-first (pagesSound k n ws (pagesOf slot)) (fitting op k (pageAt k ws) (pathOf slot) (besideOf slot) (slot .want)) fit)) refl
 
   pub path-held : Held k n ws (pathOf slot)
-  path-held = held-front (pathOf slot) (siblingsOf slot) (held-front (held slot) (slot .want ∷ []) fits-held)
+  path-held = held-front (pathOf slot) (besideOf slot) (held-front (held slot) (slot .want ∷ []) fits-held)
 
   pub want-known : Known k n ws (slot .want)
   want-known = held-at (held-back (held slot) (slot .want ∷ []) fits-held) 0 (omega arith)
@@ -406,16 +406,16 @@ module _ {op : Op} {k n : ℕ} {ws : List ℕ} {slot : Slot} (asks : Asks k n ws
 
   -- they are those that the rules would have it hold and want: by the two ways of the rule
   abbrev besideTest : Bool
-  besideTest = rightlyBeside op k (pageAt k ws) (reverse (pathOf slot)) (siblingsOf slot) (slot .want)
+  besideTest = rightlyBeside op k (pageAt k ws) (reverse (pathOf slot)) (besideOf slot) (slot .want)
 
   abbrev acrossTest : Bool
-  acrossTest = rightlyAcross op k (pageAt k ws) (pathOf slot) (siblingsOf slot) (slot .want)
+  acrossTest = rightlyAcross op k (pageAt k ws) (pathOf slot) (besideOf slot) (slot .want)
 
   abbrev atLeafTest : Bool
   atLeafTest = descends (pageAt k ws) (keyOf op) (pathOf slot) && (besideTest || acrossTest)
 
   abbrev belowTest : Bool
-  belowTest = descends (pageAt k ws) (keyOf op) (pathOf slot ++ slot .want ∷ []) && isNone (siblingsOf slot)
+  belowTest = descends (pageAt k ws) (keyOf op) (pathOf slot ++ slot .want ∷ []) && isNone (besideOf slot)
 
   abbrev keptTest : Bool
   keptTest = rightlyKept op k (pageAt k ws) (pathOf slot) (slot .want)
@@ -423,7 +423,7 @@ module _ {op : Op} {k n : ℕ} {ws : List ℕ} {slot : Slot} (asks : Asks k n ws
   fits-fitting : keptTest && cond (atItsLeaf (pageAt k ws) (reverse (pathOf slot))) atLeafTest belowTest ≡ true
   unfolding fits fitting
   fits-fitting =
-      and-second (pagesSound k n ws (pagesOf slot)) (fitting op k (pageAt k ws) (pathOf slot) (siblingsOf slot) (slot .want)) fit
+      and-second (pagesSound k n ws (pagesOf slot)) (fitting op k (pageAt k ws) (pathOf slot) (besideOf slot) (slot .want)) fit
 
   fits-kept : keptTest ≡ true
   fits-kept = and-first keptTest (cond (atItsLeaf (pageAt k ws) (reverse (pathOf slot))) atLeafTest belowTest) fits-fitting
@@ -435,24 +435,24 @@ module _ {op : Op} {k n : ℕ} {ws : List ℕ} {slot : Slot} (asks : Asks k n ws
     leaf-told : atLeafTest ≡ true
     leaf-told = sym (cond-true atLeafTest belowTest leaf) ∙ fits-way
 
-    stood-beside : Standing op k n ws (pathOf slot) (siblingsOf slot ++ slot .want ∷ [])
+    stood-beside : Standing op k n ws (pathOf slot) (besideOf slot ++ slot .want ∷ [])
     stood-beside =
         let way = descends (pageAt k ws) (keyOf op) (pathOf slot) in
         let some = leaf-some (pageAt k ws) (pathOf slot) leaf in
         let falls = descends-levels (pageAt k ws) (keyOf op) (pathOf slot) (and-first way (besideTest || acrossTest) leaf-told) in
         ⊎-elim
-        (λ beside. stands-beside op (pathOf slot) (siblingsOf slot) (slot .want) some falls beside fits-held all-different fits-kept)
-        (λ across. stands-across op (pathOf slot) (siblingsOf slot) (slot .want) some falls across leaf fits-held all-different fits-kept)
+        (λ beside. stands-beside op (pathOf slot) (besideOf slot) (slot .want) some falls beside fits-held all-different fits-kept)
+        (λ across. stands-across op (pathOf slot) (besideOf slot) (slot .want) some falls across leaf fits-held all-different fits-kept)
         (or-cases besideTest acrossTest (and-second way (besideTest || acrossTest) leaf-told))
 
   module _ (coming : atItsLeaf (pageAt k ws) (reverse (pathOf slot)) ≡ false) where
     below-told : belowTest ≡ true
     below-told = sym (cond-false atLeafTest belowTest coming) ∙ fits-way
 
-    no-siblings : pathOf slot ++ siblingsOf slot ≡ pathOf slot
+    no-siblings : pathOf slot ++ besideOf slot ≡ pathOf slot
     no-siblings =
-        none-beside (pathOf slot) (siblingsOf slot)
-        (and-second (descends (pageAt k ws) (keyOf op) (pathOf slot ++ slot .want ∷ [])) (isNone (siblingsOf slot)) below-told)
+        none-beside (pathOf slot) (besideOf slot)
+        (and-second (descends (pageAt k ws) (keyOf op) (pathOf slot ++ slot .want ∷ [])) (isNone (besideOf slot)) below-told)
 
     longer-held : Held k n ws (pathOf slot ++ slot .want ∷ [])
     longer-held = subst (λ (pages : List ℕ). Held k n ws (pages ++ slot .want ∷ [])) no-siblings fits-held
@@ -460,7 +460,7 @@ module _ {op : Op} {k n : ℕ} {ws : List ℕ} {slot : Slot} (asks : Asks k n ws
     longer-falls : Falls (pageAt k ws) (pathOf slot ++ slot .want ∷ [])
     longer-falls =
         descends-levels (pageAt k ws) (keyOf op) (pathOf slot ++ slot .want ∷ [])
-        (and-first (descends (pageAt k ws) (keyOf op) (pathOf slot ++ slot .want ∷ [])) (isNone (siblingsOf slot)) below-told)
+        (and-first (descends (pageAt k ws) (keyOf op) (pathOf slot ++ slot .want ∷ [])) (isNone (besideOf slot)) below-told)
 
     stood-below : Standing op k n ws (kept op k (pageAt k ws) (pathOf slot) (slot .want)) []
     stood-below =
@@ -484,7 +484,7 @@ pub stood-stands : (op : Op) (k n : ℕ) (ws : List ℕ) (slot : Slot) → Asks 
 unfolding stood
 stood-stands op k n ws slot asks fit =
     stands-new op (slot .want) (standPath op k (pageAt k ws) (pathOf slot) (slot .want))
-    (standSiblings (pageAt k ws) (pathOf slot) (siblingsOf slot) (slot .want))
+    (standBeside (pageAt k ws) (pathOf slot) (besideOf slot) (slot .want))
     (cond-both (λ (ps ss : List ℕ). Standing op k n ws ps ss) (atItsLeaf (pageAt k ws) (reverse (pathOf slot)))
     (stood-beside asks fit)
     (stood-below asks fit))
@@ -494,7 +494,7 @@ stood-stands op k n ws slot asks fit =
 module _ (op : Op) (k : ℕ) (memory : ℕ → Page) (slot : Slot) {leaf : Bool}
     (told : leaf ≡ atItsLeaf memory (reverse (pathOf slot))) where
   -- the last page of the path is a leaf
-  pub stood-at-leaf : {r : Slot} → leaf ≡ true → r ≡ openSlot op (slot .want) (pathOf slot) (siblingsOf slot ++ slot .want ∷ [])
+  pub stood-at-leaf : {r : Slot} → leaf ≡ true → r ≡ openSlot op (slot .want) (pathOf slot) (besideOf slot ++ slot .want ∷ [])
       → r ≡ stood op k memory slot
   unfolding stood
   stood-at-leaf t e =
@@ -502,7 +502,7 @@ module _ (op : Op) (k : ℕ) (memory : ℕ → Page) (slot : Slot) {leaf : Bool}
       ∙ sym
       (ap₂ (λ (ps ss : List ℕ). openSlot op (slot .want) ps ss)
       (cond-true (pathOf slot) (kept op k memory (pathOf slot) (slot .want)) (sym told ∙ t))
-      (cond-true (siblingsOf slot ++ slot .want ∷ []) [] (sym told ∙ t)))
+      (cond-true (besideOf slot ++ slot .want ∷ []) [] (sym told ∙ t)))
 
   -- it is not
   stood-coming : {r : Slot} → leaf ≡ false → r ≡ openSlot op (slot .want) (kept op k memory (pathOf slot) (slot .want)) []
@@ -513,7 +513,7 @@ module _ (op : Op) (k : ℕ) (memory : ℕ → Page) (slot : Slot) {leaf : Bool}
       ∙ sym
       (ap₂ (λ (ps ss : List ℕ). openSlot op (slot .want) ps ss)
       (cond-false (pathOf slot) (kept op k memory (pathOf slot) (slot .want)) (sym told ∙ f))
-      (cond-false (siblingsOf slot ++ slot .want ∷ []) [] (sym told ∙ f)))
+      (cond-false (besideOf slot ++ slot .want ∷ []) [] (sym told ∙ f)))
 
   module _ {safe : Bool} (tested : safe ≡ isSafe op k (memory (slot .want))) where
     -- coming down to a safe page

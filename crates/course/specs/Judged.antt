@@ -23,7 +23,7 @@ use Rattle.slots.specs.declared.Op.{Op}
 use Rattle.slots.specs.declared.Op.the-variants.{Search, Insert, Delete, Next, Regrade}
 use Rattle.slots.specs.declared.Answer.the-variants.{Found, NotFound, Inserted, AlreadyThere, Deleted, NoSuchKey, NoRoom, Next as NextLot, None as NoLot, Regraded}
 use Rattle.slots.specs.declared.Slot.{Slot}
-use Rattle.slots.specs.Parts.{keyOf, isDelete, siblingsOf, held}
+use Rattle.slots.specs.Parts.{keyOf, isDelete, besideOf, held}
 use Rattle.course.specs.declared.judging.Course.{Course}
 use Rattle.course.specs.declared.judging.Course.the-variants.{Broken, Goes, Ends, Inserts, Deletes, Regrades}
 use Rattle.footing.specs.Granted.{Verdict, broken, goes, ends, isSafe, deletes, nextAnswer, atLeaf, fromLeaf}
@@ -116,7 +116,7 @@ needCourse stand x v astray = Broken
 abbrev pub deleteCourse : ℕ → (ℕ → Page) → ℕ → Lot → Slot → Course
 deleteCourse k memory x Missing stand = Ends NoSuchKey
 deleteCourse k memory x (There v) stand =
-    needCourse stand x v (needs k memory x (leafOf (stand .depth) (stand .path)) (fathersOf (stand .depth) (stand .path)) (siblingsOf stand))
+    needCourse stand x v (needs k memory x (leafOf (stand .depth) (stand .path)) (fathersOf (stand .depth) (stand .path)) (besideOf stand))
 
 -- A Next by the first entry that was read; without one it goes this further.
 abbrev pub nearCourse : Course → Nearest → Course
@@ -140,4 +140,4 @@ leftCourse memory stand p =
 -- at its leaf, by whether it holds pages of a second way
 abbrev pub nextsCourse : ℕ → (ℕ → Page) → ℕ → Slot → Course
 nextsCourse k memory x stand =
-    cond (eqb (stand .beside) 0) (firstCourse k memory x stand) (leftCourse memory stand (getD (stand .siblings) (stand .beside - 1) 0))
+    cond (eqb (stand .breadth) 0) (firstCourse k memory x stand) (leftCourse memory stand (getD (stand .beside) (stand .breadth - 1) 0))

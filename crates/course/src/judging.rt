@@ -14,13 +14,13 @@ use pool::pages::route_of;
 use slots::Answer;
 use slots::Op;
 use slots::Slot;
-use slots::granting::holds;
+use slots::holding::holds;
 ghost use mathlib.Core.Path.{_≡_};
 ghost use Rattle.page.specs.Reading.{Readable};
 ghost use Rattle.pool.specs.Pool.{wordsOf, pageAt, freePages};
 ghost use Rattle.pool.specs.Wrapped.{InPool};
 ghost use Rattle.slots.specs.declared.Op.the-variants.{Delete, Next};
-ghost use Rattle.slots.specs.Parts.{pathOf, siblingsOf};
+ghost use Rattle.slots.specs.Parts.{pathOf, besideOf};
 ghost use Rattle.footing.specs.Standing.{SlotStanding};
 ghost use Rattle.course.specs.Judged.{judged, ifNew, courseOf, ready, nextCourse, searchCourse, insertCourse, regradeCourse, deleteCourse, crossCourse, firstCourse, leftCourse, nextsCourse};
 
@@ -85,8 +85,8 @@ pub fn deletes(words: &[u32], k: usize, n: usize, x: u32, lot: Lot, stand: Slot)
         return Course::Ends(Answer::NoSuchKey);
     };
     let path = stand.path;
-    let siblings = stand.siblings;
-    match needs(words, k, n, x, &path, stand.depth, &siblings, stand.beside) {
+    let beside = stand.beside;
+    match needs(words, k, n, x, &path, stand.depth, &beside, stand.breadth) {
         Need::Nothing => Course::Deletes(x, v),
         Need::Sibling(s) => goes(stand, s),
         Need::Astray => Course::Broken,
@@ -138,18 +138,18 @@ pub fn nexts(words: &[u32], k: usize, n: usize, x: u32, stand: Slot) -> Course
     requires { ⌜ SlotStanding (Next x) k n (now words) stand ⌝ }
     ensures { λ r. ⌜ r ≡ nextsCourse k (pageAt k (now (words .entry))) x stand ⌝ }
 {
-    let beside = stand.beside;
-    if beside == 0 {
+    let breadth = stand.breadth;
+    if breadth == 0 {
         return nexts_first(words, k, n, x, stand);
     }
-    let second = stand.siblings;
-    nexts_left(words, k, n, second[beside - 1], stand)
+    let second = stand.beside;
+    nexts_left(words, k, n, second[breadth - 1], stand)
 }
 
 // What the operation does from where it stands.
 pub fn judge(words: &[u32], k: usize, n: usize, op: Op, stand: Slot) -> Course
     requires { ⌜ SlotStanding op k n (now words) stand ⌝ }
-    ensures { λ r. ⌜ courseOf k (pageAt k (now (words .entry))) (freePages k n (now (words .entry))) (pathOf stand) (siblingsOf stand) r ≡ ifNew (judged op k (pageAt k (now (words .entry))) (freePages k n (now (words .entry))) (pathOf stand) (siblingsOf stand)) ⌝ }
+    ensures { λ r. ⌜ courseOf k (pageAt k (now (words .entry))) (freePages k n (now (words .entry))) (pathOf stand) (besideOf stand) r ≡ ifNew (judged op k (pageAt k (now (words .entry))) (freePages k n (now (words .entry))) (pathOf stand) (besideOf stand)) ⌝ }
     ensures { λ r. ⌜ ready op (pageAt k (now (words .entry))) (pathOf stand) r ⌝ }
 {
     let path = stand.path;

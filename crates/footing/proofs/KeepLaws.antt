@@ -28,7 +28,7 @@ use Rattle.change.proofs.HeldLaws.{Known, held-known, held-front, upward-father
 use Rattle.slots.specs.declared.Op.{Op}
 use Rattle.slots.specs.declared.Op.the-variants.{Delete}
 use Rattle.slots.specs.Parts.{keyOf, isDelete}
-use Rattle.slots.proofs.BookLaws.{length-add}
+use Rattle.slots.proofs.MakingLaws.{length-add}
 use Rattle.footing.specs.Granted.{isSafe, atItsLeaf}
 use Rattle.footing.specs.Fitting.{descends, rightlyKept, sameLevels, isSibling, rightlyBeside}
 use Rattle.footing.proofs.LookLaws.{descends-levels}

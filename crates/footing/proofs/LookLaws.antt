@@ -28,7 +28,7 @@ use Rattle.slots.specs.declared.Op.the-variants.{Search, Insert, Delete, Next, 
 use Rattle.slots.specs.declared.Task.{Task}
 use Rattle.slots.specs.declared.Task.the-variants.{Open}
 use Rattle.slots.specs.declared.Slot.{Slot}
-use Rattle.slots.specs.Parts.{keyOf, isOpen, pathOf, siblingsOf, held}
+use Rattle.slots.specs.Parts.{keyOf, isOpen, pathOf, besideOf, held}
 use Rattle.slots.specs.Sound.{limitsOf, withinLimits}
 use Rattle.slots.proofs.SoundFacts.{SoundSlot, sound-slot}
 use Rattle.footing.specs.Granted.{atItsLeaf}
@@ -292,7 +292,7 @@ limits op depth beside t =
 
 -- all that it holds and wants
 abbrev pub pagesOf : Slot → List ℕ
-pagesOf slot = pathOf slot ++ siblingsOf slot ++ slot .want ∷ []
+pagesOf slot = pathOf slot ++ besideOf slot ++ slot .want ∷ []
 
 -- where its pages stand among them
 module _ (slot : Slot) where
@@ -300,15 +300,15 @@ module _ (slot : Slot) where
   unfolding pathOf
   path-among long i l =
       let p : ℕ = getD (slot .path) i 0 in
-      member-append p (held slot) (slot .want ∷ []) ∙ or-first (member p (slot .want ∷ [])) (on-path (slot .path) (slot .depth) i (siblingsOf slot) long l)
+      member-append p (held slot) (slot .want ∷ []) ∙ or-first (member p (slot .want ∷ [])) (on-path (slot .path) (slot .depth) i (besideOf slot) long l)
 
-  sibling-among : slot .beside ≤ length (slot .siblings) → (j : ℕ) → j < slot .beside
-      → member (getD (slot .siblings) j 0) (pagesOf slot) ≡ true
-  unfolding siblingsOf
+  sibling-among : slot .breadth ≤ length (slot .beside) → (j : ℕ) → j < slot .breadth
+      → member (getD (slot .beside) j 0) (pagesOf slot) ≡ true
+  unfolding besideOf
   sibling-among long j l =
-      let p : ℕ = getD (slot .siblings) j 0 in
+      let p : ℕ = getD (slot .beside) j 0 in
       member-append p (held slot) (slot .want ∷ [])
-      ∙ or-first (member p (slot .want ∷ [])) (among-siblings (pathOf slot) (slot .siblings) (slot .beside) j long l)
+      ∙ or-first (member p (slot .want ∷ [])) (among-siblings (pathOf slot) (slot .beside) (slot .breadth) j long l)
 
   pub want-among : member (slot .want) (pagesOf slot) ≡ true
   unfolding member
@@ -320,14 +320,14 @@ module _ {k n : ℕ} {ws : List ℕ} {op : Op} {slot : Slot} (h : Asks k n ws op
   facts : SoundSlot n slot
   facts = sound-slot n slot (h .sound)
 
-  within : (slot .depth ≤ pathHolds) × (slot .beside < pathHolds)
-  within = limits op (slot .depth) (slot .beside)
-      (subst (λ (task : Task). withinLimits task (slot .depth) (slot .beside) ≡ true) (h .task) (facts .limits))
+  within : (slot .depth ≤ pathHolds) × (slot .breadth < pathHolds)
+  within = limits op (slot .depth) (slot .breadth)
+      (subst (λ (task : Task). withinLimits task (slot .depth) (slot .breadth) ≡ true) (h .task) (facts .limits))
 
   pub asks-deep : slot .depth ≤ pathHolds
   asks-deep = within .0
 
-  pub asks-few : slot .beside < pathHolds
+  pub asks-few : slot .breadth < pathHolds
   asks-few = within .1
 
   -- its pages are pages of the pool
@@ -342,8 +342,8 @@ module _ {k n : ℕ} {ws : List ℕ} {op : Op} {slot : Slot} (h : Asks k n ws op
   pub asks-path : slot .depth ≤ length (slot .path) → (i : ℕ) → i < slot .depth → getD (slot .path) i 0 < n
   asks-path long i l = asks-inside (getD (slot .path) i 0) (path-among slot long i l)
 
-  pub asks-siblings : slot .beside ≤ length (slot .siblings) → (j : ℕ) → j < slot .beside → getD (slot .siblings) j 0 < n
-  asks-siblings long j l = asks-inside (getD (slot .siblings) j 0) (sibling-among slot long j l)
+  pub asks-siblings : slot .breadth ≤ length (slot .beside) → (j : ℕ) → j < slot .breadth → getD (slot .beside) j 0 < n
+  asks-siblings long j l = asks-inside (getD (slot .beside) j 0) (sibling-among slot long j l)
 
   pub asks-want : slot .want < n
   asks-want = asks-inside (slot .want) (want-among slot)
@@ -363,7 +363,7 @@ module _ {k n : ℕ} {ws : List ℕ} {op : Op} {slot : Slot} (h : Asks k n ws op
   -- and those of its path alone
   pub asks-path-held : {answer : Bool} → answer ≡ pagesSound k n ws (pagesOf slot) → not answer ≡ false → Held k n ws (pathOf slot)
   asks-path-held said t =
-      held-front (pathOf slot) (siblingsOf slot) (held-front (held slot) (slot .want ∷ []) (asks-held said t))
+      held-front (pathOf slot) (besideOf slot) (held-front (held slot) (slot .want ∷ []) (asks-held said t))
 
 -- ---- coming down
 
@@ -374,21 +374,21 @@ some-length (s ∷ siblings) ne = refl
 
 module _ (memory : ℕ → Page) (x : ℕ) (slot : Slot) where
   abbrev comesRightly : Bool
-  comesRightly = lastLeads memory x (reverse (pathOf slot)) (slot .want) && isNone (siblingsOf slot)
+  comesRightly = lastLeads memory x (reverse (pathOf slot)) (slot .want) && isNone (besideOf slot)
 
   -- a sibling is held
-  pub comes-beside : slot .beside ≢ 0 → slot .beside ≤ length (slot .siblings) → comesRightly ≡ false
-  unfolding siblingsOf
+  pub comes-beside : slot .breadth ≢ 0 → slot .breadth ≤ length (slot .beside) → comesRightly ≡ false
+  unfolding besideOf
   comes-beside ne long =
       and-second-fails (lastLeads memory x (reverse (pathOf slot)) (slot .want))
-      (some-length (siblingsOf slot) (λ e. ne (sym (length-take-le (slot .beside) (slot .siblings) long) ∙ e)))
+      (some-length (besideOf slot) (λ e. ne (sym (length-take-le (slot .breadth) (slot .beside) long) ∙ e)))
 
-  module _ (none : slot .beside ≡ 0) where
+  module _ (none : slot .breadth ≡ 0) where
     alone : comesRightly ≡ lastLeads memory x (reverse (pathOf slot)) (slot .want)
-    unfolding siblingsOf
+    unfolding besideOf
     alone =
         let last : Bool = lastLeads memory x (reverse (pathOf slot)) (slot .want) in
-        ap (λ (j : ℕ). last && isNone (take j (slot .siblings))) none ∙ and-true last
+        ap (λ (j : ℕ). last && isNone (take j (slot .beside))) none ∙ and-true last
 
     -- nothing is held
     pub comes-first : slot .depth ≡ 0 → comesRightly ≡ true
@@ -421,10 +421,10 @@ module _ (op : Op) (k n : ℕ) (ws : List ℕ) (slot : Slot) where
   wayTest x = descends memory x (pathOf slot)
 
   abbrev besideTest : Bool
-  besideTest = rightlyBeside op k memory (reverse (pathOf slot)) (siblingsOf slot) (slot .want)
+  besideTest = rightlyBeside op k memory (reverse (pathOf slot)) (besideOf slot) (slot .want)
 
   abbrev acrossTest : Bool
-  acrossTest = rightlyAcross op k memory (pathOf slot) (siblingsOf slot) (slot .want)
+  acrossTest = rightlyAcross op k memory (pathOf slot) (besideOf slot) (slot .want)
 
   abbrev lastTest : ℕ → Bool
   lastTest x = lastLeads memory x (reverse (pathOf slot)) (slot .want)
@@ -434,12 +434,12 @@ module _ (op : Op) (k n : ℕ) (ws : List ℕ) (slot : Slot) where
   atLeafTest = wayTest (keyOf op) && (besideTest || acrossTest)
 
   abbrev comingTest : Bool
-  comingTest = descends memory (keyOf op) (pathOf slot ++ slot .want ∷ []) && isNone (siblingsOf slot)
+  comingTest = descends memory (keyOf op) (pathOf slot ++ slot .want ∷ []) && isNone (besideOf slot)
 
   -- one test that fails
   pub fits-unsound : {answer : Bool} → answer ≡ pagesSound k n ws (pagesOf slot) → not answer ≡ true → fits op k n ws slot ≡ false
   unfolding fits
-  fits-unsound said f = and-first-fails (fitting op k memory (pathOf slot) (siblingsOf slot) (slot .want)) (told-false said f)
+  fits-unsound said f = and-first-fails (fitting op k memory (pathOf slot) (besideOf slot) (slot .want)) (told-false said f)
 
   pub fits-not-kept : {answer : Bool} → answer ≡ keptTest → not answer ≡ true → fits op k n ws slot ≡ false
   unfolding fits fitting
@@ -453,7 +453,7 @@ module _ (op : Op) (k n : ℕ) (ws : List ℕ) (slot : Slot) where
         and-second-fails (pagesSound k n ws (pagesOf slot))
         (and-second-fails keptTest
         (cond-ind (λ (b : Bool). b ≡ false) (atItsLeaf memory (reverse (pathOf slot))) (λ leaf. and-first-fails (besideTest || acrossTest) none)
-        (λ upper. and-first-fails (isNone (siblingsOf slot))
+        (λ upper. and-first-fails (isNone (besideOf slot))
         (descends-snoc memory (keyOf op) (pathOf slot) (slot .want) ∙ and-first-fails (lastTest (keyOf op)) none))))
 
     -- the way down is one for the operation's key
@@ -479,12 +479,12 @@ module _ (op : Op) (k n : ℕ) (ws : List ℕ) (slot : Slot) where
         fits-across there f said = said ∙ sym (at-the-leaf there ∙ ap (λ (t : Bool). t || acrossTest) (sym sibling ∙ f))
 
       -- and the last page of the path above it
-      pub fits-coming : {answer : Bool} {y : ℕ} → leaf ≡ false → y ≡ keyOf op → answer ≡ lastTest y && isNone (siblingsOf slot) → answer ≡ fits op k n ws slot
+      pub fits-coming : {answer : Bool} {y : ℕ} → leaf ≡ false → y ≡ keyOf op → answer ≡ lastTest y && isNone (besideOf slot) → answer ≡ fits op k n ws slot
       fits-coming above key′ said =
           said
-          ∙ ap (λ (z : ℕ). lastTest z && isNone (siblingsOf slot)) key′
+          ∙ ap (λ (z : ℕ). lastTest z && isNone (besideOf slot)) key′
           ∙ sym
           (whichever
           ∙ cond-false atLeafTest comingTest (sym at ∙ above)
-          ∙ ap (λ (t : Bool). t && isNone (siblingsOf slot))
+          ∙ ap (λ (t : Bool). t && isNone (besideOf slot))
           (descends-snoc memory (keyOf op) (pathOf slot) (slot .want) ∙ ap (λ (t : Bool). t && lastTest (keyOf op)) (way-down d)))

@@ -14,7 +14,7 @@ use Rattle.change.specs.Held.{Held}
 use Rattle.slots.specs.declared.Op.{Op}
 use Rattle.slots.specs.declared.Task.the-variants.{Open}
 use Rattle.slots.specs.declared.Slot.{Slot}
-use Rattle.slots.specs.Parts.{isDelete, pathOf, siblingsOf, openSlot}
+use Rattle.slots.specs.Parts.{isDelete, pathOf, besideOf, openSlot}
 use Rattle.slots.specs.Sound.{slotSound}
 use Rattle.footing.specs.Granted.{isSafe, kept, atItsLeaf}
 use Rattle.footing.specs.Fitting.{leads, pagesSound, fitting}
@@ -31,8 +31,8 @@ pub record Asks (k n : ℕ) (ws : List ℕ) (op : Op) (slot : Slot) : Type 0 whe
 -- The pages of the slot are sound, and the ones the rules would have its operation hold and want.
 unfoldable pub fits : Op → ℕ → ℕ → List ℕ → Slot → Bool
 fits op k n ws slot =
-    pagesSound k n ws (pathOf slot ++ siblingsOf slot ++ slot .want ∷ [])
-    && fitting op k (pageAt k ws) (pathOf slot) (siblingsOf slot) (slot .want)
+    pagesSound k n ws (pathOf slot ++ besideOf slot ++ slot .want ∷ [])
+    && fitting op k (pageAt k ws) (pathOf slot) (besideOf slot) (slot .want)
 
 -- the last page of a path, given upward, leads to the wanted one; where none is held none has to (`rightlyKept` asks for page 0)
 abbrev pub lastLeads : (ℕ → Page) → ℕ → List ℕ → ℕ → Bool
@@ -43,13 +43,13 @@ lastLeads memory x (p ∷ up) want = leads memory x p want
 abbrev pub standPath : Op → ℕ → (ℕ → Page) → List ℕ → ℕ → List ℕ
 standPath op k memory path want = cond (atItsLeaf memory (reverse path)) path (kept op k memory path want)
 
-abbrev pub standSiblings : (ℕ → Page) → List ℕ → List ℕ → ℕ → List ℕ
-standSiblings memory path siblings want = cond (atItsLeaf memory (reverse path)) (siblings ++ want ∷ []) []
+abbrev pub standBeside : (ℕ → Page) → List ℕ → List ℕ → ℕ → List ℕ
+standBeside memory path siblings want = cond (atItsLeaf memory (reverse path)) (siblings ++ want ∷ []) []
 
 -- the slot as it stands then; it has no new want yet
 unfoldable pub stood : Op → ℕ → (ℕ → Page) → Slot → Slot
 stood op k memory slot =
-    openSlot op (slot .want) (standPath op k memory (pathOf slot) (slot .want)) (standSiblings memory (pathOf slot) (siblingsOf slot) (slot .want))
+    openSlot op (slot .want) (standPath op k memory (pathOf slot) (slot .want)) (standBeside memory (pathOf slot) (besideOf slot) (slot .want))
 
 -- What is known of the pages held once a want is granted: they are sound by themselves and all different; each page of the
 -- path lies a level above the next one, and the top one is page 0 or safe; a deletion's sibling lies beside its page, and is not
@@ -67,5 +67,5 @@ pub record Standing (op : Op) (k n : ℕ) (ws path siblings : List ℕ) : Type 0
 
 -- The slot holds just these pages, and so much is known of them.
 pub record SlotStanding (op : Op) (k n : ℕ) (ws : List ℕ) (stand : Slot) : Type 0 where
-  pub exact : stand ≡ openSlot op (stand .want) (pathOf stand) (siblingsOf stand)
-  pub standing : Standing op k n ws (pathOf stand) (siblingsOf stand)
+  pub exact : stand ≡ openSlot op (stand .want) (pathOf stand) (besideOf stand)
+  pub standing : Standing op k n ws (pathOf stand) (besideOf stand)

@@ -17,7 +17,7 @@ use pool::pages::look_of;
 use pool::pages::sound_of;
 use slots::Op;
 use slots::Slot;
-use slots::book::with_page;
+use slots::making::with_page;
 ghost use mathlib.Core.Path.{_≡_};
 ghost use mathlib.Core.Bool.{true, _&&_};
 ghost use mathlib.Core.List.{[], _∷_, _++_, reverse};
@@ -25,7 +25,7 @@ ghost use Prim.Native.Nat.{_≤_, _<_};
 ghost use Rattle.ground.specs.Limits.{pathHolds};
 ghost use Rattle.pool.specs.Pool.{pageAt};
 ghost use Rattle.change.specs.Held.{Held};
-ghost use Rattle.slots.specs.Parts.{keyOf, pathOf, siblingsOf};
+ghost use Rattle.slots.specs.Parts.{keyOf, pathOf, besideOf};
 ghost use Rattle.footing.specs.Granted.{atItsLeaf};
 ghost use Rattle.footing.specs.Fitting as rule;
 ghost use Rattle.footing.specs.Standing.{Asks, lastLeads};
@@ -34,14 +34,14 @@ ghost use Rattle.footing.specs.Standing as asked;
 // Each page held and the one wanted is sound by itself.
 pub fn pages_sound(words: &[u32], k: usize, n: usize, op: Op, slot: Slot) -> bool
     requires { ⌜ Asks k n (now words) op slot ⌝ }
-    ensures { λ r. ⌜ r ≡ rule.pagesSound k n (now (words .entry)) (pathOf slot ++ siblingsOf slot ++ slot .want ∷ []) ⌝ }
+    ensures { λ r. ⌜ r ≡ rule.pagesSound k n (now (words .entry)) (pathOf slot ++ besideOf slot ++ slot .want ∷ []) ⌝ }
 {
     let path = slot.path;
     if !all_sound(words, k, n, path, slot.depth) {
         return false;
     }
-    let siblings = slot.siblings;
-    if !all_sound(words, k, n, siblings, slot.beside) {
+    let beside = slot.beside;
+    if !all_sound(words, k, n, beside, slot.breadth) {
         return false;
     }
     sound_of(words, k, n, slot.want)
@@ -49,10 +49,10 @@ pub fn pages_sound(words: &[u32], k: usize, n: usize, op: Op, slot: Slot) -> boo
 
 // Coming down: no siblings yet, and the last page of the path leads to the wanted one.
 pub fn fits_below(words: &[u32], k: usize, n: usize, x: u32, slot: Slot) -> bool
-    requires { ⌜ (slot .depth ≤ pathHolds) × (slot .beside ≤ pathHolds) × (Held k n (now words) (pathOf slot ++ siblingsOf slot ++ slot .want ∷ [])) ⌝ }
-    ensures { λ r. ⌜ r ≡ lastLeads (pageAt k (now (words .entry))) x (reverse (pathOf slot)) (slot .want) && rule.isNone (siblingsOf slot) ⌝ }
+    requires { ⌜ (slot .depth ≤ pathHolds) × (slot .breadth ≤ pathHolds) × (Held k n (now words) (pathOf slot ++ besideOf slot ++ slot .want ∷ [])) ⌝ }
+    ensures { λ r. ⌜ r ≡ lastLeads (pageAt k (now (words .entry))) x (reverse (pathOf slot)) (slot .want) && rule.isNone (besideOf slot) ⌝ }
 {
-    if slot.beside != 0 {
+    if slot.breadth != 0 {
         return false;
     }
     let depth = slot.depth;
@@ -65,10 +65,10 @@ pub fn fits_below(words: &[u32], k: usize, n: usize, x: u32, slot: Slot) -> bool
 
 // A deletion at its leaf: the key is there, and what it needs next is the page it wants, beside its own page.
 pub fn fits_beside(words: &[u32], k: usize, n: usize, op: Op, slot: Slot) -> bool
-    requires { ⌜ (slot .depth ≤ pathHolds) × (slot .beside < pathHolds) × (Held k n (now words) (pathOf slot ++ siblingsOf slot ++ slot .want ∷ [])) ⌝ }
+    requires { ⌜ (slot .depth ≤ pathHolds) × (slot .breadth < pathHolds) × (Held k n (now words) (pathOf slot ++ besideOf slot ++ slot .want ∷ [])) ⌝ }
     requires { ⌜ rule.descends (pageAt k (now words)) (keyOf op) (pathOf slot) ≡ true ⌝ }
     requires { ⌜ atItsLeaf (pageAt k (now words)) (reverse (pathOf slot)) ≡ true ⌝ }
-    ensures { λ r. ⌜ r ≡ rule.rightlyBeside op k (pageAt k (now (words .entry))) (reverse (pathOf slot)) (siblingsOf slot) (slot .want) ⌝ }
+    ensures { λ r. ⌜ r ≡ rule.rightlyBeside op k (pageAt k (now (words .entry))) (reverse (pathOf slot)) (besideOf slot) (slot .want) ⌝ }
 {
     let Op::Delete(x) = op else {
         return false;
@@ -78,9 +78,9 @@ pub fn fits_beside(words: &[u32], k: usize, n: usize, op: Op, slot: Slot) -> boo
     let Lot::There(_) = look_of(words, k, n, path[depth - 1], x) else {
         return false;
     };
-    let siblings = slot.siblings;
     let beside = slot.beside;
-    let Need::Sibling(next) = needs(words, k, n, x, &path, depth, &siblings, beside) else {
+    let breadth = slot.breadth;
+    let Need::Sibling(next) = needs(words, k, n, x, &path, depth, &beside, breadth) else {
         return false;
     };
     let want = slot.want;
@@ -93,17 +93,17 @@ pub fn fits_beside(words: &[u32], k: usize, n: usize, op: Op, slot: Slot) -> boo
         n,
         path,
         depth,
-        with_page(siblings, beside, want),
-        beside + 1,
+        with_page(beside, breadth, want),
+        breadth + 1,
     )
 }
 
 // A Next on its second way: its leaf has no key at or above its own, the top page of its path has a child to the right, and what
 // it holds beside the path and wants is the way down from there.
 pub fn fits_across(words: &[u32], k: usize, n: usize, op: Op, slot: Slot) -> bool
-    requires { ⌜ (slot .depth ≤ pathHolds) × (slot .beside < pathHolds) × (Held k n (now words) (pathOf slot ++ siblingsOf slot ++ slot .want ∷ [])) ⌝ }
+    requires { ⌜ (slot .depth ≤ pathHolds) × (slot .breadth < pathHolds) × (Held k n (now words) (pathOf slot ++ besideOf slot ++ slot .want ∷ [])) ⌝ }
     requires { ⌜ atItsLeaf (pageAt k (now words)) (reverse (pathOf slot)) ≡ true ⌝ }
-    ensures { λ r. ⌜ r ≡ rule.rightlyAcross op k (pageAt k (now (words .entry))) (pathOf slot) (siblingsOf slot) (slot .want) ⌝ }
+    ensures { λ r. ⌜ r ≡ rule.rightlyAcross op k (pageAt k (now (words .entry))) (pathOf slot) (besideOf slot) (slot .want) ⌝ }
 {
     let Op::Next(x) = op else {
         return false;
@@ -116,16 +116,16 @@ pub fn fits_across(words: &[u32], k: usize, n: usize, op: Op, slot: Slot) -> boo
     if !has_child_right(words, k, n, x, top) {
         return false;
     }
-    let second = slot.siblings;
-    let beside = slot.beside;
+    let second = slot.beside;
+    let breadth = slot.breadth;
     turns_right(
         words,
         k,
         n,
         x,
         top,
-        with_page(second, beside, slot.want),
-        beside + 1,
+        with_page(second, breadth, slot.want),
+        breadth + 1,
     )
 }
 

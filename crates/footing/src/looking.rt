@@ -169,18 +169,18 @@ pub fn same_levels(
     n: usize,
     path: [u32; HELD],
     depth: usize,
-    siblings: [u32; HELD],
-    beside: usize,
+    beside: [u32; HELD],
+    breadth: usize,
 ) -> bool
-    requires { ⌜ (depth ≤ pathHolds) × (beside ≤ pathHolds) × (Held k n (now words) (take depth path ++ take beside siblings)) ⌝ }
-    ensures { λ r. ⌜ r ≡ rule.sameLevels (pageAt k (now (words .entry))) (reverse (take depth path)) (take beside siblings) ⌝ }
+    requires { ⌜ (depth ≤ pathHolds) × (breadth ≤ pathHolds) × (Held k n (now words) (take depth path ++ take breadth beside)) ⌝ }
+    ensures { λ r. ⌜ r ≡ rule.sameLevels (pageAt k (now (words .entry))) (reverse (take depth path)) (take breadth beside) ⌝ }
 {
-    if depth < beside {
+    if depth < breadth {
         return false;
     }
     let mut j = 0;
-    while j < beside {
-        if level_of(words, k, n, path[depth - 1 - j]) != level_of(words, k, n, siblings[j]) {
+    while j < breadth {
+        if level_of(words, k, n, path[depth - 1 - j]) != level_of(words, k, n, beside[j]) {
             return false;
         }
         j += 1;

@@ -36,7 +36,7 @@ use Rattle.slots.specs.declared.Slot.{Slot}
 use Rattle.slots.specs.declared.State.{State}
 use Rattle.slots.specs.declared.Answer.{Answer}
 use Rattle.slots.specs.declared.Answer.the-variants.{Moved, Inserted, Deleted, NoRoom, Damaged, Regraded}
-use Rattle.slots.specs.Parts.{isDelete, pathOf, siblingsOf, closedSlot, waitingOrder}
+use Rattle.slots.specs.Parts.{isDelete, pathOf, besideOf, closedSlot, waitingOrder}
 use Rattle.slots.specs.Book.{leaving, requeued, goesOn, closes}
 use Rattle.slots.proofs.OrderLaws.{length-leaving, length-waiting}
 use Rattle.lent.specs.Words.{orderIn, asRead, known, stateOf, laidInto}
@@ -57,13 +57,13 @@ module _ {op : Op} {k n : ℕ} {ws : List ℕ} {stand : Slot} (h : SlotStanding 
   unfolding pathOf
   path-cell i l = getD-take (stand .depth) (stand .path) i 0 l
 
-  sibling-cell : (j : ℕ) → j < stand .beside → getD (siblingsOf stand) j 0 ≡ getD (stand .siblings) j 0
-  unfolding siblingsOf
-  sibling-cell j l = getD-take (stand .beside) (stand .siblings) j 0 l
+  sibling-cell : (j : ℕ) → j < stand .breadth → getD (besideOf stand) j 0 ≡ getD (stand .beside) j 0
+  unfolding besideOf
+  sibling-cell j l = getD-take (stand .breadth) (stand .beside) j 0 l
 
   -- a deletion may be made of the key that stands at its leaf
   stand-deleting : (x : ℕ) → isDelete op ≡ true → standsLast (pageAt k ws) x (reverse (pathOf stand))
-      → Deleting k n ws x (stand .path) (stand .depth) (stand .siblings) (stand .beside)
+      → Deleting k n ws x (stand .path) (stand .depth) (stand .beside) (stand .breadth)
   stand-deleting x is there =
       let s = h .standing in
       let longPath = path-long h in
@@ -76,14 +76,14 @@ module _ {op : Op} {k n : ℕ} {ws : List ℕ} {stand : Slot} (h : SlotStanding 
             ∙ s .levels is i j (omega arith) (omega arith)
             ∙ ap (λ (p : ℕ). pageAt k ws p .level) (sibling-cell j l);
         others = λ j l e. s .others is j (omega arith) (sibling-cell j l ∙ e);
-        pathApart = λ i t l u e. distinct-at (pathOf stand) 0 (distinct-front (pathOf stand) (siblingsOf stand) (s .different)) i t l (omega arith)
+        pathApart = λ i t l u e. distinct-at (pathOf stand) 0 (distinct-front (pathOf stand) (besideOf stand) (s .different)) i t l (omega arith)
             (path-cell i (omega arith) ∙ e ∙ sym (path-cell t u));
-        besideApart = λ j t l u e. distinct-at (siblingsOf stand) 0 (distinct-back (pathOf stand) (siblingsOf stand) (s .different)) j t l (omega arith)
+        besideApart = λ j t l u e. distinct-at (besideOf stand) 0 (distinct-back (pathOf stand) (besideOf stand) (s .different)) j t l (omega arith)
             (sibling-cell j (omega arith) ∙ e ∙ sym (sibling-cell t u));
         across = λ i j l u e.
             let on = member-from (getD (stand .path) i 0) (pathOf stand) i 0 (omega arith) (path-cell i l) in
-            let off = apart-member (pathOf stand) (siblingsOf stand) (distinct-apart (pathOf stand) (siblingsOf stand) (s .different)) (getD (stand .path) i 0) on in
-            not-member-at (getD (stand .path) i 0) (siblingsOf stand) 0 off j (omega arith) (sibling-cell j u ∙ sym e);
+            let off = apart-member (pathOf stand) (besideOf stand) (distinct-apart (pathOf stand) (besideOf stand) (s .different)) (getD (stand .path) i 0) on in
+            not-member-at (getD (stand .path) i 0) (besideOf stand) 0 off j (omega arith) (sibling-cell j u ∙ sym e);
       }
 
 -- ---- pages found by a scan
@@ -146,7 +146,7 @@ module _
     -- no page held is free
     held-taken : r .enough ≡ true → (p : ℕ) → member p (pathOf stand) ≡ true → member p (take need (r .pages)) ≡ false
     held-taken all p m =
-        let known = held-known (h .standing .held) p (member-append p (pathOf stand) (siblingsOf stand) ∙ or-first (member p (siblingsOf stand)) m) in
+        let known = held-known (h .standing .held) p (member-append p (pathOf stand) (besideOf stand) ∙ or-first (member p (besideOf stand)) m) in
         false-if-not-true (member p (take need (r .pages)))
         (λ t. let low = taken-free k n ws found all p t .level in
         let high = known .facts .lowest in
@@ -163,7 +163,7 @@ module _
         (λ most inside apart. record { holding = standing-holding h; top = stand-top h; cells = found .cells; enough = most; inside = inside; apart = apart })
         (omega arith)
         (taken-inside k n ws found all)
-        (distinct-join here (take need (r .pages)) (distinct-front here (siblingsOf stand) (h .standing .different)) (taken-distinct k n ws found all)
+        (distinct-join here (take need (r .pages)) (distinct-front here (besideOf stand) (h .standing .different)) (taken-distinct k n ws found all)
         (apart-from here (take need (r .pages)) (held-taken all)))
 
     -- too few pages are free
@@ -200,7 +200,7 @@ module _ {op : Op} {k n : ℕ} {ws : List ℕ} {stand : Slot} (h : SlotStanding 
   unfolding pathHolds
   deep = h .standing .deep
 
-  pub stand-short : (stand .depth ≤ 10) × (stand .beside ≤ 10)
+  pub stand-short : (stand .depth ≤ 10) × (stand .breadth ≤ 10)
   stand-short =
       let few = h .standing .few in
       let most = deep in
@@ -209,11 +209,11 @@ module _ {op : Op} {k n : ℕ} {ws : List ℕ} {stand : Slot} (h : SlotStanding 
   stand-path : length (stand .path) ≡ 10
   stand-path = ap (λ (x : Slot). length (x .path)) (h .exact) ∙ padded-long (pathOf stand) deep
 
-  stand-siblings : length (stand .siblings) ≡ 10
+  stand-siblings : length (stand .beside) ≡ 10
   stand-siblings =
       let few = h .standing .few in
       let most = deep in
-      ap (λ (x : Slot). length (x .siblings)) (h .exact) ∙ padded-long (siblingsOf stand) (omega arith)
+      ap (λ (x : Slot). length (x .beside)) (h .exact) ∙ padded-long (besideOf stand) (omega arith)
 
 module _ (cells : List ℕ) {ws : List ℕ} {s : ℕ} {op : Op} {stand : Slot} (long : length cells ≡ 435) (exist : known cells ≡ true) (a : Acts (asRead cells) ws s op stand) where
   abbrev st : State
@@ -221,7 +221,7 @@ module _ (cells : List ℕ) {ws : List ℕ} {s : ℕ} {op : Op} {stand : Slot} (
 
   -- the rule's word for a course, and what it leaves
   abbrev said : Course → Verdict
-  said = courseOf (st .k) (pageAt (st .k) ws) (freePages (st .k) (st .n) ws) (pathOf stand) (siblingsOf stand)
+  said = courseOf (st .k) (pageAt (st .k) ws) (freePages (st .k) (st .n) ws) (pathOf stand) (besideOf stand)
 
   abbrev leaves : Course → Answer → List ℕ → List ℕ → Type 0
   leaves course r cells′ after = Leaves cells ws s op (said course) r cells′ after
@@ -255,7 +255,7 @@ module _ (cells : List ℕ) {ws : List ℕ} {s : ℕ} {op : Op} {stand : Slot} (
   pub acts-goes : {course : Course} {next : ℕ} {cells′ : List ℕ} → course ≡ Goes next → cells′ ≡ laidInto cells s (requeued st s (wanting next stand)) → leaves course Moved cells′ ws
   unfolding goesOn
   acts-goes {next = next} {cells′ = cells′} is e =
-      let same : requeued st s (wanting next stand) ≡ goesOn st s op next (pathOf stand) (siblingsOf stand) =
+      let same : requeued st s (wanting next stand) ≡ goesOn st s op next (pathOf stand) (besideOf stand) =
       ap (λ (slot : Slot). requeued st s (wanting next slot)) (a .stands .exact) in
       subst (λ (c : Course). leaves c Moved cells′ ws) (sym is)
       (record { answer = refl; state = ap stateOf e ∙ gone-state next ∙ same; all = e ∙ ap (laidInto cells s) same; words = refl })
@@ -312,7 +312,7 @@ module _ (cells : List ℕ) {ws : List ℕ} {s : ℕ} {op : Op} {stand : Slot} (
       → leaves course (Deleted v) cells′ words
   acts-deletes {x = x} {v = v} {cells′ = cells′} {words = words} is made e =
       subst (λ (c : Course). leaves c (Deleted v) cells′ words) (sym is)
-      (acts-change (Deleted v) (λ leaf fathers. deletion (st .k) (pageAt (st .k) ws) x leaf fathers (siblingsOf stand)) made e)
+      (acts-change (Deleted v) (λ leaf fathers. deletion (st .k) (pageAt (st .k) ws) x leaf fathers (besideOf stand)) made e)
 
   -- a regrading
   pub acts-regrades : {course : Course} {x v old : ℕ} {cells′ words : List ℕ} → course ≡ Regrades x v old
@@ -332,7 +332,7 @@ module _ {st : State} {ws : List ℕ} {s : ℕ} {op : Op} {stand : Slot} (a : Ac
         subst (λ (o : Op). SlotStanding o (st .k) (st .n) ws stand) same (a .stands)
 
     pub deletes-stands : {x v : ℕ} → course ≡ Deletes x v
-        → Deleting (st .k) (st .n) ws x (stand .path) (stand .depth) (stand .siblings) (stand .beside)
+        → Deleting (st .k) (st .n) ws x (stand .path) (stand .depth) (stand .beside) (stand .breadth)
     deletes-stands {x = x} is =
         let sure = subst (ready op (pageAt (st .k) ws) (pathOf stand)) is fit in
         stand-deleting (a .stands) x (sure .0) (sure .1)

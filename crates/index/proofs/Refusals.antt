@@ -28,7 +28,7 @@ use Rattle.slots.specs.declared.Answer.{Answer}
 use Rattle.slots.specs.declared.Answer.the-variants.{Waiting, Moved}
 use Rattle.slots.specs.Heard.{numberOf, refuses, changesNothing, ending}
 use Rattle.slots.specs.Begin.{begun}
-use Rattle.slots.specs.Parts.{keyOf, isNext, slotAt, idleState, pathOf, siblingsOf}
+use Rattle.slots.specs.Parts.{keyOf, isNext, slotAt, idleState, pathOf, besideOf}
 use Rattle.slots.specs.Sound.{sound}
 use Rattle.slots.specs.Grant.{grants}
 use Rattle.lent.specs.Words.{stateOf, lentAfter}
@@ -128,9 +128,9 @@ acted-stays st ws s op (ends answer writes) h = λ e. not-both e (changes answer
 task-stays : (st : State) (ws : List ℕ) (s : ℕ) (slot : Slot) (task : Task) → Stays st ws (steppedTask st ws s slot task)
 task-stays st ws s slot Closed = unchanged st ws _
 task-stays st ws s slot (Open op) =
-    let v = verdict op (st .k) (st .n) ws (pathOf slot) (siblingsOf slot) (slot .want) in
+    let v = verdict op (st .k) (st .n) ws (pathOf slot) (besideOf slot) (slot .want) in
     cond-ind (Stays st ws) (grants st s)
-    (λ _. acted-stays st ws s op v (verdict-answers op (st .k) (st .n) ws (pathOf slot) (siblingsOf slot) (slot .want)))
+    (λ _. acted-stays st ws s op v (verdict-answers op (st .k) (st .n) ws (pathOf slot) (besideOf slot) (slot .want)))
     (λ _. unchanged st ws _)
 
 -- A step that is refused or answered Waiting leaves state and words as given.
@@ -163,7 +163,7 @@ task-length : (st : State) (ws : List ℕ) (s : ℕ) (slot : Slot) (task : Task)
 task-length st ws s slot Closed = refl
 task-length st ws s slot (Open op) =
     cond-ind (SameLength ws) (grants st s)
-    (λ _. acted-length st ws s op (verdict op (st .k) (st .n) ws (pathOf slot) (siblingsOf slot) (slot .want)))
+    (λ _. acted-length st ws s op (verdict op (st .k) (st .n) ws (pathOf slot) (besideOf slot) (slot .want)))
     (λ _. refl)
 
 -- No step changes the pool's length, and no making does.

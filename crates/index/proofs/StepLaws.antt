@@ -20,17 +20,17 @@ use Rattle.slots.specs.declared.Answer.{Answer}
 use Rattle.slots.specs.declared.Answer.the-variants.{Waiting, BadState, BadPool, BadSlot, SlotIdle, Damaged}
 use Rattle.slots.specs.Grant.{grants}
 use Rattle.slots.specs.Heard.{heard, changesNothing}
-use Rattle.slots.specs.Parts.{slotAt, isOpen, pathOf, siblingsOf}
+use Rattle.slots.specs.Parts.{slotAt, isOpen, pathOf, besideOf}
 use Rattle.slots.specs.Sound.{slotSound, sound}
-use Rattle.slots.proofs.Keeping.{path-new, siblings-new}
+use Rattle.slots.proofs.Keeping.{path-new, beside-new}
 use Rattle.slots.proofs.SoundFacts.{SoundState, sound-facts, facts-sound, slot-sound}
 use Rattle.lent.specs.Words.{asRead, known, stateOf, laidInto, lentAfter}
 use Rattle.lent.proofs.StateLaws.{state-known}
-use Rattle.state.proofs.CheckingLawsSound.{SoundWords}
+use Rattle.soundness.proofs.CheckingLawsSound.{SoundWords}
 use Rattle.course.specs.declared.judging.Course.{Course}
 use Rattle.footing.specs.Granted.{Verdict, broken, goes, ends, granted}
 use Rattle.footing.specs.Fitting.{pagesSound, fitting, nextIsNew, soundForStep, verdict}
-use Rattle.footing.specs.Standing.{Asks, SlotStanding, fits, standPath, standSiblings, stood}
+use Rattle.footing.specs.Standing.{Asks, SlotStanding, fits, standPath, standBeside, stood}
 use Rattle.course.specs.Judged.{judged, ifNew, courseOf}
 use Rattle.course.proofs.JudgeLaws.{granted-judged}
 use Rattle.course.proofs.StandLaws.{stood-stands}
@@ -44,10 +44,10 @@ use Rattle.index.proofs.Refusals.{Answers, verdict-answers, changes}
 
 module _ (op : Op) (k n : ℕ) (ws : List ℕ) (slot : Slot) where
   abbrev here : Verdict
-  here = verdict op k n ws (pathOf slot) (siblingsOf slot) (slot .want)
+  here = verdict op k n ws (pathOf slot) (besideOf slot) (slot .want)
 
   abbrev rule : Verdict
-  rule = granted op k (pageAt k ws) (freePages k n ws) (pathOf slot) (siblingsOf slot) (slot .want)
+  rule = granted op k (pageAt k ws) (freePages k n ws) (pathOf slot) (besideOf slot) (slot .want)
 
   -- the pages are sound for the step if they fit and the page wanted next is new
   by-fit : here ≡ cond (fits op k n ws slot && nextIsNew rule) rule broken
@@ -59,22 +59,22 @@ module _ (op : Op) (k n : ℕ) (ws : List ℕ) (slot : Slot) where
 
   -- where they fit, the rule is the one for an operation that stands where this one then does
   rule-judged : (stand : Slot) → stand ≡ stood op k (pageAt k ws) slot → fits op k n ws slot ≡ true
-      → rule ≡ judged op k (pageAt k ws) (freePages k n ws) (pathOf stand) (siblingsOf stand)
+      → rule ≡ judged op k (pageAt k ws) (freePages k n ws) (pathOf stand) (besideOf stand)
   unfolding fits stood
   rule-judged stand e t =
       let path = standPath op k (pageAt k ws) (pathOf slot) (slot .want) in
-      let siblings = standSiblings (pageAt k ws) (pathOf slot) (siblingsOf slot) (slot .want) in
-      granted-judged op k (pageAt k ws) (freePages k n ws) (pathOf slot) (siblingsOf slot) (slot .want)
-      (and-second (pagesSound k n ws (pathOf slot ++ siblingsOf slot ++ slot .want ∷ [])) (fitting op k (pageAt k ws) (pathOf slot) (siblingsOf slot) (slot .want)) t)
+      let siblings = standBeside (pageAt k ws) (pathOf slot) (besideOf slot) (slot .want) in
+      granted-judged op k (pageAt k ws) (freePages k n ws) (pathOf slot) (besideOf slot) (slot .want)
+      (and-second (pagesSound k n ws (pathOf slot ++ besideOf slot ++ slot .want ∷ [])) (fitting op k (pageAt k ws) (pathOf slot) (besideOf slot) (slot .want)) t)
       ∙ sym
       (ap₂ (judged op k (pageAt k ws) (freePages k n ws))
       (ap pathOf e ∙ path-new op (slot .want) path siblings)
-      (ap siblingsOf e ∙ siblings-new op (slot .want) path siblings))
+      (ap besideOf e ∙ beside-new op (slot .want) path siblings))
 
   verdict-course : {stand : Slot} (course : Course) → stand ≡ stood op k (pageAt k ws) slot → fits op k n ws slot ≡ true
-      → courseOf k (pageAt k ws) (freePages k n ws) (pathOf stand) (siblingsOf stand) course
-      ≡ ifNew (judged op k (pageAt k ws) (freePages k n ws) (pathOf stand) (siblingsOf stand))
-      → here ≡ courseOf k (pageAt k ws) (freePages k n ws) (pathOf stand) (siblingsOf stand) course
+      → courseOf k (pageAt k ws) (freePages k n ws) (pathOf stand) (besideOf stand) course
+      ≡ ifNew (judged op k (pageAt k ws) (freePages k n ws) (pathOf stand) (besideOf stand))
+      → here ≡ courseOf k (pageAt k ws) (freePages k n ws) (pathOf stand) (besideOf stand) course
   verdict-course {stand = stand} course e t found =
       by-fit
       ∙ ap (λ (b : Bool). cond (b && nextIsNew rule) rule broken) t
@@ -111,10 +111,10 @@ module _
 
         -- what the course leaves is what the rule says
         pub granted-leaves : (course : Course)
-            → courseOf (st .k) (pageAt (st .k) ws) (freePages (st .k) (st .n) ws) (pathOf stand) (siblingsOf stand) course
-            ≡ ifNew (judged op (st .k) (pageAt (st .k) ws) (freePages (st .k) (st .n) ws) (pathOf stand) (siblingsOf stand))
+            → courseOf (st .k) (pageAt (st .k) ws) (freePages (st .k) (st .n) ws) (pathOf stand) (besideOf stand) course
+            ≡ ifNew (judged op (st .k) (pageAt (st .k) ws) (freePages (st .k) (st .n) ws) (pathOf stand) (besideOf stand))
             → {r : Answer} {cells′ after : List ℕ}
-            → Leaves cells ws s op (courseOf (st .k) (pageAt (st .k) ws) (freePages (st .k) (st .n) ws) (pathOf stand) (siblingsOf stand) course) r cells′ after
+            → Leaves cells ws s op (courseOf (st .k) (pageAt (st .k) ws) (freePages (st .k) (st .n) ws) (pathOf stand) (besideOf stand) course) r cells′ after
             → Leaves cells ws s op (here op (st .k) (st .n) ws slot) r cells′ after
         granted-leaves course found {r} {cells′} {after} h =
             subst (λ (v : Verdict). Leaves cells ws s op v r cells′ after) (sym (verdict-course op (st .k) (st .n) ws slot course e granted-fits found)) h
@@ -290,5 +290,5 @@ module _ (cells ws : List ℕ) (s : ℕ) (w : SoundWords cells) where
           let v = here op (getD cells 0 0) (getD cells 1 0) ws slot in
           let l : Left = acted (asRead cells) ws s op v in
           left-says l (as-read l (is-granted p read task told t)) (h .answer) (h .state)
-          (h .all ∙ acted-cells cells ws s op v (verdict-answers op (getD cells 0 0) (getD cells 1 0) ws (pathOf slot) (siblingsOf slot) (slot .want)))
+          (h .all ∙ acted-cells cells ws s op v (verdict-answers op (getD cells 0 0) (getD cells 1 0) ws (pathOf slot) (besideOf slot) (slot .want)))
           (h .words)

@@ -17,7 +17,7 @@ use Rattle.slots.specs.declared.Slot.{Slot}
 use Rattle.slots.specs.declared.State.{State}
 use Rattle.slots.specs.declared.Answer.{Answer}
 use Rattle.slots.specs.declared.Answer.the-variants.{Inserted, NoRoom}
-use Rattle.slots.specs.Parts.{pathOf, siblingsOf, waitingOrder}
+use Rattle.slots.specs.Parts.{pathOf, besideOf, waitingOrder}
 use Rattle.lent.specs.Words.{asRead, stateOf, laidInto}
 use Rattle.footing.specs.Granted.{Verdict, broken, goes, ends}
 use Rattle.footing.specs.Standing.{SlotStanding}
@@ -49,7 +49,7 @@ pub record Acts (st : State) (ws : List ℕ) (s : ℕ) (op : Op) (stand : Slot) 
 
 -- the slot with another want
 abbrev pub wanting : ℕ → Slot → Slot
-wanting want slot = record { task = slot .task; want = want; path = slot .path; depth = slot .depth; siblings = slot .siblings; beside = slot .beside }
+wanting want slot = record { task = slot .task; want = want; path = slot .path; depth = slot .depth; beside = slot .beside; breadth = slot .breadth }
 
 -- the leaf that an operation stands at, and the pages above it, upward
 abbrev pub standLeaf : Slot → ℕ
@@ -74,7 +74,7 @@ afterInsertion k n ws x v stand =
 
 -- the words that a deletion leaves
 abbrev pub afterDeletion : ℕ → List ℕ → ℕ → Slot → List ℕ
-afterDeletion k ws x stand = applied k (deletion k (pageAt k ws) x (standLeaf stand) (standFathers stand) (siblingsOf stand)) ws
+afterDeletion k ws x stand = applied k (deletion k (pageAt k ws) x (standLeaf stand) (standFathers stand) (besideOf stand)) ws
 
 -- the words that a regrading leaves
 abbrev pub afterRegrading : ℕ → List ℕ → ℕ → ℕ → Slot → List ℕ

@@ -14,7 +14,7 @@ use Rattle.slots.specs.declared.State.{State}
 use Rattle.slots.specs.declared.Answer.{Answer}
 use Rattle.slots.specs.declared.Answer.the-variants.{Waiting, Moved, BadState, BadPool, BadSlot, SlotIdle, Damaged}
 use Rattle.slots.specs.Heard.{isOneOf, ending}
-use Rattle.slots.specs.Parts.{slotAt, pathOf, siblingsOf}
+use Rattle.slots.specs.Parts.{slotAt, pathOf, besideOf}
 use Rattle.slots.specs.Sound.{sound}
 use Rattle.slots.specs.Grant.{grants}
 use Rattle.slots.specs.Book.{goesOn, closes}
@@ -48,7 +48,7 @@ abbrev pub steppedTask : State → List ℕ → ℕ → Slot → Task → Left
 steppedTask st ws s slot Closed = left SlotIdle st ws
 steppedTask st ws s slot (Open op) =
     cond (grants st s)
-    (acted st ws s op (verdict op (st .k) (st .n) ws (pathOf slot) (siblingsOf slot) (slot .want)))
+    (acted st ws s op (verdict op (st .k) (st .n) ws (pathOf slot) (besideOf slot) (slot .want)))
     (left Waiting st ws)
 
 -- "Order. .. Step: 1, 2, 3, 5, Waiting, 6."

@@ -25,7 +25,7 @@ ghost use Rattle.pool.specs.Pool.{pageAt, freePages};
 ghost use Rattle.change.specs.Held.{Holding};
 ghost use Rattle.deletion.specs.Deleting.{Deleting};
 ghost use Rattle.slots.specs.declared.Op.the-variants.{Insert};
-ghost use Rattle.slots.specs.Parts.{pathOf, siblingsOf};
+ghost use Rattle.slots.specs.Parts.{pathOf, besideOf};
 ghost use Rattle.slots.specs.Book.{requeued};
 ghost use Rattle.lent.specs.Words.{asRead, known, laidInto};
 ghost use Rattle.footing.specs.Fitting.{verdict};
@@ -53,12 +53,12 @@ pub fn insert_lot(words: &mut [u32], k: usize, n: usize, x: u32, v: u32, stand: 
 
 // The whole change of a deletion.
 pub fn delete_lot(words: &mut [u32], k: usize, n: usize, x: u32, stand: Slot)
-    requires { ⌜ Deleting k n (now words) x (stand .path) (stand .depth) (stand .siblings) (stand .beside) ⌝ }
+    requires { ⌜ Deleting k n (now words) x (stand .path) (stand .depth) (stand .beside) (stand .breadth) ⌝ }
     ensures { λ _. ⌜ now (words .exit) ≡ afterDeletion k (now (words .entry)) x stand ⌝ }
 {
     let path = stand.path;
-    let siblings = stand.siblings;
-    delete(words, k, n, x, &path, stand.depth, &siblings, stand.beside);
+    let beside = stand.beside;
+    delete(words, k, n, x, &path, stand.depth, &beside, stand.breadth);
 }
 
 // The whole change of a regrading: one word of its leaf.
@@ -73,7 +73,7 @@ pub fn regrade_lot(words: &mut [u32], k: usize, n: usize, x: u32, v: u32, stand:
 
 // The slot goes on from where it stands and wants this page.
 pub fn go_on(state: &mut [u32; STATE], s: usize, stand: Slot, next: u32)
-    requires { ⌜ (Waits (asRead (now state)) s) × (stand .depth ≤ 10) × (stand .beside ≤ 10) ⌝ }
+    requires { ⌜ (Waits (asRead (now state)) s) × (stand .depth ≤ 10) × (stand .breadth ≤ 10) ⌝ }
     ensures { λ _. ⌜ now (state .exit) ≡ laidInto (now (state .entry)) s (requeued (asRead (now (state .entry))) s (wanting next stand)) ⌝ }
 {
     let mut slot = stand;
@@ -92,7 +92,7 @@ pub fn act(
 ) -> Answer
     requires { ⌜ (known (now state) ≡ true) × (Acts (asRead (now state)) (now words) s op stand) ⌝ }
     requires { ⌜ ready op (pageAt (asRead (now state) .k) (now words)) (pathOf stand) course ⌝ }
-    ensures { λ r. ⌜ Leaves (now (state .entry)) (now (words .entry)) s op (courseOf (asRead (now (state .entry)) .k) (pageAt (asRead (now (state .entry)) .k) (now (words .entry))) (freePages (asRead (now (state .entry)) .k) (asRead (now (state .entry)) .n) (now (words .entry))) (pathOf stand) (siblingsOf stand) course) r (now (state .exit)) (now (words .exit)) ⌝ }
+    ensures { λ r. ⌜ Leaves (now (state .entry)) (now (words .entry)) s op (courseOf (asRead (now (state .entry)) .k) (pageAt (asRead (now (state .entry)) .k) (now (words .entry))) (freePages (asRead (now (state .entry)) .k) (asRead (now (state .entry)) .n) (now (words .entry))) (pathOf stand) (besideOf stand) course) r (now (state .exit)) (now (words .exit)) ⌝ }
 {
     sized(state);
     let k = state[WIDTH] as usize;
@@ -135,7 +135,7 @@ pub fn granted_step(
 ) -> Answer
     requires { ⌜ (known (now state) ≡ true) × (Waits (asRead (now state)) s) ⌝ }
     requires { ⌜ Asks (asRead (now state) .k) (asRead (now state) .n) (now words) op slot ⌝ }
-    ensures { λ r. ⌜ Leaves (now (state .entry)) (now (words .entry)) s op (verdict op (asRead (now (state .entry)) .k) (asRead (now (state .entry)) .n) (now (words .entry)) (pathOf slot) (siblingsOf slot) (slot .want)) r (now (state .exit)) (now (words .exit)) ⌝ }
+    ensures { λ r. ⌜ Leaves (now (state .entry)) (now (words .entry)) s op (verdict op (asRead (now (state .entry)) .k) (asRead (now (state .entry)) .n) (now (words .entry)) (pathOf slot) (besideOf slot) (slot .want)) r (now (state .exit)) (now (words .exit)) ⌝ }
 {
     let k = state[WIDTH] as usize;
     let n = state[PAGES] as usize;

@@ -19,12 +19,12 @@ use Rattle.slots.specs.declared.Task.the-variants.{Open}
 use Rattle.slots.specs.declared.Lock.{Lock}
 use Rattle.slots.specs.declared.Lock.the-variants.{None, Rho, Xi}
 use Rattle.slots.specs.declared.Slot.{Slot}
-use Rattle.slots.specs.Parts.{isOpen, held, pathOf, siblingsOf, openAt, wantAt, holdsAt, waitingOrder}
+use Rattle.slots.specs.Parts.{isOpen, held, pathOf, besideOf, openAt, wantAt, holdsAt, waitingOrder}
 use Rattle.slots.specs.Locks.{lockOf, lockAt, clash}
 use Rattle.slots.specs.Grant.{clashingWant, noClash, noOlder}
-use Rattle.slots.proofs.GrantingLaws.{noOlderFrom, older-end, older-here, older-stops, older-more, order-names}
+use Rattle.slots.proofs.HoldingLaws.{noOlderFrom, older-end, older-here, older-stops, older-more, order-names}
 use Rattle.lent.specs.Words.{cell, column, highestKind, taskFrom, slotIn, orderIn, asRead, known}
-use Rattle.lent.specs.Holds.{Short, OpenOrder, updatesKind, clashesKind, counts, otherHolds, topHolds, isDeep, deepHolds, othersHold, alsoWants}
+use Rattle.lent.specs.Holds.{WithinRows, OpenOrder, updatesKind, clashesKind, counts, otherHolds, topHolds, isDeep, deepHolds, othersHold, alsoWants}
 use Rattle.lent.proofs.StateLaws.{slot-read, length-column, column-cell, length-order, order-cell}
 
 -- ---- some number below a bound
@@ -105,7 +105,7 @@ joins true false false m f g = f refl
 
 module _ (ws : List ℕ) (s : ℕ) (any : Bool) (p : ℕ) where
   top-or-deep : (t : ℕ) → topHolds ws s any p t || deepHolds ws s any p t ≡ otherHolds ws s any p t
-  unfolding pathOf siblingsOf
+  unfolding pathOf besideOf
   top-or-deep t =
       let path : List ℕ = column ws 6 t in
       let siblings : List ℕ = column ws 16 t in
@@ -224,9 +224,9 @@ module _ (ws : List ℕ) (s : ℕ) (e : known ws ≡ true) (h : s < 16) (opened 
       ∙ clash-open (eqb (cell ws 0 t) 0) (updatesKind (cell ws 0 t)) (updatesKind (cell ws 0 s))
 
 -- no other slot holds a clashing lock on the page that an open slot wants
-module _ (ws : List ℕ) (s : ℕ) (e : known ws ≡ true) (h : s < 16) (short : Short ws) (opened : 0 < cell ws 0 s) where
+module _ (ws : List ℕ) (s : ℕ) (e : known ws ≡ true) (h : s < 16) (short : WithinRows ws) (opened : 0 < cell ws 0 s) where
   shut-holds : (t : ℕ) → t < 16 → eqb (cell ws 0 t) 0 ≡ true → member (cell ws 3 s) (held (slotIn ws t)) ≡ false
-  unfolding pathOf siblingsOf
+  unfolding pathOf besideOf
   shut-holds t b z =
       let none = short .closed t b (eqb-true (cell ws 0 t) 0 z) in
       ap₂ (λ (d n : ℕ). member (cell ws 3 s) (take d (column ws 6 t) ++ take n (column ws 16 t))) (none .0) (none .1) ∙ member-none (cell ws 3 s)

@@ -30,7 +30,7 @@ pub record Sized (st : State) : Type 0 where
   pub slots : length (st .slots) ≡ 16
   pub order : length (st .order) ≡ 16
   pub path : (s : ℕ) → s < 16 → length (slotAt st s .path) ≡ 10
-  pub siblings : (s : ℕ) → s < 16 → length (slotAt st s .siblings) ≡ 10
+  pub beside : (s : ℕ) → s < 16 → length (slotAt st s .beside) ≡ 10
 
 module _ (st : State) (sized : Sized st) where
   row-of : ℕ → ℕ
@@ -61,7 +61,7 @@ module _ (st : State) (sized : Sized st) where
       ∙ ap₂ (λ (t q : ℕ). getD (rowsOf (slotAt st t)) q 0) slot row
 
   slot-words : (s : ℕ) → s < 16 → slotIn (stateWords st) s ≡ slotAt st s
-  slot-words s h = rows-read (stateWords st) s (slotAt st s) (sized .path s h) (sized .siblings s h) (words-cell s h)
+  slot-words s h = rows-read (stateWords st) s (slotAt st s) (sized .path s h) (sized .beside s h) (words-cell s h)
 
   order-words : orderIn (stateWords st) ≡ st .order
   unfolding stateWords orderIn
@@ -78,7 +78,7 @@ module _ (st : State) (sized : Sized st) where
   unfolding known slotCount
   known-words =
       allBelow-from (λ (s : ℕ). leb (cell (stateWords st) 0 s) highestKind) 16
-      (λ s h. le-leb (cell (stateWords st) 0 s) highestKind (rows-kind (stateWords st) s (slotAt st s) (sized .path s h) (sized .siblings s h) (words-cell s h)))
+      (λ s h. le-leb (cell (stateWords st) 0 s) highestKind (rows-kind (stateWords st) s (slotAt st s) (sized .path s h) (sized .beside s h) (words-cell s h)))
 
   -- the words of a state read as that state
   pub state-back : stateOf (stateWords st) ≡ st
@@ -97,7 +97,7 @@ idle-sized k n = record {
   slots = refl;
   order = refl;
   path = λ s h. ap (λ (x : Slot). length (x .path)) (getD-replicate 16 s closedSlot closedSlot h);
-  siblings = λ s h. ap (λ (x : Slot). length (x .siblings)) (getD-replicate 16 s closedSlot closedSlot h);
+  beside = λ s h. ap (λ (x : Slot). length (x .beside)) (getD-replicate 16 s closedSlot closedSlot h);
 }
 
 -- ---- words that a state gives

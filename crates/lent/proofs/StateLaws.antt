@@ -66,33 +66,33 @@ kind-exists (Open (Next x)) = omega arith
 kind-exists (Open (Regrade x v)) = omega arith
 
 -- A slot whose numbers stand in these rows.
-module _ (ws : List ℕ) (s : ℕ) (slot : Slot) (path : length (slot .path) ≡ 10) (beside : length (slot .siblings) ≡ 10)
+module _ (ws : List ℕ) (s : ℕ) (slot : Slot) (path : length (slot .path) ≡ 10) (beside : length (slot .beside) ≡ 10)
     (rows : (r : ℕ) → r < 26 → cell ws r s ≡ getD (rowsOf slot) r 0) where
   -- behind the six numbers stand the pages
-  six-behind : (j : ℕ) → getD (rowsOf slot) (6 + j) 0 ≡ getD (slot .path ++ slot .siblings) j 0
+  six-behind : (j : ℕ) → getD (rowsOf slot) (6 + j) 0 ≡ getD (slot .path ++ slot .beside) j 0
   six-behind j =
-      getD-append-add (kindOf (slot .task) ∷ keyIn (slot .task) ∷ informationIn (slot .task) ∷ slot .want ∷ slot .depth ∷ slot .beside ∷ [])
-      (slot .path ++ slot .siblings) j 0
+      getD-append-add (kindOf (slot .task) ∷ keyIn (slot .task) ∷ informationIn (slot .task) ∷ slot .want ∷ slot .depth ∷ slot .breadth ∷ [])
+      (slot .path ++ slot .beside) j 0
 
   path-read : column ws 6 s ≡ slot .path
   unfolding column
   path-read =
       listOf-same 10 (λ (j : ℕ). cell ws (6 + j) s) (λ (j : ℕ). getD (slot .path) j 0)
-      (λ j h. rows (6 + j) (omega arith) ∙ six-behind j ∙ List·getD-append (slot .path) (slot .siblings) 0 j (omega arith))
+      (λ j h. rows (6 + j) (omega arith) ∙ six-behind j ∙ List·getD-append (slot .path) (slot .beside) 0 j (omega arith))
       ∙ listOf-getD (slot .path) 0 10 path
 
-  siblings-read : column ws 16 s ≡ slot .siblings
+  beside-read : column ws 16 s ≡ slot .beside
   unfolding column
-  siblings-read =
-      listOf-same 10 (λ (j : ℕ). cell ws (16 + j) s) (λ (j : ℕ). getD (slot .siblings) j 0)
+  beside-read =
+      listOf-same 10 (λ (j : ℕ). cell ws (16 + j) s) (λ (j : ℕ). getD (slot .beside) j 0)
       (λ j h.
       let same : 16 + j ≡ 6 + (10 + j) = omega arith in
       rows (16 + j) (omega arith)
       ∙ ap (λ (r : ℕ). getD (rowsOf slot) r 0) same
       ∙ six-behind (10 + j)
-      ∙ subst (λ (n : ℕ). getD (slot .path ++ slot .siblings) (n + j) 0 ≡ getD (slot .siblings) j 0) path
-      (getD-append-add (slot .path) (slot .siblings) j 0))
-      ∙ listOf-getD (slot .siblings) 0 10 beside
+      ∙ subst (λ (n : ℕ). getD (slot .path ++ slot .beside) (n + j) 0 ≡ getD (slot .beside) j 0) path
+      (getD-append-add (slot .path) (slot .beside) j 0))
+      ∙ listOf-getD (slot .beside) 0 10 beside
 
   -- it reads as the slot
   pub rows-read : slotIn ws s ≡ slot
@@ -106,17 +106,17 @@ module _ (ws : List ℕ) (s : ℕ) (slot : Slot) (path : length (slot .path) ≡
         want = rows 3 (omega arith) i;
         path = path-read i;
         depth = rows 4 (omega arith) i;
-        siblings = siblings-read i;
-        beside = rows 5 (omega arith) i;
+        beside = beside-read i;
+        breadth = rows 5 (omega arith) i;
       }
 
   -- and its kind exists
   pub rows-kind : cell ws 0 s ≤ highestKind
   rows-kind = subst (λ (a : ℕ). a ≤ highestKind) (sym (rows 0 (omega arith))) (kind-exists (slot .task))
 
-module _ (ws : List ℕ) (s : ℕ) (slot : Slot) (long : length ws ≡ 435) (inside : s < 16) (path : length (slot .path) ≡ 10) (beside : length (slot .siblings) ≡ 10) where
+module _ (ws : List ℕ) (s : ℕ) (slot : Slot) (long : length ws ≡ 435) (inside : s < 16) (path : length (slot .path) ≡ 10) (beside : length (slot .beside) ≡ 10) where
   rows-long : length (rowsOf slot) ≡ 26
-  rows-long = ap (λ (n : ℕ). suc (suc (suc (suc (suc (suc n)))))) (length-append (slot .path) (slot .siblings) ∙ omega arith)
+  rows-long = ap (λ (n : ℕ). suc (suc (suc (suc (suc (suc n)))))) (length-append (slot .path) (slot .beside) ∙ omega arith)
 
   row-laid : (r : ℕ) → r < 26 → cell (slotLaid ws s slot) r s ≡ getD (rowsOf slot) r 0
   unfolding slotLaid
@@ -156,8 +156,8 @@ slot-same ws ws′ s e = λ i. record {
   want = e 3 i;
   path = listOf-same 10 (λ (j : ℕ). cell ws (6 + j) s) (λ (j : ℕ). cell ws′ (6 + j) s) (λ j _. e (6 + j)) i;
   depth = e 4 i;
-  siblings = listOf-same 10 (λ (j : ℕ). cell ws (16 + j) s) (λ (j : ℕ). cell ws′ (16 + j) s) (λ j _. e (16 + j)) i;
-  beside = e 5 i;
+  beside = listOf-same 10 (λ (j : ℕ). cell ws (16 + j) s) (λ (j : ℕ). cell ws′ (16 + j) s) (λ j _. e (16 + j)) i;
+  breadth = e 5 i;
 }
 
 -- ---- the order
@@ -233,7 +233,7 @@ module _ (ws : List ℕ) (s : ℕ) (slot : Slot) (order : List ℕ) (waiting : �
   unfolding laidInto
   written-laid = ap (slotLaid (orderLaid ws waiting order) s) next-slot
 
-  module _ (cells : length order ≡ 16) (path : length (slot .path) ≡ 10) (beside : length (slot .siblings) ≡ 10) where
+  module _ (cells : length order ≡ 16) (path : length (slot .path) ≡ 10) (beside : length (slot .beside) ≡ 10) where
     mid : List ℕ
     mid = orderLaid ws waiting order
 

@@ -10,7 +10,7 @@ use Rattle.slots.specs.declared.Op.{Op}
 use Rattle.slots.specs.declared.Slot.{Slot}
 use Rattle.slots.specs.Parts.{openSlot, closedSlot, waitingOrder}
 use Rattle.slots.specs.Book.{leaving, begins, requeued, closes}
-use Rattle.slots.proofs.BookLaws.{gapAt}
+use Rattle.slots.proofs.MakingLaws.{gapAt}
 use Rattle.lent.specs.Words.{address, orderIn, asRead, kindOf, keyIn, informationIn, spread, slotLaid, orderLaid, laidInto}
 use Rattle.lent.proofs.SpreadLaws.{spread-append}
 use Rattle.lent.proofs.StateLaws.{by-front, written-laid}
@@ -84,17 +84,17 @@ pub laid-by : (ws : List ℕ) (s : ℕ) (slot : Slot) {c₁ c₂ c₃ c₄ c₅ 
     → c₁ ≡ spread ws 0 s (kindOf (slot .task) ∷ keyIn (slot .task) ∷ informationIn (slot .task) ∷ [])
     → c₂ ≡ set c₁ (address 3 s) (slot .want)
     → c₃ ≡ set c₂ (address 4 s) (slot .depth)
-    → c₄ ≡ set c₃ (address 5 s) (slot .beside)
+    → c₄ ≡ set c₃ (address 5 s) (slot .breadth)
     → c₅ ≡ spread c₄ 6 s (slot .path)
-    → c₆ ≡ spread c₅ 16 s (slot .siblings)
+    → c₆ ≡ spread c₅ 16 s (slot .beside)
     → c₆ ≡ slotLaid ws s slot
 unfolding slotLaid spread
 laid-by ws s slot long e₁ e₂ e₃ e₄ e₅ e₆ =
-    let six : List ℕ = spread ws 0 s (kindOf (slot .task) ∷ keyIn (slot .task) ∷ informationIn (slot .task) ∷ slot .want ∷ slot .depth ∷ slot .beside ∷ []) in
+    let six : List ℕ = spread ws 0 s (kindOf (slot .task) ∷ keyIn (slot .task) ∷ informationIn (slot .task) ∷ slot .want ∷ slot .depth ∷ slot .breadth ∷ []) in
     let there : _ ≡ six =
-    e₄ ∙ ap (λ (l : List ℕ). set l (address 5 s) (slot .beside)) (e₃ ∙ ap (λ (l : List ℕ). set l (address 4 s) (slot .depth)) (e₂ ∙ ap (λ (l : List ℕ). set l (address 3 s) (slot .want)) e₁)) in
+    e₄ ∙ ap (λ (l : List ℕ). set l (address 5 s) (slot .breadth)) (e₃ ∙ ap (λ (l : List ℕ). set l (address 4 s) (slot .depth)) (e₂ ∙ ap (λ (l : List ℕ). set l (address 3 s) (slot .want)) e₁)) in
     let behind : 6 + length (slot .path) ≡ 16 = omega arith in
     e₆
-    ∙ ap (λ (l : List ℕ). spread l 16 s (slot .siblings)) (e₅ ∙ ap (λ (l : List ℕ). spread l 6 s (slot .path)) there)
-    ∙ ap (λ (r : ℕ). spread (spread six 6 s (slot .path)) r s (slot .siblings)) (sym behind)
-    ∙ sym (spread-append six 6 s (slot .path) (slot .siblings))
+    ∙ ap (λ (l : List ℕ). spread l 16 s (slot .beside)) (e₅ ∙ ap (λ (l : List ℕ). spread l 6 s (slot .path)) there)
+    ∙ ap (λ (r : ℕ). spread (spread six 6 s (slot .path)) r s (slot .beside)) (sym behind)
+    ∙ sym (spread-append six 6 s (slot .path) (slot .beside))

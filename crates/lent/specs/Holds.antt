@@ -10,10 +10,10 @@ use Rattle.ground.specs.Tests.{anyBelow, member}
 use Rattle.slots.specs.Parts.{held, openAt, waitingOrder}
 use Rattle.lent.specs.Words.{cell, slotIn, asRead}
 
--- no path and no list of siblings is longer than its rows, and a closed slot holds nothing
-pub record Short (ws : List ℕ) : Type 0 where
+-- no path is longer than its rows, nor are the pages beside it, and a closed slot holds nothing
+pub record WithinRows (ws : List ℕ) : Type 0 where
   pub path : (s : ℕ) → s < 16 → cell ws 4 s ≤ 10
-  pub siblings : (s : ℕ) → s < 16 → cell ws 5 s ≤ 10
+  pub beside : (s : ℕ) → s < 16 → cell ws 5 s ≤ 10
   pub closed : (t : ℕ) → t < 16 → cell ws 0 t ≡ 0 → (cell ws 4 t ≡ 0) × (cell ws 5 t ≡ 0)
 
 -- the waiting order is no longer than its row, and names open slots

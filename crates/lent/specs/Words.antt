@@ -30,8 +30,8 @@ address r s = 19 + 16 * r + s
 abbrev pub cell : List ℕ → ℕ → ℕ → ℕ
 cell ws r s = getD ws (address r s) 0
 
--- Rows: 0 kind of task, 1 key, 2 information, 3 want, 4 how long the path is, 5 how many siblings, 6 to 15 the path,
--- 16 to 25 the siblings.
+-- Rows: 0 kind of task, 1 key, 2 information, 3 want, 4 how long the path is, 5 how many pages stand beside it, 6 to 15 the path,
+-- 16 to 25 the pages beside it.
 unfoldable pub column : List ℕ → ℕ → ℕ → List ℕ
 column ws r s = listOf 10 (λ (j : ℕ). cell ws (r + j) s)
 
@@ -57,8 +57,8 @@ slotIn ws s = record {
   want = cell ws 3 s;
   path = column ws 6 s;
   depth = cell ws 4 s;
-  siblings = column ws 16 s;
-  beside = cell ws 5 s;
+  beside = column ws 16 s;
+  breadth = cell ws 5 s;
 }
 
 -- the waiting order
@@ -108,7 +108,7 @@ informationIn (Open (Regrade x v)) = v
 -- the numbers of a slot, row by row
 abbrev pub rowsOf : Slot → List ℕ
 rowsOf slot =
-    kindOf (slot .task) ∷ keyIn (slot .task) ∷ informationIn (slot .task) ∷ slot .want ∷ slot .depth ∷ slot .beside ∷ slot .path ++ slot .siblings
+    kindOf (slot .task) ∷ keyIn (slot .task) ∷ informationIn (slot .task) ∷ slot .want ∷ slot .depth ∷ slot .breadth ∷ slot .path ++ slot .beside
 
 -- these numbers down the column of slot s, from row r on
 unfoldable pub spread : List ℕ → ℕ → ℕ → List ℕ → List ℕ

@@ -8,8 +8,8 @@ use crate::cells::waiting_of;
 use crate::lifting::lay;
 use slots::Op;
 use slots::Slot;
-use slots::book::closed_slot;
-use slots::book::fresh_slot;
+use slots::making::closed_slot;
+use slots::making::fresh_slot;
 ghost use mathlib.Core.Path.{_≡_};
 ghost use mathlib.Core.List.{_∷_, _++_};
 ghost use mathlib.Core.Bool.{true};
@@ -91,7 +91,7 @@ pub fn begins(cells: &mut [u32; STATE], s: usize, op: Op)
 
 // The slot goes on with new holdings: its new want goes to the end of the waiting order.
 pub fn requeues(cells: &mut [u32; STATE], s: usize, slot: Slot)
-    requires { ⌜ (s < 16) × (getD (now cells) 2 0 ≤ 16) × (member s (waitingOrder (asRead (now cells))) ≡ true) × (slot .depth ≤ 10) × (slot .beside ≤ 10) ⌝ }
+    requires { ⌜ (s < 16) × (getD (now cells) 2 0 ≤ 16) × (member s (waitingOrder (asRead (now cells))) ≡ true) × (slot .depth ≤ 10) × (slot .breadth ≤ 10) ⌝ }
     ensures { λ _. ⌜ now (cells .exit) ≡ laidInto (now (cells .entry)) s (requeued (asRead (now (cells .entry))) s slot) ⌝ }
 {
     sized(cells);

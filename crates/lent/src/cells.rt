@@ -1,5 +1,5 @@
 // The words of a state, one by one. Where a row lies is said here, and for the three rows of a task in `lifting::lay_task`.
-use crate::BESIDE;
+use crate::BREADTH;
 use crate::DEPTH;
 use crate::KIND;
 use crate::ORDER;
@@ -97,12 +97,12 @@ pub fn depth_at(cells: &[u32; STATE], s: usize) -> u32
     word_at(cells, DEPTH, s)
 }
 
-// How many siblings it holds.
-pub fn beside_at(cells: &[u32; STATE], s: usize) -> u32
+// How many pages it holds beside its path.
+pub fn breadth_at(cells: &[u32; STATE], s: usize) -> u32
     requires { ⌜ s < 16 ⌝ }
     ensures { λ r. ⌜ r ≡ cell (now (cells .entry)) 5 s ⌝ }
 {
-    word_at(cells, BESIDE, s)
+    word_at(cells, BREADTH, s)
 }
 
 // The top page of its path.

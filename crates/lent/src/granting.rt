@@ -1,11 +1,11 @@
 // Who holds a page, and when a step grants a want. Most slots hold one page: the tops are looked at first, in one row, and
 // below them only the slots that hold more.
+use crate::BESIDE;
 use crate::HIGHEST_KIND;
 use crate::PATH;
 use crate::REGRADES;
-use crate::SIBLINGS;
 use crate::STATE;
-use crate::cells::beside_at;
+use crate::cells::breadth_at;
 use crate::cells::depth_at;
 use crate::cells::kind_at;
 use crate::cells::order_at;
@@ -25,7 +25,7 @@ ghost use Rattle.ground.specs.Tests.{anyBelow, member};
 ghost use Rattle.slots.specs.Parts.{held};
 ghost use Rattle.slots.specs.Grant as rule;
 ghost use Rattle.lent.specs.Words.{cell, column, slotIn, asRead, known};
-ghost use Rattle.lent.specs.Holds.{Short, OpenOrder, updatesKind, clashesKind, topHolds, deepHolds, isDeep, othersHold, alsoWants};
+ghost use Rattle.lent.specs.Holds.{WithinRows, OpenOrder, updatesKind, clashesKind, topHolds, deepHolds, isDeep, othersHold, alsoWants};
 
 // Page p stands in one of the first `count` rows from `row` on, of slot s.
 pub fn column_has(cells: &[u32; STATE], row: usize, count: usize, s: usize, p: u32) -> bool
@@ -44,13 +44,13 @@ pub fn column_has(cells: &[u32; STATE], row: usize, count: usize, s: usize, p: u
 
 // Slot s holds page p, on its path or as a sibling.
 pub fn holds_at(cells: &[u32; STATE], s: usize, p: u32) -> bool
-    requires { ⌜ (s < 16) × Short (now cells) ⌝ }
+    requires { ⌜ (s < 16) × WithinRows (now cells) ⌝ }
     ensures { λ r. ⌜ r ≡ member p (held (slotIn (now (cells .entry)) s)) ⌝ }
 {
     if column_has(cells, PATH, wide(depth_at(cells, s)), s, p) {
         return true;
     }
-    column_has(cells, SIBLINGS, wide(beside_at(cells, s)), s, p)
+    column_has(cells, BESIDE, wide(breadth_at(cells, s)), s, p)
 }
 
 // The lock of this kind is ξ: it is an insertion, a deletion (of all kinds these alone have an odd half) or a regrading. No way out
@@ -105,7 +105,7 @@ pub fn is_deep(cells: &[u32; STATE], t: usize) -> bool
     requires { ⌜ t < 16 ⌝ }
     ensures { λ r. ⌜ r ≡ isDeep (now (cells .entry)) t ⌝ }
 {
-    (1 < depth_at(cells, t)) | (0 < beside_at(cells, t))
+    (1 < depth_at(cells, t)) | (0 < breadth_at(cells, t))
 }
 
 // Some slot does.
@@ -123,7 +123,7 @@ pub fn some_deep(cells: &[u32; STATE]) -> bool
 
 // Slot t is another one than s, its lock counts, it holds more than one page, and page p is among them.
 pub fn deep_holds(cells: &[u32; STATE], s: usize, any: bool, p: u32, t: usize) -> bool
-    requires { ⌜ (t < 16) × Short (now cells) ⌝ }
+    requires { ⌜ (t < 16) × WithinRows (now cells) ⌝ }
     ensures { λ r. ⌜ r ≡ deepHolds (now (cells .entry)) s any p t ⌝ }
 {
     if !is_deep(cells, t) {
@@ -140,7 +140,7 @@ pub fn deep_holds(cells: &[u32; STATE], s: usize, any: bool, p: u32, t: usize) -
 
 // Such a slot is there.
 pub fn some_deep_holds(cells: &[u32; STATE], s: usize, any: bool, p: u32) -> bool
-    requires { ⌜ Short (now cells) ⌝ }
+    requires { ⌜ WithinRows (now cells) ⌝ }
     ensures { λ r. ⌜ r ≡ anyBelow 16 (deepHolds (now (cells .entry)) s any p) ⌝ }
 {
     let mut t = 0;
@@ -155,7 +155,7 @@ pub fn some_deep_holds(cells: &[u32; STATE], s: usize, any: bool, p: u32) -> boo
 
 // Another slot than s, whose lock counts, holds page p.
 pub fn others_hold(cells: &[u32; STATE], s: usize, any: bool, p: u32) -> bool
-    requires { ⌜ (s < 16) × Short (now cells) ⌝ }
+    requires { ⌜ (s < 16) × WithinRows (now cells) ⌝ }
     ensures { λ r. ⌜ r ≡ othersHold (now (cells .entry)) s any p ⌝ }
 {
     if tops_hold(cells, s, any, p) {
@@ -170,7 +170,7 @@ pub fn others_hold(cells: &[u32; STATE], s: usize, any: bool, p: u32) -> bool
 // No other slot holds a clashing lock on the page that slot s wants. Two ρ on a page go together, ξ goes with nothing: an
 // update asks for any lock, a reader for ξ. A closed slot has no lock, and holds no page either.
 pub fn no_clash(cells: &[u32; STATE], s: usize) -> bool
-    requires { ⌜ (s < 16) × (known (now cells) ≡ true) × Short (now cells) × (0 < cell (now cells) 0 s) ⌝ }
+    requires { ⌜ (s < 16) × (known (now cells) ≡ true) × WithinRows (now cells) × (0 < cell (now cells) 0 s) ⌝ }
     ensures { λ r. ⌜ r ≡ rule.noClash (asRead (now (cells .entry))) s ⌝ }
 {
     let any = is_update(kind_at(cells, s));
@@ -215,7 +215,7 @@ pub fn no_older(cells: &[u32; STATE], s: usize) -> bool
 
 // A step grants the want of slot s.
 pub fn grants(cells: &[u32; STATE], s: usize) -> bool
-    requires { ⌜ (s < 16) × (known (now cells) ≡ true) × Short (now cells) × (0 < cell (now cells) 0 s) × OpenOrder (now cells) ⌝ }
+    requires { ⌜ (s < 16) × (known (now cells) ≡ true) × WithinRows (now cells) × (0 < cell (now cells) 0 s) × OpenOrder (now cells) ⌝ }
     ensures { λ r. ⌜ r ≡ rule.grants (asRead (now (cells .entry))) s ⌝ }
 {
     if !no_older(cells, s) {

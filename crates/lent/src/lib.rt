@@ -29,13 +29,13 @@ pub const WANT: usize = 3;
 
 pub const DEPTH: usize = 4;
 
-pub const BESIDE: usize = 5;
+pub const BREADTH: usize = 5;
 
 pub const PATH: usize = 6;
 
-pub const SIBLINGS: usize = PATH + HELD;
+pub const BESIDE: usize = PATH + HELD;
 
-pub const ROWS: usize = SIBLINGS + HELD;
+pub const ROWS: usize = BESIDE + HELD;
 
 // All words of a state.
 pub const STATE: usize = ROWS_FROM + SLOTS * ROWS;

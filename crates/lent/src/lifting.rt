@@ -1,5 +1,6 @@
 // One slot lifted out of its column, and laid back.
 use crate::BESIDE;
+use crate::BREADTH;
 use crate::DELETES;
 use crate::DEPTH;
 use crate::INFORMATION;
@@ -10,10 +11,9 @@ use crate::PATH;
 use crate::REGRADES;
 use crate::ROWS_FROM;
 use crate::SEARCHES;
-use crate::SIBLINGS;
 use crate::STATE;
 use crate::WANT;
-use crate::cells::beside_at;
+use crate::cells::breadth_at;
 use crate::cells::depth_at;
 use crate::cells::kind_at;
 use crate::cells::put;
@@ -84,14 +84,14 @@ pub fn slot_at(cells: &[u32; STATE], s: usize) -> Slot
 {
     let task = task_at(cells, s);
     let path = column_of(cells, PATH, s);
-    let siblings = column_of(cells, SIBLINGS, s);
+    let beside = column_of(cells, BESIDE, s);
     Slot {
         task,
         want: want_at(cells, s),
         path,
         depth: wide(depth_at(cells, s)),
-        siblings,
-        beside: wide(beside_at(cells, s)),
+        beside,
+        breadth: wide(breadth_at(cells, s)),
     }
 }
 
@@ -168,16 +168,16 @@ pub fn lay_column(cells: &mut [u32; STATE], row: usize, s: usize, pages: [u32; H
 
 // A slot, laid back.
 pub fn lay(cells: &mut [u32; STATE], s: usize, slot: Slot)
-    requires { ⌜ (s < 16) × (slot .depth ≤ 10) × (slot .beside ≤ 10) ⌝ }
+    requires { ⌜ (s < 16) × (slot .depth ≤ 10) × (slot .breadth ≤ 10) ⌝ }
     ensures { λ _. ⌜ now (cells .exit) ≡ slotLaid (now (cells .entry)) s slot ⌝ }
 {
     let task = slot.task;
     lay_task(cells, s, task);
     put(cells, WANT, s, slot.want);
     put(cells, DEPTH, s, slot.depth as u32);
-    put(cells, BESIDE, s, slot.beside as u32);
+    put(cells, BREADTH, s, slot.breadth as u32);
     let path = slot.path;
     lay_column(cells, PATH, s, path);
-    let siblings = slot.siblings;
-    lay_column(cells, SIBLINGS, s, siblings);
+    let beside = slot.beside;
+    lay_column(cells, BESIDE, s, beside);
 }

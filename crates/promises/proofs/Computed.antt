@@ -16,7 +16,7 @@ use Rattle.pool.specs.Pool.{poolLength, start, wordsOf, pageAt, written, applie
 use Rattle.change.specs.Insertion.{room, settled, insertion}
 use Rattle.change.specs.Deletion.{needs, shares, shrunk, deletion}
 use Rattle.change.specs.Regrading.{regrading}
-use Rattle.slots.specs.Parts.{pathOf, siblingsOf, waitingOrder}
+use Rattle.slots.specs.Parts.{pathOf, besideOf, waitingOrder}
 use Rattle.slots.specs.Grant.{olderThan, noClash, noOlder}
 use Rattle.slots.specs.Book.{leaving, begins, goesOn, closes}
 use Rattle.slots.specs.Sound.{orderSound, slotSound, noClashingHolds, sound}
@@ -35,7 +35,7 @@ use Rattle.promises.specs.RegradeRows.{regradeRows}
 
 -- Everything that a call unfolds to: who unfolds this unfolds all of it.
 calls : Unit {0}
-unfolding largestK largestN tallest slotCount searchHolds regradeHolds pathHolds siblingHolds all count member distinct apart allBelow anyBelow countBelow listBelow firstBelow padded flat encode pairs view place has information atOrAbove without regraded risesFrom rises soundByItself put split neighbour betweenAt fromRight fromLeft joined lessKey rekeyed poolLength start wordsOf pageAt written applied isFree freePages fresh room settled insertion needs shares shrunk deletion regrading pathOf siblingsOf waitingOrder olderThan noClash noOlder leaving begins goesOn closes orderSound slotSound noClashingHolds sound begun reported deletes atLeaf comesDown goesLeft besides granted pagesSound descends sameLevels leftmost fitting soundForStep verdict stepped made called run runFrom
+unfolding largestK largestN tallest slotCount searchHolds regradeHolds pathHolds siblingHolds all count member distinct apart allBelow anyBelow countBelow listBelow firstBelow padded flat encode pairs view place has information atOrAbove without regraded risesFrom rises soundByItself put split neighbour betweenAt fromRight fromLeft joined lessKey rekeyed poolLength start wordsOf pageAt written applied isFree freePages fresh room settled insertion needs shares shrunk deletion regrading pathOf besideOf waitingOrder olderThan noClash noOlder leaving begins goesOn closes orderSound slotSound noClashingHolds sound begun reported deletes atLeaf comesDown goesLeft besides granted pagesSound descends sameLevels leftmost fitting soundForStep verdict stepped made called run runFrom
 calls = tt
 
 -- Two lists are compared number by number, so that the prover computes a test and compares no terms.

@@ -20,7 +20,7 @@ use Rattle.slots.specs.declared.State.{State}
 use Rattle.slots.specs.declared.Answer.{Answer}
 use Rattle.slots.specs.declared.Answer.the-variants.{Waiting, Begun, Made, BadState, BadPool, BadSlot, SlotBusy, SlotIdle, Damaged, BadPage}
 use Rattle.slots.specs.Heard.{numberOf, refuses, changesNothing}
-use Rattle.slots.specs.Parts.{isOpen, slotAt, openAt, pathOf, siblingsOf}
+use Rattle.slots.specs.Parts.{isOpen, slotAt, openAt, pathOf, besideOf}
 use Rattle.slots.specs.Sound.{sound}
 use Rattle.slots.specs.Grant.{grants}
 use Rattle.slots.specs.Begin.{begun}
@@ -131,15 +131,15 @@ acted-answers st ws s op (ends answer writes) new h = h
 
 -- what a granted step comes to where the pages are sound for it
 abbrev comes : State → List ℕ → Slot → Op → Verdict
-comes st ws slot op = granted op (st .k) (pageAt (st .k) ws) (freePages (st .k) (st .n) ws) (pathOf slot) (siblingsOf slot) (slot .want)
+comes st ws slot op = granted op (st .k) (pageAt (st .k) ws) (freePages (st .k) (st .n) ws) (pathOf slot) (besideOf slot) (slot .want)
 
 -- it is not broken there
 sound-answers : (st : State) (ws : List ℕ) (s : ℕ) (slot : Slot) (op : Op) → soundForTask st ws slot (Open op) ≡ true → ofGranted (acted st ws s op (comes st ws slot op) .answer) ≡ true
 unfolding soundForStep
 sound-answers st ws s slot op h =
     acted-answers st ws s op (comes st ws slot op)
-    (and-second (pagesSound (st .k) (st .n) ws (pathOf slot ++ siblingsOf slot ++ slot .want ∷ []) && fitting op (st .k) (pageAt (st .k) ws) (pathOf slot) (siblingsOf slot) (slot .want)) (nextIsNew (comes st ws slot op)) h)
-    (granted-answers op (st .k) (pageAt (st .k) ws) (freePages (st .k) (st .n) ws) (pathOf slot) (siblingsOf slot) (slot .want))
+    (and-second (pagesSound (st .k) (st .n) ws (pathOf slot ++ besideOf slot ++ slot .want ∷ []) && fitting op (st .k) (pageAt (st .k) ws) (pathOf slot) (besideOf slot) (slot .want)) (nextIsNew (comes st ws slot op)) h)
+    (granted-answers op (st .k) (pageAt (st .k) ws) (freePages (st .k) (st .n) ws) (pathOf slot) (besideOf slot) (slot .want))
 
 -- where each condition leads, once the state is sound, the words fit and there is such a slot
 task-idle : (st : State) (ws : List ℕ) (s : ℕ) (slot : Slot) (task : Task) → isOpen task ≡ false → steppedTask st ws s slot task .answer ≡ SlotIdle

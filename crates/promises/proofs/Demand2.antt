@@ -29,7 +29,7 @@ use Rattle.slots.specs.declared.Lock.the-variants.{Rho, Xi}
 use Rattle.slots.specs.declared.Outcome.{Outcome}
 use Rattle.slots.specs.declared.Answer.{Answer}
 use Rattle.slots.specs.declared.Answer.the-variants.{Waiting, Moved, NoRoom, BadSlot, SlotIdle}
-use Rattle.slots.specs.Parts.{isDelete, isNext, goesBeside, isOpen, held, pathOf, siblingsOf, slotAt, openAt, wantAt, holdsAt, waitingOrder, openSlot, closedSlot}
+use Rattle.slots.specs.Parts.{isDelete, isNext, goesBeside, isOpen, held, pathOf, besideOf, slotAt, openAt, wantAt, holdsAt, waitingOrder, openSlot, closedSlot, Opened}
 use Rattle.slots.specs.Locks.{lockOf, lockAt, clash}
 use Rattle.slots.specs.Sound.{withinLimits}
 use Rattle.slots.specs.Heard.{numberOf, changesNothing, isOneOf, countedAnswers, ending}
@@ -41,7 +41,7 @@ use Rattle.slots.proofs.SoundFacts.{facts-sound}
 use Rattle.slots.proofs.Clashes.{no-two-locks-clash}
 use Rattle.slots.proofs.GrantLaws.{holder-open}
 use Rattle.slots.proofs.OrderLaws.{order-has-room, leaving-between, waiting-begins, waiting-requeued, waiting-closes}
-use Rattle.slots.proofs.Keeping.{slot-here, slot-other, path-new, siblings-new, held-new}
+use Rattle.slots.proofs.Keeping.{slot-here, slot-other, path-new, beside-new, held-new}
 use Rattle.footing.specs.Granted.{isSafe}
 use Rattle.index.specs.Step.{Left, left, stepped}
 use Rattle.tree.specs.Tree.{Tr, entriesOf}
@@ -60,7 +60,7 @@ use Rattle.runs.proofs.Older.{older-before, before-older}
 use Rattle.runs.proofs.PlainLaws.{none-below, below-none}
 use Rattle.runs.proofs.Agreement.{plain-counted}
 use Rattle.promises.specs.Demand1.{Exactly}
-use Rattle.promises.specs.Demand2.{Opened, Reader, AfterEveryCall, Seen, InTheWay, StepLocks, CallLocks, answersOf, Words, Demand2Holds}
+use Rattle.promises.specs.Demand2.{Reader, AfterEveryCall, Seen, InTheWay, StepLocks, CallLocks, answersOf, Words, Demand2Holds}
 use Rattle.promises.proofs.Seen.{step-seen}
 
 -- ---- after every call
@@ -147,7 +147,7 @@ regrade-one x v k memory l t path siblings want (inr (inr (inl b))) = absurd (fa
 regrade-one x v k memory l t path siblings want (inr (inr (inr c))) = absurd (false≢true (c .asksNext))
 
 after-call : (st : State) (ws : List ℕ) → Invariant st ws → AfterEveryCall (st .k) (st .n) st ws
-unfolding pathOf siblingsOf
+unfolding pathOf besideOf
 after-call st ws inv = record {
   sameK = refl;
   sameN = refl;
@@ -163,7 +163,7 @@ after-call st ws inv = record {
   stands = inv .stands;
   closed = λ s b c. closed-empty (slotAt st s .task) (slotAt st s .depth) (slotAt st s .beside) (slotAt st s .path) (slotAt st s .siblings) (inv .sound .slot s b .limits) c;
   oneHeld = λ s x v b runs.
-      regrade-one x v (st .k) (pageAt (st .k) ws) (inv .height) (inv .tree) (pathOf (slotAt st s)) (siblingsOf (slotAt st s)) (wantAt st s)
+      regrade-one x v (st .k) (pageAt (st .k) ws) (inv .height) (inv .tree) (pathOf (slotAt st s)) (besideOf (slotAt st s)) (wantAt st s)
       (inv .stands s (Regrade x v) b runs);
 }
 
@@ -241,7 +241,7 @@ module _ (st : State) (ws : List ℕ) (inv : Invariant st ws) where
   unchanged s a same w e = subst (StepLocks st ws s) (sym e) (record { itself = inl (record { answer = same; state = refl; words = refl }); others = λ u n. refl; waits = w; waitsFor = waits-for s (left a st ws) w })
 
   moved : (s : ℕ) (b : s < slotCount) (op : Op) (path siblings : List ℕ) (want : ℕ) → Opened st s op
-      → Takes op (st .k) (pageAt (st .k) ws) (pathOf (slotAt st s)) (siblingsOf (slotAt st s)) (wantAt st s) path siblings
+      → Takes op (st .k) (pageAt (st .k) ws) (pathOf (slotAt st s)) (besideOf (slotAt st s)) (wantAt st s) path siblings
       → grants st s ≡ true → StepLocks st ws s (left Moved (goesOn st s op want path siblings) ws)
   unfolding goesOn member
   moved s b op path siblings want runs takes g = record {
@@ -252,10 +252,10 @@ module _ (st : State) (ws : List ℕ) (inv : Invariant st ws) where
       words = refl;
       still = ap (λ (sl : Slot). sl .task) here;
       taken = ap (λ (sl : Slot). member (wantAt st s) (held sl)) here ∙ ap (member (wantAt st s)) (held-new op want path siblings)
-          ∙ takes-wanted op (st .k) (pageAt (st .k) ws) (pathOf (slotAt st s)) (siblingsOf (slotAt st s)) (wantAt st s) path siblings takes;
-      takes = subst (λ (sl : Slot). Takes op (st .k) (pageAt (st .k) ws) (pathOf (slotAt st s)) (siblingsOf (slotAt st s)) (wantAt st s) (pathOf sl) (siblingsOf sl)) (sym here)
-          (subst (λ (ps : List ℕ). Takes op (st .k) (pageAt (st .k) ws) (pathOf (slotAt st s)) (siblingsOf (slotAt st s)) (wantAt st s) ps (siblingsOf slot)) (sym (path-new op want path siblings))
-          (subst (Takes op (st .k) (pageAt (st .k) ws) (pathOf (slotAt st s)) (siblingsOf (slotAt st s)) (wantAt st s) path) (sym (siblings-new op want path siblings)) takes));
+          ∙ takes-wanted op (st .k) (pageAt (st .k) ws) (pathOf (slotAt st s)) (besideOf (slotAt st s)) (wantAt st s) path siblings takes;
+      takes = subst (λ (sl : Slot). Takes op (st .k) (pageAt (st .k) ws) (pathOf (slotAt st s)) (besideOf (slotAt st s)) (wantAt st s) (pathOf sl) (besideOf sl)) (sym here)
+          (subst (λ (ps : List ℕ). Takes op (st .k) (pageAt (st .k) ws) (pathOf (slotAt st s)) (besideOf (slotAt st s)) (wantAt st s) ps (besideOf slot)) (sym (path-new op want path siblings))
+          (subst (Takes op (st .k) (pageAt (st .k) ws) (pathOf (slotAt st s)) (besideOf (slotAt st s)) (wantAt st s) path) (sym (beside-new op want path siblings)) takes));
       order = waiting-requeued st s order-long (inv .sound .orderNames s b (ap isOpen runs)) slot;
     }));
     others = λ u n. slot-other st (inv .shaped) s b slot [] 0 u n;
@@ -274,7 +274,7 @@ module _ (st : State) (ws : List ℕ) (inv : Invariant st ws) where
 
   -- a page that an ended operation did not write has its words as before
   unwritten : (s : ℕ) (op : Op) (a : Answer) (writes : List Write)
-      → Ended op (st .k) (st .n) ws (inv .height) (inv .tree) (pathOf (slotAt st s)) (siblingsOf (slotAt st s)) (wantAt st s) a writes
+      → Ended op (st .k) (st .n) ws (inv .height) (inv .tree) (pathOf (slotAt st s)) (besideOf (slotAt st s)) (wantAt st s) a writes
       → (q : ℕ) → (member q (writtenPages writes) ≡ true → ⊥) → wordsOf (st .k) q (applied (st .k) writes ws) ≡ wordsOf (st .k) q ws
   unwritten s op a writes e q never =
       wordsOf-applied-other (st .k) (st .n) q writes ws (fit-writes (st .k) (st .n) writes (e .leads .fitting) (e .leads .inside))
@@ -282,7 +282,7 @@ module _ (st : State) (ws : List ℕ) (inv : Invariant st ws) where
 
   -- so one that it did not hold, and that was not free
   untouched : (s : ℕ) (op : Op) (a : Answer) (writes : List Write)
-      → Ended op (st .k) (st .n) ws (inv .height) (inv .tree) (pathOf (slotAt st s)) (siblingsOf (slotAt st s)) (wantAt st s) a writes
+      → Ended op (st .k) (st .n) ws (inv .height) (inv .tree) (pathOf (slotAt st s)) (besideOf (slotAt st s)) (wantAt st s) a writes
       → (q : ℕ) → q < st .n → holdsAt st s q ≡ false → q ≢ wantAt st s → pageAt (st .k) ws q .level ≢ 0 → wordsOf (st .k) q (applied (st .k) writes ws) ≡ wordsOf (st .k) q ws
   untouched s op a writes e q b h n level =
       unwritten s op a writes e q (λ w. ⊎-elim
@@ -292,7 +292,7 @@ module _ (st : State) (ws : List ℕ) (inv : Invariant st ws) where
 
   -- an operation ends with an answer that ends
   ends-so : (op : Op) (s : ℕ) (a : Answer) (writes : List Write)
-      → Ended op (st .k) (st .n) ws (inv .height) (inv .tree) (pathOf (slotAt st s)) (siblingsOf (slotAt st s)) (wantAt st s) a writes → isOneOf a ending ≡ true
+      → Ended op (st .k) (st .n) ws (inv .height) (inv .tree) (pathOf (slotAt st s)) (besideOf (slotAt st s)) (wantAt st s) a writes → isOneOf a ending ≡ true
   unfolding member
   ends-so op s a writes e =
       ⊎-elim
@@ -302,7 +302,7 @@ module _ (st : State) (ws : List ℕ) (inv : Invariant st ws) where
 
   -- which is not Waiting
   ends-waiting : (op : Op) (s : ℕ) (a : Answer) (writes : List Write)
-      → Ended op (st .k) (st .n) ws (inv .height) (inv .tree) (pathOf (slotAt st s)) (siblingsOf (slotAt st s)) (wantAt st s) a writes → isOneOf a (Waiting ∷ []) ≡ false
+      → Ended op (st .k) (st .n) ws (inv .height) (inv .tree) (pathOf (slotAt st s)) (besideOf (slotAt st s)) (wantAt st s) a writes → isOneOf a (Waiting ∷ []) ≡ false
   unfolding member
   ends-waiting op s a writes e =
       false-if-not-true (isOneOf a (Waiting ∷ [])) (λ w.
@@ -310,10 +310,10 @@ module _ (st : State) (ws : List ℕ) (inv : Invariant st ws) where
       not-both (ends-so op s a writes e) (ap (λ (m : ℕ). member m (map numberOf ending)) same))
 
   ended : (s : ℕ) (b : s < slotCount) (op : Op) (a : Answer) (writes : List Write) → Opened st s op → grants st s ≡ true
-      → Ended op (st .k) (st .n) ws (inv .height) (inv .tree) (pathOf (slotAt st s)) (siblingsOf (slotAt st s)) (wantAt st s) a writes
+      → Ended op (st .k) (st .n) ws (inv .height) (inv .tree) (pathOf (slotAt st s)) (besideOf (slotAt st s)) (wantAt st s) a writes
       → stepped st ws s ≡ left a (closes st s) (applied (st .k) writes ws)
       → StepLocks st ws s (left a (closes st s) (applied (st .k) writes ws))
-  unfolding closes pathOf siblingsOf padded applied
+  unfolding closes pathOf besideOf padded applied
   ended s b op a writes runs g e told = record {
     itself = inr (inr (record {
       op = op;

@@ -32,7 +32,7 @@ use Rattle.slots.specs.declared.Slot.{Slot}
 use Rattle.slots.specs.declared.State.{State}
 use Rattle.slots.specs.declared.Answer.{Answer}
 use Rattle.slots.specs.declared.Answer.the-variants.{Waiting, Moved, Deleted, NoSuchKey, BadState, BadPool, BadSlot, Damaged, Regraded}
-use Rattle.slots.specs.Parts.{isOpen, held, pathOf, siblingsOf, slotAt}
+use Rattle.slots.specs.Parts.{isOpen, held, pathOf, besideOf, slotAt}
 use Rattle.slots.specs.Heard.{heard, numberOf}
 use Rattle.slots.specs.Grant.{grants}
 use Rattle.slots.specs.Sound.{sound}
@@ -175,8 +175,8 @@ regrading-writes st ws s x new old opened =
     (λ whole. cond-ind Told (not (ltb s slotCount)) (λ _. another BadSlot refl)
     (λ inside. subst (λ (task : Task). Told (steppedTask st ws s slot task)) (sym opened)
     (cond-ind Told (grants st s)
-    (λ _. acted-writes st ws s x new old (verdict (Regrade x new) (st .k) (st .n) ws (pathOf slot) (siblingsOf slot) (slot .want))
-    (verdict-writes (st .k) (st .n) ws x new old (pathOf slot) (siblingsOf slot) (slot .want)
+    (λ _. acted-writes st ws s x new old (verdict (Regrade x new) (st .k) (st .n) ws (pathOf slot) (besideOf slot) (slot .want))
+    (verdict-writes (st .k) (st .n) ws x new old (pathOf slot) (besideOf slot) (slot .want)
     (known (not-false (sound st) ok) (eqb-true (length ws) (poolLength (st .k) (st .n)) (not-false (eqb (length ws) (poolLength (st .k) (st .n))) whole))
     (ltb-true s slotCount (not-false (ltb s slotCount) inside)))))
     (λ _. another Waiting refl)))))
@@ -189,9 +189,9 @@ regrading-writes st ws s x new old opened =
 
     -- the step has tested the page that it is granted
     known : sound st ≡ true → length ws ≡ poolLength (st .k) (st .n) → s < slotCount
-        → soundForStep (Regrade x new) (st .k) (st .n) ws (pathOf slot) (siblingsOf slot) (slot .want) ≡ true → Known (st .k) (st .n) ws (slot .want)
+        → soundForStep (Regrade x new) (st .k) (st .n) ws (pathOf slot) (besideOf slot) (slot .want) ≡ true → Known (st .k) (st .n) ws (slot .want)
     known ok whole inside sure =
         let facts : SoundState st = sound-facts st ok in
         let below : slot .want < st .n = facts .slot s inside .below (ap isOpen opened) (slot .want) (member-here (slot .want) (held slot)) in
         held-page (facts .kMost) (facts .nMost) whole
-        (record { inside = below; sound = want-sound (st .k) (st .n) ws x new old (pathOf slot) (siblingsOf slot) (slot .want) sure })
+        (record { inside = below; sound = want-sound (st .k) (st .n) ws x new old (pathOf slot) (besideOf slot) (slot .want) sure })

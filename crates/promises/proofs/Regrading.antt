@@ -18,7 +18,7 @@ use Rattle.slots.specs.declared.Op.the-variants.{Search, Insert, Delete, Next, 
 use Rattle.slots.specs.declared.State.{State}
 use Rattle.slots.specs.declared.Answer.{Answer}
 use Rattle.slots.specs.declared.Answer.the-variants.{Waiting, Moved, Found, NotFound, Deleted, NoSuchKey, BadSlot, SlotIdle, Next as NextLot, Regraded}
-use Rattle.slots.specs.Parts.{keyOf, onlyReads, slotAt, pathOf, siblingsOf, wantAt}
+use Rattle.slots.specs.Parts.{keyOf, onlyReads, slotAt, pathOf, besideOf, wantAt, Opened}
 use Rattle.slots.specs.Heard.{isOneOf, ending}
 use Rattle.slots.specs.Book.{closes}
 use Rattle.footing.specs.Granted.{nextAnswer}
@@ -29,13 +29,12 @@ use Rattle.runs.specs.Plain.{plain}
 use Rattle.runs.specs.PlainFacts.{Among, FirstFrom, PlainFacts}
 use Rattle.runs.specs.Done.{nobody, done, opsOf}
 use Rattle.runs.specs.Step.{Ended}
-use Rattle.runs.proofs.Invariant.{Runs, Invariant}
+use Rattle.runs.proofs.Invariant.{Invariant}
 use Rattle.runs.proofs.Calls.{StepOf, noSlot, idle, waits, onward, over, step-of, same-op}
 use Rattle.runs.proofs.Runs.{call-keeps, call-numbers, forms-with, words-before, words-behind, holds-after}
 use Rattle.runs.proofs.Rounds.{run-append}
 use Rattle.runs.proofs.Agreement.{entriesIn, same-entries, ended-entries, agreement}
 use Rattle.runs.proofs.PlainLaws.{plain-facts, among-has, among-information, clashes}
-use Rattle.promises.specs.Demand2.{Opened}
 use Rattle.promises.specs.Regrading.{IsThere, EndsAmong, PutBy, NotDeleted, NeverNowhere, RegradingHolds}
 use Rattle.promises.proofs.Demand3.{plain-rises, run-before}
 
@@ -93,7 +92,7 @@ module _ (x v : ℕ) (es : List Entry) (r : rises es ≡ true) (a : Among x v es
 -- What a call does to the entries of the tree: nothing; or it is a step that ends an operation, and does what the plain list does.
 data OnEntries (st : State) (ws : List ℕ) (inv : Invariant st ws) (c : Call) (es : List Entry) : Type 0 where
   keeps : es ≡ entriesIn st ws inv → OnEntries st ws inv c es
-  ends : (s : ℕ) (op : Op) → c ≡ step s → Runs st s op → stepped st ws s .answer ≡ plain op (entriesIn st ws inv) .answer
+  ends : (s : ℕ) (op : Op) → c ≡ step s → Opened st s op → stepped st ws s .answer ≡ plain op (entriesIn st ws inv) .answer
       → es ≡ plain op (entriesIn st ws inv) .entries → OnEntries st ws inv c es
 
 module _ (st : State) (ws : List ℕ) (inv : Invariant st ws) where
@@ -107,11 +106,11 @@ module _ (st : State) (ws : List ℕ) (inv : Invariant st ws) where
       same-entries (st .k) (st .n) ws l t (inv .height) (inv .tree) (subst (λ (r : Left). PoolForms (st .k) (st .n) (r .words) l t) e f) (inv .forms)
 
   module _ (s : ℕ) (op : Op) (a : Answer) (writes : List Write) (e : stepped st ws s ≡ left a (closes st s) (applied (st .k) writes ws))
-      (ended : Ended op (st .k) (st .n) ws (inv .height) (inv .tree) (pathOf (slotAt st s)) (siblingsOf (slotAt st s)) (wantAt st s) a writes) where
+      (ended : Ended op (st .k) (st .n) ws (inv .height) (inv .tree) (pathOf (slotAt st s)) (besideOf (slotAt st s)) (wantAt st s) a writes) where
     -- the entries behind a step that ends an operation
     entries-after : (l : ℕ) (t : Tr l) → PoolForms (st .k) (st .n) (stepped st ws s .words) l t → entriesOf l t ≡ ended .entries
     entries-after l t f =
-        ended-entries st ws inv op (pathOf (slotAt st s)) (siblingsOf (slotAt st s)) (wantAt st s) a writes ended l t
+        ended-entries st ws inv op (pathOf (slotAt st s)) (besideOf (slotAt st s)) (wantAt st s) a writes ended l t
         (subst (λ (r : Left). PoolForms (st .k) (st .n) (r .words) l t) e f)
 
     answer-after : stepped st ws s .answer ≡ a
@@ -146,7 +145,7 @@ module _ (st : State) (ws : List ℕ) (inv : Invariant st ws) where
       × ((l : ℕ) (t : Tr l) → PoolForms (st .k) (st .n) (stepped st ws s .words) l t → entriesOf l t ≡ plain op es .entries)
 
   -- An operation that ends, and inserts no new key, ends so.
-  module _ (s : ℕ) (op : Op) (runs : Runs st s op) (counts : isOneOf (stepped st ws s .answer) ending ≡ true)
+  module _ (s : ℕ) (op : Op) (runs : Opened st s op) (counts : isOneOf (stepped st ws s .answer) ending ≡ true)
       (old : (y u : ℕ) → op ≡ Insert y u → has y es ≡ true) where
     other-answer : (a : Answer) (next : State) → isOneOf a ending ≡ false → stepped st ws s ≡ left a next ws → AsPlainList s op
     other-answer a next other e = not-both counts (ap (λ (r : Left). isOneOf (r .answer) ending) e ∙ other)
@@ -220,7 +219,7 @@ module _ (x : ℕ) where
   module _ (st : State) (ws : List ℕ) (inv : Invariant st ws) (v : ℕ) (r : rises (entriesIn st ws inv) ≡ true) (a : Among x v (entriesIn st ws inv))
       (c : Call) (cs : List Call) (kept : Undeleted x st ws (c ∷ cs)) where
     -- the call is no deletion of it that ends
-    not-deleted : (s : ℕ) (op : Op) → c ≡ step s → Runs st s op → stepped st ws s .answer ≡ plain op (entriesIn st ws inv) .answer → op ≡ Delete x → ⊥
+    not-deleted : (s : ℕ) (op : Op) → c ≡ step s → Opened st s op → stepped st ws s .answer ≡ plain op (entriesIn st ws inv) .answer → op ≡ Delete x → ⊥
     unfolding member
     not-deleted s op e runs answer deletes =
         kept [] s v

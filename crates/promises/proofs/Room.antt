@@ -20,7 +20,7 @@ use Rattle.slots.specs.declared.Task.the-variants.{Open}
 use Rattle.slots.specs.declared.State.{State}
 use Rattle.slots.specs.declared.Answer.{Answer}
 use Rattle.slots.specs.declared.Answer.the-variants.{Moved, Inserted, AlreadyThere, NoRoom}
-use Rattle.slots.specs.Parts.{isOpen, keyOf, slotAt, wantAt, pathOf, siblingsOf}
+use Rattle.slots.specs.Parts.{isOpen, keyOf, slotAt, wantAt, pathOf, besideOf, Opened}
 use Rattle.slots.specs.Heard.{isOneOf, countedAnswers}
 use Rattle.slots.specs.Grant.{grants}
 use Rattle.slots.specs.Book.{goesOn, closes}
@@ -42,7 +42,6 @@ use Rattle.runs.proofs.Calls.{StepOf, noSlot, idle, waits, onward, over, step-o
 use Rattle.runs.proofs.Measure.{lowestOf, Where, atStart, onTheWay, atTheLeaf, where-it-stands}
 use Rattle.runs.proofs.MeasureLaws.{start-above, low-above}
 use Rattle.runs.proofs.Agreement.{plain-counted}
-use Rattle.promises.specs.Demand2.{Opened}
 use Rattle.promises.specs.Demand3.{RoomExact, NoRoomSays, Room}
 
 -- A page that a slot took coming down, and from which it goes on, is no leaf. (An insertion takes no sibling.)
@@ -74,16 +73,16 @@ module _ (st : State) (ws : List ℕ) (inv : Invariant st ws) (s x v : ℕ) (b :
   -- an insertion that is granted its leaf does not go on
   not-onward : (path siblings : List ℕ) (want : ℕ) → isLeaf (memory (wantAt st s)) ≡ true
       → Stance (Insert x v) (st .k) memory (inv .height) (inv .tree) path siblings want
-      → Takes (Insert x v) (st .k) memory (pathOf (slotAt st s)) (siblingsOf (slotAt st s)) (wantAt st s) path siblings → ⊥
+      → Takes (Insert x v) (st .k) memory (pathOf (slotAt st s)) (besideOf (slotAt st s)) (wantAt st s) path siblings → ⊥
   not-onward path siblings want leaf stance takes =
       by-place (where-it-stands (Insert x v) (st .k) (st .n) memory (inv .height) (inv .tree) (inv .forms .forms) (inv .keys s (Insert x v) b runs) path siblings want stance)
     where
       by-place : Where (Insert x v) memory (inv .height) (inv .tree) path siblings want → ⊥
       by-place (atStart none alone _) =
-          let some = some-taken (Insert x v) (st .k) memory (pathOf (slotAt st s)) (siblingsOf (slotAt st s)) (wantAt st s) path siblings alone takes in
+          let some = some-taken (Insert x v) (st .k) memory (pathOf (slotAt st s)) (besideOf (slotAt st s)) (wantAt st s) path siblings alone takes in
           omega (arith, ap length none)
       by-place (onTheWay low stands alone _) =
-          let taken = lowest-taken (Insert x v) (st .k) memory (pathOf (slotAt st s)) (siblingsOf (slotAt st s)) (wantAt st s) path siblings alone takes in
+          let taken = lowest-taken (Insert x v) (st .k) memory (pathOf (slotAt st s)) (besideOf (slotAt st s)) (wantAt st s) path siblings alone takes in
           let level : memory (lowestOf path) .level ≡ 1 = ap (λ (p : ℕ). memory p .level) taken ∙ eqb-true (memory (wantAt st s) .level) 1 leaf in
           omega (arith, stands .level)
       by-place (atTheLeaf _ _ deletes) = false≢true deletes
@@ -98,7 +97,7 @@ module _ (st : State) (ws : List ℕ) (inv : Invariant st ws) (s x v : ℕ) (b :
   }
 
   ended-room : (a : Answer) (writes : List Write) (next : State) (words : List ℕ)
-      → Ended (Insert x v) (st .k) (st .n) ws (inv .height) (inv .tree) (pathOf (slotAt st s)) (siblingsOf (slotAt st s)) (wantAt st s) a writes → Here (left a next words)
+      → Ended (Insert x v) (st .k) (st .n) ws (inv .height) (inv .tree) (pathOf (slotAt st s)) (besideOf (slotAt st s)) (wantAt st s) a writes → Here (left a next words)
   ended-room a writes next words e =
       ⊎-elim (λ p. plain-room a next words (p .answer) (p .room x v refl)) (λ r. roomless (r .0)) (e .how)
     where
@@ -121,11 +120,11 @@ module _ (st : State) (ws : List ℕ) (inv : Invariant st ws) (s x v : ℕ) (b :
       let same : op ≡ Insert x v = same-op (sym rs ∙ runs) in
       absurd (not-onward path siblings want leaf
       (subst (λ (o : Op). Stance o (st .k) memory (inv .height) (inv .tree) path siblings want) same stance)
-      (subst (λ (o : Op). Takes o (st .k) memory (pathOf (slotAt st s)) (siblingsOf (slotAt st s)) (wantAt st s) path siblings) same takes))
+      (subst (λ (o : Op). Takes o (st .k) memory (pathOf (slotAt st s)) (besideOf (slotAt st s)) (wantAt st s) path siblings) same takes))
   exact-here g leaf (over op a writes c rs h e ends) =
       subst Here (sym e)
       (ended-room a writes (closes st s) (applied (st .k) writes ws)
-      (subst (λ (o : Op). Ended o (st .k) (st .n) ws (inv .height) (inv .tree) (pathOf (slotAt st s)) (siblingsOf (slotAt st s)) (wantAt st s) a writes) (same-op (sym rs ∙ runs)) ends))
+      (subst (λ (o : Op). Ended o (st .k) (st .n) ws (inv .height) (inv .tree) (pathOf (slotAt st s)) (besideOf (slotAt st s)) (wantAt st s) a writes) (same-op (sym rs ∙ runs)) ends))
 
 -- ---- a step answered NoRoom
 
@@ -146,7 +145,7 @@ module _ (st : State) (ws : List ℕ) (inv : Invariant st ws) (s : ℕ) where
   path = pathOf (slotAt st s)
 
   abbrev siblings : List ℕ
-  siblings = siblingsOf (slotAt st s)
+  siblings = besideOf (slotAt st s)
 
   abbrev want : ℕ
   want = wantAt st s

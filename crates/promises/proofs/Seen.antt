@@ -18,7 +18,7 @@ use Rattle.slots.specs.declared.Op.the-variants.{Search, Insert, Delete, Next, 
 use Rattle.slots.specs.declared.State.{State}
 use Rattle.slots.specs.declared.Answer.{Answer}
 use Rattle.slots.specs.declared.Answer.the-variants.{Moved, Found, NotFound, Inserted, AlreadyThere, Deleted, NoSuchKey, NoRoom, Damaged, None as NoLot, Regraded}
-use Rattle.slots.specs.Parts.{keyOf, isNext, pathOf, siblingsOf, slotAt, wantAt}
+use Rattle.slots.specs.Parts.{keyOf, isNext, pathOf, besideOf, slotAt, wantAt, Opened}
 use Rattle.slots.specs.Heard.{heard, numberOf}
 use Rattle.slots.specs.Grant.{grants}
 use Rattle.footing.specs.Granted.{Verdict, broken, goes, ends, isSafe, kept, byNeed, deletes, nextAnswer, crosses, byNearest, atLeaf, fromLeaf, comesDown, goesLeft, besides, atItsLeaf, granted}
@@ -28,7 +28,7 @@ use Rattle.runs.specs.PlainFacts.{Among}
 use Rattle.runs.proofs.Invariant.{Invariant}
 use Rattle.runs.proofs.PlainLaws.{among-later}
 use Rattle.runs.proofs.Calls.{granted-does}
-use Rattle.promises.specs.Demand2.{Opened, Seen}
+use Rattle.promises.specs.Demand2.{Seen}
 
 -- every answer but Next tells of no lot
 no-next : (P : Page) (a : Answer) → eqb (numberOf a) 44 ≡ false → Seen P a
@@ -165,6 +165,6 @@ pub step-seen : (st : State) (ws : List ℕ) (inv : Invariant st ws) (s : ℕ) (
     → Seen (pageAt (st .k) ws (wantAt st s)) (stepped st ws s .answer)
 step-seen st ws inv s op b runs g =
     let P : Page = pageAt (st .k) ws (wantAt st s) in
-    let v : Verdict = verdict op (st .k) (st .n) ws (pathOf (slotAt st s)) (siblingsOf (slotAt st s)) (wantAt st s) in
+    let v : Verdict = verdict op (st .k) (st .n) ws (pathOf (slotAt st s)) (besideOf (slotAt st s)) (wantAt st s) in
     subst (λ (r : Left). Seen P (r .answer)) (sym (granted-does st ws inv s op b runs g))
-    (acted-seen P st ws s op v (verdict-seen op (st .k) (st .n) ws (pathOf (slotAt st s)) (siblingsOf (slotAt st s)) (wantAt st s)))
+    (acted-seen P st ws s op v (verdict-seen op (st .k) (st .n) ws (pathOf (slotAt st s)) (besideOf (slotAt st s)) (wantAt st s)))

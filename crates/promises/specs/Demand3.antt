@@ -18,7 +18,7 @@ use Rattle.slots.specs.declared.Op.{Op}
 use Rattle.slots.specs.declared.Op.the-variants.{Insert}
 use Rattle.slots.specs.declared.State.{State}
 use Rattle.slots.specs.declared.Answer.the-variants.{Inserted, AlreadyThere, NoRoom}
-use Rattle.slots.specs.Parts.{openAt, wantAt}
+use Rattle.slots.specs.Parts.{openAt, wantAt, Opened}
 use Rattle.slots.specs.Grant.{grants}
 use Rattle.slots.specs.Heard.{changesNothing}
 use Rattle.index.specs.Step.{Left, stepped}
@@ -30,7 +30,6 @@ use Rattle.runs.specs.Done.{Done, nobody, done, plainAnswers, plainEntries, ops
 use Rattle.runs.specs.PlainFacts.{PlainFacts}
 use Rattle.runs.specs.Rounds.{RoundsClose}
 use Rattle.runs.specs.Counts.{CountsFrom}
-use Rattle.promises.specs.Demand2.{Opened}
 
 -- ---- the same answers
 

@@ -7,6 +7,7 @@ use mathlib.Core.List.{List, [], _∷_, _++_}
 use mathlib.Core.Logic.{_⊎_}
 use mathlib.Core.Path.{_≡_}
 use lib.ListN.{length, getD, set}
+use Rattle.slots.specs.Parts.{Opened}
 use Rattle.slots.specs.declared.Op.{Op}
 use Rattle.slots.specs.declared.Op.the-variants.{Search, Insert, Delete, Next, Regrade}
 use Rattle.slots.specs.declared.State.{State}
@@ -17,7 +18,6 @@ use Rattle.index.specs.Step.{stepped}
 use Rattle.tree.specs.Tree.{Tr, entriesOf, PoolForms}
 use Rattle.runs.specs.Run.{Call, step, run, runFrom, Run}
 use Rattle.runs.specs.PlainFacts.{Among}
-use Rattle.promises.specs.Demand2.{Opened}
 
 -- The lot x is there with information v: it is an entry of the tree that the words form. There is just one such tree (`pool-determined`).
 pub record IsThere (st : State) (ws : List ℕ) (x v : ℕ) : Type 0 where

@@ -19,7 +19,7 @@ use Rattle.slots.specs.declared.State.{State}
 use Rattle.slots.specs.declared.Outcome.{Outcome}
 use Rattle.slots.specs.declared.Answer.{Answer}
 use Rattle.slots.specs.declared.Answer.the-variants.{Waiting, Moved, Begun, BadSlot, SlotBusy, SlotIdle}
-use Rattle.slots.specs.Parts.{slotAt, pathOf, siblingsOf, wantAt, openSlot, closedSlot, idleState}
+use Rattle.slots.specs.Parts.{slotAt, pathOf, besideOf, wantAt, openSlot, closedSlot, idleState, Opened}
 use Rattle.slots.specs.Heard.{isOneOf, countedAnswers}
 use Rattle.slots.specs.Book.{rewritten, begins, goesOn, closes}
 use Rattle.slots.proofs.OrderLaws.{same-or-not}
@@ -34,7 +34,7 @@ use Rattle.runs.specs.Run.{Call, begin, step, report, called, run, runFr
 use Rattle.runs.specs.Plain.{Reply, plain}
 use Rattle.runs.specs.Done.{Done, ended, nobody, asks, done, plainAnswers, plainEntries, opsOf, answersIn}
 use Rattle.runs.specs.Step.{Ended, AsPlain, NoRoomLeft}
-use Rattle.runs.proofs.Invariant.{Runs, Invariant}
+use Rattle.runs.proofs.Invariant.{Invariant}
 use Rattle.runs.proofs.Calls.{StepOf, noSlot, idle, waits, onward, over, step-of, same-op, closed-open}
 use Rattle.runs.proofs.Runs.{BeginOf, noSuch, busy, begins-so, begin-of, call-keeps, call-numbers, forms-with, made-told, idle-shut, fresh-keeps}
 
@@ -60,7 +60,7 @@ ended-entries st ws inv op path siblings want a writes e l t f =
 
 -- what was asked in a slot is what runs there
 abbrev pub Knows : State → (ℕ → Op) → Type 0
-Knows st asked = (s : ℕ) (op : Op) → s < slotCount → Runs st s op → asked s ≡ op
+Knows st asked = (s : ℕ) (op : Op) → s < slotCount → Opened st s op → asked s ≡ op
 
 -- The plain list, worked through these operations from the entries es, gives their answers, and has then the entries of the
 -- tree that the words form.
@@ -102,7 +102,7 @@ module _ (st : State) (ws : List ℕ) (inv : Invariant st ws) (s : ℕ) (b : s <
       (λ op′ e. cond-true op (asked s) (eq-eqb s s refl) ∙ same-op e)
       (λ u n. cond-false op (asked u) (ne-eqb u s n))
 
-  knows-onward : (op : Op) (want : ℕ) (path siblings : List ℕ) → Runs st s op → Knows (goesOn st s op want path siblings) asked
+  knows-onward : (op : Op) (want : ℕ) (path siblings : List ℕ) → Opened st s op → Knows (goesOn st s op want path siblings) asked
   unfolding goesOn
   knows-onward op want path siblings runs = knows-anew (openSlot op want path siblings) asked (λ op′ e. knows s op b runs ∙ same-op e) (λ u n. refl)
 
@@ -148,8 +148,8 @@ module _ (st : State) (ws : List ℕ) (inv : Invariant st ws) (asked : ℕ → O
       (same-so (begin s op) (left Begun (begins st s op) ws) (asks s op asked) (knows-begun st ws inv s b asked knows op) (λ cs heard. refl))
 
   -- an operation that ends: as the plain list has it, or for want of room
-  ended-adds : (s : ℕ) (op : Op) (a : Answer) (writes : List Write) (b : s < slotCount) → Runs st s op
-      → (e : Ended op (st .k) (st .n) ws (inv .height) (inv .tree) (pathOf (slotAt st s)) (siblingsOf (slotAt st s)) (wantAt st s) a writes)
+  ended-adds : (s : ℕ) (op : Op) (a : Answer) (writes : List Write) (b : s < slotCount) → Opened st s op
+      → (e : Ended op (st .k) (st .n) ws (inv .height) (inv .tree) (pathOf (slotAt st s)) (besideOf (slotAt st s)) (wantAt st s) a writes)
       → Adds (entriesIn st ws inv) (step s) asked (left a (closes st s) (applied (st .k) writes ws)) (e .entries)
   unfolding done plainAnswers plainEntries member
   ended-adds s op a writes b runs e = ⊎-elim plainly (λ none. roomless (none .0) (none .1)) (e .how)
@@ -205,7 +205,7 @@ module _ (st : State) (ws : List ℕ) (inv : Invariant st ws) (asked : ℕ → O
       subst (λ (r : Left). (es : List Entry) × Adds (entriesIn st ws inv) (step s) asked r es × ((l : ℕ) (t : Tr l) → PoolForms (st .k) (st .n) (r .words) l t → entriesOf l t ≡ es)) (sym e) (
         ends .entries,
         ended-adds s op a writes b runs ends,
-        ended-entries st ws inv op (pathOf (slotAt st s)) (siblingsOf (slotAt st s)) (wantAt st s) a writes ends,
+        ended-entries st ws inv op (pathOf (slotAt st s)) (besideOf (slotAt st s)) (wantAt st s) a writes ends,
       )
 
   -- every call

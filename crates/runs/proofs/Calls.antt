@@ -23,14 +23,14 @@ use Rattle.slots.specs.declared.Slot.{Slot}
 use Rattle.slots.specs.declared.State.{State}
 use Rattle.slots.specs.declared.Answer.{Answer}
 use Rattle.slots.specs.declared.Answer.the-variants.{Waiting, Moved, BadState, BadPool, BadSlot, SlotIdle}
-use Rattle.slots.specs.Parts.{isOpen, onlyReads, held, keyOf, slotAt, openAt, wantAt, holdsAt, pathOf, siblingsOf, openSlot, closedSlot}
+use Rattle.slots.specs.Parts.{isOpen, onlyReads, held, keyOf, slotAt, openAt, wantAt, holdsAt, pathOf, besideOf, openSlot, closedSlot, Opened}
 use Rattle.slots.specs.Locks.{lockOf, lockAt, isXi}
 use Rattle.slots.specs.Grant.{grants}
 use Rattle.slots.specs.Book.{rewritten, begins, goesOn, closes}
 use Rattle.slots.proofs.SoundFacts.{SoundState, facts-sound}
 use Rattle.slots.proofs.OrderLaws.{same-or-not}
 use Rattle.slots.proofs.GrantLaws.{taking-alone}
-use Rattle.slots.proofs.Keeping.{Shaped, slot-here, slot-other, path-new, siblings-new, begins-sound, begins-shaped, closes-sound, closes-shaped, goes-on-sound, goes-on-shaped}
+use Rattle.slots.proofs.Keeping.{Shaped, slot-here, slot-other, path-new, beside-new, begins-sound, begins-shaped, closes-sound, closes-shaped, goes-on-sound, goes-on-shaped}
 use Rattle.footing.specs.Fitting.{verdict}
 use Rattle.index.specs.Step.{Left, left, acted, steppedTask, stepped}
 use Rattle.tree.specs.Tree.{Tr, PoolForms}
@@ -38,14 +38,14 @@ use Rattle.tree.specs.Change.{memoryAfter, writtenPages}
 use Rattle.tree.proofs.Words.{fit-writes, applied-memory, pool-leads}
 use Rattle.runs.specs.Stance.{Starting, Stance, Takes}
 use Rattle.runs.specs.Step.{Ended, Comes, moves, stops}
-use Rattle.runs.proofs.Invariant.{Runs, Invariant, scene}
+use Rattle.runs.proofs.Invariant.{Invariant, scene}
 use Rattle.runs.proofs.Placing.{WellHeld, well-held}
 use Rattle.runs.proofs.Others.{others-keep}
 use Rattle.runs.proofs.Stepping.{granted-comes}
 
 -- a slot stands in a pool
 abbrev StandsIn : ℕ → List ℕ → (l : ℕ) → Tr l → Op → Slot → Type 0
-StandsIn k ws l t op slot = Stance op k (pageAt k ws) l t (pathOf slot) (siblingsOf slot) (slot .want)
+StandsIn k ws l t op slot = Stance op k (pageAt k ws) l t (pathOf slot) (besideOf slot) (slot .want)
 
 -- an open task has one operation, and a closed one none
 abbrev opOf : Task → Op → Op
@@ -72,7 +72,7 @@ module _ (st : State) (ws : List ℕ) (inv : Invariant st ws) (s : ℕ) (b : s <
       → Shaped (rewritten st s slot order waiting) → SoundState (rewritten st s slot order waiting)
       → PoolForms (st .k) (st .n) after l t
       → ((op : Op) → slot .task ≡ Open op → (keyOf op < wordRange) × StandsIn (st .k) after l t op slot)
-      → ((u : ℕ) (op : Op) → u < slotCount → u ≢ s → Runs st u op → StandsIn (st .k) after l t op (slotAt st u))
+      → ((u : ℕ) (op : Op) → u < slotCount → u ≢ s → Opened st u op → StandsIn (st .k) after l t op (slotAt st u))
       → Invariant (rewritten st s slot order waiting) after
   slot-anew slot order waiting after l t shaped sound forms here other =
       record {
@@ -112,11 +112,11 @@ module _ (st : State) (ws : List ℕ) (inv : Invariant st ws) (s : ℕ) (b : s <
       (subst (λ (o : Op). keyOf o < wordRange) same key, subst (λ (o : Op). StandsIn (st .k) ws (inv .height) (inv .tree) o (openSlot op 0 [] [])) same (inl starting)))
       (λ u op′ c n runs. inv .stands u op′ c runs)
     where
-      starting : Starting (pathOf (openSlot op 0 [] [])) (siblingsOf (openSlot op 0 [] [])) 0
-      starting = record { noPath = path-new op 0 [] []; noSiblings = siblings-new op 0 [] []; wantsRoot = refl }
+      starting : Starting (pathOf (openSlot op 0 [] [])) (besideOf (openSlot op 0 [] [])) 0
+      starting = record { noPath = path-new op 0 [] []; noSiblings = beside-new op 0 [] []; wantsRoot = refl }
 
   -- Going on: the slot holds what it took and stands again.
-  pub move-keeps : (op : Op) (path siblings : List ℕ) (want : ℕ) → Runs st s op → grants st s ≡ true
+  pub move-keeps : (op : Op) (path siblings : List ℕ) (want : ℕ) → Opened st s op → grants st s ≡ true
       → Stance op (st .k) (pageAt (st .k) ws) (inv .height) (inv .tree) path siblings want
       → ((p : ℕ) → member p (path ++ siblings) ≡ true → (holdsAt st s p ≡ true) ⊎ (p ≡ wantAt st s))
       → Invariant (goesOn st s op want path siblings) ws
@@ -146,14 +146,14 @@ module _ (st : State) (ws : List ℕ) (inv : Invariant st ws) (s : ℕ) (b : s <
           (record { kLeast = inv .sound .kLeast; kMost = inv .sound .kMost; nMost = inv .sound .nMost; key = key; forms = inv .forms; stance = stance })
 
       here : StandsIn (st .k) ws (inv .height) (inv .tree) op slot
-      here = subst (λ (ss : List ℕ). Stance op (st .k) (pageAt (st .k) ws) (inv .height) (inv .tree) (pathOf slot) ss want) (sym (siblings-new op want path siblings))
+      here = subst (λ (ss : List ℕ). Stance op (st .k) (pageAt (st .k) ws) (inv .height) (inv .tree) (pathOf slot) ss want) (sym (beside-new op want path siblings))
           (subst (λ (ps : List ℕ). Stance op (st .k) (pageAt (st .k) ws) (inv .height) (inv .tree) ps siblings want) (sym (path-new op want path siblings)) stance)
 
   -- What an operation writes as it ends no other slot holds: where one of the two updates, they hold apart; where both only read,
   -- nothing is written.
-  pub others-unwritten : (op : Op) (a : Answer) (writes : List Write) → Runs st s op → grants st s ≡ true
-      → Ended op (st .k) (st .n) ws (inv .height) (inv .tree) (pathOf (slotAt st s)) (siblingsOf (slotAt st s)) (wantAt st s) a writes
-      → (u : ℕ) (op′ : Op) → u < slotCount → u ≢ s → Runs st u op′ → (q : ℕ) → holdsAt st u q ≡ true → member q (writtenPages writes) ≡ false
+  pub others-unwritten : (op : Op) (a : Answer) (writes : List Write) → Opened st s op → grants st s ≡ true
+      → Ended op (st .k) (st .n) ws (inv .height) (inv .tree) (pathOf (slotAt st s)) (besideOf (slotAt st s)) (wantAt st s) a writes
+      → (u : ℕ) (op′ : Op) → u < slotCount → u ≢ s → Opened st u op′ → (q : ℕ) → holdsAt st u q ≡ true → member q (writtenPages writes) ≡ false
   others-unwritten op a writes runs granted e u op′ c n rs q m =
       false-if-not-true (member q (writtenPages writes)) (λ w. ⊎-elim
       (λ x. ⊎-elim
@@ -163,8 +163,8 @@ module _ (st : State) (ws : List ℕ) (inv : Invariant st ws) (s : ℕ) (b : s <
       (λ x. not-both w (nothing-written (or-first-fails (isXi (lockAt st s)) (isXi (lockAt st u)) x)))
       (true-or-false (isXi (lockAt st s) || isXi (lockAt st u))))
     where
-      well : WellHeld op′ (st .n) (inv .height) (inv .tree) (pathOf (slotAt st u)) (siblingsOf (slotAt st u)) (wantAt st u)
-      well = well-held op′ (st .k) (st .n) ws (inv .height) (inv .tree) (pathOf (slotAt st u)) (siblingsOf (slotAt st u)) (wantAt st u) (scene st ws inv u op′ c rs)
+      well : WellHeld op′ (st .n) (inv .height) (inv .tree) (pathOf (slotAt st u)) (besideOf (slotAt st u)) (wantAt st u)
+      well = well-held op′ (st .k) (st .n) ws (inv .height) (inv .tree) (pathOf (slotAt st u)) (besideOf (slotAt st u)) (wantAt st u) (scene st ws inv u op′ c rs)
 
       alone : isXi (lockAt st s) || isXi (lockAt st u) ≡ true → apart (wantAt st s ∷ held (slotAt st s)) (held (slotAt st u)) ≡ true
       alone x = taking-alone st (inv .sound) s b (ap isOpen runs) granted (wantAt st s ∷ held (slotAt st s))
@@ -174,8 +174,8 @@ module _ (st : State) (ws : List ℕ) (inv : Invariant st ws) (s : ℕ) (b : s <
       nothing-written x = ap (λ (W : List Write). member q (writtenPages W)) (e .reads (reader-task op (sym (ap (λ (task : Task). isXi (lockOf task)) runs) ∙ x))) ∙ member-none q
 
   -- Ending: the slot closes, and what it wrote no other slot holds.
-  pub end-keeps : (op : Op) (a : Answer) (writes : List Write) → Runs st s op → grants st s ≡ true
-      → Ended op (st .k) (st .n) ws (inv .height) (inv .tree) (pathOf (slotAt st s)) (siblingsOf (slotAt st s)) (wantAt st s) a writes
+  pub end-keeps : (op : Op) (a : Answer) (writes : List Write) → Opened st s op → grants st s ≡ true
+      → Ended op (st .k) (st .n) ws (inv .height) (inv .tree) (pathOf (slotAt st s)) (besideOf (slotAt st s)) (wantAt st s) a writes
       → Invariant (closes st s) (applied (st .k) writes ws)
   unfolding closes
   end-keeps op a writes runs granted e =
@@ -185,9 +185,9 @@ module _ (st : State) (ws : List ℕ) (inv : Invariant st ws) (s : ℕ) (b : s <
       (pool-leads (st .k) (st .n) ws (inv .height) (inv .tree) writes (e .entries) (inv .forms) (e .leads))
       (λ op′ c. absurd (closed-open c))
       (λ u op′ c n rs. subst
-      (λ (m : ℕ → Page). Stance op′ (st .k) m (e .leads .height) (e .leads .tree) (pathOf (slotAt st u)) (siblingsOf (slotAt st u)) (wantAt st u))
+      (λ (m : ℕ → Page). Stance op′ (st .k) m (e .leads .height) (e .leads .tree) (pathOf (slotAt st u)) (besideOf (slotAt st u)) (wantAt st u))
       (sym memory-after)
-      (others-keep op′ (st .k) (st .n) (pageAt (st .k) ws) (inv .height) (inv .tree) writes (e .entries) (pathOf (slotAt st u)) (siblingsOf (slotAt st u)) (wantAt st u)
+      (others-keep op′ (st .k) (st .n) (pageAt (st .k) ws) (inv .height) (inv .tree) writes (e .entries) (pathOf (slotAt st u)) (besideOf (slotAt st u)) (wantAt st u)
       (inv .sound .kLeast) (inv .keys u op′ c rs) (inv .forms .forms) (e .leads) (others-unwritten op a writes runs granted e u op′ c n rs) (inv .stands u op′ c rs)))
     where
       opened : openAt st s ≡ true
@@ -202,17 +202,17 @@ module _ (st : State) (ws : List ℕ) (inv : Invariant st ws) (s : ℕ) (b : s <
 pub data StepOf (st : State) (ws : List ℕ) (inv : Invariant st ws) (s : ℕ) : Type 0 where
   noSlot : slotCount ≤ s → stepped st ws s ≡ left BadSlot st ws → StepOf st ws inv s
   idle : s < slotCount → openAt st s ≡ false → stepped st ws s ≡ left SlotIdle st ws → StepOf st ws inv s
-  waits : (op : Op) → s < slotCount → Runs st s op → grants st s ≡ false → stepped st ws s ≡ left Waiting st ws → StepOf st ws inv s
+  waits : (op : Op) → s < slotCount → Opened st s op → grants st s ≡ false → stepped st ws s ≡ left Waiting st ws → StepOf st ws inv s
   -- the slot goes on: it stands again, and holds what the rules say
-  onward : (op : Op) (path siblings : List ℕ) (want : ℕ) → s < slotCount → Runs st s op → grants st s ≡ true
+  onward : (op : Op) (path siblings : List ℕ) (want : ℕ) → s < slotCount → Opened st s op → grants st s ≡ true
       → stepped st ws s ≡ left Moved (goesOn st s op want path siblings) ws
       → Stance op (st .k) (pageAt (st .k) ws) (inv .height) (inv .tree) path siblings want
-      → Takes op (st .k) (pageAt (st .k) ws) (pathOf (slotAt st s)) (siblingsOf (slotAt st s)) (wantAt st s) path siblings
+      → Takes op (st .k) (pageAt (st .k) ws) (pathOf (slotAt st s)) (besideOf (slotAt st s)) (wantAt st s) path siblings
       → StepOf st ws inv s
   -- the operation ends
-  over : (op : Op) (a : Answer) (writes : List Write) → s < slotCount → Runs st s op → grants st s ≡ true
+  over : (op : Op) (a : Answer) (writes : List Write) → s < slotCount → Opened st s op → grants st s ≡ true
       → stepped st ws s ≡ left a (closes st s) (applied (st .k) writes ws)
-      → Ended op (st .k) (st .n) ws (inv .height) (inv .tree) (pathOf (slotAt st s)) (siblingsOf (slotAt st s)) (wantAt st s) a writes
+      → Ended op (st .k) (st .n) ws (inv .height) (inv .tree) (pathOf (slotAt st s)) (besideOf (slotAt st s)) (wantAt st s) a writes
       → StepOf st ws inv s
 
 module _ (st : State) (ws : List ℕ) (inv : Invariant st ws) (s : ℕ) where
@@ -226,16 +226,16 @@ module _ (st : State) (ws : List ℕ) (inv : Invariant st ws) (s : ℕ) where
   within : s < slotCount → stepped st ws s ≡ steppedTask st ws s (slotAt st s) (slotAt st s .task)
   within b = past ∙ cond-false (left BadSlot st ws) _ (not-of-true (lt-ltb s slotCount b))
 
-  comes-to : (op : Op) → (b : s < slotCount) → Runs st s op → grants st s ≡ true
-      → stepped st ws s ≡ acted st ws s op (verdict op (st .k) (st .n) ws (pathOf (slotAt st s)) (siblingsOf (slotAt st s)) (wantAt st s))
-      → Comes op (st .k) (st .n) ws (inv .height) (inv .tree) (pathOf (slotAt st s)) (siblingsOf (slotAt st s)) (wantAt st s)
+  comes-to : (op : Op) → (b : s < slotCount) → Opened st s op → grants st s ≡ true
+      → stepped st ws s ≡ acted st ws s op (verdict op (st .k) (st .n) ws (pathOf (slotAt st s)) (besideOf (slotAt st s)) (wantAt st s))
+      → Comes op (st .k) (st .n) ws (inv .height) (inv .tree) (pathOf (slotAt st s)) (besideOf (slotAt st s)) (wantAt st s)
       → StepOf st ws inv s
   comes-to op b runs g e (moves path siblings want v stance takes) = onward op path siblings want b runs g (e ∙ ap (acted st ws s op) v) stance takes
   comes-to op b runs g e (stops a writes v ended) = over op a writes b runs g (e ∙ ap (acted st ws s op) v) ended
 
   -- a granted step does what it comes to by the rule
-  pub granted-does : (op : Op) → s < slotCount → Runs st s op → grants st s ≡ true
-      → stepped st ws s ≡ acted st ws s op (verdict op (st .k) (st .n) ws (pathOf (slotAt st s)) (siblingsOf (slotAt st s)) (wantAt st s))
+  pub granted-does : (op : Op) → s < slotCount → Opened st s op → grants st s ≡ true
+      → stepped st ws s ≡ acted st ws s op (verdict op (st .k) (st .n) ws (pathOf (slotAt st s)) (besideOf (slotAt st s)) (wantAt st s))
   granted-does op b runs g = within b ∙ ap (steppedTask st ws s (slotAt st s)) runs ∙ cond-true _ (left Waiting st ws) g
 
   by-task : (b : s < slotCount) (task : Task) → slotAt st s .task ≡ task → StepOf st ws inv s
@@ -244,8 +244,8 @@ module _ (st : State) (ws : List ℕ) (inv : Invariant st ws) (s : ℕ) where
       let told : stepped st ws s ≡ steppedTask st ws s (slotAt st s) (Open op) = within b ∙ ap (steppedTask st ws s (slotAt st s)) e in
       ⊎-elim
       (λ g. comes-to op b e g (granted-does op b e g)
-      (granted-comes op (st .k) (st .n) ws (inv .height) (inv .tree) (pathOf (slotAt st s)) (siblingsOf (slotAt st s)) (wantAt st s) (scene st ws inv s op b e)))
-      (λ g. waits op b e g (told ∙ cond-false (acted st ws s op (verdict op (st .k) (st .n) ws (pathOf (slotAt st s)) (siblingsOf (slotAt st s)) (wantAt st s))) (left Waiting st ws) g))
+      (granted-comes op (st .k) (st .n) ws (inv .height) (inv .tree) (pathOf (slotAt st s)) (besideOf (slotAt st s)) (wantAt st s) (scene st ws inv s op b e)))
+      (λ g. waits op b e g (told ∙ cond-false (acted st ws s op (verdict op (st .k) (st .n) ws (pathOf (slotAt st s)) (besideOf (slotAt st s)) (wantAt st s))) (left Waiting st ws) g))
       (true-or-false (grants st s))
 
   pub step-of : StepOf st ws inv s
@@ -278,6 +278,6 @@ step-keeps st ws inv s (waits op b runs g e) = subst (λ (r : Left). Invariant (
 step-keeps st ws inv s (onward op path siblings want b runs g e stance takes) =
     subst (λ (r : Left). Invariant (r .state) (r .words)) (sym e)
     (move-keeps st ws inv s b op path siblings want runs g stance
-    (takes-from op (st .k) (pageAt (st .k) ws) (pathOf (slotAt st s)) (siblingsOf (slotAt st s)) (wantAt st s) path siblings takes))
+    (takes-from op (st .k) (pageAt (st .k) ws) (pathOf (slotAt st s)) (besideOf (slotAt st s)) (wantAt st s) path siblings takes))
 step-keeps st ws inv s (over op a writes b runs g e ended) =
     subst (λ (r : Left). Invariant (r .state) (r .words)) (sym e) (end-keeps st ws inv s b op a writes runs g ended)

@@ -21,7 +21,7 @@ use Rattle.slots.specs.declared.Slot.{Slot}
 use Rattle.slots.specs.declared.State.{State}
 use Rattle.slots.specs.declared.Outcome.{Outcome}
 use Rattle.slots.specs.Heard.{numberOf, changesNothing}
-use Rattle.slots.specs.Parts.{isOpen, goesBeside, openSlot, pathOf, siblingsOf, slotAt, openAt, wantAt}
+use Rattle.slots.specs.Parts.{isOpen, goesBeside, openSlot, pathOf, besideOf, slotAt, openAt, wantAt, Opened}
 use Rattle.slots.specs.Book.{begins, goesOn}
 use Rattle.slots.specs.Begin.{begun}
 use Rattle.slots.proofs.Keeping.{Shaped, slot-here, slot-other, path-new}
@@ -33,7 +33,7 @@ use Rattle.tree.proofs.Search.{way-facts}
 use Rattle.runs.specs.Run.{Call, begin, step, report, called, InWords}
 use Rattle.runs.specs.Step.{Comes, moves, stops}
 use Rattle.runs.specs.Counts.{grantedTo, grantsOf, endsWithin, heightGranted, GoesStraight, GrantCounts, CountsFrom}
-use Rattle.runs.proofs.Invariant.{Runs, Invariant}
+use Rattle.runs.proofs.Invariant.{Invariant}
 use Rattle.runs.proofs.Calls.{same-op}
 use Rattle.runs.proofs.Runs.{BeginOf, noSuch, busy, begins-so, begin-of, call-keeps}
 use Rattle.runs.proofs.Measure.{lowestOf, leftOpen, grantsLeft, Where, atStart, onTheWay, atTheLeaf}
@@ -161,7 +161,7 @@ lowLevel st ws s = pageAt (st .k) ws (lowestOf (pathOf (slotAt st s))) .level
 
 -- Slot s is open with this operation and holds something; its lowest page is on this level.
 pub record Under (st : State) (ws : List ℕ) (s : ℕ) (op : Op) (level : ℕ) : Type 0 where
-  pub runs : Runs st s op
+  pub runs : Opened st s op
   pub some : 1 ≤ length (pathOf (slotAt st s))
   pub lowest : lowLevel st ws s ≡ level
 
@@ -178,11 +178,11 @@ module _ (st : State) (ws : List ℕ) (inv : Invariant st ws) (s : ℕ) (g : Goe
       → WentDown (stepped st ws s .state) (stepped st ws s .words) s (g .op) m (length path)
   grant-down m above wanted = by-comes (comes st ws inv s g)
     where
-      by-comes : Comes (g .op) (st .k) (st .n) ws (inv .height) (inv .tree) path (siblingsOf (slotAt st s)) (wantAt st s)
+      by-comes : Comes (g .op) (st .k) (st .n) ws (inv .height) (inv .tree) path (besideOf (slotAt st s)) (wantAt st s)
           → WentDown (stepped st ws s .state) (stepped st ws s .words) s (g .op) m (length path)
       by-comes (moves path′ siblings′ want′ e stance takes) =
           let memory : ℕ → Page = pageAt (st .k) ws in
-          let went = coming-goes (g .op) (st .k) (st .n) ws path (siblingsOf (slotAt st s)) (wantAt st s) above path′ siblings′ want′ e in
+          let went = coming-goes (g .op) (st .k) (st .n) ws path (besideOf (slotAt st s)) (wantAt st s) above path′ siblings′ want′ e in
           let how = kept-path (g .op) (st .k) memory path (wantAt st s) in
           let here = goes-on-here st (inv .shaped) s (g .inside) (g .op) want′ path′ siblings′ in
           let holds : pathOf (slotAt (goesOn st s (g .op) want′ path′ siblings′) s) ≡ kept (g .op) (st .k) memory path (wantAt st s)
@@ -202,7 +202,7 @@ module _ (st : State) (ws : List ℕ) (inv : Invariant st ws) (s : ℕ) (g : Goe
             omega (arith, left-over, how .most, how .some),
           ))
       by-comes (stops a writes e ended) =
-          let leaf = coming-ends (g .op) (st .k) (st .n) ws path (siblingsOf (slotAt st s)) (wantAt st s) above a writes e in
+          let leaf = coming-ends (g .op) (st .k) (st .n) ws path (besideOf (slotAt st s)) (wantAt st s) above a writes e in
           inl (
             subst (λ (r : Left). openAt (r .state) s ≡ false) (sym (ended-so st ws inv s g a writes e))
                 (ap (λ (slot : Slot). isOpen (slot .task)) (closes-here st (inv .shaped) s (g .inside))),
@@ -266,7 +266,7 @@ module _ (s : ℕ) (b : s < slotCount) where
       (call-cases st ws inv s b opened c)
 
   -- the same of a call that is granted
-  called-down : (c : Call) (st : State) (ws : List ℕ) → Invariant st ws → (op : Op) → Runs st s op → GrantCall st ws s c → (m : ℕ)
+  called-down : (c : Call) (st : State) (ws : List ℕ) → Invariant st ws → (op : Op) → Opened st s op → GrantCall st ws s c → (m : ℕ)
       → atItsLeaf (pageAt (st .k) ws) (reverse (pathOf (slotAt st s))) ≡ false → pageAt (st .k) ws (wantAt st s) .level ≡ m + 1
       → WentDown (called st ws c .state) (called st ws c .words) s op m (length (pathOf (slotAt st s)))
   called-down c st ws inv op runs g m above wanted =
@@ -314,7 +314,7 @@ module _ (s : ℕ) (b : s < slotCount) where
 
       granted-now : ((lower : ℕ) → Under next after s op lower → endsWithin s cs next after ≡ true → Needs op (lower - 1) (grantsOf s cs next after))
           → GrantCall st ws s c
-          → Where op (pageAt (st .k) ws) (inv .height) (inv .tree) (pathOf (slotAt st s)) (siblingsOf (slotAt st s)) (wantAt st s)
+          → Where op (pageAt (st .k) ws) (inv .height) (inv .tree) (pathOf (slotAt st s)) (besideOf (slotAt st s)) (wantAt st s)
           → Needs op (level - 1) (grantsOf s (c ∷ cs) st ws)
       granted-now rest g (atStart e f h) = absurd (omega (arith, u .some, ap length e))
       granted-now rest g (atTheLeaf w f d) = (omega (arith, u .lowest, w .level), λ so. not-both d (straight-down op so))
@@ -330,7 +330,7 @@ module _ (s : ℕ) (b : s < slotCount) where
           (called-down c st ws inv op (u .runs) g low (low-above (pageAt (st .k) ws) (inv .height) (inv .tree) (pathOf (slotAt st s)) low w) h))
 
   -- from where it has just begun it is granted h pages on its way down, and at most 2h - 1 in all
-  from-start : (cs : List Call) → InWords cs → (st : State) (ws : List ℕ) → Invariant st ws → (op : Op) → Runs st s op → pathOf (slotAt st s) ≡ []
+  from-start : (cs : List Call) → InWords cs → (st : State) (ws : List ℕ) → Invariant st ws → (op : Op) → Opened st s op → pathOf (slotAt st s) ≡ []
       → (endsWithin s cs st ws ≡ true → Needs op (heightGranted s cs st ws) (grantsOf s cs st ws))
       × (grantsOf s cs st ws ≤ 2 * heightGranted s cs st ws - 1)
   from-start [] words st ws inv op runs none = (λ ends-so. not-both ends-so (none-ends s st ws), omega (arith, none-granted s st ws))
@@ -359,7 +359,7 @@ module _ (s : ℕ) (b : s < slotCount) where
       kept-inv = call-keeps st ws inv c (words .0)
 
       granted-now : GrantCall st ws s c
-          → Where op (pageAt (st .k) ws) (inv .height) (inv .tree) (pathOf (slotAt st s)) (siblingsOf (slotAt st s)) (wantAt st s)
+          → Where op (pageAt (st .k) ws) (inv .height) (inv .tree) (pathOf (slotAt st s)) (besideOf (slotAt st s)) (wantAt st s)
           → (endsWithin s (c ∷ cs) st ws ≡ true → Needs op (heightGranted s (c ∷ cs) st ws) (grantsOf s (c ∷ cs) st ws))
           × (grantsOf s (c ∷ cs) st ws ≤ 2 * heightGranted s (c ∷ cs) st ws - 1)
       granted-now g (onTheWay low w e h) = absurd (omega (arith, w .some, ap length none))
@@ -384,7 +384,7 @@ module _ (s : ℕ) (b : s < slotCount) where
           (called-down c st ws inv op runs g l (start-above (pageAt (st .k) ws) l (inv .tree) (pathOf (slotAt st s)) none) h)
 
   -- The grants of an operation that has just begun in a state of a run.
-  pub grant-counts : (op : Op) (cs : List Call) (st : State) (ws : List ℕ) → Invariant st ws → InWords cs → Runs st s op → pathOf (slotAt st s) ≡ []
+  pub grant-counts : (op : Op) (cs : List Call) (st : State) (ws : List ℕ) → Invariant st ws → InWords cs → Opened st s op → pathOf (slotAt st s) ≡ []
       → GrantCounts s op cs st ws
   grant-counts op cs st ws inv words runs none =
       let counted = from-start cs words st ws inv op runs none in

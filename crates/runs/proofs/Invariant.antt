@@ -6,18 +6,13 @@ use mathlib.Core.Path.{_≡_}
 use Rattle.ground.specs.Limits.{slotCount, wordRange}
 use Rattle.pool.specs.Pool.{pageAt}
 use Rattle.slots.specs.declared.Op.{Op}
-use Rattle.slots.specs.declared.Task.the-variants.{Open}
 use Rattle.slots.specs.declared.State.{State}
-use Rattle.slots.specs.Parts.{keyOf, slotAt, pathOf, siblingsOf, wantAt}
+use Rattle.slots.specs.Parts.{keyOf, slotAt, pathOf, besideOf, wantAt, Opened}
 use Rattle.slots.proofs.SoundFacts.{SoundState}
 use Rattle.slots.proofs.Keeping.{Shaped}
 use Rattle.tree.specs.Tree.{Tr, PoolForms}
 use Rattle.runs.specs.Stance.{Stance}
 use Rattle.runs.specs.Step.{Scene}
-
--- slot s is open with this operation
-abbrev pub Runs : State → ℕ → Op → Type 0
-Runs st s op = slotAt st s .task ≡ Open op
 
 pub record Invariant (st : State) (ws : List ℕ) : Type 0 where
   pub shaped : Shaped st
@@ -25,13 +20,13 @@ pub record Invariant (st : State) (ws : List ℕ) : Type 0 where
   pub height : ℕ
   pub tree : Tr height
   pub forms : PoolForms (st .k) (st .n) ws height tree
-  pub keys : (s : ℕ) (op : Op) → s < slotCount → Runs st s op → keyOf op < wordRange
-  pub stands : (s : ℕ) (op : Op) → s < slotCount → Runs st s op
-      → Stance op (st .k) (pageAt (st .k) ws) height tree (pathOf (slotAt st s)) (siblingsOf (slotAt st s)) (wantAt st s)
+  pub keys : (s : ℕ) (op : Op) → s < slotCount → Opened st s op → keyOf op < wordRange
+  pub stands : (s : ℕ) (op : Op) → s < slotCount → Opened st s op
+      → Stance op (st .k) (pageAt (st .k) ws) height tree (pathOf (slotAt st s)) (besideOf (slotAt st s)) (wantAt st s)
 
 -- what is known of an open slot
-pub scene : (st : State) (ws : List ℕ) (inv : Invariant st ws) (s : ℕ) (op : Op) → s < slotCount → Runs st s op
-    → Scene op (st .k) (st .n) ws (inv .height) (inv .tree) (pathOf (slotAt st s)) (siblingsOf (slotAt st s)) (wantAt st s)
+pub scene : (st : State) (ws : List ℕ) (inv : Invariant st ws) (s : ℕ) (op : Op) → s < slotCount → Opened st s op
+    → Scene op (st .k) (st .n) ws (inv .height) (inv .tree) (pathOf (slotAt st s)) (besideOf (slotAt st s)) (wantAt st s)
 scene st ws inv s op b runs = record {
   kLeast = inv .sound .kLeast;
   kMost = inv .sound .kMost;

@@ -18,7 +18,7 @@ use Rattle.slots.specs.declared.Task.{Task}
 use Rattle.slots.specs.declared.Task.the-variants.{Closed, Open}
 use Rattle.slots.specs.declared.Slot.{Slot}
 use Rattle.slots.specs.declared.State.{State}
-use Rattle.slots.specs.Parts.{keyOf, isDelete, goesBeside, pathOf, siblingsOf, slotAt}
+use Rattle.slots.specs.Parts.{keyOf, isDelete, goesBeside, pathOf, besideOf, slotAt}
 use Rattle.tree.specs.Tree.{Tr, way, Forms}
 use Rattle.tree.proofs.Search.{way-facts}
 use Rattle.runs.specs.Stance.{Stance}
@@ -39,7 +39,7 @@ leftTask memory Closed path siblings = 0
 leftTask memory (Open op) path siblings = leftOpen memory path siblings
 
 abbrev pub leftSlot : (ℕ → Page) → Slot → ℕ
-leftSlot memory slot = leftTask memory (slot .task) (pathOf slot) (siblingsOf slot)
+leftSlot memory slot = leftTask memory (slot .task) (pathOf slot) (besideOf slot)
 
 -- the measure of slot s
 abbrev pub grantsLeft : State → List ℕ → ℕ → ℕ

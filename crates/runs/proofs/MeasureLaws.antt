@@ -22,9 +22,9 @@ use Rattle.slots.specs.declared.Slot.{Slot}
 use Rattle.slots.specs.declared.State.{State}
 use Rattle.slots.specs.declared.Answer.{Answer}
 use Rattle.slots.specs.declared.Answer.the-variants.{Moved}
-use Rattle.slots.specs.Parts.{isOpen, openSlot, closedSlot, pathOf, siblingsOf, slotAt, openAt, wantAt, holdsAt}
+use Rattle.slots.specs.Parts.{isOpen, openSlot, closedSlot, pathOf, besideOf, slotAt, openAt, wantAt, holdsAt, Opened}
 use Rattle.slots.specs.Book.{goesOn, closes}
-use Rattle.slots.proofs.Keeping.{Shaped, slot-here, slot-other, path-new, siblings-new}
+use Rattle.slots.proofs.Keeping.{Shaped, slot-here, slot-other, path-new, beside-new}
 use Rattle.footing.specs.Granted.{Verdict, goes, ends, isSafe, kept, atItsLeaf}
 use Rattle.footing.specs.Fitting.{verdict}
 use Rattle.index.specs.Step.{Left, left, acted, stepped}
@@ -34,7 +34,7 @@ use Rattle.tree.proofs.Height.{height-facts}
 use Rattle.tree.proofs.Memory.{absent-times, unwritten}
 use Rattle.tree.proofs.Words.{fit-writes, applied-memory}
 use Rattle.runs.specs.Step.{Comes, moves, stops}
-use Rattle.runs.proofs.Invariant.{Runs, Invariant, scene}
+use Rattle.runs.proofs.Invariant.{Invariant, scene}
 use Rattle.runs.proofs.Stepping.{granted-comes}
 use Rattle.runs.proofs.Fathers.{upward-held}
 use Rattle.runs.proofs.Progress.{opened as open-task}
@@ -145,31 +145,31 @@ unfolding closes
 closes-k st s = refl
 
 -- the operation of an open slot
-pub open-runs : (st : State) (s : ℕ) → openAt st s ≡ true → (op : Op) × Runs st s op
+pub open-runs : (st : State) (s : ℕ) → openAt st s ≡ true → (op : Op) × Opened st s op
 open-runs st s o = open-task (slotAt st s .task) o
 
 -- ---- where a slot of a run stands, and its measure's bounds
 
 module _ (st : State) (ws : List ℕ) (inv : Invariant st ws) where
-  pub where-slot : (s : ℕ) (op : Op) → s < slotCount → Runs st s op
-      → Where op (pageAt (st .k) ws) (inv .height) (inv .tree) (pathOf (slotAt st s)) (siblingsOf (slotAt st s)) (wantAt st s)
+  pub where-slot : (s : ℕ) (op : Op) → s < slotCount → Opened st s op
+      → Where op (pageAt (st .k) ws) (inv .height) (inv .tree) (pathOf (slotAt st s)) (besideOf (slotAt st s)) (wantAt st s)
   where-slot s op b runs =
       where-it-stands op (st .k) (st .n) (pageAt (st .k) ws) (inv .height) (inv .tree) (inv .forms .forms) (inv .keys s op b runs)
-      (pathOf (slotAt st s)) (siblingsOf (slotAt st s)) (wantAt st s) (inv .stands s op b runs)
+      (pathOf (slotAt st s)) (besideOf (slotAt st s)) (wantAt st s) (inv .stands s op b runs)
 
   -- "h is at most 10"
   pub not-too-tall : inv .height + 1 ≤ tallest
   not-too-tall = height-facts (st .k) (st .n) (pageAt (st .k) ws) (inv .height) (inv .tree) (inv .sound .kLeast) (inv .sound .nMost) (inv .forms .forms) .height
 
-  pub left-of-open : (s : ℕ) (op : Op) → Runs st s op → grantsLeft st ws s ≡ leftOpen (pageAt (st .k) ws) (pathOf (slotAt st s)) (siblingsOf (slotAt st s))
-  left-of-open s op runs = ap (λ (task : Task). leftTask (pageAt (st .k) ws) task (pathOf (slotAt st s)) (siblingsOf (slotAt st s))) runs
+  pub left-of-open : (s : ℕ) (op : Op) → Opened st s op → grantsLeft st ws s ≡ leftOpen (pageAt (st .k) ws) (pathOf (slotAt st s)) (besideOf (slotAt st s))
+  left-of-open s op runs = ap (λ (task : Task). leftTask (pageAt (st .k) ws) task (pathOf (slotAt st s)) (besideOf (slotAt st s))) runs
 
   -- An open slot has at least one grant left, and at most so many as document 01 allows a slot.
   pub measure-bound : (s : ℕ) → s < slotCount → openAt st s ≡ true → (1 ≤ grantsLeft st ws s) × (grantsLeft st ws s ≤ slotGrants)
   measure-bound s b opened =
       let found = open-runs st s opened in
       let is = left-of-open s (found .0) (found .1) in
-      let bounds = left-bounds (pageAt (st .k) ws) (inv .height) (inv .tree) (found .0) (pathOf (slotAt st s)) (siblingsOf (slotAt st s)) (wantAt st s)
+      let bounds = left-bounds (pageAt (st .k) ws) (inv .height) (inv .tree) (found .0) (pathOf (slotAt st s)) (besideOf (slotAt st s)) (wantAt st s)
       not-too-tall (where-slot s (found .0) b (found .1)) in
       (omega (arith, is, bounds .0), omega (arith, is, bounds .1))
 
@@ -177,7 +177,7 @@ module _ (st : State) (ws : List ℕ) (inv : Invariant st ws) where
 pub measure-closed : (st : State) (ws : List ℕ) (s : ℕ) → openAt st s ≡ false → grantsLeft st ws s ≡ 0
 measure-closed st ws s = by-task (slotAt st s .task)
   where
-    by-task : (task : Task) → isOpen task ≡ false → leftTask (pageAt (st .k) ws) task (pathOf (slotAt st s)) (siblingsOf (slotAt st s)) ≡ 0
+    by-task : (task : Task) → isOpen task ≡ false → leftTask (pageAt (st .k) ws) task (pathOf (slotAt st s)) (besideOf (slotAt st s)) ≡ 0
     by-task Closed h = refl
     by-task (Open op) h = not-both refl h
 
@@ -199,7 +199,7 @@ left-same memory memory′ (Open op) (p ∷ ps) siblings h = ap (λ (n : ℕ). 2
 pub undisturbed-measure : (st : State) (ws : List ℕ) (next : State) (after : List ℕ) (u : ℕ) → Undisturbed st ws next after u → grantsLeft next after u ≡ grantsLeft st ws u
 undisturbed-measure st ws next after u h =
     ap (leftSlot (pageAt (next .k) after)) (h .slot)
-    ∙ left-same (pageAt (st .k) ws) (pageAt (next .k) after) (slotAt st u .task) (pathOf (slotAt st u)) (siblingsOf (slotAt st u)) (h .level)
+    ∙ left-same (pageAt (st .k) ws) (pageAt (next .k) after) (slotAt st u .task) (pathOf (slotAt st u)) (besideOf (slotAt st u)) (h .level)
 
 pub nothing-disturbed : (st : State) (ws : List ℕ) (u : ℕ) → Undisturbed st ws st ws u
 nothing-disturbed st ws u = record { slot = refl; level = λ _ _. refl }
@@ -208,21 +208,21 @@ nothing-disturbed st ws u = record { slot = refl; level = λ _ _. refl }
 
 -- what it comes to
 abbrev verdictOf : State → List ℕ → ℕ → Op → Verdict
-verdictOf st ws s op = verdict op (st .k) (st .n) ws (pathOf (slotAt st s)) (siblingsOf (slotAt st s)) (wantAt st s)
+verdictOf st ws s op = verdict op (st .k) (st .n) ws (pathOf (slotAt st s)) (besideOf (slotAt st s)) (wantAt st s)
 
 module _ (st : State) (ws : List ℕ) (inv : Invariant st ws) (s : ℕ) (g : Goes st s) where
   abbrev op : Op
   op = g .op
 
-  pub comes : Comes op (st .k) (st .n) ws (inv .height) (inv .tree) (pathOf (slotAt st s)) (siblingsOf (slotAt st s)) (wantAt st s)
-  comes = granted-comes op (st .k) (st .n) ws (inv .height) (inv .tree) (pathOf (slotAt st s)) (siblingsOf (slotAt st s)) (wantAt st s)
+  pub comes : Comes op (st .k) (st .n) ws (inv .height) (inv .tree) (pathOf (slotAt st s)) (besideOf (slotAt st s)) (wantAt st s)
+  comes = granted-comes op (st .k) (st .n) ws (inv .height) (inv .tree) (pathOf (slotAt st s)) (besideOf (slotAt st s)) (wantAt st s)
       (scene st ws inv s op (g .inside) (g .runs))
 
   -- the measure once it has moved
   pub after-moving : (path′ siblings′ : List ℕ) (want′ : ℕ) → grantsLeft (goesOn st s op want′ path′ siblings′) ws s ≡ leftOpen (pageAt (st .k) ws) path′ siblings′
   after-moving path′ siblings′ want′ =
       ap₂ (λ (k : ℕ) (slot : Slot). leftSlot (pageAt k ws) slot) (goes-on-k st s op want′ path′ siblings′) (goes-on-here st (inv .shaped) s (g .inside) op want′ path′ siblings′)
-      ∙ ap₂ (leftOpen (pageAt (st .k) ws)) (path-new op want′ path′ siblings′) (siblings-new op want′ path′ siblings′)
+      ∙ ap₂ (leftOpen (pageAt (st .k) ws)) (path-new op want′ path′ siblings′) (beside-new op want′ path′ siblings′)
 
   pub moved : (path′ siblings′ : List ℕ) (want′ : ℕ) → verdictOf st ws s op ≡ goes path′ siblings′ want′
       → stepped st ws s ≡ left Moved (goesOn st s op want′ path′ siblings′) ws
@@ -236,7 +236,7 @@ module _ (st : State) (ws : List ℕ) (inv : Invariant st ws) (s : ℕ) (g : Goe
   pub step-undisturbed : (u : ℕ) → u < slotCount → u ≢ s → Undisturbed st ws (stepped st ws s .state) (stepped st ws s .words) u
   step-undisturbed u c n = by-comes comes
     where
-      by-comes : Comes op (st .k) (st .n) ws (inv .height) (inv .tree) (pathOf (slotAt st s)) (siblingsOf (slotAt st s)) (wantAt st s)
+      by-comes : Comes op (st .k) (st .n) ws (inv .height) (inv .tree) (pathOf (slotAt st s)) (besideOf (slotAt st s)) (wantAt st s)
           → Undisturbed st ws (stepped st ws s .state) (stepped st ws s .words) u
       by-comes (moves path′ siblings′ want′ e stance takes) =
           subst (λ (r : Left). Undisturbed st ws (r .state) (r .words) u) (sym (moved path′ siblings′ want′ e))
@@ -251,7 +251,7 @@ module _ (st : State) (ws : List ℕ) (inv : Invariant st ws) (s : ℕ) (g : Goe
             slot = closes-other st (inv .shaped) s (g .inside) u n;
             level = λ opened some.
                 let found = open-runs st u opened in
-                let holds : holdsAt st u low ≡ true = upward-held (pathOf (slotAt st u)) (siblingsOf (slotAt st u)) 0 some in
+                let holds : holdsAt st u low ≡ true = upward-held (pathOf (slotAt st u)) (besideOf (slotAt st u)) 0 some in
                 let none : member low (writtenPages writes) ≡ false
                 = others-unwritten st ws inv s (g .inside) op a writes (g .runs) (g .granted) ended u (found .0) c n (found .1) low holds in
                 let fit = fit-writes (st .k) (st .n) writes (ended .leads .fitting) (ended .leads .inside) in
@@ -269,12 +269,12 @@ module _ (st : State) (ws : List ℕ) (inv : Invariant st ws) (s : ℕ) (g : Goe
   pub measure-falls : grantsLeft (stepped st ws s .state) (stepped st ws s .words) s < grantsLeft st ws s
   measure-falls = by-comes comes
     where
-      by-comes : Comes op (st .k) (st .n) ws (inv .height) (inv .tree) (pathOf (slotAt st s)) (siblingsOf (slotAt st s)) (wantAt st s)
+      by-comes : Comes op (st .k) (st .n) ws (inv .height) (inv .tree) (pathOf (slotAt st s)) (besideOf (slotAt st s)) (wantAt st s)
           → grantsLeft (stepped st ws s .state) (stepped st ws s .words) s < grantsLeft st ws s
       by-comes (moves path′ siblings′ want′ e stance takes) =
           let M : ℕ → Page = pageAt (st .k) ws in
           let path : List ℕ = pathOf (slotAt st s) in
-          let siblings : List ℕ = siblingsOf (slotAt st s) in
+          let siblings : List ℕ = besideOf (slotAt st s) in
           let was = left-of-open st ws inv s op (g .runs) in
           let falls = moved-falls op (st .k) M (inv .height) (inv .tree) path siblings (wantAt st s) path′ siblings′ (not-too-tall st ws inv)
           (where-slot st ws inv s op (g .inside) (g .runs))

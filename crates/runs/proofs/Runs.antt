@@ -17,7 +17,7 @@ use Rattle.slots.specs.declared.Slot.{Slot}
 use Rattle.slots.specs.declared.State.{State}
 use Rattle.slots.specs.declared.Outcome.{Outcome}
 use Rattle.slots.specs.declared.Answer.the-variants.{Begun, Made, Reported, BadState, BadPool, BadSlot, SlotBusy, BadPage}
-use Rattle.slots.specs.Parts.{keyOf, isOpen, openAt, closedSlot, idleState}
+use Rattle.slots.specs.Parts.{keyOf, isOpen, openAt, closedSlot, idleState, Opened}
 use Rattle.slots.specs.Sound.{sound}
 use Rattle.slots.specs.Book.{begins, goesOn, closes}
 use Rattle.slots.specs.Begin.{outcome, begun}
@@ -30,7 +30,7 @@ use Rattle.tree.specs.Tree.{Tr, PoolForms}
 use Rattle.tree.specs.Facts.{emptyTree}
 use Rattle.tree.proofs.Words.{fresh-forms}
 use Rattle.runs.specs.Run.{Call, begin, step, report, called, run, runFrom, OpInWords, CallInWords, InWords, Run}
-use Rattle.runs.proofs.Invariant.{Runs, Invariant}
+use Rattle.runs.proofs.Invariant.{Invariant}
 use Rattle.runs.proofs.Calls.{StepOf, noSlot, idle, waits, onward, over, step-of, step-keeps, begin-keeps}
 
 pub key-in-words : (op : Op) → OpInWords op → keyOf op < wordRange
@@ -149,7 +149,7 @@ run-numbers (c ∷ cs) st ws inv h =
 -- ---- the start
 
 -- no slot of an idle state is open
-pub idle-shut : (k n s : ℕ) (op : Op) → Runs (idleState k n) s op → ⊥
+pub idle-shut : (k n s : ℕ) (op : Op) → Opened (idleState k n) s op → ⊥
 idle-shut k n s op runs = false≢true (sym (ap (λ (sl : Slot). isOpen (sl .task)) (same-everywhere slotCount s closedSlot)) ∙ ap isOpen runs)
 
 -- Every slot closed, over words that form a tree: a run can start there.

@@ -12,10 +12,10 @@ use Rattle.slots.specs.declared.State.{State}
 use Rattle.slots.specs.declared.Answer.{Answer}
 use Rattle.slots.specs.declared.Answer.the-variants.{Waiting, BadSlot, SlotIdle}
 use Rattle.slots.specs.Heard.{changesNothing}
-use Rattle.slots.specs.Parts.{openAt}
+use Rattle.slots.specs.Parts.{openAt, Opened}
 use Rattle.slots.specs.Grant.{grants}
 use Rattle.index.specs.Step.{left, stepped}
-use Rattle.runs.proofs.Invariant.{Runs, Invariant}
+use Rattle.runs.proofs.Invariant.{Invariant}
 use Rattle.runs.proofs.Calls.{StepOf, noSlot, idle, waits, onward, over, step-of}
 
 -- The step changes nothing, and the slot is none that is granted its want.
@@ -29,7 +29,7 @@ pub record Rests (st : State) (ws : List ℕ) (s : ℕ) : Type 0 where
 pub record Goes (st : State) (s : ℕ) : Type 0 where
   pub op : Op
   pub inside : s < slotCount
-  pub runs : Runs st s op
+  pub runs : Opened st s op
   pub granted : grants st s ≡ true
 
 by-step : (st : State) (ws : List ℕ) (inv : Invariant st ws) (s : ℕ) → StepOf st ws inv s → Rests st ws s ⊎ Goes st s

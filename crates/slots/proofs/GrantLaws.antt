@@ -19,7 +19,7 @@ use Rattle.slots.specs.declared.Slot.{Slot}
 use Rattle.slots.specs.declared.Lock.{Lock}
 use Rattle.slots.specs.declared.Lock.the-variants.{None, Rho, Xi}
 use Rattle.slots.specs.declared.State.{State}
-use Rattle.slots.specs.Parts.{isOpen, held, pathOf, siblingsOf, slotAt, openAt, wantAt, holdsAt}
+use Rattle.slots.specs.Parts.{isOpen, held, pathOf, besideOf, slotAt, openAt, wantAt, holdsAt}
 use Rattle.slots.specs.Locks.{lockOf, lockAt, clash, isXi}
 use Rattle.slots.specs.Sound.{withinLimits}
 use Rattle.slots.specs.Grant.{noClash, noOlder, grants}
@@ -49,8 +49,8 @@ holder-task Closed depth beside p path siblings h m =
 holder-task (Open op) depth beside p path siblings h m = refl
 
 pub holder-open : (n : ℕ) (s : Slot) (p : ℕ) → SoundSlot n s → member p (held s) ≡ true → isOpen (s .task) ≡ true
-unfolding pathOf siblingsOf
-holder-open n s p f m = holder-task (s .task) (s .depth) (s .beside) p (s .path) (s .siblings) (f .limits) m
+unfolding pathOf besideOf
+holder-open n s p f m = holder-task (s .task) (s .depth) (s .breadth) p (s .path) (s .beside) (f .limits) m
 
 -- a lock at all
 abbrev isLock : Lock → Bool

@@ -17,7 +17,7 @@ use Rattle.slots.specs.declared.Op.the-variants.{Search, Insert, Delete,
 use Rattle.slots.specs.declared.Task.the-variants.{Open}
 use Rattle.slots.specs.declared.Slot.{Slot}
 use Rattle.slots.specs.declared.State.{State}
-use Rattle.slots.specs.Parts.{isOpen, held, pathOf, siblingsOf, slotAt, openAt, waitingOrder, openSlot, closedSlot, idleState}
+use Rattle.slots.specs.Parts.{isOpen, held, pathOf, besideOf, slotAt, openAt, waitingOrder, openSlot, closedSlot, idleState}
 use Rattle.slots.specs.Locks.{lockOf, lockAt, isXi}
 use Rattle.slots.specs.Sound.{withinLimits}
 use Rattle.slots.specs.Book.{rewritten, leaving, begins, goesOn, closes}
@@ -98,18 +98,18 @@ pub path-new : (op : Op) (want : ℕ) (path siblings : List ℕ) → pathOf (ope
 unfolding pathOf padded
 path-new op want path siblings = take-append-seam path (replicate (pathHolds - length path) 0)
 
-pub siblings-new : (op : Op) (want : ℕ) (path siblings : List ℕ) → siblingsOf (openSlot op want path siblings) ≡ siblings
-unfolding siblingsOf padded
-siblings-new op want path siblings = take-append-seam siblings (replicate (pathHolds - length siblings) 0)
+pub beside-new : (op : Op) (want : ℕ) (path siblings : List ℕ) → besideOf (openSlot op want path siblings) ≡ siblings
+unfolding besideOf padded
+beside-new op want path siblings = take-append-seam siblings (replicate (pathHolds - length siblings) 0)
 
 pub held-new : (op : Op) (want : ℕ) (path siblings : List ℕ) → held (openSlot op want path siblings) ≡ path ++ siblings
-held-new op want path siblings = ap₂ (λ (ps ss : List ℕ). ps ++ ss) (path-new op want path siblings) (siblings-new op want path siblings)
+held-new op want path siblings = ap₂ (λ (ps ss : List ℕ). ps ++ ss) (path-new op want path siblings) (beside-new op want path siblings)
 
 nothing-apart : (ys : List ℕ) → apart [] ys ≡ true
 nothing-apart ys = apart-from [] ys (λ x m. not-both m (member-none x))
 
 closed-holds-nothing : held closedSlot ≡ []
-unfolding pathOf siblingsOf padded
+unfolding pathOf besideOf padded
 closed-holds-nothing = refl
 
 closed-sound : (n : ℕ) → SoundSlot n closedSlot

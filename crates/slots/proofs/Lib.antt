@@ -1,7 +1,7 @@
 pub mod Unique
 pub mod Refusals
-pub mod BookLaws
-pub mod GrantingLaws
+pub mod MakingLaws
+pub mod HoldingLaws
 pub mod SoundFacts
 pub mod OrderLaws
 pub mod Clashes

@@ -19,7 +19,7 @@ use Rattle.slots.specs.Sound.{numbersInRange, orderSound, withinLimits, 
 
 -- one slot, in a pool of n pages
 pub record SoundSlot (n : ℕ) (s : Slot) : Type 0 where
-  pub limits : withinLimits (s .task) (s .depth) (s .beside) ≡ true
+  pub limits : withinLimits (s .task) (s .depth) (s .breadth) ≡ true
   -- of an open slot: "all pages named are below N"
   pub below : isOpen (s .task) ≡ true → (p : ℕ) → member p (s .want ∷ held s) ≡ true → p < n
   -- "no slot holds a page twice or wants one it holds"
@@ -52,7 +52,7 @@ if-open-from (Open op) test h = h refl
 pub sound-slot : (n : ℕ) (s : Slot) → slotSound n s ≡ true → SoundSlot n s
 unfolding slotSound
 sound-slot n s h =
-    let within = withinLimits (s .task) (s .depth) (s .beside) in
+    let within = withinLimits (s .task) (s .depth) (s .breadth) in
     let names = all (λ (p : ℕ). ltb p n) (s .want ∷ held s) in
     let pages : isOpen (s .task) ≡ true → belowAndOnce n s ≡ true = if-open (s .task) (belowAndOnce n s) (and-second within (ifOpen (s .task) (belowAndOnce n s)) h) in
     record {

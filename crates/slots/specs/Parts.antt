@@ -2,6 +2,7 @@
 use Prim.Native.Nat.{ℕ}
 use mathlib.Core.Bool.{Bool, true, false}
 use mathlib.Core.List.{List, [], _++_}
+use mathlib.Core.Path.{_≡_}
 use lib.ListN.{length, getD, take, replicate}
 use Rattle.ground.specs.Limits.{pathHolds, slotCount}
 use Rattle.ground.specs.Tests.{member, padded}
@@ -57,22 +58,44 @@ isOpen (Open op) = true
 -- "An open slot holds pages and wants exactly one more."
 -- A slot of this operation, want, path and pages beside it; cells behind a length are 0.
 abbrev pub openSlot : Op → ℕ → List ℕ → List ℕ → Slot
-openSlot op want path siblings = record { task = Open op; want = want; path = padded pathHolds path; depth = length path; siblings = padded pathHolds siblings; beside = length siblings }
+openSlot op want path beside = record { task = Open op; want = want; path = padded pathHolds path; depth = length path; beside = padded pathHolds beside; breadth = length beside }
 
 -- "a closed slot holds nothing"; its cells are 0
 abbrev pub closedSlot : Slot
-closedSlot = record { task = Closed; want = 0; path = padded pathHolds []; depth = 0; siblings = padded pathHolds []; beside = 0 }
+closedSlot = record { task = Closed; want = 0; path = padded pathHolds []; depth = 0; beside = padded pathHolds []; breadth = 0 }
 
 -- the pages of a slot's path, from the top downward, those beside it, and all that it holds. Beside the path stand a deletion's
--- siblings, from the leaf's upward, or the second way of a Next, from the top downward: both are called siblings here.
+-- siblings, from the leaf's upward, or the second way of a Next, from the top downward.
 unfoldable pub pathOf : Slot → List ℕ
 pathOf s = take (s .depth) (s .path)
 
-unfoldable pub siblingsOf : Slot → List ℕ
-siblingsOf s = take (s .beside) (s .siblings)
+unfoldable pub besideOf : Slot → List ℕ
+besideOf s = take (s .breadth) (s .beside)
 
 abbrev pub held : Slot → List ℕ
-held s = pathOf s ++ siblingsOf s
+held s = pathOf s ++ besideOf s
+
+-- Where an open slot stands: its operation, the pages of its path, those beside it, and the page that it wants.
+pub record Stand : Type 0 where
+  pub op : Op
+  pub path : List ℕ
+  pub beside : List ℕ
+  pub want : ℕ
+
+abbrev pub stand : Op → List ℕ → List ℕ → ℕ → Stand
+stand op path beside want = record { op = op; path = path; beside = beside; want = want }
+
+-- all pages that it holds
+abbrev pub holding : Stand → List ℕ
+holding z = z .path ++ z .beside
+
+-- where a slot stands that is open with this operation
+abbrev pub standOf : Op → Slot → Stand
+standOf op s = stand op (pathOf s) (besideOf s) (s .want)
+
+-- the slot that stands there
+abbrev pub slotOf : Stand → Slot
+slotOf z = openSlot (z .op) (z .want) (z .path) (z .beside)
 
 -- slot i of a state
 abbrev pub slotAt : State → ℕ → Slot
@@ -80,6 +103,10 @@ slotAt st i = getD (st .slots) i closedSlot
 
 abbrev pub openAt : State → ℕ → Bool
 openAt st i = isOpen (slotAt st i .task)
+
+-- slot i is open with this operation
+abbrev pub Opened : State → ℕ → Op → Type 0
+Opened st i op = slotAt st i .task ≡ Open op
 
 abbrev pub wantAt : State → ℕ → ℕ
 wantAt st i = slotAt st i .want

@@ -58,7 +58,7 @@ ifOpen Closed test = true
 ifOpen (Open op) test = test
 
 unfoldable pub slotSound : ℕ → Slot → Bool
-slotSound n s = withinLimits (s .task) (s .depth) (s .beside) && ifOpen (s .task) (belowAndOnce n s)
+slotSound n s = withinLimits (s .task) (s .depth) (s .breadth) && ifOpen (s .task) (belowAndOnce n s)
 
 -- "no ξ-held page is held by another slot"
 unfoldable pub noClashingHolds : State → Bool

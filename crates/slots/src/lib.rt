@@ -1,6 +1,6 @@
 // Slots and locks: who holds what, who waits for whom. The state and what the caller hears.
-pub mod book;
-pub mod granting;
+pub mod holding;
+pub mod making;
 
 use ground::HELD;
 use ground::SLOTS;
@@ -31,8 +31,8 @@ pub struct Slot {
     pub want: u32,
     pub path: [u32; HELD],
     pub depth: usize,
-    pub siblings: [u32; HELD],
-    pub beside: usize,
+    pub beside: [u32; HELD],
+    pub breadth: usize,
 }
 
 // The state that the rules speak of: k, the number of pages, the slots, and the waiting order, oldest first.

@@ -11,7 +11,7 @@ use Rattle.pool.specs.Pool.{poolLength, start, wordsOf, pageAt, written, applie
 use Rattle.change.specs.Insertion.{room, settled, insertion}
 use Rattle.change.specs.Regrading.{regrading}
 use Rattle.slots.specs.declared.Answer.the-variants.{Made}
-use Rattle.slots.specs.Parts.{pathOf, siblingsOf, waitingOrder, idleState}
+use Rattle.slots.specs.Parts.{pathOf, besideOf, waitingOrder, idleState}
 use Rattle.slots.specs.Grant.{olderThan, noClash, noOlder}
 use Rattle.slots.specs.Book.{leaving, begins, goesOn, closes}
 use Rattle.slots.specs.Sound.{orderSound, slotSound, noClashingHolds, sound}
@@ -35,17 +35,17 @@ opened = refl
 -- `Found 3`, `SlotIdle`, one a line, no header." The third line stays Waiting under 02 (iii): the older want is an insertion's, and ξ
 -- goes with nothing.
 pub example : programWrites (bytes "b 0 i 12 3\nb 1 s 12\nt 1\nt 0\nt 1\nt 1\n") ≡ bytes "Begun\nBegun\nWaiting\nInserted\nFound 3\nSlotIdle\n"
-unfolding largestK largestN tallest slotCount searchHolds pathHolds siblingHolds all count member distinct apart allBelow listBelow padded flat encode pairs view place has information risesFrom rises soundByItself put split poolLength start wordsOf pageAt written applied isFree freePages fresh room settled insertion pathOf siblingsOf waitingOrder olderThan noClash noOlder leaving begins goesOn closes orderSound slotSound noClashingHolds sound begun begins-with digits value front stepping searching deleting informing keying inserting asking beginning meaning digitsWithin decimal atLeaf comesDown granted pagesSound descends sameLevels fitting soundForStep verdict stepped made linesOf replies blank mostBytes programWrites
+unfolding largestK largestN tallest slotCount searchHolds pathHolds siblingHolds all count member distinct apart allBelow listBelow padded flat encode pairs view place has information risesFrom rises soundByItself put split poolLength start wordsOf pageAt written applied isFree freePages fresh room settled insertion pathOf besideOf waitingOrder olderThan noClash noOlder leaving begins goesOn closes orderSound slotSound noClashingHolds sound begun begins-with digits value front stepping searching deleting informing keying inserting asking beginning meaning digitsWithin decimal atLeaf comesDown granted pagesSound descends sameLevels fitting soundForStep verdict stepped made linesOf replies blank mostBytes programWrites
 example = refl
 
 -- the next lot at or above: none in the empty pool, then the only one
 pub next-example : programWrites (bytes "b 0 n 5\nt 0\nb 0 i 12 3\nt 0\nb 0 n 5\nt 0\nb 0 n 13\nt 0\n") ≡ bytes "Begun\nNone\nBegun\nInserted\nBegun\nNext 12 3\nBegun\nNone\n"
-unfolding largestK largestN tallest slotCount searchHolds pathHolds siblingHolds all count member distinct apart allBelow listBelow padded flat encode pairs view place has information atOrAbove risesFrom rises soundByItself put split poolLength start wordsOf pageAt written applied isFree freePages fresh room settled insertion pathOf siblingsOf waitingOrder olderThan noClash noOlder leaving begins goesOn closes orderSound slotSound noClashingHolds sound begun begins-with digits value front stepping searching deleting askingNext informing keying inserting asking beginning meaning digitsWithin decimal atLeaf comesDown granted pagesSound descends sameLevels fitting soundForStep verdict stepped made linesOf replies blank mostBytes programWrites
+unfolding largestK largestN tallest slotCount searchHolds pathHolds siblingHolds all count member distinct apart allBelow listBelow padded flat encode pairs view place has information atOrAbove risesFrom rises soundByItself put split poolLength start wordsOf pageAt written applied isFree freePages fresh room settled insertion pathOf besideOf waitingOrder olderThan noClash noOlder leaving begins goesOn closes orderSound slotSound noClashingHolds sound begun begins-with digits value front stepping searching deleting askingNext informing keying inserting asking beginning meaning digitsWithin decimal atLeaf comesDown granted pagesSound descends sameLevels fitting soundForStep verdict stepped made linesOf replies blank mostBytes programWrites
 next-example = refl
 
 -- new information under a key: no such key in the empty pool; then the old information is answered, and the new one is there
 pub regrade-example : programWrites (bytes "b 0 g 12 5\nt 0\nb 0 i 12 3\nt 0\nb 0 g 12 5\nt 0\nb 0 i 12 7\nt 0\n") ≡ bytes "Begun\nNoSuchKey\nBegun\nInserted\nBegun\nRegraded 3\nBegun\nAlreadyThere 5\n"
-unfolding largestK largestN tallest slotCount searchHolds regradeHolds pathHolds siblingHolds all count member distinct apart allBelow listBelow padded flat encode pairs view place has information regraded risesFrom rises soundByItself put split poolLength start wordsOf pageAt written applied isFree freePages fresh room settled insertion regrading pathOf siblingsOf waitingOrder olderThan noClash noOlder leaving begins goesOn closes orderSound slotSound noClashingHolds sound begun begins-with digits value front stepping searching deleting informing keying inserting askingRegrade asking beginning meaning digitsWithin decimal atLeaf comesDown granted pagesSound descends sameLevels fitting soundForStep verdict stepped made linesOf replies blank mostBytes programWrites
+unfolding largestK largestN tallest slotCount searchHolds regradeHolds pathHolds siblingHolds all count member distinct apart allBelow listBelow padded flat encode pairs view place has information regraded risesFrom rises soundByItself put split poolLength start wordsOf pageAt written applied isFree freePages fresh room settled insertion regrading pathOf besideOf waitingOrder olderThan noClash noOlder leaving begins goesOn closes orderSound slotSound noClashingHolds sound begun begins-with digits value front stepping searching deleting informing keying inserting askingRegrade asking beginning meaning digitsWithin decimal atLeaf comesDown granted pagesSound descends sameLevels fitting soundForStep verdict stepped made linesOf replies blank mostBytes programWrites
 regrade-example = refl
 
 -- "empty input writes nothing"

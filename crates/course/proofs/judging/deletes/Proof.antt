@@ -11,7 +11,7 @@ use Rattle.change.specs.Held.{leafOf, fathersOf, needOf}
 use Rattle.change.specs.declared.needing.Need.{Need}
 use Rattle.change.specs.declared.needing.Need.the-variants.{Nothing, Sibling, Astray}
 use Rattle.slots.specs.declared.Slot.{Slot}
-use Rattle.slots.specs.Parts.{siblingsOf}
+use Rattle.slots.specs.Parts.{besideOf}
 use Rattle.course.specs.Judged.{needCourse, deleteCourse}
 use Rattle.course.proofs.JudgeLaws.{standing-needing}
 use Rattle.course.proofs.judging.deletes.Statement.{statement}
@@ -43,20 +43,20 @@ enum-told-3 c = search needs
 
 -- the course of a deletion whose key is there, by what it needs
 by-need : (k : ℕ) (memory : ℕ → Page) (x v : ℕ) (lot : Lot) (stand : Slot) (need known : Need) → lot ≡ There v
-    → needOf need ≡ rule.needs k memory x (leafOf (stand .depth) (stand .path)) (fathersOf (stand .depth) (stand .path)) (siblingsOf stand)
+    → needOf need ≡ rule.needs k memory x (leafOf (stand .depth) (stand .path)) (fathersOf (stand .depth) (stand .path)) (besideOf stand)
     → need ≡ known → needCourse stand x v (needOf known) ≡ deleteCourse k memory x lot stand
 by-need k memory x v lot stand need known there e n =
     ap (λ (m : Need). needCourse stand x v (needOf m)) (sym n) ∙ ap (needCourse stand x v) e ∙ ap (λ (l : Lot). deleteCourse k memory x l stand) (sym there)
 
 returns-2 : tie.Need-returns-2
-unfolding siblingsOf
+unfolding besideOf
 returns-2 c =
     let was = c .before .before .before .before .before .before .before .before .before .before .before .args in
     by-need (was .k) (pageAt (was .k) (was .words .now)) (was .x) _ (was .lot) (was .stand) (c .before .before .needs .result) Nothing
     (c .before .before .before .before .before .before .before .before .lot .given .1) (c .before .before .needs .ensures) (c .enum-told2 .given .1)
 
 returns-3 : tie.Need-returns-3
-unfolding siblingsOf
+unfolding besideOf
 returns-3 c =
     let was = c .before .before .before .before .before .before .before .before .before .before .before .before .before .args in
     c .goes .ensures
@@ -64,7 +64,7 @@ returns-3 c =
     (c .before .before .before .before .before .before .before .before .before .before .lot .given .1) (c .before .before .before .before .needs .ensures) (c .before .before .s .given .1)
 
 returns-4 : tie.Need-returns-4
-unfolding siblingsOf
+unfolding besideOf
 returns-4 c =
     let was = c .before .before .before .before .before .before .before .before .before .before .before .args in
     by-need (was .k) (pageAt (was .k) (was .words .now)) (was .x) _ (was .lot) (was .stand) (c .before .before .needs .result) Astray

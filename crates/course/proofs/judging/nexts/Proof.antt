@@ -22,8 +22,8 @@ returns c =
     let memory = pageAt (was .k) (was .words .now) in
     c .nexts-first .ensures
     ∙ sym
-    (cond-true (firstCourse (was .k) memory (was .x) (was .stand)) (leftCourse memory (was .stand) (getD (was .stand .siblings) (was .stand .beside - 1) 0))
-    (eq-eqb (was .stand .beside) 0 (c .before .if1 .taken)))
+    (cond-true (firstCourse (was .k) memory (was .x) (was .stand)) (leftCourse memory (was .stand) (getD (was .stand .beside) (was .stand .breadth - 1) 0))
+    (eq-eqb (was .stand .breadth) 0 (c .before .if1 .taken)))
 
 sub-nexts-left : tie.Need-sub-nexts-left
 sub-nexts-left c = omega arith
@@ -45,8 +45,8 @@ returns-2 c =
     let memory = pageAt (was .k) (was .words .now) in
     c .nexts-left .ensures
     ∙ sym
-    (cond-false (firstCourse (was .k) memory (was .x) (was .stand)) (leftCourse memory (was .stand) (getD (was .stand .siblings) (was .stand .beside - 1) 0))
-    (ne-eqb (was .stand .beside) 0 (c .before .before .if1 .left)))
+    (cond-false (firstCourse (was .k) memory (was .x) (was .stand)) (leftCourse memory (was .stand) (getD (was .stand .beside) (was .stand .breadth - 1) 0))
+    (ne-eqb (was .stand .breadth) 0 (c .before .before .if1 .left)))
 
 pub nexts-spec : {M : Type 1} → statement M
 nexts-spec =

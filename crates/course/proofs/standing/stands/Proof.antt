@@ -4,7 +4,7 @@ use lib.ListN.{length}
 use borrow.Author.Needs.{needs}
 use Rattle.ground.specs.Limits.{pathHolds}
 use Rattle.pool.specs.Pool.{pageAt}
-use Rattle.slots.specs.Parts.{pathOf, siblingsOf}
+use Rattle.slots.specs.Parts.{pathOf, besideOf}
 use Rattle.footing.proofs.LookLaws.{asks-deep, asks-few}
 use Rattle.course.proofs.StandLaws.{path-held, want-known, deep-enough, stood-at-leaf, stood-on-safe, stood-on-other}
 use Rattle.course.proofs.standing.stands.Statement.{statement}
@@ -22,7 +22,7 @@ holding-beside-requires c κs =
     (asks-deep asks, asks-few asks)
 
 returns : tie.Need-returns
-unfolding pathOf siblingsOf
+unfolding pathOf besideOf
 returns c =
     let was = c .before .before .before .before .before .args in
     stood-at-leaf (was .op) (was .k) (pageAt (was .k) (was .words .now)) (was .slot) (c .before .before .at-leaf .ensures)

@@ -15,7 +15,7 @@ use Rattle.pool.specs.Pool.{pageAt}
 use Rattle.change.proofs.HeldLaws.{Known, held-front}
 use Rattle.slots.specs.declared.Op.{Op}
 use Rattle.slots.specs.declared.Op.the-variants.{Search, Insert, Delete, Next, Regrade}
-use Rattle.slots.specs.Parts.{isNext, pathOf, siblingsOf}
+use Rattle.slots.specs.Parts.{isNext, pathOf, besideOf}
 use Rattle.slots.proofs.Op as op
 use Rattle.footing.proofs.KeepLaws.{cell-known, leaf-some, beside-added, beside-held}
 use Rattle.footing.proofs.AcrossLaws.{held-top-with, across-idle, isNothing, across-found, across-ends, across-turns}
@@ -47,17 +47,17 @@ unfolding pathOf
 on c i h =
     let slot = c .args .slot in
     cell-known (slot .path) (slot .depth) (long c)
-    (held-front (pathOf slot) (siblingsOf slot) (held-front (pathOf slot ++ siblingsOf slot) (slot .want ∷ []) (c .pre .0 .2)))
+    (held-front (pathOf slot) (besideOf slot) (held-front (pathOf slot ++ besideOf slot) (slot .want ∷ []) (c .pre .0 .2)))
     i h
 
 -- the second way's cells, with the wanted page behind them
-added : (c : tie.Start) {wider : List ℕ} → wider ≡ padded pathHolds (take (c .args .slot .beside) (c .args .slot .siblings) ++ c .args .slot .want ∷ [])
-    → take (c .args .slot .beside + 1) wider ≡ take (c .args .slot .beside) (c .args .slot .siblings) ++ c .args .slot .want ∷ []
+added : (c : tie.Start) {wider : List ℕ} → wider ≡ padded pathHolds (take (c .args .slot .breadth) (c .args .slot .beside) ++ c .args .slot .want ∷ [])
+    → take (c .args .slot .breadth + 1) wider ≡ take (c .args .slot .breadth) (c .args .slot .beside) ++ c .args .slot .want ∷ []
 unfolding pathHolds
 added c e =
     let slot = c .args .slot in
-    let cells : length (slot .siblings) ≡ 10 = search needs in
-    beside-added (slot .siblings) (slot .beside) (slot .want) (omega (arith, c .pre .0 .1)) e
+    let cells : length (slot .beside) ≡ 10 = search needs in
+    beside-added (slot .beside) (slot .breadth) (slot .want) (omega (arith, c .pre .0 .1)) e
 
 enum-known-op : tie.Need-enum-known-op
 enum-known-op c = search needs
@@ -65,7 +65,7 @@ enum-known-op c = search needs
 returns : tie.Need-returns
 returns c =
     let was = c .before .before .args in
-    across-idle (was .op) (was .k) (pageAt (was .k) (was .words .now)) (pathOf (was .slot)) (siblingsOf (was .slot)) (was .slot .want)
+    across-idle (was .op) (was .k) (pageAt (was .k) (was .words .now)) (pathOf (was .slot)) (besideOf (was .slot)) (was .slot .want)
     (no-next (was .op) (c .match .keys2))
 
 sub-at-or-above-of : tie.Need-sub-at-or-above-of
@@ -91,11 +91,11 @@ enum-told-2 : tie.Need-enum-told-2
 enum-told-2 c = search needs
 
 returns-2 : tie.Need-returns-2
-unfolding pathOf siblingsOf
+unfolding pathOf besideOf
 returns-2 c =
     let start = c .before .before .before .before .before .before .before .before .before in
     let was = start .args in
-    across-found (was .k) (pageAt (was .k) (was .words .now)) (was .slot .path) (was .slot .depth) (siblingsOf (was .slot)) (was .slot .want) (long start) (some start)
+    across-found (was .k) (pageAt (was .k) (was .words .now)) (was .slot .path) (was .slot .depth) (besideOf (was .slot)) (was .slot .want) (long start) (some start)
     (c .before .before .before .before .before .before .op .given .1) (c .before .before .at-or-above-of .ensures) (ap isNothing (c .enum-told2 .given .1))
 
 array-read-top : tie.Need-array-read-top
@@ -107,11 +107,11 @@ has-child-right-requires c κs =
     (known .inPool, (known .readable, known .facts .rising))
 
 returns-3 : tie.Need-returns-3
-unfolding pathOf siblingsOf
+unfolding pathOf besideOf
 returns-3 c =
     let start = c .before .before .before .before .before .before .before .before .before .before .before in
     let was = start .args in
-    across-ends (was .k) (pageAt (was .k) (was .words .now)) (was .slot .path) (was .slot .depth) (siblingsOf (was .slot)) (was .slot .want) (long start) (some start)
+    across-ends (was .k) (pageAt (was .k) (was .words .now)) (was .slot .path) (was .slot .depth) (besideOf (was .slot)) (was .slot .want) (long start) (some start)
     (c .before .before .before .before .before .before .before .before .op .given .1) (c .before .before .before .before .at-or-above-of .ensures) (c .before .has-child-right .ensures) (c .if1 .taken)
 
 with-page-requires : tie.Need-with-page-requires
@@ -122,22 +122,22 @@ unfolding pathHolds
 add-turns-right c = omega (arith, c .before .before .before .before .before .before .before .before .before .before .before .before .before .pre .0 .1)
 
 turns-right-requires : tie.Need-turns-right-requires
-unfolding pathOf siblingsOf
+unfolding pathOf besideOf
 turns-right-requires c κs =
     let start = c .before .before .before .before .before .before .before .before .before .before .before .before .before in
     let slot = start .args .slot in (
       omega arith,
       omega (arith, start .pre .0 .1),
       held-top-with (slot .path) (slot .depth) _ (long start) (some start)
-          (beside-held (pathOf slot) (siblingsOf slot) (slot .want) (added start (c .with-page .ensures)) (start .pre .0 .2)),
+          (beside-held (pathOf slot) (besideOf slot) (slot .want) (added start (c .with-page .ensures)) (start .pre .0 .2)),
     )
 
 returns-4 : tie.Need-returns-4
-unfolding pathOf siblingsOf
+unfolding pathOf besideOf
 returns-4 c =
     let start = c .before .before .before .before .before .before .before .before .before .before .before .before .before .before in
     let was = start .args in
-    across-turns (was .k) (pageAt (was .k) (was .words .now)) (was .slot .path) (was .slot .depth) (siblingsOf (was .slot)) (was .slot .want) (long start) (some start)
+    across-turns (was .k) (pageAt (was .k) (was .words .now)) (was .slot .path) (was .slot .depth) (besideOf (was .slot)) (was .slot .want) (long start) (some start)
     (c .before .before .before .before .before .before .before .before .before .before .before .op .given .1) (c .before .before .before .before .before .before .before .at-or-above-of .ensures) (c .before .before .before .before .has-child-right .ensures) (ap isNothing (c .before .before .before .before .before .enum-told .given .1)) (c .before .before .before .if1 .left)
     (c .turns-right .ensures) (added start (c .before .with-page .ensures))
 

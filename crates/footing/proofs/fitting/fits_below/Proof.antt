@@ -14,7 +14,7 @@ returns : tie.Need-returns
 unfolding pathHolds
 returns c =
     let was = c .before .before .before .args in
-    let cells : length (was .slot .siblings) ≡ 10 = search needs in
+    let cells : length (was .slot .beside) ≡ 10 = search needs in
     sym (comes-beside (pageAt (was .k) (was .words .now)) (was .x) (was .slot) (c .if1 .taken) (omega (arith, c .before .before .before .pre .1)))
 
 returns-2 : tie.Need-returns-2

@@ -20,7 +20,7 @@ use Rattle.change.proofs.NeedLaws.{path-known}
 use Rattle.change.proofs.needing.Need as need
 use Rattle.slots.specs.declared.Op.{Op}
 use Rattle.slots.specs.declared.Op.the-variants.{Search, Insert, Delete, Next, Regrade}
-use Rattle.slots.specs.Parts.{keyOf, isDelete, pathOf, siblingsOf}
+use Rattle.slots.specs.Parts.{keyOf, isDelete, pathOf, besideOf}
 use Rattle.slots.proofs.Op as op
 use Rattle.footing.specs.Fitting.{isSibling}
 use Rattle.footing.proofs.KeepLaws.{beside-needing, beside-added, beside-held, beside-idle, isThere, beside-missing, beside-other, beside-levels}
@@ -44,21 +44,21 @@ no-sibling Astray want t = refl
 
 -- the slot's cells are those of a deletion at its leaf
 stands : (c : tie.Start)
-    → Needing (c .args .k) (c .args .n) (c .args .words .now) (c .args .slot .path) (c .args .slot .depth) (c .args .slot .siblings) (c .args .slot .beside)
-unfolding pathOf siblingsOf pathHolds
+    → Needing (c .args .k) (c .args .n) (c .args .words .now) (c .args .slot .path) (c .args .slot .depth) (c .args .slot .beside) (c .args .slot .breadth)
+unfolding pathOf besideOf pathHolds
 stands c =
     let slot = c .args .slot in
     let asks = c .pre .0 in
     let cells : length (slot .path) ≡ 10 = search needs in
-    let cells′ : length (slot .siblings) ≡ 10 = search needs in
-    beside-needing (keyOf (c .args .op)) (slot .path) (slot .depth) (slot .siblings) (slot .beside) (slot .want) cells cells′ (asks .0) (asks .1) (asks .2) (c .pre .1 .0) (c .pre .1 .1)
+    let cells′ : length (slot .beside) ≡ 10 = search needs in
+    beside-needing (keyOf (c .args .op)) (slot .path) (slot .depth) (slot .beside) (slot .breadth) (slot .want) cells cells′ (asks .0) (asks .1) (asks .2) (c .pre .1 .0) (c .pre .1 .1)
 
 -- the siblings' cells, with the wanted page behind them
-added : (c : tie.Start) {wider : List ℕ} → wider ≡ padded pathHolds (take (c .args .slot .beside) (c .args .slot .siblings) ++ c .args .slot .want ∷ [])
-    → take (c .args .slot .beside + 1) wider ≡ take (c .args .slot .beside) (c .args .slot .siblings) ++ c .args .slot .want ∷ []
+added : (c : tie.Start) {wider : List ℕ} → wider ≡ padded pathHolds (take (c .args .slot .breadth) (c .args .slot .beside) ++ c .args .slot .want ∷ [])
+    → take (c .args .slot .breadth + 1) wider ≡ take (c .args .slot .breadth) (c .args .slot .beside) ++ c .args .slot .want ∷ []
 added c e =
     let slot = c .args .slot in
-    beside-added (slot .siblings) (slot .beside) (slot .want) (omega (arith, stands c .few, stands c .besideCells)) e
+    beside-added (slot .beside) (slot .breadth) (slot .want) (omega (arith, stands c .few, stands c .besideCells)) e
 
 enum-known-op : tie.Need-enum-known-op
 enum-known-op c = search needs
@@ -66,7 +66,7 @@ enum-known-op c = search needs
 returns : tie.Need-returns
 returns c =
     let was = c .before .before .args in
-    beside-idle (was .op) (was .k) (pageAt (was .k) (was .words .now)) (reverse (pathOf (was .slot))) (siblingsOf (was .slot)) (was .slot .want)
+    beside-idle (was .op) (was .k) (pageAt (was .k) (was .words .now)) (reverse (pathOf (was .slot))) (besideOf (was .slot)) (was .slot .want)
     (no-deletion (was .op) (c .match .keys2))
 
 sub-look-of : tie.Need-sub-look-of
@@ -94,7 +94,7 @@ enum-told-2 : tie.Need-enum-told-2
 enum-told-2 c = search needs
 
 returns-2 : tie.Need-returns-2
-unfolding pathOf siblingsOf
+unfolding pathOf besideOf
 returns-2 c =
     let start = c .before .before .before .before .before .before .before .before in
     beside-missing (stands start) (start .args .slot .want) (c .before .before .before .before .before .op .given .1) (c .before .before .look-of .ensures)
@@ -107,14 +107,14 @@ enum-known-next : tie.Need-enum-known-next
 enum-known-next c = search needs
 
 returns-3 : tie.Need-returns-3
-unfolding pathOf siblingsOf
+unfolding pathOf besideOf
 returns-3 c =
     let start = c .before .before .before .before .before .before .before .before .before .before .before .before .before in
     let want = start .args .slot .want in
     beside-other (stands start) want (c .before .before .before .before .before .before .before .before .before .before .op .given .1) (c .before .needs .ensures) (no-sibling (c .before .needs .result) want (c .match3 .keys2))
 
 returns-4 : tie.Need-returns-4
-unfolding pathOf siblingsOf
+unfolding pathOf besideOf
 returns-4 c =
     let start = c .before .before .before .before .before .before .before .before .before .before .before .before .before .before .before .before in
     let want = start .args .slot .want in
@@ -129,15 +129,15 @@ unfolding pathHolds
 add-same-levels c = search needs
 
 same-levels-requires : tie.Need-same-levels-requires
-unfolding pathOf siblingsOf
+unfolding pathOf besideOf
 same-levels-requires c κs =
     let start = c .before .before .before .before .before .before .before .before .before .before .before .before .before .before .before .before .before in
     let slot = start .args .slot in
     let asks = start .pre .0 in
-    (asks .0, omega arith, beside-held (pathOf slot) (siblingsOf slot) (slot .want) (added start (c .with-page .ensures)) (asks .2))
+    (asks .0, omega arith, beside-held (pathOf slot) (besideOf slot) (slot .want) (added start (c .with-page .ensures)) (asks .2))
 
 returns-5 : tie.Need-returns-5
-unfolding pathOf siblingsOf
+unfolding pathOf besideOf
 returns-5 c =
     let start = c .before .before .before .before .before .before .before .before .before .before .before .before .before .before .before .before .before .before in
     let want = start .args .slot .want in

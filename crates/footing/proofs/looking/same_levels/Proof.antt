@@ -32,7 +32,7 @@ returns c =
     let was = c .before .before .args in
     let cells : length (was .t4) ≡ 10 = search needs in
     let cells′ : length (was .t6) ≡ 10 = search needs in
-    levels-short (pageAt (was .k) (was .words .now)) (was .t4) (was .depth) (was .t6) (was .beside) (omega arith) (omega arith) (c .if1 .taken)
+    levels-short (pageAt (was .k) (was .words .now)) (was .t4) (was .depth) (was .t6) (was .breadth) (omega arith) (omega arith) (c .if1 .taken)
 
 loop-holds : tie.Need-loop-holds Inv-loop μ-loop
 unfolding pathHolds
@@ -41,12 +41,12 @@ loop-holds c =
     let cells : length (was .t4) ≡ 10 = search needs in
     let cells′ : length (was .t6) ≡ 10 = search needs in
     let long : was .depth ≤ length (was .t4) = omega arith in
-    let long′ : was .beside ≤ length (was .t6) = omega arith in (
+    let long′ : was .breadth ≤ length (was .t6) = omega arith in (
       omega arith,
       c .if1 .left,
       long,
       long′,
-      levels-start (pageAt (was .k) (was .words .now)) (was .t4) (was .depth) (was .t6) (was .beside) long long′,
+      levels-start (pageAt (was .k) (was .words .now)) (was .t4) (was .depth) (was .t6) (was .breadth) long long′,
     )
 
 sub-level-of : tie.Need-sub-level-of Inv-loop μ-loop
@@ -69,7 +69,7 @@ level-of-requires c κs =
     let was = start .args in
     let at = c .before .loop in
     held-known (start .pre .2) (getD (was .t4) (was .depth - 1 - at .j) 0)
-    (on-path (was .t4) (was .depth) (was .depth - 1 - at .j) (take (was .beside) (was .t6)) (at .inv .2) (omega arith))
+    (on-path (was .t4) (was .depth) (was .depth - 1 - at .j) (take (was .breadth) (was .t6)) (at .inv .2) (omega arith))
     .inPool
 
 mul-level-of-2 : tie.Need-mul-level-of-2 Inv-loop μ-loop
@@ -86,7 +86,7 @@ level-of-requires-2 c κs =
     let was = start .args in
     let at = c .before .before .loop in
     held-known (start .pre .2) (getD (was .t6) (at .j) 0)
-    (among-siblings (take (was .depth) (was .t4)) (was .t6) (was .beside) (at .j) (at .inv .3) (omega arith))
+    (among-siblings (take (was .depth) (was .t4)) (was .t6) (was .breadth) (at .j) (at .inv .3) (omega arith))
     .inPool
 
 returns-2 : tie.Need-returns-2 Inv-loop μ-loop
@@ -95,7 +95,7 @@ returns-2 c =
     let at = c .before .before .before .before .loop in
     sym
     (at .inv .4
-    ∙ levels-stop (pageAt (was .k) (was .words .now)) (was .t4) (was .depth) (was .t6) (was .beside) (at .inv .2) (at .inv .3) (at .j)
+    ∙ levels-stop (pageAt (was .k) (was .words .now)) (was .t4) (was .depth) (was .t6) (was .breadth) (at .inv .2) (at .inv .3) (at .j)
     (at .inv .1) (c .before .before .before .loop-test .taken)
     (λ e. c .if2 .taken (c .before .before .level-of .ensures ∙ e ∙ sym (c .before .level-of2 .ensures))))
 
@@ -115,7 +115,7 @@ loop-again c =
       at .inv .2,
       at .inv .3,
       at .inv .4
-          ∙ levels-more (pageAt (was .k) (was .words .now)) (was .t4) (was .depth) (was .t6) (was .beside) (at .inv .2) (at .inv .3) (at .j)
+          ∙ levels-more (pageAt (was .k) (was .words .now)) (was .t4) (was .depth) (was .t6) (was .breadth) (at .inv .2) (at .inv .3) (at .j)
           (at .inv .1) (c .before .before .before .loop-test .taken)
           (sym (c .before .before .level-of .ensures) ∙ c .if2 .left ∙ c .before .level-of2 .ensures),
     )
@@ -126,7 +126,7 @@ returns-3 c =
     let at = c .before .loop in
     sym
     (at .inv .4
-    ∙ levels-done (pageAt (was .k) (was .words .now)) (was .t4) (was .depth) (was .t6) (was .beside) (at .inv .2) (at .inv .3) (at .j)
+    ∙ levels-done (pageAt (was .k) (was .words .now)) (was .t4) (was .depth) (was .t6) (was .breadth) (at .inv .2) (at .inv .3) (at .j)
     (c .loop-test .left))
 
 pub same-levels-spec : {M : Type 1} → statement M

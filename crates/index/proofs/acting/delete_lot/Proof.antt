@@ -1,6 +1,6 @@
 -- The arrays lent to `delete` are the slot's.
 use borrow.Author.Needs.{needs}
-use Rattle.slots.specs.Parts.{siblingsOf}
+use Rattle.slots.specs.Parts.{besideOf}
 use Rattle.index.proofs.acting.delete_lot.Statement.{statement}
 use Rattle.index.proofs.acting.delete_lot.Tie as tie
 
@@ -11,7 +11,7 @@ same-length : tie.Need-same-length
 same-length c = search needs
 
 returns : tie.Need-returns
-unfolding siblingsOf
+unfolding besideOf
 returns c = c .before .before .delete .ensures
 
 pub delete-lot-spec : {M : Type 1} → statement M

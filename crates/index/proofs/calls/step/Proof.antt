@@ -1,7 +1,7 @@
 -- Each way out is a case of the rule, in the rule's order. Past the tests the slot waits and is as a granted step asks.
 use Rattle.ground.specs.Limits.{slotCount, largestK, largestN}
 use Rattle.index.proofs.StepLaws.{Passed, says-unsound, says-pool, says-slot, words-passed, says-idle, open-waits, open-asks, says-waiting, says-granted}
-use Rattle.state.proofs.CheckingLawsSound.{SoundWords, sound-words}
+use Rattle.soundness.proofs.CheckingLawsSound.{SoundWords, sound-words}
 use Rattle.lent.proofs.HoldLaws.{kind-of-open}
 use Rattle.lent.proofs.StateLaws.{slot-read}
 use Rattle.lent.specs.Words.{cell, asRead}

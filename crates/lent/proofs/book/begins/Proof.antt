@@ -27,7 +27,7 @@ lay-requires : tie.Need-lay-requires
 lay-requires c κs =
     let was = c .before .before .before .before .before .before .before .before .before in
     let depth = ap (λ (x : Slot). x .depth) (c .fresh-slot .ensures) in
-    let beside = ap (λ (x : Slot). x .beside) (c .fresh-slot .ensures) in
+    let beside = ap (λ (x : Slot). x .breadth) (c .fresh-slot .ensures) in
     (was .pre .0, omega arith, omega arith)
 
 returns : tie.Need-returns

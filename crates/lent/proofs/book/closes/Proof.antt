@@ -1,7 +1,7 @@
 -- The order that slot s leaves, one fewer that wait, and the slot closed.
 use Rattle.lent.proofs.WritingLaws.{fewer-laid, closes-writes}
 use Rattle.lent.specs.Words.{orderIn, orderLaid, slotLaid}
-use Rattle.slots.proofs.BookLaws.{member-some}
+use Rattle.slots.proofs.MakingLaws.{member-some}
 use Rattle.slots.specs.Book.{leaving}
 use Rattle.slots.specs.Parts.{waitingOrder}
 use Rattle.slots.specs.declared.Slot.{Slot}
@@ -55,7 +55,7 @@ lay-requires : tie.Need-lay-requires
 lay-requires c κs =
     let was = c .before .before .before .before .before .before .before .before .before in
     let depth = ap (λ (x : Slot). x .depth) (c .closed-slot .ensures) in
-    let beside = ap (λ (x : Slot). x .beside) (c .closed-slot .ensures) in
+    let beside = ap (λ (x : Slot). x .breadth) (c .closed-slot .ensures) in
     (was .pre .0, omega arith, omega arith)
 
 returns : tie.Need-returns

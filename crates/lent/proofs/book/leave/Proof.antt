@@ -1,6 +1,6 @@
 -- The slots behind s move one cell forward, one a turn, and the last cell takes what is given.
 use Rattle.lent.proofs.WritingLaws.{gap-read}
-use Rattle.slots.proofs.BookLaws.{gapAt, gap-none, gap-more, gap-done}
+use Rattle.slots.proofs.MakingLaws.{gapAt, gap-none, gap-more, gap-done}
 use lib.ListN.{length, getD, drop, set, length-set}
 use native.Mathlib.Omega.{arith}
 use mathlib.Core.List.{List, _∷_, _++_}

@@ -1,5 +1,5 @@
 -- The walk: before place i slot s does not stand, and it stands from there on. So where it is found, or at the last place, it stands.
-use Rattle.slots.proofs.BookLaws.{Passed, passed-none, walk-more, walk-found, walk-last, member-some}
+use Rattle.slots.proofs.MakingLaws.{Passed, passed-none, walk-more, walk-found, walk-last, member-some}
 use denote.Ref.{now}
 use lib.ListN.{take}
 use native.Mathlib.Omega.{arith}

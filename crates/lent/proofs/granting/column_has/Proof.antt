@@ -1,7 +1,7 @@
 -- Of the rows passed none is page p.
 use Rattle.lent.proofs.StateLaws.{column-cell, length-column}
 use Rattle.lent.specs.Words.{column}
-use Rattle.slots.proofs.GrantingLaws.{among-more}
+use Rattle.slots.proofs.HoldingLaws.{among-more}
 use Rattle.ground.proofs.Tests.{member-none, member-among}
 use Rattle.ground.specs.Tests.{member}
 use denote.Ref.{now}

@@ -1,6 +1,6 @@
 -- A page is held where it stands on the path or among the siblings.
 use Rattle.lent.specs.Words.{slotIn}
-use Rattle.slots.proofs.GrantingLaws.{holds-split}
+use Rattle.slots.proofs.HoldingLaws.{holds-split}
 use Rattle.ground.proofs.Bools.{or-first}
 use Rattle.ground.specs.Tests.{member}
 use lib.ListN.{take}
@@ -29,18 +29,18 @@ returns c =
     let slot = slotIn ws (was .s) in
     sym
     (holds-split slot (was .p)
-    ∙ or-first (member (was .p) (take (slot .beside) (slot .siblings)))
+    ∙ or-first (member (was .p) (take (slot .breadth) (slot .beside)))
     (ap (λ (n : ℕ). member (was .p) (take n (slot .path))) (sym (c .before .before .wide .ensures ∙ c .before .before .before .depth-at .ensures)) ∙ sym (c .before .column-has .ensures) ∙ c .if1 .taken))
 
-beside-at-requires : tie.Need-beside-at-requires
-beside-at-requires c κs = search needs
+breadth-at-requires : tie.Need-breadth-at-requires
+breadth-at-requires c κs = search needs
 
 wide-requires-2 : tie.Need-wide-requires-2
 wide-requires-2 c κs = search needs
 
 column-has-requires-2 : tie.Need-column-has-requires-2
 column-has-requires-2 c κs =
-    (omega arith, omega (arith, c .wide2 .ensures, c .before .beside-at .ensures, c .before .before .before .before .before .before .pre .1 .siblings (c .before .before .before .before .before .before .args .s) (c .before .before .before .before .before .before .pre .0)), c .before .before .before .before .before .before .pre .0)
+    (omega arith, omega (arith, c .wide2 .ensures, c .before .breadth-at .ensures, c .before .before .before .before .before .before .pre .1 .beside (c .before .before .before .before .before .before .args .s) (c .before .before .before .before .before .before .pre .0)), c .before .before .before .before .before .before .pre .0)
 
 returns-2 : tie.Need-returns-2
 returns-2 c =
@@ -48,10 +48,10 @@ returns-2 c =
     let ws = was .cells .now in
     let slot = slotIn ws (was .s) in
     c .column-has2 .ensures
-    ∙ ap (λ (n : ℕ). member (was .p) (take n (slot .siblings))) (c .before .wide2 .ensures ∙ c .before .before .beside-at .ensures)
+    ∙ ap (λ (n : ℕ). member (was .p) (take n (slot .beside))) (c .before .wide2 .ensures ∙ c .before .before .breadth-at .ensures)
     ∙ sym
     (holds-split slot (was .p)
-    ∙ ap (λ (b : Bool). b || member (was .p) (take (slot .beside) (slot .siblings)))
+    ∙ ap (λ (b : Bool). b || member (was .p) (take (slot .breadth) (slot .beside)))
     (ap (λ (n : ℕ). member (was .p) (take n (slot .path))) (sym (c .before .before .before .before .before .wide .ensures ∙ c .before .before .before .before .before .before .depth-at .ensures)) ∙ sym (c .before .before .before .before .column-has .ensures) ∙ c .before .before .before .if1 .left))
 
 pub holds-at-spec : {M : Type 1} → statement M
@@ -62,7 +62,7 @@ holds-at-spec =
     wide-requires
     column-has-requires
     returns
-    beside-at-requires
+    breadth-at-requires
     wide-requires-2
     column-has-requires-2
     returns-2)

@@ -3,7 +3,7 @@ use Rattle.lent.proofs.HoldLaws.{walk-end, walk-slot, walk-own, walk-ol
 use denote.Ref.{now}
 use Rattle.lent.specs.Words.{asRead}
 use Rattle.lent.specs.Holds.{updatesKind}
-use Rattle.slots.proofs.GrantingLaws.{noOlderFrom, older-none}
+use Rattle.slots.proofs.HoldingLaws.{noOlderFrom, older-none}
 use Rattle.slots.specs.Grant.{noOlder}
 use lib.ListN.{getD}
 use native.Mathlib.Omega.{arith}

@@ -3,7 +3,7 @@ use Rattle.lent.proofs.StateLaws.{length-column, column-cell, padded-wh
 use lib.ListN.{getD, length}
 use mathlib.Core.Path.{sym}
 use Rattle.lent.specs.Words.{column}
-use Rattle.slots.proofs.BookLaws.{padded-more}
+use Rattle.slots.proofs.MakingLaws.{padded-more}
 use Rattle.ground.specs.Tests.{padded}
 use lib.ListN.{take, set}
 use native.Mathlib.Omega.{arith}

@@ -22,8 +22,8 @@ depth-at-requires c κs = search needs
 wide-requires : tie.Need-wide-requires
 wide-requires c κs = search needs
 
-beside-at-requires : tie.Need-beside-at-requires
-beside-at-requires c κs = search needs
+breadth-at-requires : tie.Need-breadth-at-requires
+breadth-at-requires c κs = search needs
 
 wide-requires-2 : tie.Need-wide-requires-2
 wide-requires-2 c κs = search needs
@@ -34,8 +34,8 @@ returns c = λ i. record {
   want = c .before .before .before .before .want-at .ensures i;
   path = c .before .before .before .before .before .before .column-of .ensures i;
   depth = (c .before .before .wide .ensures ∙ c .before .before .before .depth-at .ensures) i;
-  siblings = c .before .before .before .before .before .column-of2 .ensures i;
-  beside = (c .wide2 .ensures ∙ c .before .beside-at .ensures) i;
+  beside = c .before .before .before .before .before .column-of2 .ensures i;
+  breadth = (c .wide2 .ensures ∙ c .before .breadth-at .ensures) i;
 }
 
 pub slot-at-spec : {M : Type 1} → statement M
@@ -48,6 +48,6 @@ slot-at-spec =
     want-at-requires
     depth-at-requires
     wide-requires
-    beside-at-requires
+    breadth-at-requires
     wide-requires-2
     returns)

@@ -1,0 +1,36 @@
+-- The path is as it was, and one sibling more stands behind the others.
+use mathlib.Core.Path.{_≡_, sym}
+use native.Mathlib.Omega.{arith}
+use lib.ListN.{length}
+use lib.Seq.{length-take-le}
+use borrow.Author.Needs.{needs}
+use Rattle.ground.specs.Limits.{pathHolds}
+use Rattle.ground.specs.Tests.{padded}
+use Rattle.slots.specs.declared.Task.the-variants.{Open}
+use Rattle.slots.specs.Parts.{pathOf, besideOf}
+use Rattle.slots.proofs.MakingLaws.{length-add}
+use Rattle.slots.proofs.making.holding_beside.Statement.{statement}
+use Rattle.slots.proofs.making.holding_beside.Tie as tie
+
+tidy-requires : tie.Need-tidy-requires
+tidy-requires c κs = search needs
+
+with-page-requires : tie.Need-with-page-requires
+with-page-requires c κs = search needs
+
+add-t12 : tie.Need-add-t12
+unfolding pathHolds padded pathOf besideOf
+add-t12 c = search needs
+
+returns : tie.Need-returns
+unfolding pathHolds padded pathOf besideOf
+returns c =
+    let was = c .before .before .before .before .args in
+    let cells : length (was .slot .path) ≡ 10 = search needs in
+    let cells′ : length (was .slot .beside) ≡ 10 = search needs in
+    let longer = length-add (was .slot .beside) (was .slot .breadth) (was .p) (omega arith) in
+    let same = sym (length-take-le (was .slot .depth) (was .slot .path) (omega arith)) in
+    λ i. record { task = Open (was .op); want = was .want; path = c .before .tidy .ensures i; depth = same i; beside = c .with-page .ensures i; breadth = longer i }
+
+pub holding-beside-spec : {M : Type 1} → statement M
+holding-beside-spec = tie.close (tie.spec tidy-requires with-page-requires add-t12 returns)

@@ -1,0 +1,116 @@
+// Slots as the rules make them: closed, fresh, and with one page more.
+use crate::Op;
+use crate::Slot;
+use crate::Task;
+use ground::HELD;
+ghost use mathlib.Core.Path.{_≡_};
+ghost use mathlib.Core.List.{[], _∷_, _++_};
+ghost use Prim.Native.Nat.{_≤_, _<_};
+ghost use lib.ListN.{take};
+ghost use Rattle.ground.specs.Limits.{pathHolds};
+ghost use Rattle.ground.specs.Tests.{padded};
+ghost use Rattle.slots.specs.Parts.{closedSlot, openSlot, pathOf, besideOf};
+
+// A closed slot holds nothing; its cells are 0.
+pub fn closed_slot() -> Slot
+    ensures { λ r. ⌜ r ≡ closedSlot ⌝ }
+{
+    Slot {
+        task: Task::Closed,
+        want: 0,
+        path: [0u32; HELD],
+        depth: 0,
+        beside: [0u32; HELD],
+        breadth: 0,
+    }
+}
+
+// The first `count` cells, and 0 behind them.
+pub fn tidy(cells: [u32; HELD], count: usize) -> [u32; HELD]
+    requires { ⌜ count ≤ pathHolds ⌝ }
+    ensures { λ r. ⌜ r ≡ padded pathHolds (take count cells) ⌝ }
+{
+    let mut next = [0u32; HELD];
+    let mut i = 0;
+    while i < count {
+        next[i] = cells[i];
+        i += 1;
+    }
+    next
+}
+
+// The first `count` cells, and behind them p.
+pub fn with_page(cells: [u32; HELD], count: usize, p: u32) -> [u32; HELD]
+    requires { ⌜ count < pathHolds ⌝ }
+    ensures { λ r. ⌜ r ≡ padded pathHolds (take count cells ++ p ∷ []) ⌝ }
+{
+    let mut next = tidy(cells, count);
+    next[count] = p;
+    next
+}
+
+// A slot that wants page 0 and holds nothing yet.
+pub fn fresh_slot(op: Op) -> Slot
+    ensures { λ r. ⌜ r ≡ openSlot op 0 [] [] ⌝ }
+{
+    Slot {
+        task: Task::Open(op),
+        want: 0,
+        path: [0u32; HELD],
+        depth: 0,
+        beside: [0u32; HELD],
+        breadth: 0,
+    }
+}
+
+// A slot that holds page p alone.
+pub fn holding_one(op: Op, want: u32, p: u32) -> Slot
+    ensures { λ r. ⌜ r ≡ openSlot op want (p ∷ []) [] ⌝ }
+{
+    let mut path = [0u32; HELD];
+    path[0] = p;
+    Slot {
+        task: Task::Open(op),
+        want,
+        path,
+        depth: 1,
+        beside: [0u32; HELD],
+        breadth: 0,
+    }
+}
+
+// A slot that holds page p at the end of the path it held.
+pub fn holding_more(op: Op, want: u32, slot: Slot, p: u32) -> Slot
+    requires { ⌜ slot .depth < pathHolds ⌝ }
+    ensures { λ r. ⌜ r ≡ openSlot op want (pathOf slot ++ p ∷ []) [] ⌝ }
+{
+    let path = slot.path;
+    let depth = slot.depth;
+    Slot {
+        task: Task::Open(op),
+        want,
+        path: with_page(path, depth, p),
+        depth: depth + 1,
+        beside: [0u32; HELD],
+        breadth: 0,
+    }
+}
+
+// A slot that holds page p behind the siblings it held.
+pub fn holding_beside(op: Op, want: u32, slot: Slot, p: u32) -> Slot
+    requires { ⌜ (slot .depth ≤ pathHolds) × (slot .breadth < pathHolds) ⌝ }
+    ensures { λ r. ⌜ r ≡ openSlot op want (pathOf slot) (besideOf slot ++ p ∷ []) ⌝ }
+{
+    let path = slot.path;
+    let depth = slot.depth;
+    let beside = slot.beside;
+    let breadth = slot.breadth;
+    Slot {
+        task: Task::Open(op),
+        want,
+        path: tidy(path, depth),
+        depth,
+        beside: with_page(beside, breadth, p),
+        breadth: breadth + 1,
+    }
+}

@@ -1,0 +1,173 @@
+-- The tests of a state in words together are the rule of a sound state, and what is known of the words of one.
+use Prim.Native.Nat.{ℕ, _≤_, _<_}
+use mathlib.Core.Bool.{Bool, true, false, not, _&&_, _||_}
+use mathlib.Core.List.{List}
+use mathlib.Core.Logic.{⊎-elim}
+use mathlib.Core.Path.{_≡_, refl, sym, ap, ap₂, _∙_, fun-ext}
+use borrow.Author.Tests.{ltb-true, ne-eqb, le-leb}
+use lib.Dec.{leb, ltb}
+use lib.ListN.{getD, take}
+use Rattle.ground.specs.Limits.{largestK, largestN, slotCount}
+use Rattle.ground.specs.Tests.{all, allBelow, member, distinct}
+use Rattle.ground.proofs.Bools.{and-first, and-second, and-both, not-of-false, and-first-fails, and-second-fails, not-both, false-if-not-true, true-or-false}
+use Rattle.ground.proofs.Choice.{cond-false}
+use Rattle.ground.proofs.Tests.{allBelow-same, allBelow-from}
+use Rattle.slots.specs.declared.Slot.{Slot}
+use Rattle.slots.specs.Parts.{idleState, slotAt, openAt, isOpen, waitingOrder}
+use Rattle.slots.specs.Sound.{orderSound, slotSound, noClashingHolds, sound}
+use Rattle.slots.proofs.SoundFacts.{SoundState, sound-facts, empty-unsound}
+use Rattle.lent.specs.Words.{cell, highestKind, taskFrom, orderIn, asRead, known, stateOf}
+use Rattle.lent.specs.Holds.{WithinRows}
+use Rattle.lent.proofs.StateLaws.{slot-read, state-known}
+use Rattle.lent.proofs.HoldLaws.{all-both, by-kind, kind-known}
+use Rattle.soundness.specs.Checking.{namesEach, rowFine, deepFine, openKind, xiAlone}
+use Rattle.soundness.proofs.CheckingLawsRows.{slot-fits, row-at, rows-short}
+use Rattle.soundness.proofs.CheckingLawsAlone.{no-clashes}
+
+-- ---- the order
+
+-- two tests of open slots that agree on the slots
+pub named-same : (p q : ℕ → Bool) (waiting : ℕ) (order : List ℕ) → ((s : ℕ) → s < slotCount → p s ≡ q s) → namesEach p waiting order ≡ namesEach q waiting order
+unfolding namesEach
+named-same p q waiting order same =
+    ap₂ (λ (a b : Bool). leb waiting slotCount && a && distinct (take waiting order) && b)
+    (ap (λ (r : ℕ → Bool). all r (take waiting order)) (fun-ext agree))
+    (allBelow-same (λ (s : ℕ). not (p s) || member s (take waiting order)) (λ (s : ℕ). not (q s) || member s (take waiting order)) slotCount
+    (λ s h. ap (λ (b : Bool). not b || member s (take waiting order)) (same s h)))
+  where
+    agree : (s : ℕ) → ltb s slotCount && p s ≡ ltb s slotCount && q s
+    agree s =
+        ⊎-elim
+        (λ y. ap (λ (b : Bool). ltb s slotCount && b) (same s (ltb-true s slotCount y)))
+        (λ f. and-first-fails (p s) f ∙ sym (and-first-fails (q s) f))
+        (true-or-false (ltb s slotCount))
+
+open-kind : (key information kind : ℕ) → kind ≤ highestKind → isOpen (taskFrom kind key information) ≡ openKind kind
+open-kind key information = by-kind (λ (k : ℕ). isOpen (taskFrom k key information) ≡ openKind k) refl refl refl refl refl refl
+
+-- a slot is open as its kind tells
+open-as : (ws : List ℕ) (s : ℕ) → known ws ≡ true → s < 16 → openAt (asRead ws) s ≡ openKind (cell ws 0 s)
+open-as ws s e h = ap (λ (x : Slot). isOpen (x .task)) (slot-read ws s h) ∙ open-kind (cell ws 1 s) (cell ws 2 s) (cell ws 0 s) (kind-known ws e s h)
+
+pub kind-closed : (ws : List ℕ) (s : ℕ) → known ws ≡ true → s < 16 → cell ws 0 s ≡ 0 → openAt (asRead ws) s ≡ false
+kind-closed ws s e h z = open-as ws s e h ∙ ap openKind z
+
+pub kind-open : (ws : List ℕ) (s : ℕ) → known ws ≡ true → s < 16 → (cell ws 0 s ≡ 0 → ⊥) → openAt (asRead ws) s ≡ true
+kind-open ws s e h n =
+    open-as ws s e h ∙ and-both (not-of-false (ne-eqb (cell ws 0 s) 0 n)) (le-leb (cell ws 0 s) highestKind (kind-known ws e s h))
+
+order-words : (ws : List ℕ) → known ws ≡ true → orderSound (asRead ws) ≡ namesEach (λ (s : ℕ). openKind (cell ws 0 s)) (getD ws 2 0) (orderIn ws)
+unfolding orderSound waitingOrder namesEach slotCount
+order-words ws e =
+    named-same (openAt (asRead ws)) (λ (s : ℕ). openKind (cell ws 0 s)) (getD ws 2 0) (orderIn ws)
+    (λ s h. open-as ws s e h)
+
+-- ---- the slots
+
+slots-words : (ws : List ℕ) → known ws ≡ true
+    → allBelow 16 (rowFine ws (getD ws 1 0)) && allBelow 16 (deepFine ws (getD ws 1 0)) ≡ allBelow slotCount (λ (s : ℕ). slotSound (getD ws 1 0) (slotAt (asRead ws) s))
+unfolding slotCount
+slots-words ws e =
+    all-both (rowFine ws (getD ws 1 0)) (deepFine ws (getD ws 1 0)) 16
+    ∙ allBelow-same _ _ 16
+    (λ s h. slot-fits ws (getD ws 1 0) s (kind-known ws e s h) ∙ ap (slotSound (getD ws 1 0)) (sym (slot-read ws s h)))
+
+-- rows that are fine are of kinds that exist
+rows-known : (ws : List ℕ) (n : ℕ) → allBelow 16 (rowFine ws n) ≡ true → known ws ≡ true
+unfolding known slotCount
+rows-known ws n e = allBelow-from (λ (s : ℕ). leb (cell ws 0 s) highestKind) 16 (λ s h. le-leb (cell ws 0 s) highestKind (row-at ws n e s h .exists))
+
+-- ---- the whole
+
+reorder : (n w r d a : Bool) → n && w && (r && d) && a ≡ n && r && w && d && a
+reorder false w r d a = refl
+reorder true true true d a = refl
+reorder true true false d a = refl
+reorder true false true d a = refl
+reorder true false false d a = refl
+
+module _ (ws : List ℕ) where
+  abbrev numbers : Bool
+  numbers = leb 1 (getD ws 0 0) && leb (getD ws 0 0) largestK && leb 1 (getD ws 1 0) && leb (getD ws 1 0) largestN
+
+  abbrev rows : Bool
+  rows = allBelow 16 (rowFine ws (getD ws 1 0))
+
+  abbrev names : Bool
+  names = namesEach (λ (s : ℕ). openKind (cell ws 0 s)) (getD ws 2 0) (orderIn ws)
+
+  abbrev deeps : Bool
+  deeps = allBelow 16 (deepFine ws (getD ws 1 0))
+
+  abbrev alones : Bool
+  alones = allBelow 16 (xiAlone ws)
+
+  known-sound : known ws ≡ true → sound (asRead ws) ≡ numbers && rows && names && deeps && alones
+  unfolding sound
+  known-sound e =
+      ap (λ (w : Bool). numbers && w && allBelow slotCount (λ (s : ℕ). slotSound (getD ws 1 0) (slotAt (asRead ws) s)) && noClashingHolds (asRead ws)) (order-words ws e)
+      ∙ ap₂ (λ (x a : Bool). numbers && names && x && a) (sym (slots-words ws e)) (no-clashes ws e)
+      ∙ reorder numbers names rows deeps alones
+
+  unknown-state : known ws ≡ false → sound (stateOf ws) ≡ false
+  unfolding stateOf
+  unknown-state f = ap sound (cond-false (asRead ws) (idleState 0 0) f) ∙ empty-unsound
+
+  whole : sound (stateOf ws) ≡ numbers && rows && names && deeps && alones
+  whole =
+      ⊎-elim
+      (λ e. ap sound (state-known ws e) ∙ known-sound e)
+      (λ f.
+      let none : rows ≡ false = false-if-not-true rows (λ t. not-both (rows-known ws (getD ws 1 0) t) f) in
+      unknown-state f
+      ∙ sym
+      (and-first-fails alones (and-first-fails deeps (and-first-fails names (and-second-fails numbers none)))))
+      (true-or-false (known ws))
+
+  -- test by test
+  pub sound-numbers : {n : Bool} → n ≡ numbers → n ≡ false → false ≡ sound (stateOf ws)
+  sound-numbers e f = sym (whole ∙ and-first-fails alones (and-first-fails deeps (and-first-fails names (and-first-fails rows (sym e ∙ f)))))
+
+  pub sound-rows : {r : Bool} → r ≡ rows → r ≡ false → false ≡ sound (stateOf ws)
+  sound-rows e f = sym (whole ∙ and-first-fails alones (and-first-fails deeps (and-first-fails names (and-second-fails numbers (sym e ∙ f)))))
+
+  pub sound-order : {w : Bool} → w ≡ names → w ≡ false → false ≡ sound (stateOf ws)
+  sound-order e f = sym (whole ∙ and-first-fails alones (and-first-fails deeps (and-second-fails (numbers && rows) (sym e ∙ f))))
+
+  pub sound-deep : {d : Bool} → d ≡ deeps → d ≡ false → false ≡ sound (stateOf ws)
+  sound-deep e f = sym (whole ∙ and-first-fails alones (and-second-fails (numbers && rows && names) (sym e ∙ f)))
+
+  pub sound-alone : {n r w d a : Bool} → n ≡ numbers → n ≡ true → r ≡ rows → r ≡ true → w ≡ names → w ≡ true → d ≡ deeps → d ≡ true → a ≡ alones → a ≡ sound (stateOf ws)
+  sound-alone en tn er tr ew tw ed td ea =
+      ea
+      ∙ sym
+      (whole
+      ∙ ap₂ (λ (x y : Bool). x && y && names && deeps && alones) (sym en ∙ tn) (sym er ∙ tr)
+      ∙ ap₂ (λ (x y : Bool). x && y && alones) (sym ew ∙ tw) (sym ed ∙ td))
+
+  -- the rows of a sound state are fine
+  sound-rows-fine : sound (stateOf ws) ≡ true → rows ≡ true
+  sound-rows-fine e =
+      and-second numbers rows
+      (and-first (numbers && rows) names
+      (and-first (numbers && rows && names) deeps
+      (and-first (numbers && rows && names && deeps) alones (sym whole ∙ e))))
+
+-- What is known of the words of a sound state.
+pub record SoundWords (ws : List ℕ) : Type 0 where
+  pub exist : known ws ≡ true
+  pub read : stateOf ws ≡ asRead ws
+  pub facts : SoundState (asRead ws)
+  pub short : WithinRows ws
+
+pub sound-words : (ws : List ℕ) → sound (stateOf ws) ≡ true → SoundWords ws
+sound-words ws e =
+    let fine : allBelow 16 (rowFine ws (getD ws 1 0)) ≡ true = sound-rows-fine ws e in
+    let exist : known ws ≡ true = rows-known ws (getD ws 1 0) fine in
+    let read : stateOf ws ≡ asRead ws = state-known ws exist in
+    record {
+      exist = exist;
+      read = read;
+      facts = sound-facts (asRead ws) (ap sound (sym read) ∙ e);
+      short = rows-short ws (getD ws 1 0) fine;
+    }

@@ -1,0 +1,71 @@
+-- The walk over the slots that update, by their mask, from the lowest on.
+use Prim.Native.Nat.{ℕ, _+_, _^_}
+use mathlib.Core.Bool.{Bool, true, false, not, _&&_}
+use mathlib.Core.List.{List}
+use mathlib.Core.Logic.{⊎-elim, _≢_}
+use mathlib.Core.Path.{_≡_, sym, ap, _∙_, subst}
+use native.Mathlib.Omega.{arith}
+use borrow.Author.Tests.{le-leb, ltb-true, ltb-false}
+use lib.Count.{trailingZeros}
+use lib.Dec.{ltb}
+use Rattle.ground.specs.Tests.{allBelow}
+use Rattle.ground.proofs.Bools.{true-or-false, or-first, or-second, or-none, not-of-true, not-of-false}
+use Rattle.ground.proofs.Tests.{allBelow-none, allBelow-at, allBelow-from, allBelow-stops}
+use Rattle.slots.specs.Report.{maskBelow}
+use Rattle.soundness.specs.Checking.{updates, aloneIn, xiAlone}
+use Rattle.soundness.proofs.MaskLaws.{mask-same, mask-empty, from, Next, next-of}
+
+-- the slots below `at` have been looked at, and the mask has those of the others that update
+pub record Walked (ws : List ℕ) (left : ℕ) : Type 0 where
+  pub at : ℕ
+  pub alone : allBelow at (xiAlone ws) ≡ true
+  pub rest : left ≡ maskBelow 16 (from (updates ws) at)
+
+module _ (ws : List ℕ) where
+  idle : (s : ℕ) → updates ws s ≡ false → xiAlone ws s ≡ true
+  idle s e = or-first (aloneIn ws s) (not-of-false e)
+
+  pub walk-start : (left : ℕ) → left ≡ maskBelow 16 (updates ws) → Walked ws left
+  walk-start left e = record {
+    at = 0;
+    alone = allBelow-none (xiAlone ws);
+    rest = e ∙ mask-same (updates ws) (from (updates ws) 0) 16 (λ i _. sym (ap (λ (t : Bool). t && updates ws i) (le-leb 0 i (omega arith))));
+  }
+
+  module _ (left : ℕ) (w : Walked ws left) where
+    pub walk-next : (s : ℕ) → left ≢ 0 → s ≡ trailingZeros 16 left → Next (updates ws) (w .at) s
+    walk-next s some e =
+        next-of (updates ws) (w .at) s (λ z. some (w .rest ∙ z)) (e ∙ ap (trailingZeros 16) (w .rest))
+
+    -- nothing is left
+    pub walk-end : left ≡ 0 → allBelow 16 (xiAlone ws) ≡ true
+    walk-end e =
+        allBelow-from (xiAlone ws) 16
+        (λ i b.
+        ⊎-elim
+        (λ t. allBelow-at (xiAlone ws) (w .at) (w .alone) i (ltb-true i (w .at) t))
+        (λ f. idle i (sym (ap (λ (t : Bool). t && updates ws i) (le-leb (w .at) i (ltb-false i (w .at) f))) ∙ mask-empty (from (updates ws) (w .at)) 16 (sym (w .rest) ∙ e) i b))
+        (true-or-false (ltb i (w .at))))
+
+    module _ (s : ℕ) (n : Next (updates ws) (w .at) s) where
+      -- the next slot holds its pages alone: it is taken off the mask
+      pub walk-on : (less : ℕ) → less + 2 ^ s ≡ left → aloneIn ws s ≡ true → Walked ws less
+      walk-on less e a = record {
+        at = s + 1;
+        alone =
+            allBelow-from (xiAlone ws) (s + 1)
+            (λ i b.
+            ⊎-elim
+            (λ t. allBelow-at (xiAlone ws) (w .at) (w .alone) i (ltb-true i (w .at) t))
+            (λ f.
+            ⊎-elim
+            (λ t. idle i (n .between i (ltb-false i (w .at) f) (ltb-true i s t)))
+            (λ g. subst (λ (x : ℕ). xiAlone ws x ≡ true) (omega (arith, ltb-false i s g)) (or-second (not (updates ws s)) a))
+            (true-or-false (ltb i s)))
+            (true-or-false (ltb i (w .at))));
+        rest = omega (arith, e, w .rest, n .taken);
+      }
+
+      -- it does not
+      pub walk-stops : aloneIn ws s ≡ false → allBelow 16 (xiAlone ws) ≡ false
+      walk-stops a = allBelow-stops (xiAlone ws) 16 s (n .inside) (or-none (not-of-true (n .passed)) a)

@@ -1,0 +1,46 @@
+-- The kind, then the pages.
+use Rattle.soundness.specs.Checking.{mayHoldMore}
+use Rattle.lent.specs.Words.{cell, slotIn}
+use Rattle.slots.specs.Sound.{belowAndOnce}
+use Rattle.ground.proofs.Bools.{and-first-fails}
+use borrow.Author.Tests.{not-true, not-false}
+use mathlib.Core.Path.{_≡_, sym, ap, ap₂, _∙_}
+use mathlib.Core.Bool.{Bool, _&&_}
+use borrow.Author.Needs.{needs}
+use Rattle.soundness.proofs.checking.more_fine.Statement.{statement}
+use Rattle.soundness.proofs.checking.more_fine.Tie as tie
+
+kind-at-requires : tie.Need-kind-at-requires
+kind-at-requires c κs = search needs
+
+breadth-at-requires : tie.Need-breadth-at-requires
+breadth-at-requires c κs = search needs
+
+may-hold-more-requires : tie.Need-may-hold-more-requires
+may-hold-more-requires c κs = search needs
+
+-- what the test of the kind says
+kind-said : (c : tie.After-may-hold-more)
+    → c .may-hold-more .result ≡ mayHoldMore (cell (c .before .before .before .args .cells .now) 0 (c .before .before .before .args .s)) (cell (c .before .before .before .args .cells .now) 5 (c .before .before .before .args .s))
+kind-said c = c .may-hold-more .ensures ∙ ap₂ mayHoldMore (c .before .before .kind-at .ensures) (c .before .breadth-at .ensures)
+
+returns : tie.Need-returns
+returns c =
+    let was = c .before .before .before .before .args in
+    sym
+    (and-first-fails (belowAndOnce (was .n) (slotIn (was .cells .now) (was .s)))
+    (sym (kind-said (c .before)) ∙ not-true (c .before .may-hold-more .result) (c .if1 .taken)))
+
+pages-fine-requires : tie.Need-pages-fine-requires
+pages-fine-requires c κs = search needs
+
+returns-2 : tie.Need-returns-2
+returns-2 c =
+    let was = c .before .before .before .before .before .args in
+    c .pages-fine .ensures
+    ∙ sym
+    (ap (λ (b : Bool). b && belowAndOnce (was .n) (slotIn (was .cells .now) (was .s)))
+    (sym (kind-said (c .before .before)) ∙ not-false (c .before .before .may-hold-more .result) (c .before .if1 .left)))
+
+pub more-fine-spec : {M : Type 1} → statement M
+more-fine-spec = tie.close (tie.spec kind-at-requires breadth-at-requires may-hold-more-requires returns pages-fine-requires returns-2)

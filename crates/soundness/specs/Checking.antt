@@ -1,0 +1,71 @@
+-- What the parts of the test of a state test, where the rule of a sound state has no name for it.
+use Prim.Native.Nat.{ℕ}
+use mathlib.Core.Bool.{Bool, true, not, _&&_, _||_}
+use mathlib.Core.List.{List}
+use lib.Dec.{leb, ltb, eqb}
+use lib.ListN.{take}
+use Rattle.ground.specs.Limits.{slotCount}
+use Rattle.ground.specs.Tests.{all, allBelow, member, distinct}
+use Rattle.slots.specs.Parts.{held}
+use Rattle.slots.specs.Sound.{belowAndOnce}
+use Rattle.lent.specs.Words.{cell, highestKind, slotIn}
+use Rattle.lent.specs.Holds.{updatesKind, isDeep, othersHold}
+
+-- a page below n, neither the wanted one nor one of the slot's own so far
+abbrev pub enters : ℕ → ℕ → List ℕ → ℕ → Bool
+enters n want own p = ltb p n && not (eqb p want) && not (member p own)
+
+-- each of these pages is such a page, and no two are the same
+unfoldable pub mayEnter : ℕ → ℕ → List ℕ → List ℕ → Bool
+mayEnter n want own pages = all (enters n want own) pages && distinct pages
+
+-- the first so many cells of the order name each open slot once and no other
+unfoldable pub namesEach : (ℕ → Bool) → ℕ → List ℕ → Bool
+namesEach opened waiting order =
+    leb waiting slotCount
+    && all (λ (s : ℕ). ltb s slotCount && opened s) (take waiting order)
+    && distinct (take waiting order)
+    && allBelow slotCount (λ (s : ℕ). not (opened s) || member s (take waiting order))
+
+-- ---- the same of a state in words
+
+-- what the rows tell of a slot: it holds nothing if it is closed, and fewer pages beside its path than on it, if any; the wanted page and
+-- the top of the path, if there is one, are below n and not the same
+abbrev pub fineRow : ℕ → ℕ → ℕ → ℕ → ℕ → ℕ → Bool
+fineRow kind depth breadth n want top =
+    leb kind highestKind
+    && leb depth 10
+    && (not (eqb kind 0) || eqb depth 0)
+    && (eqb breadth 0 || ltb breadth depth)
+    && (eqb kind 0 || ltb want n)
+    && (eqb depth 0 || (ltb top n && not (eqb want top)))
+
+abbrev pub rowFine : List ℕ → ℕ → ℕ → Bool
+rowFine ws n s = fineRow (cell ws 0 s) (cell ws 4 s) (cell ws 5 s) n (cell ws 3 s) (cell ws 6 s)
+
+-- the kinds that may hold more than one page: deletions and Next, and insertions if none is beside the path
+abbrev pub mayHoldMore : ℕ → ℕ → Bool
+mayHoldMore kind breadth = eqb kind 3 || eqb kind 4 || (eqb kind 2 && eqb breadth 0)
+
+-- a slot that holds more than one page is of such a kind, and its pages are sound
+abbrev pub moreFine : List ℕ → ℕ → ℕ → Bool
+moreFine ws n s = mayHoldMore (cell ws 0 s) (cell ws 5 s) && belowAndOnce n (slotIn ws s)
+
+abbrev pub deepFine : List ℕ → ℕ → ℕ → Bool
+deepFine ws n s = not (isDeep ws s) || moreFine ws n s
+
+-- the kinds of open slots
+abbrev pub openKind : ℕ → Bool
+openKind kind = not (eqb kind 0) && leb kind highestKind
+
+-- no other slot holds a page that slot s holds
+unfoldable pub aloneIn : List ℕ → ℕ → Bool
+aloneIn ws s = all (λ (p : ℕ). not (othersHold ws s true p)) (held (slotIn ws s))
+
+-- slot s holds its pages under ξ
+abbrev pub updates : List ℕ → ℕ → Bool
+updates ws s = updatesKind (cell ws 0 s)
+
+-- then no other slot holds them
+abbrev pub xiAlone : List ℕ → ℕ → Bool
+xiAlone ws s = not (updates ws s) || aloneIn ws s

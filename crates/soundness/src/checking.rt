@@ -1,0 +1,323 @@
+// Whether a state is sound. First kind, numbers of pages held, want and top of the path of every slot, with no way out in between,
+// so that several slots are looked at in one go. Then the waiting order is held against the open slots; then the slots that hold
+// more than one page are looked at; then each page held under ξ is looked for in the other slots.
+use ground::HELD;
+use ground::LARGEST_K;
+use ground::LARGEST_N;
+use ground::SLOTS;
+use lent::BESIDE;
+use lent::DELETES;
+use lent::HIGHEST_KIND;
+use lent::INSERTS;
+use lent::NEXTS;
+use lent::PATH;
+use lent::STATE;
+use lent::cells::breadth_at;
+use lent::cells::depth_at;
+use lent::cells::k_of;
+use lent::cells::kind_at;
+use lent::cells::n_of;
+use lent::cells::order_at;
+use lent::cells::sized;
+use lent::cells::top_at;
+use lent::cells::waiting_of;
+use lent::cells::want_at;
+use lent::cells::wide;
+use lent::cells::word_at;
+use lent::granting::column_has;
+use lent::granting::is_deep;
+use lent::granting::is_update;
+use lent::granting::others_hold;
+use lent::granting::some_deep;
+ghost use Prim.Native.Nat.{ℕ, _≤_, _<_};
+ghost use mathlib.Core.Bool.{true, false, not, _&&_};
+ghost use mathlib.Core.Path.{_≡_};
+ghost use lib.Dec.{leb};
+ghost use lib.ListN.{length, getD, take};
+ghost use Rattle.ground.specs.Limits.{largestK, largestN, slotCount};
+ghost use Rattle.ground.specs.Tests.{all, allBelow, countBelow};
+ghost use Rattle.slots.specs.Report.{maskBelow};
+ghost use Rattle.slots.specs.Sound.{belowAndOnce, sound};
+ghost use Rattle.lent.specs.Words.{cell, column, slotIn, orderIn, stateOf};
+ghost use Rattle.lent.specs.Holds.{WithinRows, othersHold};
+ghost use Rattle.soundness.specs.Checking.{mayEnter, namesEach, fineRow, rowFine, mayHoldMore, moreFine, deepFine, openKind, aloneIn, updates, xiAlone};
+
+// The longest path, as the words have it.
+const DEPTH_LIMIT: u32 = HELD as u32;
+
+// k and N are in range.
+pub fn numbers_in_range(k: usize, n: usize) -> bool
+    ensures { λ r. ⌜ r ≡ (leb 1 k && leb k largestK && leb 1 n && leb n largestN) ⌝ }
+{
+    if k < 1 {
+        return false;
+    }
+    if LARGEST_K < k {
+        return false;
+    }
+    if n < 1 {
+        return false;
+    }
+    n <= LARGEST_N
+}
+
+// A slot with these numbers may be sound, as far as the rows tell. A closed slot holds nothing. No open kind is told from another
+// here, which keeps the rows quick: one page is within the limits of each, and what a kind may hold beyond that is asked only of the
+// slots that do (`more_fine`). Pages beside the path are fewer than on it: so at most 9.
+fn is_fine(kind: u32, depth: u32, breadth: u32, n: u32, want: u32, top: u32) -> bool
+    ensures { λ r. ⌜ r ≡ fineRow kind depth breadth n want top ⌝ }
+{
+    (kind <= HIGHEST_KIND)
+        & (depth <= DEPTH_LIMIT)
+        & ((kind != 0) | (depth == 0))
+        & ((breadth == 0) | (breadth < depth))
+        & ((kind == 0) | (want < n))
+        & ((depth == 0) | ((top < n) & (want != top)))
+}
+
+// Every slot does.
+fn rows_fine(cells: &[u32; STATE], n: u32) -> bool
+    ensures { λ r. ⌜ r ≡ allBelow 16 (rowFine (now (cells .entry)) n) ⌝ }
+{
+    let mut good = true;
+    let mut s = 0;
+    while s < SLOTS {
+        good = good
+            & is_fine(
+                kind_at(cells, s),
+                depth_at(cells, s),
+                breadth_at(cells, s),
+                n,
+                want_at(cells, s),
+                top_at(cells, s),
+            );
+        s += 1;
+    }
+    good
+}
+
+// The first `count` rows from `row` on name pages below n, none of them the wanted one, none among the first `own` of the
+// path, and none twice.
+fn may_enter(cells: &[u32; STATE], s: usize, n: u32, row: usize, count: usize, own: usize) -> bool
+    requires { ⌜ (s < 16) × (row ≤ 16) × (count ≤ 10) × (own ≤ 10) ⌝ }
+    ensures { λ r. ⌜ r ≡ mayEnter n (cell (now (cells .entry)) 3 s) (take own (column (now (cells .entry)) 6 s)) (take count (column (now (cells .entry)) row s)) ⌝ }
+{
+    let want = want_at(cells, s);
+    let mut i = 0;
+    while i < count {
+        let p = word_at(cells, row + i, s);
+        if n <= p {
+            return false;
+        }
+        if p == want {
+            return false;
+        }
+        if column_has(cells, PATH, own, s, p) {
+            return false;
+        }
+        if column_has(cells, row, i, s, p) {
+            return false;
+        }
+        i += 1;
+    }
+    true
+}
+
+// All pages that slot s names are below n, it holds none twice, and wants none that it holds.
+fn pages_fine(cells: &[u32; STATE], s: usize, n: u32) -> bool
+    requires { ⌜ (s < 16) × WithinRows (now cells) ⌝ }
+    ensures { λ r. ⌜ r ≡ belowAndOnce n (slotIn (now (cells .entry)) s) ⌝ }
+{
+    if n <= want_at(cells, s) {
+        return false;
+    }
+    let depth = wide(depth_at(cells, s));
+    if !may_enter(cells, s, n, PATH, depth, 0) {
+        return false;
+    }
+    let breadth = wide(breadth_at(cells, s));
+    may_enter(cells, s, n, BESIDE, breadth, depth)
+}
+
+// A slot of this kind may hold more than one page, with so many beside its path: a deletion and a Next may, an insertion on its
+// path alone. A search and a regrading hold one page at most.
+fn may_hold_more(kind: u32, breadth: u32) -> bool
+    ensures { λ r. ⌜ r ≡ mayHoldMore kind breadth ⌝ }
+{
+    (kind == DELETES) | (kind == NEXTS) | ((kind == INSERTS) & (breadth == 0))
+}
+
+// Slot s, which holds more than one page, may, and its pages are fine.
+fn more_fine(cells: &[u32; STATE], s: usize, n: u32) -> bool
+    requires { ⌜ (s < 16) × WithinRows (now cells) ⌝ }
+    ensures { λ r. ⌜ r ≡ moreFine (now (cells .entry)) n s ⌝ }
+{
+    if !may_hold_more(kind_at(cells, s), breadth_at(cells, s)) {
+        return false;
+    }
+    pages_fine(cells, s, n)
+}
+
+// Every slot that holds more than one page is so.
+fn deep_fine(cells: &[u32; STATE], n: u32) -> bool
+    requires { ⌜ WithinRows (now cells) ⌝ }
+    ensures { λ r. ⌜ r ≡ allBelow 16 (deepFine (now (cells .entry)) n) ⌝ }
+{
+    if !some_deep(cells) {
+        return true;
+    }
+    let mut s = 0;
+    while s < SLOTS {
+        if is_deep(cells, s) {
+            if !more_fine(cells, s, n) {
+                return false;
+            }
+        }
+        s += 1;
+    }
+    true
+}
+
+// Which slots are open.
+fn busy_of(cells: &[u32; STATE]) -> [bool; SLOTS]
+    ensures { λ r. ⌜ (length r ≡ 16) × ((s : ℕ) → s < 16 → getD r s false ≡ openKind (cell (now (cells .entry)) 0 s)) ⌝ }
+{
+    let mut busy = [false; SLOTS];
+    let mut s = 0;
+    while s < SLOTS {
+        let kind = kind_at(cells, s);
+        busy[s] = (kind != 0) & (kind <= HIGHEST_KIND);
+        s += 1;
+    }
+    busy
+}
+
+// How many slots are marked.
+fn marked(marks: [bool; SLOTS]) -> usize
+    ensures { λ r. ⌜ r ≡ countBelow slotCount (λ (s : ℕ). getD marks s false) ⌝ }
+{
+    let mut count = 0;
+    let mut s = 0;
+    while s < SLOTS {
+        if marks[s] {
+            count += 1;
+        }
+        s += 1;
+    }
+    count
+}
+
+// The waiting order names each open slot once and no other. As many slots must be open as wait: then an order that names
+// open slots, none twice, leaves none out, and the marks are not read again.
+fn order_sound(cells: &[u32; STATE], waiting: usize, busy: [bool; SLOTS]) -> bool
+    ensures { λ r. ⌜ r ≡ namesEach (λ (s : ℕ). getD busy s false) waiting (orderIn (now (cells .entry))) ⌝ }
+{
+    sized(cells);
+    if SLOTS < waiting {
+        return false;
+    }
+    if waiting != marked(busy) {
+        return false;
+    }
+    let mut unnamed = busy;
+    let mut i = 0;
+    while i < waiting {
+        let s = order_at(cells, i);
+        if SLOTS <= s {
+            return false;
+        }
+        if !unnamed[s] {
+            return false;
+        }
+        unnamed[s] = false;
+        i += 1;
+    }
+    true
+}
+
+// No other slot holds one of the first `count` pages from `row` on, of slot s.
+fn column_alone(cells: &[u32; STATE], s: usize, row: usize, count: usize) -> bool
+    requires { ⌜ (s < 16) × (row ≤ 16) × (count ≤ 10) × WithinRows (now cells) ⌝ }
+    ensures { λ r. ⌜ r ≡ all (λ (p : ℕ). not (othersHold (now (cells .entry)) s true p)) (take count (column (now (cells .entry)) row s)) ⌝ }
+{
+    let mut i = 0;
+    while i < count {
+        if others_hold(cells, s, true, word_at(cells, row + i, s)) {
+            return false;
+        }
+        i += 1;
+    }
+    true
+}
+
+// No other slot holds a page that slot s holds.
+fn is_alone(cells: &[u32; STATE], s: usize) -> bool
+    requires { ⌜ (s < 16) × WithinRows (now cells) ⌝ }
+    ensures { λ r. ⌜ r ≡ aloneIn (now (cells .entry)) s ⌝ }
+{
+    if !column_alone(cells, s, PATH, wide(depth_at(cells, s))) {
+        return false;
+    }
+    column_alone(cells, s, BESIDE, wide(breadth_at(cells, s)))
+}
+
+// The slots whose lock is ξ, one bit for each.
+fn updating(cells: &[u32; STATE]) -> u16
+    ensures { λ r. ⌜ r ≡ maskBelow 16 (updates (now (cells .entry))) ⌝ }
+{
+    let mut mask = 0u16;
+    let mut s = 0;
+    while s < SLOTS {
+        if is_update(kind_at(cells, s)) {
+            mask = mask | (1u16 << s);
+        }
+        s += 1;
+    }
+    mask
+}
+
+// No page held under ξ is held by another slot. The slots are taken off the mask from the lowest on.
+fn no_clashes(cells: &[u32; STATE]) -> bool
+    requires { ⌜ WithinRows (now cells) ⌝ }
+    ensures { λ r. ⌜ r ≡ allBelow 16 (xiAlone (now (cells .entry))) ⌝ }
+{
+    let mut left = updating(cells);
+    while left != 0 {
+        let s = wide(u16::trailing_zeros(left));
+        if !is_alone(cells, s) {
+            return false;
+        }
+        left = left - (1u16 << s);
+    }
+    true
+}
+
+// The waiting order is sound.
+fn waits_sound(cells: &[u32; STATE]) -> bool
+    ensures { λ r. ⌜ r ≡ namesEach (λ (s : ℕ). openKind (cell (now (cells .entry)) 0 s)) (getD (now (cells .entry)) 2 0) (orderIn (now (cells .entry))) ⌝ }
+{
+    let waiting = waiting_of(cells);
+    let busy = busy_of(cells);
+    order_sound(cells, waiting, busy)
+}
+
+// The state is sound.
+pub fn is_sound(cells: &[u32; STATE]) -> bool
+    ensures { λ r. ⌜ r ≡ sound (stateOf (now (cells .entry))) ⌝ }
+{
+    let n = n_of(cells);
+    if !numbers_in_range(k_of(cells), n) {
+        return false;
+    }
+    let bound = n as u32;
+    if !rows_fine(cells, bound) {
+        return false;
+    }
+    if !waits_sound(cells) {
+        return false;
+    }
+    if !deep_fine(cells, bound) {
+        return false;
+    }
+    no_clashes(cells)
+}
