@@ -459,11 +459,13 @@ with-numbers : (k n : ℕ) (st : State) (ws : List ℕ) → st .k ≡ k → st .
 with-numbers k n st ws ek en inv = subst (λ (m : ℕ). AfterEveryCall k m st ws) en (subst (λ (m : ℕ). AfterEveryCall m (st .n) st ws) ek (after-call st ws inv))
 
 pub demand2 : Demand2Holds
-demand2 k n ws cs r =
-    let st : State = runFrom k n ws cs .state in
-    let after : List ℕ = runFrom k n ws cs .words in
-    let inv : Invariant st after = holds-after k n ws cs r in
-    let numbers = numbers-after k n ws cs r in
+demand2 start cs r =
+    let k : ℕ = start .state .k in
+    let n : ℕ = start .state .n in
+    let st : State = runFrom start cs .state in
+    let after : List ℕ = runFrom start cs .words in
+    let inv : Invariant st after = holds-after start cs r in
+    let numbers = numbers-after start cs r in
     record {
       left = with-numbers k n st after (numbers .0) (numbers .1) inv;
       next = λ c key. let same = call-numbers st after inv c in

@@ -1,23 +1,25 @@
 -- Demand 3 holds: agreement, room, no standstill, rounds and counts, read off what holds of every state of a run.
-use Prim.Native.Nat.{ℕ, _<_}
+use Prim.Native.Nat.{ℕ, _*_, _<_}
 use mathlib.Core.Bool.{true}
 use mathlib.Core.List.{List, [], _∷_, _++_}
-use mathlib.Core.Path.{_≡_, refl, subst}
-use Rattle.ground.specs.Limits.{slotCount}
+use mathlib.Core.Path.{_≡_, sym, ap, subst, _∙_}
+use Rattle.ground.specs.Limits.{slotCount, wordRange}
 use Rattle.ground.proofs.Limits.{rounds-of-slots}
 use Rattle.page.specs.Words.{Entry}
 use Rattle.page.specs.Sound.{rises}
 use Rattle.slots.specs.declared.Op.{Op}
 use Rattle.slots.specs.declared.State.{State}
 use Rattle.slots.specs.Parts.{openAt, slotAt}
-use Rattle.tree.specs.Tree.{PoolForms}
-use Rattle.runs.specs.Run.{Call, runFrom, InWords, Run}
+use Rattle.tree.specs.Tree.{rootLeast, PoolForms}
+use Rattle.tree.proofs.Sorted.{rises-within}
+use Rattle.tree.proofs.Search.{within-entries}
+use Rattle.runs.specs.Run.{Call, Start, runFrom, InWords, Run}
 use Rattle.runs.specs.Plain.{plain}
 use Rattle.runs.specs.Done.{plainEntries}
 use Rattle.runs.proofs.Invariant.{Invariant}
-use Rattle.runs.proofs.Runs.{holds-after, numbers-after, forms-with, words-before}
+use Rattle.runs.proofs.Runs.{holds-after, numbers-after, forms-with, words-before, Ready, start-ready}
 use Rattle.runs.proofs.Progress.{some-can-go, opened}
-use Rattle.runs.proofs.Agreement.{same-entries, agreement}
+use Rattle.runs.proofs.Agreement.{entriesIn, same-entries, agreement}
 use Rattle.runs.proofs.PlainLaws.{plain-facts}
 use Rattle.runs.proofs.Rounds.{rounds-close}
 use Rattle.runs.proofs.Counts.{granted-heard, counts-from}
@@ -26,13 +28,14 @@ use Rattle.promises.proofs.Room.{room}
 
 -- ---- the same answers
 
-agrees-so : (k n : ℕ) (ws : List ℕ) (cs : List Call) → Run k n ws cs → Agreement k n cs (runFrom k n ws cs)
-agrees-so k n ws cs r =
-    let st : State = runFrom k n ws cs .state in
-    let after : List ℕ = runFrom k n ws cs .words in
-    let inv : Invariant st after = holds-after k n ws cs r in
-    let a = agreement k n ws cs r in
-    let forms : PoolForms k n after (inv .height) (inv .tree) = forms-with inv (numbers-after k n ws cs r) in
+agrees-so : (start : Start) (cs : List Call) → Run start cs → Agreement start cs (runFrom start cs)
+agrees-so start cs r =
+    let k : ℕ = start .state .k in
+    let n : ℕ = start .state .n in
+    let after : List ℕ = runFrom start cs .words in
+    let inv : Invariant (runFrom start cs .state) after = holds-after start cs r in
+    let a = agreement start cs r in
+    let forms : PoolForms k n after (inv .height) (inv .tree) = forms-with inv (numbers-after start cs r) in
     record {
       answers = a .answers;
       height = inv .height;
@@ -43,8 +46,8 @@ agrees-so k n ws cs r =
     }
 
 -- the calls before a moment of a run are a run
-pub run-before : (k n : ℕ) (ws : List ℕ) (cs before rest : List Call) → cs ≡ before ++ rest → Run k n ws cs → Run k n ws before
-run-before k n ws cs before rest e r = record { numbers = r .numbers; whole = r .whole; inWords = words-before before rest (subst InWords e (r .inWords)) }
+pub run-before : (start : Start) (cs before rest : List Call) → cs ≡ before ++ rest → Run start cs → Run start before
+run-before start cs before rest e r = record { starts = r .starts; inWords = words-before before rest (subst InWords e (r .inWords)) }
 
 -- ---- no standstill
 
@@ -56,25 +59,34 @@ some-goes st ws inv s b o =
 
 -- ---- the plain list
 
--- from the empty list on its keys rise
-pub plain-rises : (ops : List Op) (es : List Entry) → rises es ≡ true → rises (plainEntries ops es) ≡ true
+-- from a list on whose keys rise
+plain-rises : (ops : List Op) (es : List Entry) → rises es ≡ true → rises (plainEntries ops es) ≡ true
 unfolding plainEntries
 plain-rises [] es h = h
 plain-rises (op ∷ ops) es h = plain-rises ops (plain op es .entries) (plain-facts es h .rising op)
 
+-- and so do those of a tree
+pub tree-rises : (st : State) (ws : List ℕ) (inv : Invariant st ws) → rises (entriesIn st ws inv) ≡ true
+tree-rises st ws inv =
+    rises-within 0 wordRange (entriesIn st ws inv)
+    (within-entries (st .k) (rootLeast (inv .height)) (2 * st .k) (inv .height) (inv .tree) 0 wordRange (inv .forms .forms .inRange))
+
+start-rises : (start : Start) → Ready start → rises (start .entries) ≡ true
+start-rises start ready = ap rises (sym (ready .entries)) ∙ tree-rises (start .state) (start .words) (ready .holds)
+
 -- ---- the demand
 
 pub demand3 : Demand3Holds
-unfolding rises
-demand3 k n ws cs r =
-    let st : State = runFrom k n ws cs .state in
-    let after : List ℕ = runFrom k n ws cs .words in
-    let inv : Invariant st after = holds-after k n ws cs r in
-    let numbers = numbers-after k n ws cs r in
+demand3 start cs r =
+    let k : ℕ = start .state .k in
+    let st : State = runFrom start cs .state in
+    let after : List ℕ = runFrom start cs .words in
+    let inv : Invariant st after = holds-after start cs r in
+    let numbers = numbers-after start cs r in
     record {
-      agreement = agrees-so k n ws cs r;
-      everyMoment = λ before rest e. agrees-so k n ws before (run-before k n ws cs before rest e r);
-      plainList = λ ops. plain-facts (plainEntries ops []) (plain-rises ops [] refl);
+      agreement = agrees-so start cs r;
+      everyMoment = λ before rest e. agrees-so start before (run-before start cs before rest e r);
+      plainList = λ ops. plain-facts (plainEntries ops (start .entries)) (plain-rises ops (start .entries) (start-rises start (start-ready start (r .starts))));
       room = subst (λ (m : ℕ). Room k m st after) (numbers .1) (subst (λ (m : ℕ). Room m (st .n) st after) (numbers .0) (room st after inv));
       someGoes = some-goes st after inv;
       rounds = rounds-close st after inv;

@@ -24,19 +24,18 @@ use Rattle.slots.specs.Book.{closes}
 use Rattle.footing.specs.Granted.{nextAnswer}
 use Rattle.index.specs.Step.{Left, left, stepped}
 use Rattle.tree.specs.Tree.{Tr, entriesOf, PoolForms}
-use Rattle.runs.specs.Run.{Call, begin, step, report, called, run, runFrom, CallInWords, InWords, Run}
+use Rattle.runs.specs.Run.{Call, begin, step, report, called, run, runFrom, CallInWords, InWords}
 use Rattle.runs.specs.Plain.{plain}
 use Rattle.runs.specs.PlainFacts.{Among, FirstFrom, PlainFacts}
-use Rattle.runs.specs.Done.{nobody, done, opsOf}
 use Rattle.runs.specs.Step.{Ended}
 use Rattle.runs.proofs.Invariant.{Invariant}
 use Rattle.runs.proofs.Calls.{StepOf, noSlot, idle, waits, onward, over, step-of, same-op}
 use Rattle.runs.proofs.Runs.{call-keeps, call-numbers, forms-with, words-before, words-behind, holds-after}
 use Rattle.runs.proofs.Rounds.{run-append}
-use Rattle.runs.proofs.Agreement.{entriesIn, same-entries, ended-entries, agreement}
+use Rattle.runs.proofs.Agreement.{entriesIn, same-entries, ended-entries}
 use Rattle.runs.proofs.PlainLaws.{plain-facts, among-has, among-information, clashes}
 use Rattle.promises.specs.Regrading.{IsThere, EndsAmong, PutBy, NotDeleted, NeverNowhere, RegradingHolds}
-use Rattle.promises.proofs.Demand3.{plain-rises, run-before}
+use Rattle.promises.proofs.Demand3.{run-before, tree-rises}
 
 -- ---- the plain list
 
@@ -427,13 +426,8 @@ module _ (x : ℕ) (st : State) (ws : List ℕ) (inv : Invariant st ws) (r : ris
 -- ---- the theorem
 
 pub regrading-holds : RegradingHolds
-unfolding rises
-regrading-holds k n ws before between x r h =
-    let run-so : Run k n ws before = run-before k n ws (before ++ between) before between refl r in
-    let st : State = runFrom k n ws before .state in
-    let after : List ℕ = runFrom k n ws before .words in
-    let inv : Invariant st after = holds-after k n ws before run-so in
-    let ops : List Op = opsOf (done before (runFrom k n ws before .answers) nobody) in
-    never-nowhere x st after inv
-    (ap rises (agreement k n ws before run-so .entries (inv .height) (inv .tree) (inv .forms)) ∙ plain-rises ops [] refl)
-    between (words-behind before between (r .inWords)) h
+regrading-holds start before between x r h =
+    let st : State = runFrom start before .state in
+    let after : List ℕ = runFrom start before .words in
+    let inv : Invariant st after = holds-after start before (run-before start (before ++ between) before between refl r) in
+    never-nowhere x st after inv (tree-rises st after inv) between (words-behind before between (r .inWords)) h

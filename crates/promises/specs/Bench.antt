@@ -11,7 +11,7 @@ use Rattle.slots.specs.declared.Op.the-variants.{Search, Insert, Delete}
 use Rattle.slots.specs.declared.Answer.the-variants.{Moved, Found, NotFound, AlreadyThere, Deleted, NoRoom, Begun}
 use Rattle.slots.specs.Heard.{heard}
 use Rattle.slots.specs.Parts.{wantAt}
-use Rattle.runs.specs.Run.{Call, begin, step, Told, run, runFrom}
+use Rattle.runs.specs.Run.{Call, begin, step, Told, run, freshStart, runFrom}
 
 pub record Row : Type 0 where
   pub given : List (List ℕ)
@@ -46,7 +46,7 @@ three = two ++ puts 30
 
 -- a run from a fresh pool, made in words that were all 9
 abbrev pub runFresh : ℕ → ℕ → List Call → Told
-runFresh k n cs = runFrom k n (replicate (poolLength k n) 9) cs
+runFresh k n cs = runFrom (freshStart k n (replicate (poolLength k n) 9)) cs
 
 -- k = 1: the run of some calls from a fresh pool of n pages; the run of more calls from there
 abbrev pub pool : ℕ → List Call → Told

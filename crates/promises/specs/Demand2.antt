@@ -31,7 +31,7 @@ use Rattle.slots.specs.Book.{leaving}
 use Rattle.footing.specs.Granted.{isSafe}
 use Rattle.index.specs.Step.{Left}
 use Rattle.tree.specs.Tree.{Tr, occurs, PoolForms}
-use Rattle.runs.specs.Run.{Call, begin, step, report, called, runFrom, CallInWords, Run}
+use Rattle.runs.specs.Run.{Call, begin, step, report, called, Start, runFrom, CallInWords, Run}
 use Rattle.runs.specs.Stance.{Safe, Stance, Takes}
 use Rattle.runs.specs.Waits.{Barred, Before}
 use Rattle.runs.specs.Done.{writing}
@@ -191,15 +191,16 @@ pub record Words (k : ℕ) : Type 0 where
 
 -- ---- the demand
 
-pub record Demand2 (k n : ℕ) (ws : List ℕ) (cs : List Call) : Type 0 where
+-- k and N are those of the state that the run starts with.
+pub record Demand2 (start : Start) (cs : List Call) : Type 0 where
   -- what the calls have left. It holds of every run, so it holds after every call of one.
-  pub left : AfterEveryCall k n (runFrom k n ws cs .state) (runFrom k n ws cs .words)
+  pub left : AfterEveryCall (start .state .k) (start .state .n) (runFrom start cs .state) (runFrom start cs .words)
   pub next : (c : Call) → CallInWords c
-      → AfterEveryCall k n (called (runFrom k n ws cs .state) (runFrom k n ws cs .words) c .state) (called (runFrom k n ws cs .state) (runFrom k n ws cs .words) c .words)
+      → AfterEveryCall (start .state .k) (start .state .n) (called (runFrom start cs .state) (runFrom start cs .words) c .state) (called (runFrom start cs .state) (runFrom start cs .words) c .words)
   -- what any further call takes and gives up, and what it answers
-  pub locks : (c : Call) → CallLocks (runFrom k n ws cs .state) (runFrom k n ws cs .words) c (called (runFrom k n ws cs .state) (runFrom k n ws cs .words) c)
-  pub heard : (c : Call) → isOneOf (called (runFrom k n ws cs .state) (runFrom k n ws cs .words) c .answer) (answersOf c) ≡ true
-  pub words : Words k
+  pub locks : (c : Call) → CallLocks (runFrom start cs .state) (runFrom start cs .words) c (called (runFrom start cs .state) (runFrom start cs .words) c)
+  pub heard : (c : Call) → isOneOf (called (runFrom start cs .state) (runFrom start cs .words) c .answer) (answersOf c) ≡ true
+  pub words : Words (start .state .k)
 
 abbrev pub Demand2Holds : Type 0
-Demand2Holds = (k n : ℕ) (ws : List ℕ) (cs : List Call) → Run k n ws cs → Demand2 k n ws cs
+Demand2Holds = (start : Start) (cs : List Call) → Run start cs → Demand2 start cs

@@ -7,7 +7,7 @@
 -- list learns the operation."
 use Prim.Native.Nat.{ℕ, _+_, _*_, _≤_, _<_}
 use mathlib.Core.Bool.{true, false}
-use mathlib.Core.List.{List, [], _++_}
+use mathlib.Core.List.{List, _++_}
 use mathlib.Core.Path.{_≡_}
 use lib.ListN.{length}
 use Rattle.ground.specs.Limits.{slotCount, slotGrants, roundsEnough}
@@ -25,7 +25,7 @@ use Rattle.index.specs.Step.{Left, stepped}
 use Rattle.tree.specs.Tree.{Tr, entriesOf, PoolForms}
 use Rattle.tree.specs.Facts.{pageCount}
 use Rattle.tree.specs.Insertion.{treeRoom}
-use Rattle.runs.specs.Run.{Call, Told, runFrom, Run}
+use Rattle.runs.specs.Run.{Call, Told, Start, runFrom, Run}
 use Rattle.runs.specs.Done.{Done, nobody, done, plainAnswers, plainEntries, opsOf, answersIn}
 use Rattle.runs.specs.PlainFacts.{PlainFacts}
 use Rattle.runs.specs.Rounds.{RoundsClose}
@@ -38,14 +38,15 @@ abbrev pub doneIn : List Call → Told → List Done
 doneIn cs r = done cs (r .answers) nobody
 
 -- "A plain sorted list, worked through one operation after another, gives the same answers, and the tree holds its entries at
--- every moment." The tree: the one that the words form, and there is just one (`pool-determined`).
-pub record Agreement (k n : ℕ) (cs : List Call) (r : Told) : Type 0 where
-  pub answers : answersIn (doneIn cs r) ≡ plainAnswers (opsOf (doneIn cs r)) []
+-- every moment." The tree: the one that the words form, and there is just one (`pool-determined`). The list begins with the
+-- start's entries: from a fresh pool, with none.
+pub record Agreement (start : Start) (cs : List Call) (r : Told) : Type 0 where
+  pub answers : answersIn (doneIn cs r) ≡ plainAnswers (opsOf (doneIn cs r)) (start .entries)
   pub height : ℕ
   pub tree : Tr height
-  pub forms : PoolForms k n (r .words) height tree
-  pub only : (l : ℕ) (t : Tr l) → PoolForms k n (r .words) l t → entriesOf l t ≡ entriesOf height tree
-  pub entries : entriesOf height tree ≡ plainEntries (opsOf (doneIn cs r)) []
+  pub forms : PoolForms (start .state .k) (start .state .n) (r .words) height tree
+  pub only : (l : ℕ) (t : Tr l) → PoolForms (start .state .k) (start .state .n) (r .words) l t → entriesOf l t ≡ entriesOf height tree
+  pub entries : entriesOf height tree ≡ plainEntries (opsOf (doneIn cs r)) (start .entries)
 
 -- ---- room
 
@@ -88,24 +89,25 @@ pub record SomeGoes (st : State) (ws : List ℕ) : Type 0 where
 
 -- ---- the demand
 
-pub record Demand3 (k n : ℕ) (ws : List ℕ) (cs : List Call) : Type 0 where
+-- k and N are those of the state that the run starts with.
+pub record Demand3 (start : Start) (cs : List Call) : Type 0 where
   -- "A plain sorted list .. gives the same answers, and the tree holds its entries"
-  pub agreement : Agreement k n cs (runFrom k n ws cs)
+  pub agreement : Agreement start cs (runFrom start cs)
   -- "at every moment": it holds of every run, and so after each of a run's calls
-  pub everyMoment : (before rest : List Call) → cs ≡ before ++ rest → Agreement k n before (runFrom k n ws before)
+  pub everyMoment : (before rest : List Call) → cs ≡ before ++ rest → Agreement start before (runFrom start before)
   -- what the plain list means
-  pub plainList : (ops : List Op) → PlainFacts (plainEntries ops [])
+  pub plainList : (ops : List Op) → PlainFacts (plainEntries ops (start .entries))
   -- ""No room" changes nothing and comes exactly when a new key needs more pages than are free."
-  pub room : Room k n (runFrom k n ws cs .state) (runFrom k n ws cs .words)
+  pub room : Room (start .state .k) (start .state .n) (runFrom start cs .state) (runFrom start cs .words)
   -- "While any operation is open, some open one can be granted its step"
-  pub someGoes : (s : ℕ) → s < slotCount → openAt (runFrom k n ws cs .state) s ≡ true → SomeGoes (runFrom k n ws cs .state) (runFrom k n ws cs .words)
+  pub someGoes : (s : ℕ) → s < slotCount → openAt (runFrom start cs .state) s ≡ true → SomeGoes (runFrom start cs .state) (runFrom start cs .words)
   -- "and if none is begun, 304 rounds that each step every open slot end them all"
-  pub rounds : RoundsClose (runFrom k n ws cs .state) (runFrom k n ws cs .words)
+  pub rounds : RoundsClose (runFrom start cs .state) (runFrom start cs .words)
   -- 01: "Granted steps, with h the level of page 0 when it is granted: search and insertion take h, deletion h to 2h-1. So at
   -- most 19 a slot, and 16 × 19 = 304." Next: "It takes at most 2h-1 grants, so 304 stands." A regrading takes h. Of whatever
   -- operation begins here, in whatever calls follow
-  pub grantCounts : CountsFrom (runFrom k n ws cs .state) (runFrom k n ws cs .words)
+  pub grantCounts : CountsFrom (runFrom start cs .state) (runFrom start cs .words)
   pub roundsOfSlots : roundsEnough ≡ slotCount * slotGrants
 
 abbrev pub Demand3Holds : Type 0
-Demand3Holds = (k n : ℕ) (ws : List ℕ) (cs : List Call) → Run k n ws cs → Demand3 k n ws cs
+Demand3Holds = (start : Start) (cs : List Call) → Run start cs → Demand3 start cs

@@ -16,7 +16,7 @@ use Rattle.slots.specs.declared.Answer.the-variants.{Found, NotFound, AlreadyTh
 use Rattle.slots.specs.Heard.{isOneOf, ending}
 use Rattle.index.specs.Step.{stepped}
 use Rattle.tree.specs.Tree.{Tr, entriesOf, PoolForms}
-use Rattle.runs.specs.Run.{Call, step, run, runFrom, Run}
+use Rattle.runs.specs.Run.{Call, step, run, Start, runFrom, Run}
 use Rattle.runs.specs.PlainFacts.{Among}
 
 -- The lot x is there with information v: it is an entry of the tree that the words form. There is just one such tree (`pool-determined`).
@@ -76,15 +76,15 @@ pub record NeverNowhere (st : State) (ws : List ℕ) (between : List Call) (x : 
   pub neverDeleted : (first : List Call) (s : ℕ) (a : Answer) → EndsAmong st ws between first s (Delete x) a → ⊥
 
 -- the calls `between`, behind those before, as far as the lot x is concerned
-abbrev pub LotStays : ℕ → ℕ → List ℕ → List Call → List Call → ℕ → Type 0
-LotStays k n ws before between x =
-    NotDeleted (runFrom k n ws before .state) (runFrom k n ws before .words) between x
-    → NeverNowhere (runFrom k n ws before .state) (runFrom k n ws before .words) between x
+abbrev pub LotStays : Start → List Call → List Call → ℕ → Type 0
+LotStays start before between x =
+    NotDeleted (runFrom start before .state) (runFrom start before .words) between x
+    → NeverNowhere (runFrom start before .state) (runFrom start before .words) between x
 
 -- Between any two calls of a run.
 abbrev pub RegradingHolds : Type 0
 RegradingHolds =
-    (k n : ℕ) (ws : List ℕ) (before between : List Call) (x : ℕ) → Run k n ws (before ++ between) → LotStays k n ws before between x
+    (start : Start) (before between : List Call) (x : ℕ) → Run start (before ++ between) → LotStays start before between x
 
 -- ---- what it writes
 

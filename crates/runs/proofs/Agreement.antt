@@ -10,7 +10,7 @@ use Rattle.ground.specs.Tests.{member}
 use Rattle.ground.proofs.Choice.{cond-ind, cond-true, cond-false}
 use Rattle.page.specs.Words.{Entry}
 use Rattle.page.specs.Place.{has, atOrAbove}
-use Rattle.pool.specs.Pool.{Write, applied, fresh}
+use Rattle.pool.specs.Pool.{Write, applied}
 use Rattle.slots.specs.declared.Op.{Op}
 use Rattle.slots.specs.declared.Op.the-variants.{Search, Insert, Delete, Next, Regrade}
 use Rattle.slots.specs.declared.Task.the-variants.{Open}
@@ -19,7 +19,7 @@ use Rattle.slots.specs.declared.State.{State}
 use Rattle.slots.specs.declared.Outcome.{Outcome}
 use Rattle.slots.specs.declared.Answer.{Answer}
 use Rattle.slots.specs.declared.Answer.the-variants.{Waiting, Moved, Begun, BadSlot, SlotBusy, SlotIdle}
-use Rattle.slots.specs.Parts.{slotAt, pathOf, besideOf, wantAt, openSlot, closedSlot, idleState, Opened}
+use Rattle.slots.specs.Parts.{slotAt, pathOf, besideOf, wantAt, openSlot, closedSlot, Opened}
 use Rattle.slots.specs.Heard.{isOneOf, countedAnswers}
 use Rattle.slots.specs.Book.{rewritten, begins, goesOn, closes}
 use Rattle.slots.proofs.OrderLaws.{same-or-not}
@@ -27,16 +27,16 @@ use Rattle.slots.proofs.Keeping.{slot-here, slot-other}
 use Rattle.footing.specs.Granted.{nextAnswer}
 use Rattle.index.specs.Step.{Left, left, stepped}
 use Rattle.tree.specs.Tree.{Tr, entriesOf, PoolForms}
-use Rattle.tree.specs.Facts.{AnyTree, emptyTree}
+use Rattle.tree.specs.Facts.{AnyTree}
 use Rattle.tree.proofs.Determined.{pool-determined}
-use Rattle.tree.proofs.Words.{pool-leads, fresh-forms}
-use Rattle.runs.specs.Run.{Call, begin, step, report, called, run, runFrom, InWords, Run}
+use Rattle.tree.proofs.Words.{pool-leads}
+use Rattle.runs.specs.Run.{Call, begin, step, report, called, Told, run, Start, runFrom, InWords, Run}
 use Rattle.runs.specs.Plain.{Reply, plain}
 use Rattle.runs.specs.Done.{Done, ended, nobody, asks, done, plainAnswers, plainEntries, opsOf, answersIn}
 use Rattle.runs.specs.Step.{Ended, AsPlain, NoRoomLeft}
 use Rattle.runs.proofs.Invariant.{Invariant}
 use Rattle.runs.proofs.Calls.{StepOf, noSlot, idle, waits, onward, over, step-of, same-op, closed-open}
-use Rattle.runs.proofs.Runs.{BeginOf, noSuch, busy, begins-so, begin-of, call-keeps, call-numbers, forms-with, made-told, idle-shut, fresh-keeps}
+use Rattle.runs.proofs.Runs.{BeginOf, noSuch, busy, begins-so, begin-of, call-keeps, call-numbers, forms-with, Ready, start-ready}
 
 -- the entries of the tree that the words form
 abbrev pub entriesIn : (st : State) (ws : List ℕ) → Invariant st ws → List Entry
@@ -241,19 +241,12 @@ agrees (c ∷ cs) st ws inv asked knows h =
       entries = λ l t f. rest .entries l t f ∙ ap (plainEntries (opsOf ds)) same ∙ sym (adds .entries ds);
     })
 
--- From a fresh pool, with an empty list.
-pub agreement : (k n : ℕ) (ws : List ℕ) (cs : List Call) → Run k n ws cs
-    → Agrees [] (done cs (runFrom k n ws cs .answers) nobody) (runFrom k n ws cs .state) (runFrom k n ws cs .words)
+-- From every start, with its entries.
+pub agreement : (start : Start) (cs : List Call) → Run start cs
+    → Agrees (start .entries) (done cs (runFrom start cs .answers) nobody) (runFrom start cs .state) (runFrom start cs .words)
 unfolding runFrom
-agreement k n ws cs r =
-    subst (λ (m : Left). Agrees [] (done cs (run cs (m .state) (m .words) .answers) nobody) (run cs (m .state) (m .words) .state) (run cs (m .state) (m .words) .words))
-    (sym (made-told k n ws (r .numbers) (r .whole)))
-    (subst (λ (es : List Entry). Agrees es (done cs (run cs (idleState k n) (fresh k n) .answers) nobody) (run cs (idleState k n) (fresh k n) .state) (run cs (idleState k n) (fresh k n) .words))
-    empty
-    (agrees cs (idleState k n) (fresh k n) inv nobody (λ s op b runs. absurd (idle-shut k n s op runs)) (r .inWords)))
-  where
-    inv : Invariant (idleState k n) (fresh k n)
-    inv = fresh-keeps k n (r .numbers)
-
-    empty : entriesIn (idleState k n) (fresh k n) inv ≡ []
-    empty = same-entries k n (fresh k n) (inv .height) (inv .tree) 0 emptyTree (inv .forms) (fresh-forms k n (inv .sound .nLeast))
+agreement start cs r =
+    let ready : Ready start = start-ready start (r .starts) in
+    let told : Told = run cs (start .state) (start .words) in
+    subst (λ (es : List Entry). Agrees es (done cs (told .answers) nobody) (told .state) (told .words)) (ready .entries)
+    (agrees cs (start .state) (start .words) (ready .holds) nobody (λ s op b runs. absurd (ready .shut s op runs)) (r .inWords))

@@ -1,4 +1,4 @@
--- What holds of a run holds from its start on: a pool made, then call after call.
+-- What holds of a run holds from its start on, call after call.
 use Prim.Native.Nat.{ℕ, _≤_, _<_}
 use mathlib.Core.Bool.{true, false, cond, not, _&&_, false≢true}
 use mathlib.Core.Logic.{⊎-elim}
@@ -26,10 +26,10 @@ use Rattle.slots.proofs.SoundFacts.{facts-sound}
 use Rattle.slots.proofs.Keeping.{same-everywhere, idle-sound, idle-shaped}
 use Rattle.index.specs.Step.{Left, left, stepped}
 use Rattle.index.specs.Make.{made}
-use Rattle.tree.specs.Tree.{Tr, PoolForms}
+use Rattle.tree.specs.Tree.{Tr, entriesOf, PoolForms}
 use Rattle.tree.specs.Facts.{emptyTree}
 use Rattle.tree.proofs.Words.{fresh-forms}
-use Rattle.runs.specs.Run.{Call, begin, step, report, called, run, runFrom, OpInWords, CallInWords, InWords, Run}
+use Rattle.runs.specs.Run.{Call, begin, step, report, called, run, Start, IsStart, freshPool, runFrom, OpInWords, CallInWords, InWords, Run}
 use Rattle.runs.proofs.Invariant.{Invariant}
 use Rattle.runs.proofs.Calls.{StepOf, noSlot, idle, waits, onward, over, step-of, step-keeps, begin-keeps}
 
@@ -149,24 +149,35 @@ run-numbers (c ∷ cs) st ws inv h =
 -- ---- the start
 
 -- no slot of an idle state is open
-pub idle-shut : (k n s : ℕ) (op : Op) → Opened (idleState k n) s op → ⊥
+idle-shut : (k n s : ℕ) (op : Op) → Opened (idleState k n) s op → ⊥
 idle-shut k n s op runs = false≢true (sym (ap (λ (sl : Slot). isOpen (sl .task)) (same-everywhere slotCount s closedSlot)) ∙ ap isOpen runs)
 
+-- What every start is: every slot is closed, and the words form a tree, whose entries are those that the list begins with.
+pub record Ready (start : Start) : Type 0 where
+  pub holds : Invariant (start .state) (start .words)
+  pub shut : (s : ℕ) (op : Op) → Opened (start .state) s op → ⊥
+  pub entries : entriesOf (holds .height) (holds .tree) ≡ start .entries
+
 -- Every slot closed, over words that form a tree: a run can start there.
-pub idle-keeps : (k n : ℕ) (ws : List ℕ) (l : ℕ) (t : Tr l) → kInRange k && nInRange n ≡ true → PoolForms k n ws l t → Invariant (idleState k n) ws
-idle-keeps k n ws l t h forms =
+idle-ready : (k n : ℕ) (ws : List ℕ) (l : ℕ) (t : Tr l) → kInRange k && nInRange n ≡ true → PoolForms k n ws l t
+    → Ready (record { state = idleState k n; words = ws; entries = entriesOf l t })
+idle-ready k n ws l t h forms =
     record {
-      shaped = idle-shaped k n;
-      sound = idle-sound k n
-          (leb-true 1 k (and-first (leb 1 k) (leb k largestK) ks))
-          (leb-true k largestK (and-second (leb 1 k) (leb k largestK) ks))
-          (leb-true 1 n (and-first (leb 1 n) (leb n largestN) ns))
-          (leb-true n largestN (and-second (leb 1 n) (leb n largestN) ns));
-      height = l;
-      tree = t;
-      forms = forms;
-      keys = λ s op b runs. absurd (idle-shut k n s op runs);
-      stands = λ s op b runs. absurd (idle-shut k n s op runs);
+      holds = record {
+        shaped = idle-shaped k n;
+        sound = idle-sound k n
+            (leb-true 1 k (and-first (leb 1 k) (leb k largestK) ks))
+            (leb-true k largestK (and-second (leb 1 k) (leb k largestK) ks))
+            (leb-true 1 n (and-first (leb 1 n) (leb n largestN) ns))
+            (leb-true n largestN (and-second (leb 1 n) (leb n largestN) ns));
+        height = l;
+        tree = t;
+        forms = forms;
+        keys = λ s op b runs. absurd (idle-shut k n s op runs);
+        stands = λ s op b runs. absurd (idle-shut k n s op runs);
+      };
+      shut = idle-shut k n;
+      entries = refl;
     }
   where
     ks : kInRange k ≡ true
@@ -175,27 +186,23 @@ idle-keeps k n ws l t h forms =
     ns : nInRange n ≡ true
     ns = and-second (kInRange k) (nInRange n) h
 
--- "From a fresh pool"
-pub fresh-keeps : (k n : ℕ) → kInRange k && nInRange n ≡ true → Invariant (idleState k n) (fresh k n)
-fresh-keeps k n h =
-    idle-keeps k n (fresh k n) 0 emptyTree h
-    (fresh-forms k n (leb-true 1 n (and-first (leb 1 n) (leb n largestN) (and-second (kInRange k) (nInRange n) h))))
-
-pub made-told : (k n : ℕ) (ws : List ℕ) → kInRange k && nInRange n ≡ true → length ws ≡ poolLength k n → made k n ws ≡ left Made (idleState k n) (fresh k n)
+made-told : (k n : ℕ) (ws : List ℕ) → kInRange k && nInRange n ≡ true → length ws ≡ poolLength k n → made k n ws ≡ left Made (idleState k n) (fresh k n)
 unfolding made
 made-told k n ws h w = cond-true _ (left BadPool (idleState 0 0) ws) (and-both h (eq-eqb (length ws) (poolLength k n) w))
 
--- After every run, whatever was called.
-pub holds-after : (k n : ℕ) (ws : List ℕ) (cs : List Call) → Run k n ws cs → Invariant (runFrom k n ws cs .state) (runFrom k n ws cs .words)
-unfolding runFrom
-holds-after k n ws cs r =
-    run-keeps cs (made k n ws .state) (made k n ws .words)
-    (subst (λ (m : Left). Invariant (m .state) (m .words)) (sym (made-told k n ws (r .numbers) (r .whole))) (fresh-keeps k n (r .numbers)))
-    (r .inWords)
+-- Every start is such a one. "From a fresh pool": its tree is an empty leaf.
+pub start-ready : (start : Start) → IsStart start → Ready start
+start-ready start (freshPool k n ws h w) =
+    subst (λ (m : Left). Ready (record { state = m .state; words = m .words; entries = [] })) (sym (made-told k n ws h w))
+    (idle-ready k n (fresh k n) 0 emptyTree h
+    (fresh-forms k n (leb-true 1 n (and-first (leb 1 n) (leb n largestN) (and-second (kInRange k) (nInRange n) h)))))
 
--- k and N are those of the making.
-pub numbers-after : (k n : ℕ) (ws : List ℕ) (cs : List Call) → Run k n ws cs → (runFrom k n ws cs .state .k ≡ k) × (runFrom k n ws cs .state .n ≡ n)
+-- After every run, whatever was called.
+pub holds-after : (start : Start) (cs : List Call) → Run start cs → Invariant (runFrom start cs .state) (runFrom start cs .words)
 unfolding runFrom
-numbers-after k n ws cs r =
-    subst (λ (m : Left). (run cs (m .state) (m .words) .state .k ≡ k) × (run cs (m .state) (m .words) .state .n ≡ n)) (sym (made-told k n ws (r .numbers) (r .whole)))
-    (run-numbers cs (idleState k n) (fresh k n) (fresh-keeps k n (r .numbers)) (r .inWords))
+holds-after start cs r = run-keeps cs (start .state) (start .words) (start-ready start (r .starts) .holds) (r .inWords)
+
+-- k and N are those of the start.
+pub numbers-after : (start : Start) (cs : List Call) → Run start cs → Numbers (start .state) (runFrom start cs .state)
+unfolding runFrom
+numbers-after start cs r = run-numbers cs (start .state) (start .words) (start-ready start (r .starts) .holds) (r .inWords)

@@ -5,6 +5,7 @@ use mathlib.Core.List.{List, [], _∷_}
 use mathlib.Core.Path.{_≡_}
 use lib.ListN.{length}
 use Rattle.ground.specs.Limits.{wordRange}
+use Rattle.page.specs.Words.{Entry}
 use Rattle.pool.specs.Pool.{kInRange, nInRange, poolLength}
 use Rattle.slots.specs.declared.Op.{Op}
 use Rattle.slots.specs.declared.Op.the-variants.{Search, Insert, Delete, Next, Regrade}
@@ -44,9 +45,23 @@ run (c ∷ cs) st ws =
     let rest = run cs (one .state) (one .words) in
     ran (one .answer ∷ rest .answers) (rest .state) (rest .words)
 
--- "From a fresh pool": a pool is made in these words, then come the calls
-unfoldable pub runFrom : ℕ → ℕ → List ℕ → List Call → Told
-runFrom k n ws cs = run cs (made k n ws .state) (made k n ws .words)
+-- What a run begins with: a state, the words of the pool, and the entries that demand 3's sorted list has then.
+pub record Start : Type 0 where
+  pub state : State
+  pub words : List ℕ
+  pub entries : List Entry
+
+-- "From a fresh pool": what a making in these words leaves, and an empty list
+abbrev pub freshStart : ℕ → ℕ → List ℕ → Start
+freshStart k n ws = record { state = made k n ws .state; words = made k n ws .words; entries = [] }
+
+-- The starts that there are: a pool made, with k and N in range and any words of the right number.
+pub data IsStart : Start → Type 0 where
+  freshPool : (k n : ℕ) (ws : List ℕ) → kInRange k && nInRange n ≡ true → length ws ≡ poolLength k n → IsStart (freshStart k n ws)
+
+-- the calls, one after the other, from this start on
+unfoldable pub runFrom : Start → List Call → Told
+runFrom start cs = run cs (start .state) (start .words)
 
 -- "Keys and information are any 32-bit unsigned numbers."
 abbrev pub OpInWords : Op → Type 0
@@ -66,8 +81,7 @@ abbrev pub InWords : List Call → Type 0
 InWords [] = Unit {0}
 InWords (c ∷ cs) = CallInWords c × InWords cs
 
--- A run: k and N in range, any words of the right number handed to making, then any calls.
-pub record Run (k n : ℕ) (ws : List ℕ) (cs : List Call) : Type 0 where
-  pub numbers : kInRange k && nInRange n ≡ true
-  pub whole : length ws ≡ poolLength k n
+-- A run: one of the starts, then any calls.
+pub record Run (start : Start) (cs : List Call) : Type 0 where
+  pub starts : IsStart start
   pub inWords : InWords cs

@@ -24,9 +24,9 @@ use Rattle.embed.specs.declared.asking.Asked.the-variants.{Known, Unknown}
 use Rattle.embed.specs.Asked.{askedBy}
 use Rattle.embed.specs.Told.{told}
 use Rattle.embed.specs.Statements.{beginTold, beginNext}
-use Rattle.runs.specs.Run.{Call, begin, step, report, called, run, runFrom, InWords, Run}
+use Rattle.runs.specs.Run.{Call, begin, step, report, called, run, Start, IsStart, freshPool, runFrom, InWords, Run}
 use Rattle.runs.proofs.Invariant.{Invariant}
-use Rattle.runs.proofs.Runs.{call-keeps, holds-after, words-append}
+use Rattle.runs.proofs.Runs.{call-keeps, words-append, start-ready}
 use Rattle.promises.specs.Demand1.{MakingInRange}
 use Rattle.promises.specs.Demand2.{AfterEveryCall, answersOf}
 use Rattle.promises.specs.Regrading.{IsThere, NotDeleted, NeverNowhere}
@@ -34,7 +34,7 @@ use Rattle.promises.proofs.Demand1.{range-tested, make-demand}
 use Rattle.promises.proofs.Demand2.{call-heard, demand2}
 use Rattle.promises.proofs.Demand3.{demand3}
 use Rattle.promises.proofs.Regrading.{regrading-holds}
-use Rattle.script.specs.Library.{Went, begins, steps, reports, Follow, beginsWith, callsIn, toldFirst, toldIn, quietNumber, quietFour, LibraryRuns, LibraryPromises, LibraryKeepsLots}
+use Rattle.script.specs.Library.{Went, begins, steps, reports, Follow, OpenedBy, making, beginsWith, callsIn, toldFirst, toldIn, quietNumber, quietFour, LibraryRuns, LibraryPromises, LibraryKeepsLots}
 
 -- ---- what is left and told
 
@@ -113,18 +113,29 @@ made-in-range k n ws e =
     (make-demand k n ws .makes .0)
     (make-demand k n ws .noOther)
 
+-- The words that the first call is lent are those of a start.
+record Lends (start : Start) (cells ws : List ℕ) : Type 0 where
+  starts : IsStart start
+  state : stateOf cells ≡ start .state
+  words : ws ≡ start .words
+
+opened-lends : (start : Start) (cells ws : List ℕ) → OpenedBy cells ws start → Lends start cells ws
+opened-lends start cells ws (making k n given four tells made-so) =
+    let range = made-in-range k n given (sym (tells .answer) ∙ made-so) in
+    record {
+      starts = freshPool k n given (and-first (kInRange k && nInRange n) (eqb (length given) (poolLength k n)) (range-tested k n given range)) (range .words);
+      state = tells .state;
+      words = tells .words;
+    }
+
 pub library-runs : LibraryRuns
 unfolding runFrom
-library-runs k n ws calls last lastWs h =
-    let range = made-in-range k n ws (sym (h .making .answer) ∙ h .succeeds) in
-    let g : Goes (made k n ws .state) (made k n ws .words) (callsIn calls) (toldIn calls) last lastWs =
-    from-here (h .making .state) (h .making .words) (follow-goes calls (h .cells) (h .after) last lastWs (h .follow)) in
+library-runs start calls last lastWs h =
+    let lends : Lends start (h .cells) (h .words) = opened-lends start (h .cells) (h .words) (h .opened) in
+    let g : Goes (start .state) (start .words) (callsIn calls) (toldIn calls) last lastWs =
+    from-here (lends .state) (lends .words) (follow-goes calls (h .cells) (h .words) last lastWs (h .follow)) in
     record {
-      run = record {
-        numbers = and-first (kInRange k && nInRange n) (eqb (length ws) (poolLength k n)) (range-tested k n ws range);
-        whole = range .words;
-        inWords = follow-in-words calls (h .cells) (h .after) last lastWs (h .follow);
-      };
+      run = record { starts = lends .starts; inWords = follow-in-words calls (h .cells) (h .words) last lastWs (h .follow) };
       state = g .state;
       words = g .words;
       answers = g .answers;
@@ -146,44 +157,38 @@ run-quiet (c ∷ cs) st ws inv h =
     and-both (quiet-told c (called st ws c .answer) (call-heard st ws inv c))
     (run-quiet cs (called st ws c .state) (called st ws c .words) (call-keeps st ws inv c (h .0)) (h .1))
 
--- what holds of a run holds at its start: of the run without calls
-made-holds : (k n : ℕ) (ws : List ℕ) (cs : List Call) → Run k n ws cs → Invariant (made k n ws .state) (made k n ws .words)
-unfolding run runFrom
-made-holds k n ws cs r = holds-after k n ws [] (record { numbers = r .numbers; whole = r .whole; inWords = tt })
-
-from-quiet : (k n : ℕ) (ws : List ℕ) (cs : List Call) → Run k n ws cs → all quietFour (map told (runFrom k n ws cs .answers)) ≡ true
+from-quiet : (start : Start) (cs : List Call) → Run start cs → all quietFour (map told (runFrom start cs .answers)) ≡ true
 unfolding runFrom
-from-quiet k n ws cs r = run-quiet cs (made k n ws .state) (made k n ws .words) (made-holds k n ws cs r) (r .inWords)
+from-quiet start cs r = run-quiet cs (start .state) (start .words) (start-ready start (r .starts) .holds) (r .inWords)
 
 pub library-promises : LibraryPromises
-library-promises k n ws calls last lastWs h =
+library-promises start calls last lastWs h =
     let cs : List Call = callsIn calls in
-    let is = library-runs k n ws calls last lastWs h in
-    let second = demand2 k n ws cs (is .run) in
+    let is = library-runs start calls last lastWs h in
+    let second = demand2 start cs (is .run) in
     record {
-      left = subst (λ (st : State). AfterEveryCall k n st lastWs) (sym (is .state))
-          (subst (λ (after : List ℕ). AfterEveryCall k n (runFrom k n ws cs .state) after) (sym (is .words)) (second .left));
-      neverTold = ap (all quietFour) (is .answers) ∙ from-quiet k n ws cs (is .run);
+      left = subst (λ (st : State). AfterEveryCall (start .state .k) (start .state .n) st lastWs) (sym (is .state))
+          (subst (λ (after : List ℕ). AfterEveryCall (start .state .k) (start .state .n) (runFrom start cs .state) after) (sym (is .words)) (second .left));
+      neverTold = ap (all quietFour) (is .answers) ∙ from-quiet start cs (is .run);
       second = second;
-      third = demand3 k n ws cs (is .run);
+      third = demand3 start cs (is .run);
     }
 
 -- ---- a lot that is not deleted
 
 pub library-keeps-lots : LibraryKeepsLots
-library-keeps-lots k n ws before between mid midWs last lastWs x h f kept =
+library-keeps-lots start before between mid midWs last lastWs x h f kept =
     let cs : List Call = callsIn between in
-    let was = library-runs k n ws before mid midWs h in
-    let start : State = runFrom k n ws (callsIn before) .state in
-    let whole : Run k n ws (callsIn before ++ cs) = record {
-      numbers = was .run .numbers;
-      whole = was .run .whole;
+    let was = library-runs start before mid midWs h in
+    let then : State = runFrom start (callsIn before) .state in
+    let whole : Run start (callsIn before ++ cs) = record {
+      starts = was .run .starts;
       inWords = words-append (callsIn before) cs (was .run .inWords) (follow-in-words between mid midWs last lastWs f);
     } in
     let never : NeverNowhere (stateOf mid) midWs cs x =
     subst (λ (st : State). NotDeleted st midWs cs x → NeverNowhere st midWs cs x) (sym (was .state))
-    (subst (λ (after : List ℕ). NotDeleted start after cs x → NeverNowhere start after cs x) (sym (was .words))
-    (regrading-holds k n ws (callsIn before) cs x whole)) kept in
+    (subst (λ (after : List ℕ). NotDeleted then after cs x → NeverNowhere then after cs x) (sym (was .words))
+    (regrading-holds start (callsIn before) cs x whole)) kept in
     let g = follow-goes between mid midWs last lastWs f in
     let (v, there, _) = never .always cs [] (sym (append-nil cs)) in
     record {

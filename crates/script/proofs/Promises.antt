@@ -13,13 +13,13 @@ use Rattle.ground.proofs.Choice.{cond-true}
 use Rattle.lines.specs.Text.{startsWith}
 use Rattle.lines.specs.Names.{tooLong}
 use Rattle.talk.specs.Split.{linesOf}
-use Rattle.talk.specs.Talk.{programK, programPages, blank, opening, mostBytes, programWrites}
+use Rattle.talk.specs.Talk.{opening, mostBytes, programWrites}
 use Rattle.runs.specs.Run.{run, runFrom, Run}
 use Rattle.runs.proofs.Invariant.{Invariant}
 use Rattle.runs.proofs.Runs.{holds-after}
 use Rattle.runs.proofs.Agreement.{agreement}
 use Rattle.promises.proofs.Regrading.{regrading-holds}
-use Rattle.script.specs.Script.{commandsIn, callsBy, scriptCalls, scriptRun}
+use Rattle.script.specs.Script.{commandsIn, callsBy, scriptCalls, scriptStart, scriptRun}
 use Rattle.script.specs.Promises.{quiet, NeverSaid, ScriptAgrees, ScriptKeepsLots}
 use Rattle.script.proofs.Script.{program-is-run, script-in-words, script-runs}
 use Rattle.script.proofs.Heard.{isSpoken, script-hears, said-quiet}
@@ -28,7 +28,7 @@ use Rattle.script.proofs.Reading.{answers-once, each-answered}
 -- what holds of a run holds at its start: of the empty input's run
 opening-holds : Invariant (opening .state) (opening .words)
 unfolding linesOf callsBy run runFrom
-opening-holds = holds-after programK programPages blank (scriptCalls []) (script-runs [])
+opening-holds = holds-after scriptStart (scriptCalls []) (script-runs [])
 
 pub script-heard : (input : List ℕ) → all isSpoken (scriptRun input .answers) ≡ true
 unfolding runFrom
@@ -55,9 +55,9 @@ script-agrees input h = record {
   once = λ other r. answers-once (commandsIn (linesOf input)) other (scriptRun input .answers) (r .each)
       (each-answered (scriptCalls input) (opening .state) (opening .words)) (script-heard input)
       (ap linesOf (sym (r .whole) ∙ program-is-run input h));
-  same = agreement programK programPages blank (scriptCalls input) (script-runs input) .answers;
+  same = agreement scriptStart (scriptCalls input) (script-runs input) .answers;
 }
 
 pub script-keeps-lots : ScriptKeepsLots
 script-keeps-lots input before between x e =
-    regrading-holds programK programPages blank before between x (subst (Run programK programPages blank) e (script-runs input))
+    regrading-holds scriptStart before between x (subst (Run scriptStart) e (script-runs input))

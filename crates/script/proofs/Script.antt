@@ -19,7 +19,7 @@ use Rattle.lines.proofs.Grammar.{means-good}
 use Rattle.index.specs.Step.{stepped}
 use Rattle.talk.specs.Split.{Line, ended, unended, linesOf}
 use Rattle.talk.specs.Talk.{commanded, replies, programK, programPages, blank, opening, mostBytes, programWrites}
-use Rattle.runs.specs.Run.{called, run, runFrom, InWords}
+use Rattle.runs.specs.Run.{called, run, freshPool, runFrom, InWords}
 use Rattle.script.specs.Script.{commandsIn, callsBy, callsOf, saidTo, saidBy, ScriptRuns, ProgramIsRun}
 
 -- ---- what is written
@@ -78,7 +78,6 @@ pub script-runs : ScriptRuns
 unfolding largestK largestN blank
 script-runs input =
     record {
-      numbers = refl;
-      whole = length-replicate (poolLength programK programPages) 0;
+      starts = freshPool programK programPages blank refl (length-replicate (poolLength programK programPages) 0);
       inWords = script-in-words (linesOf input);
     }

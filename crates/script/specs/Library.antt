@@ -15,7 +15,7 @@ use Rattle.embed.specs.declared.asking.Asked.the-variants.{Known, Unknown}
 use Rattle.embed.specs.Asked.{askedBy}
 use Rattle.embed.specs.Told.{told}
 use Rattle.embed.specs.Statements.{MakeTells, BeginTells, StepTells, ReportTells}
-use Rattle.runs.specs.Run.{Call, begin, step, report, runFrom, Run}
+use Rattle.runs.specs.Run.{Call, begin, step, report, Start, freshStart, runFrom, Run}
 use Rattle.promises.specs.Demand2.{AfterEveryCall, Demand2}
 use Rattle.promises.specs.Demand3.{Demand3}
 use Rattle.promises.specs.Regrading.{IsThere, NotDeleted, NeverNowhere}
@@ -37,14 +37,17 @@ Follow cells ws (begins s kind key information cells′ four ∷ rest) last last
 Follow cells ws (steps s cells′ ws′ four ∷ rest) last lastWs = StepTells cells ws s cells′ ws′ four × Follow cells′ ws′ rest last lastWs
 Follow cells ws (reports p four ∷ rest) last lastWs = ReportTells cells p four × Follow cells ws rest last lastWs
 
--- "From a fresh pool": a making that succeeds, in words of any content, then the calls.
-pub record Served (k n : ℕ) (ws : List ℕ) (calls : List Went) (last lastWs : List ℕ) : Type 0 where
+-- How the library gave the words that the first call is lent, and what the run starts with then. "From a fresh pool": a making that
+-- succeeds, in words of any content.
+pub data OpenedBy (cells ws : List ℕ) : Start → Type 0 where
+  making : (k n : ℕ) (given four : List ℕ) → MakeTells k n given cells ws four → four ≡ told Made → OpenedBy cells ws (freshStart k n given)
+
+-- Calls of the library from this start on.
+pub record Served (start : Start) (calls : List Went) (last lastWs : List ℕ) : Type 0 where
   pub cells : List ℕ
-  pub after : List ℕ
-  pub four : List ℕ
-  pub making : MakeTells k n ws cells after four
-  pub succeeds : four ≡ told Made
-  pub follow : Follow cells after calls last lastWs
+  pub words : List ℕ
+  pub opened : OpenedBy cells words start
+  pub follow : Follow cells words calls last lastWs
 
 -- ---- the run
 
@@ -72,14 +75,14 @@ toldIn (steps s cells′ ws′ four ∷ rest) = four ∷ toldIn rest
 toldIn (reports p four ∷ rest) = four ∷ toldIn rest
 
 -- It is a run, as the demands speak of runs; the state that the last words read as, the pool's words and the numbers told are its.
-pub record IsRun (k n : ℕ) (ws : List ℕ) (calls : List Went) (last lastWs : List ℕ) : Type 0 where
-  pub run : Run k n ws (callsIn calls)
-  pub state : stateOf last ≡ runFrom k n ws (callsIn calls) .state
-  pub words : lastWs ≡ runFrom k n ws (callsIn calls) .words
-  pub answers : toldIn calls ≡ map told (runFrom k n ws (callsIn calls) .answers)
+pub record IsRun (start : Start) (calls : List Went) (last lastWs : List ℕ) : Type 0 where
+  pub run : Run start (callsIn calls)
+  pub state : stateOf last ≡ runFrom start (callsIn calls) .state
+  pub words : lastWs ≡ runFrom start (callsIn calls) .words
+  pub answers : toldIn calls ≡ map told (runFrom start (callsIn calls) .answers)
 
 abbrev pub LibraryRuns : Type 0
-LibraryRuns = (k n : ℕ) (ws : List ℕ) (calls : List Went) (last lastWs : List ℕ) → Served k n ws calls last lastWs → IsRun k n ws calls last lastWs
+LibraryRuns = (start : Start) (calls : List Went) (last lastWs : List ℕ) → Served start calls last lastWs → IsRun start calls last lastWs
 
 -- ---- the demands
 
@@ -91,17 +94,17 @@ abbrev pub quietFour : List ℕ → Bool
 quietFour four = quietNumber (getD four 0 0)
 
 -- Of every such list of calls, and so after each call of one.
-pub record Kept (k n : ℕ) (ws : List ℕ) (calls : List Went) (last lastWs : List ℕ) : Type 0 where
+pub record Kept (start : Start) (calls : List Went) (last lastWs : List ℕ) : Type 0 where
   -- demand 2 of the words themselves: tree, free pages, locks, and where every slot stands
-  pub left : AfterEveryCall k n (stateOf last) lastWs
+  pub left : AfterEveryCall (start .state .k) (start .state .n) (stateOf last) lastWs
   -- BadState, BadPool and Damaged were never told
   pub neverTold : all quietFour (toldIn calls) ≡ true
   -- the demands whole, of the calls as a run
-  pub second : Demand2 k n ws (callsIn calls)
-  pub third : Demand3 k n ws (callsIn calls)
+  pub second : Demand2 start (callsIn calls)
+  pub third : Demand3 start (callsIn calls)
 
 abbrev pub LibraryPromises : Type 0
-LibraryPromises = (k n : ℕ) (ws : List ℕ) (calls : List Went) (last lastWs : List ℕ) → Served k n ws calls last lastWs → Kept k n ws calls last lastWs
+LibraryPromises = (start : Start) (calls : List Went) (last lastWs : List ℕ) → Served start calls last lastWs → Kept start calls last lastWs
 
 -- ---- 02 (iv): a lot that is not deleted is at no moment nowhere
 
@@ -115,5 +118,5 @@ pub record LotKept (mid midWs : List ℕ) (between : List Went) (last lastWs : L
 -- Of whatever calls follow, and so after each of them.
 abbrev pub LibraryKeepsLots : Type 0
 LibraryKeepsLots =
-    (k n : ℕ) (ws : List ℕ) (before between : List Went) (mid midWs last lastWs : List ℕ) (x : ℕ) → Served k n ws before mid midWs
+    (start : Start) (before between : List Went) (mid midWs last lastWs : List ℕ) (x : ℕ) → Served start before mid midWs
     → Follow mid midWs between last lastWs → NotDeleted (stateOf mid) midWs (callsIn between) x → LotKept mid midWs between last lastWs x

@@ -8,11 +8,11 @@ use Rattle.ground.specs.Tests.{all}
 use Rattle.slots.specs.declared.Answer.{Answer}
 use Rattle.lines.specs.Text.{bytes, startsWith}
 use Rattle.talk.specs.Split.{Line, ended, unended, linesOf}
-use Rattle.talk.specs.Talk.{programK, programPages, blank, mostBytes, programWrites}
+use Rattle.talk.specs.Talk.{mostBytes, programWrites}
 use Rattle.runs.specs.Run.{Call}
 use Rattle.runs.specs.Done.{Done, nobody, done, plainAnswers, opsOf, answersIn}
 use Rattle.promises.specs.Regrading.{LotStays}
-use Rattle.script.specs.Script.{saidBy, scriptCalls}
+use Rattle.script.specs.Script.{saidBy, scriptCalls, scriptStart}
 
 -- ---- demand 2: BadState, BadPool and Damaged are never said
 
@@ -58,4 +58,4 @@ ScriptAgrees = (input : List ℕ) → length input ≤ mostBytes → SortedListS
 abbrev pub ScriptKeepsLots : Type 0
 ScriptKeepsLots =
     (input : List ℕ) (before between : List Call) (x : ℕ) → scriptCalls input ≡ before ++ between
-    → LotStays programK programPages blank before between x
+    → LotStays scriptStart before between x

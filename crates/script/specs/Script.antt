@@ -10,7 +10,7 @@ use Rattle.lines.specs.Meaning.{meaning}
 use Rattle.lines.specs.Names.{answerLine, badLine}
 use Rattle.talk.specs.Split.{Line, ended, unended, linesOf}
 use Rattle.talk.specs.Talk.{programK, programPages, blank, mostBytes, programWrites}
-use Rattle.runs.specs.Run.{Call, begin, step, Told, runFrom, Run}
+use Rattle.runs.specs.Run.{Call, begin, step, Told, Start, freshStart, runFrom, Run}
 
 -- ---- the script
 
@@ -51,12 +51,15 @@ saidBy lines heard = saidTo (commandsIn lines) heard
 abbrev pub scriptCalls : List ℕ → List Call
 scriptCalls input = callsOf (linesOf input)
 
+abbrev pub scriptStart : Start
+scriptStart = freshStart programK programPages blank
+
 abbrev pub scriptRun : List ℕ → Told
-scriptRun input = runFrom programK programPages blank (scriptCalls input)
+scriptRun input = runFrom scriptStart (scriptCalls input)
 
 -- it is a run, as the demands speak of runs
 abbrev pub ScriptRuns : Type 0
-ScriptRuns = (input : List ℕ) → Run programK programPages blank (scriptCalls input)
+ScriptRuns = (input : List ℕ) → Run scriptStart (scriptCalls input)
 
 -- and what the program writes are its answers, line by line, unless the input is too long
 abbrev pub ProgramIsRun : Type 0
