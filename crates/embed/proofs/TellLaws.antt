@@ -9,10 +9,9 @@ use Rattle.slots.specs.Heard.{heard}
 use Rattle.slots.specs.Begin.{begun}
 use Rattle.slots.specs.Report.{reported}
 use Rattle.lent.specs.Words.{stateOf}
-use Rattle.lent.specs.Statements.{BeginSays, ReportSays}
 use Rattle.index.specs.Step.{stepped}
 use Rattle.index.specs.Make.{made}
-use Rattle.index.specs.Statements.{MakeSays, StepSays}
+use Rattle.index.specs.Statements.{MakeSays, BeginSays, StepSays, ReportSays}
 use Rattle.embed.specs.declared.asking.Asked.{Asked}
 use Rattle.embed.specs.declared.asking.Asked.the-variants.{Known, Unknown}
 use Rattle.embed.specs.Asked.{askedBy}

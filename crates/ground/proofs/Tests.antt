@@ -460,6 +460,17 @@ module _ (p : ℕ → Bool) where
   countBelow-fails zero f = countBelow-none
   countBelow-fails (suc n) f = countBelow-skips n (f n (omega arith)) ∙ countBelow-fails n (λ i h. f i (omega arith))
 
+  -- one of them passes, so the count is not 0
+  pub countBelow-some : (n i : ℕ) → i < n → p i ≡ true → 0 < countBelow n p
+  countBelow-some zero i h t = absurd (not-suc-le-zero h)
+  countBelow-some (suc n) i h t =
+      ⊎-elim
+      (λ q. omega (arith, countBelow-passes n q))
+      (λ q.
+      let below : i < n = below-or-at (λ (j : ℕ). p j ≡ true → j < n) h (λ l _. l) (λ r. not-both r q) t in
+      omega (arith, countBelow-skips n q, countBelow-some n i below t))
+      (true-or-false (p n))
+
   -- at most all numbers below n pass
   pub countBelow-most : (n : ℕ) → countBelow n p ≤ n
   unfolding countBelow

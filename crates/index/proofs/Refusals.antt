@@ -32,12 +32,11 @@ use Rattle.slots.specs.Parts.{keyOf, isNext, slotAt, idleState, pathOf, besideO
 use Rattle.slots.specs.Sound.{sound}
 use Rattle.slots.specs.Grant.{grants}
 use Rattle.lent.specs.Words.{stateOf, lentAfter}
-use Rattle.lent.specs.Statements.{BeginSays}
 use Rattle.footing.specs.Granted.{Verdict, broken, goes, ends, isSafe, kept, byNeed, deletes, nextAnswer, crosses, byNearest, atLeaf, fromLeaf, comesDown, goesLeft, besides, atItsLeaf, granted}
 use Rattle.footing.specs.Fitting.{soundForStep, verdict}
 use Rattle.index.specs.Step.{Left, left, ofGranted, acted, steppedTask, stepped}
 use Rattle.index.specs.Make.{made}
-use Rattle.index.specs.Statements.{StepSays}
+use Rattle.index.specs.Statements.{BeginSays, StepSays}
 
 -- an operation ends with an answer of a granted step: with no refusal, and not with Waiting
 abbrev pub Answers : Verdict → Type 0

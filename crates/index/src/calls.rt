@@ -1,5 +1,7 @@
 // The public calls. No call asks anything of its arguments; an unsound one is answered by a refusal.
 use crate::acting::granted_step;
+pub use crate::beginning::begin;
+pub use crate::reporting::report;
 use ground::SLOTS;
 use lent::PAGES;
 use lent::STATE;
@@ -12,10 +14,8 @@ use pool::lying::make_fresh;
 use pool::lying::start_of;
 use slots::Answer;
 use slots::Task;
-pub use soundness::calls::begin;
 use soundness::checking::is_sound;
 use soundness::checking::numbers_in_range;
-pub use soundness::reporting::report;
 ghost use mathlib.Core.Path.{_≡_};
 ghost use mathlib.Core.Bool.{_&&_};
 ghost use lib.Dec.{eqb};

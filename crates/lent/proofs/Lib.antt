@@ -4,4 +4,3 @@ pub mod StateLaws
 pub mod WritingLaws
 pub mod HoldLaws
 pub mod Inverse
-pub mod Unique

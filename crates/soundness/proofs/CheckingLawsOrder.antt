@@ -16,9 +16,8 @@ use lib.Seq.{length-take-le, getD-set-same, getD-set-other}
 use Rattle.ground.specs.Limits.{slotCount}
 use Rattle.ground.specs.Tests.{all, allBelow, member, distinct, countBelow}
 use Rattle.ground.proofs.Bools.{and-both, and-first, and-second, and-first-fails, and-second-fails, and-fails, or-second, not-of-true, not-of-false, false-if-not-true}
-use Rattle.ground.proofs.Tests.{all-none, member-none, member-here, member-more, distinct-none, allBelow-at, allBelow-from, countBelow-same, countBelow-less, countBelow-fails, below-or-at}
+use Rattle.ground.proofs.Tests.{all-none, member-none, member-here, member-more, distinct-none, allBelow-at, allBelow-from, countBelow-same, countBelow-less, countBelow-fails, countBelow-some, below-or-at}
 use Rattle.soundness.specs.Checking.{namesEach}
-use Rattle.soundness.proofs.ReportLaws.{counted-some}
 use Rattle.soundness.proofs.CheckingLaws.{all-on, all-stop, differ-on, differ-stop}
 
 -- the first i cells of the order name open slots, none twice, and the marks are those of the other open slots
@@ -175,7 +174,7 @@ module _ (busy : List Bool) (order : List ℕ) (waiting : ℕ) (room : waiting �
       and-both (and-both (and-both (le-leb waiting slotCount few) (whole .named)) (whole .once))
       (allBelow-from (λ (s : ℕ). not (opened s) || member s (take waiting order)) slotCount
       (λ s h. turned (opened s) (member s (take waiting order))
-      ∙ not-of-false (false-if-not-true (left s) (λ t. let some = counted-some left slotCount s h t in absurd (omega arith)))))
+      ∙ not-of-false (false-if-not-true (left s) (λ t. let some = countBelow-some left slotCount s h t in absurd (omega arith)))))
 
 -- ---- the marks themselves
 

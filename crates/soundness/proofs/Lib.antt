@@ -1,10 +1,8 @@
 pub mod MaskLaws
 pub mod WalkLaws
-pub mod ReportLaws
 pub mod CheckingLaws
 pub mod CheckingLawsOrder
 pub mod CheckingLawsSlot
 pub mod CheckingLawsRows
 pub mod CheckingLawsAlone
 pub mod CheckingLawsSound
-pub mod CallLaws

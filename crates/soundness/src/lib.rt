@@ -1,4 +1,2 @@
-// The test of a sound state, and the calls that look at no page: begin and report.
-pub mod calls;
+// The test of a sound state.
 pub mod checking;
-pub mod reporting;

@@ -9,14 +9,13 @@ use Rattle.slots.specs.declared.State.{State}
 use Rattle.slots.specs.declared.Answer.{Answer}
 use Rattle.slots.specs.Begin.{begun}
 use Rattle.lent.specs.Words.{stateOf}
-use Rattle.lent.specs.Statements.{BeginSays}
 use Rattle.slots.proofs.Unique.{heard-once}
 use Rattle.lines.specs.declared.Command.{Command}
 use Rattle.lines.specs.declared.Command.the-variants.{Begin, Step, Bad}
 use Rattle.lines.specs.Text.{laid}
 use Rattle.lines.specs.Names.{answerLine, badLine}
 use Rattle.index.specs.Step.{stepped}
-use Rattle.index.specs.Statements.{StepSays}
+use Rattle.index.specs.Statements.{BeginSays, StepSays}
 use Rattle.talk.specs.Talk.{afterLine, commanded}
 use Rattle.talk.specs.Leaves.{LineLeaves}
 

@@ -9,8 +9,8 @@ use Rattle.ground.specs.Limits.{slotCount}
 use borrow.Author.Tests.{lt-ltb, le-ltb}
 use mathlib.Core.Path.{sym, ap, _∙_}
 use borrow.Author.Needs.{needs}
-use Rattle.soundness.proofs.reporting.lock_at.Statement.{statement}
-use Rattle.soundness.proofs.reporting.lock_at.Tie as tie
+use Rattle.index.proofs.reporting.lock_at.Statement.{statement}
+use Rattle.index.proofs.reporting.lock_at.Tie as tie
 
 returns : tie.Need-returns
 unfolding slotCount

@@ -1,6 +1,6 @@
 -- Each way out is a case of the rule; a closed slot of a sound state leaves room in the waiting order.
-use Rattle.soundness.proofs.CallLaws.{says-unsound, says-nowhere, says-busy, says-begun}
+use Rattle.index.proofs.CallLaws.{says-unsound, says-nowhere, says-busy, says-begun}
 use Rattle.soundness.proofs.CheckingLawsSound.{sound-words, kind-closed, kind-open}
 use Rattle.lent.proofs.StateLaws.{length-order}
 use Rattle.lent.specs.Words.{asRead, stateOf}
 use Rattle.slots.proofs.OrderLaws.{order-has-room}
@@ -11,8 +11,8 @@ use borrow.Author.Tests.{not-true, not-false}
 use mathlib.Core.Path.{_≡_, sym, _∙_}
 use mathlib.Core.Bool.{true, false}
 use borrow.Author.Needs.{needs}
-use Rattle.soundness.proofs.calls.begin.Statement.{statement}
-use Rattle.soundness.proofs.calls.begin.Tie as tie
+use Rattle.index.proofs.beginning.begin.Statement.{statement}
+use Rattle.index.proofs.beginning.begin.Tie as tie
 
 sized-requires : tie.Need-sized-requires
 sized-requires c κs = search needs

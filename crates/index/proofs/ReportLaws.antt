@@ -1,17 +1,15 @@
 -- The kind of lock on a page is the one that its lowest-numbered holder uses: a ξ-held page has no second holder.
-use Prim.Native.Nat.{ℕ, zero, suc, _≤_, _<_}
-use mathlib.Core.Bool.{Bool, true, false, cond, _&&_, false≢true}
+use Prim.Native.Nat.{ℕ, _≤_, _<_}
+use mathlib.Core.Bool.{true, false, cond, _&&_, false≢true}
 use mathlib.Core.Path.{_≡_, refl, sym, ap, _∙_}
 use mathlib.Core.Logic.{⊎-elim}
 use native.Mathlib.Omega.{arith}
-use native.Mathlib.Nat.{not-suc-le-zero}
 use lib.Dec.{ltb}
 use borrow.Author.Tests.{ne-eqb, ltb-true, ltb-false}
 use Rattle.ground.specs.Limits.{slotCount}
-use Rattle.ground.specs.Tests.{countBelow}
 use Rattle.ground.proofs.Bools.{true-or-false, not-both, false-if-not-true, and-first, and-second}
 use Rattle.ground.proofs.Choice.{cond-true, cond-false}
-use Rattle.ground.proofs.Tests.{below-or-at, anyBelow-fails, countBelow-passes, countBelow-skips, firstBelow-most, firstBelow-all-fail}
+use Rattle.ground.proofs.Tests.{anyBelow-fails, countBelow-some, firstBelow-most, firstBelow-all-fail}
 use Rattle.slots.specs.declared.Op.the-variants.{Search, Insert, Delete, Next, Regrade}
 use Rattle.slots.specs.declared.Task.{Task}
 use Rattle.slots.specs.declared.Task.the-variants.{Closed, Open}
@@ -27,17 +25,6 @@ use Rattle.slots.proofs.OrderLaws.{same-or-not}
 use Rattle.slots.proofs.Clashes.{update-alone}
 use Rattle.slots.proofs.GrantLaws.{holder-open}
 use Rattle.slots.proofs.Holders.{nobody-holds, lowest-holds, update-holds}
-
--- where one passes, the count is not 0
-pub counted-some : (p : ℕ → Bool) (n i : ℕ) → i < n → p i ≡ true → 0 < countBelow n p
-counted-some p zero i h t = absurd (not-suc-le-zero h)
-counted-some p (suc n) i h t =
-    ⊎-elim
-    (λ q. omega (arith, countBelow-passes p n q))
-    (λ q.
-    let below : i < n = below-or-at (λ (j : ℕ). p j ≡ true → j < n) h (λ l _. l) (λ r. not-both r q) t in
-    omega (arith, countBelow-skips p n q, counted-some p n i below t))
-    (true-or-false (p n))
 
 -- an open slot uses a lock
 open-locks : (task : Task) → isOpen task ≡ true → lockOf task ≡ None → ⊥
@@ -72,7 +59,7 @@ module _ (st : State) (f : SoundState st) (p : ℕ) where
         (holder-open (st .n) (slotAt st (lowestHolder st p)) p (f .slot (lowestHolder st p) b) low-holds)
         e)
     kind-by Rho e =
-        let some : 0 < holders st p = counted-some (λ (s : ℕ). holdsAt st s p) slotCount (lowestHolder st p) b low-holds in
+        let some : 0 < holders st p = countBelow-some (λ (s : ℕ). holdsAt st s p) slotCount (lowestHolder st p) b low-holds in
         sym
         (cond-false None _ (ne-eqb (holders st p) 0 (λ z. omega arith))
         ∙ cond-false Xi Rho (anyBelow-fails (λ (s : ℕ). holdsAt st s p && isXi (lockAt st s)) slotCount (no-update (ap isXi e))))

@@ -1,5 +1,4 @@
 // Beginning an operation in a slot.
-use crate::checking::is_sound;
 use ground::SLOTS;
 use lent::STATE;
 use lent::book::begins;
@@ -7,7 +6,8 @@ use lent::cells::kind_at;
 use lent::cells::sized;
 use slots::Answer;
 use slots::Op;
-ghost use Rattle.lent.specs.Statements.{BeginSays};
+use soundness::checking::is_sound;
+ghost use Rattle.index.specs.Statements.{BeginSays};
 
 // Begins an operation in slot s of the state in these words.
 pub fn begin(state: &mut [u32; STATE], s: usize, op: Op) -> Answer

@@ -1,5 +1,4 @@
 // The lock report for a page: which kind of lock, how many slots hold it, and the lowest-numbered of them.
-use crate::checking::is_sound;
 use ground::SLOTS;
 use lent::STATE;
 use lent::cells::n_of;
@@ -8,6 +7,7 @@ use lent::lifting::task_at;
 use slots::Answer;
 use slots::Lock;
 use slots::holding::lock_of;
+use soundness::checking::is_sound;
 ghost use mathlib.Core.Path.{_≡_};
 ghost use mathlib.Core.Bool.{cond};
 ghost use lib.Dec.{ltb};
@@ -17,7 +17,7 @@ ghost use Rattle.slots.specs.Locks.{lockAt};
 ghost use Rattle.slots.specs.Report.{holdersMask};
 ghost use Rattle.lent.specs.Words.{asRead};
 ghost use Rattle.lent.specs.Holds.{WithinRows};
-ghost use Rattle.lent.specs.Statements.{ReportSays};
+ghost use Rattle.index.specs.Statements.{ReportSays};
 
 // The slots that hold page p, one bit for each.
 pub fn holders(cells: &[u32; STATE], p: u32) -> u16

@@ -1,8 +1,8 @@
 -- Each way out is a case of the rule; the mask has as many ones as there are holders, and below its lowest one as many zeros as slots that do not hold the page.
-use Rattle.soundness.proofs.ReportLaws.{kind-of-lowest}
+use Rattle.index.proofs.ReportLaws.{kind-of-lowest}
 use Rattle.soundness.proofs.CheckingLawsSound.{sound-words}
-use Rattle.soundness.proofs.CallLaws.{report-unsound, report-nowhere, report-done}
+use Rattle.index.proofs.CallLaws.{report-unsound, report-nowhere, report-done}
 use Rattle.soundness.proofs.MaskLaws.{mask-ones, mask-lowest}
 use Rattle.lent.specs.Words.{asRead, stateOf}
 use Rattle.slots.specs.Report.{holders, lowestHolder, lockKind}
 use Rattle.slots.specs.Sound.{sound}
@@ -18,8 +18,8 @@ use mathlib.Core.Path.{_≡_, sym, ap, _∙_, subst}
 use mathlib.Core.Bool.{Bool, true, cond}
 use Prim.Native.Nat.{ℕ, _≤_, _<_}
 use borrow.Author.Needs.{needs}
-use Rattle.soundness.proofs.reporting.report.Statement.{statement}
-use Rattle.soundness.proofs.reporting.report.Tie as tie
+use Rattle.index.proofs.reporting.report.Statement.{statement}
+use Rattle.index.proofs.reporting.report.Tie as tie
 
 is-sound-requires : tie.Need-is-sound-requires
 is-sound-requires c κs = search needs

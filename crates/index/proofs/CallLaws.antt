@@ -22,8 +22,8 @@ use Rattle.slots.specs.Book.{begins}
 use Rattle.slots.specs.Begin.{outcome, begun}
 use Rattle.slots.specs.Report.{lockKind, holders, lowestHolder, reported}
 use Rattle.lent.specs.Words.{orderIn, asRead, known, stateOf, laidInto, lentAfter}
-use Rattle.lent.specs.Statements.{BeginSays, ReportSays}
 use Rattle.lent.proofs.StateLaws.{length-order, state-known, state-written}
+use Rattle.index.specs.Statements.{BeginSays, ReportSays}
 
 -- ---- begin
 

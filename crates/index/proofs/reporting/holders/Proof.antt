@@ -14,8 +14,8 @@ use mathlib.Core.Path.{_≡_, sym, ap, _∙_}
 use mathlib.Core.Bool.{Bool}
 use Prim.Native.Nat.{ℕ, _*_, _%_, _^_, _≤_, _-_}
 use borrow.Author.Needs.{needs}
-use Rattle.soundness.proofs.reporting.holders.Statement.{statement}
-use Rattle.soundness.proofs.reporting.holders.Tie as tie
+use Rattle.index.proofs.reporting.holders.Statement.{statement}
+use Rattle.index.proofs.reporting.holders.Tie as tie
 
 abbrev Inv-loop : tie.InvT-loop
 Inv-loop cells p mask₀ s₀ mask s = (s ≤ 16) × (mask ≡ maskBelow s (λ (t : ℕ). holdsAt (asRead cells) t p))
