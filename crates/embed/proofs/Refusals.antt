@@ -6,8 +6,9 @@ use mathlib.Core.List.{List}
 use mathlib.Core.Path.{_≡_, refl, sym, ap, _∙_}
 use lib.Dec.{eqb}
 use lib.ListN.{length}
+use Rattle.ground.specs.Limits.{kInRange, nInRange}
 use Rattle.ground.proofs.Choice.{cond-true, cond-ind}
-use Rattle.pool.specs.Pool.{kInRange, nInRange, poolLength}
+use Rattle.pool.specs.Pool.{poolLength}
 use Rattle.slots.specs.declared.Answer.{Answer}
 use Rattle.slots.specs.declared.State.{State}
 use Rattle.slots.specs.Heard.{changesNothing}

@@ -1,14 +1,22 @@
 -- The numbers that document 01 fixes, each by name and once. What is proved rests on the names and on the few
 -- facts about them that stand in `proofs/Limits.antt`.
 use Prim.Native.Nat.{ℕ}
+use mathlib.Core.Bool.{Bool, _&&_}
+use lib.Dec.{leb}
 
 -- "k is 1 to 16."
 unfoldable pub largestK : ℕ
 largestK = 16
 
+abbrev pub kInRange : ℕ → Bool
+kInRange k = leb 1 k && leb k largestK
+
 -- "The pool has N pages, 1 to 1,024, numbered from 0"
 unfoldable pub largestN : ℕ
 largestN = 1024
+
+abbrev pub nInRange : ℕ → Bool
+nInRange n = leb 1 n && leb n largestN
 
 -- "h is at most 10"; "level 1 to 10"
 unfoldable pub tallest : ℕ

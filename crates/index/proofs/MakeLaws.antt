@@ -1,16 +1,16 @@
 -- Whether words are a pool's, and what making promises by that test.
 use Prim.Native.Nat.{ℕ, _≤_}
-use mathlib.Core.Bool.{Bool, true, false, _&&_, and-assoc}
+use mathlib.Core.Bool.{Bool, true, false, _&&_}
 use mathlib.Core.List.{List}
 use mathlib.Core.Path.{_≡_, refl, sym, ap, _∙_}
 use native.Mathlib.Omega.{arith}
 use borrow.Author.Tests.{leb-true, eqb-true}
 use lib.Dec.{leb, eqb}
 use lib.ListN.{length, set, replicate}
-use Rattle.ground.specs.Limits.{largestK, largestN}
+use Rattle.ground.specs.Limits.{largestK, kInRange, largestN, nInRange}
 use Rattle.ground.proofs.Bools.{and-first, and-second, and-first-fails}
 use Rattle.ground.proofs.Choice.{cond-true, cond-false}
-use Rattle.pool.specs.Pool.{kInRange, nInRange, poolLength, start, fresh}
+use Rattle.pool.specs.Pool.{poolLength, start, fresh}
 use Rattle.pool.proofs.StretchLaws.{poolLength-start, ends-in-pool}
 use Rattle.slots.specs.declared.Answer.{Answer}
 use Rattle.slots.specs.declared.Answer.the-variants.{Made, BadPool}
@@ -27,10 +27,7 @@ abbrev pub isPool : ℕ → ℕ → List ℕ → Bool
 isPool k n ws = kInRange k && nInRange n && eqb (length ws) (poolLength k n)
 
 -- the numbers were tested
-module _ (k n : ℕ) (ws : List ℕ) {r : Bool} (told : r ≡ (leb 1 k && leb k largestK && leb 1 n && leb n largestN)) where
-  in-range : r ≡ kInRange k && nInRange n
-  in-range = told ∙ and-assoc (kInRange k) (leb 1 n) (leb n largestN)
-
+module _ (k n : ℕ) (ws : List ℕ) {r : Bool} (in-range : r ≡ kInRange k && nInRange n) where
   pub range-fails : r ≡ false → false ≡ isPool k n ws
   range-fails f = sym (and-first-fails (eqb (length ws) (poolLength k n)) (sym in-range ∙ f))
 

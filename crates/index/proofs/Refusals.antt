@@ -6,7 +6,7 @@ use mathlib.Core.List.{List, [], _∷_, _++_, map, reverse}
 use lib.Dec.{leb, ltb, eqb}
 use lib.ListN.{length}
 use borrow.Author.Tests.{eqb-true, not-true}
-use Rattle.ground.specs.Limits.{slotCount}
+use Rattle.ground.specs.Limits.{kInRange, nInRange, slotCount}
 use Rattle.ground.specs.Tests.{all, member}
 use Rattle.ground.proofs.Bools.{not-both, and-second}
 use Rattle.ground.proofs.Choice.{cond-ind, cond-true}
@@ -15,7 +15,7 @@ use Rattle.pool.proofs.WriteLaws.{length-applied}
 use Rattle.pool.proofs.FreshLaws.{length-fresh}
 use Rattle.page.specs.Words.{Entry, Page, isLeaf}
 use Rattle.page.specs.Place.{has, atOrAbove}
-use Rattle.pool.specs.Pool.{poolLength, kInRange, nInRange, pageAt, freePages}
+use Rattle.pool.specs.Pool.{poolLength, pageAt, freePages}
 use Rattle.change.specs.Insertion.{room}
 use Rattle.change.specs.Deletion.{Need, nothing, sibling, astray, needs}
 use Rattle.slots.specs.declared.Op.{Op}

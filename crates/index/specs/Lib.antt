@@ -2,3 +2,4 @@ pub mod Step
 pub mod Make
 pub mod Acting
 pub mod Statements
+pub mod Unfolded

@@ -4,7 +4,8 @@ use mathlib.Core.Bool.{cond, _&&_}
 use mathlib.Core.List.{List}
 use lib.Dec.{eqb}
 use lib.ListN.{length}
-use Rattle.pool.specs.Pool.{kInRange, nInRange, poolLength, fresh}
+use Rattle.ground.specs.Limits.{kInRange, nInRange}
+use Rattle.pool.specs.Pool.{poolLength, fresh}
 use Rattle.slots.specs.declared.Answer.the-variants.{Made, BadPool}
 use Rattle.slots.specs.Parts.{idleState}
 use Rattle.index.specs.Step.{Left, left}

@@ -20,7 +20,8 @@ ghost use mathlib.Core.Path.{_≡_};
 ghost use mathlib.Core.Bool.{_&&_};
 ghost use lib.Dec.{eqb};
 ghost use lib.ListN.{length};
-ghost use Rattle.pool.specs.Pool.{kInRange, nInRange, poolLength};
+ghost use Rattle.ground.specs.Limits.{kInRange, nInRange};
+ghost use Rattle.pool.specs.Pool.{poolLength};
 ghost use Rattle.index.specs.Statements.{MakeSays, StepSays};
 
 // k and n are in range, and the words are as many as n pages of width k have.

@@ -5,20 +5,12 @@ use mathlib.Core.List.{List, [], _∷_}
 use lib.Dec.{leb, eqb}
 use lib.ListN.{getD, take, drop, set, replicate}
 use lib.Seq.{sets}
-use Rattle.ground.specs.Limits.{largestK, largestN}
 use Rattle.ground.specs.Tests.{listBelow}
 use Rattle.page.specs.Words.{Page, size, view, encode}
 
 -- "The pool has N pages .. and exactly N(4k+3) words."
 unfoldable pub poolLength : ℕ → ℕ → ℕ
 poolLength k n = n * size k
-
--- "k is 1 to 16. .. The pool has N pages, 1 to 1,024"
-abbrev pub kInRange : ℕ → Bool
-kInRange k = leb 1 k && leb k largestK
-
-abbrev pub nInRange : ℕ → Bool
-nInRange n = leb 1 n && leb n largestN
 
 -- "numbered from 0": where page p starts
 unfoldable pub start : ℕ → ℕ → ℕ

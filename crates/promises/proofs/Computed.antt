@@ -5,27 +5,7 @@ use mathlib.Core.Path.{_≡_, refl, ap₂}
 use mathlib.Core.List.{List, [], _∷_}
 use lib.Dec.{eqb}
 use borrow.Author.Tests.{eqb-true}
-use Rattle.ground.specs.Limits.{largestK, largestN, tallest, slotCount, searchHolds, regradeHolds, pathHolds, siblingHolds}
-use Rattle.ground.specs.Tests.{all, count, member, distinct, apart, allBelow, anyBelow, countBelow, listBelow, firstBelow, padded}
-use Rattle.page.specs.Words.{flat, encode, pairs, view}
-use Rattle.page.specs.Place.{place, has, information, atOrAbove, without, regraded}
-use Rattle.page.specs.Sound.{risesFrom, rises, soundByItself}
-use Rattle.page.specs.Splits.{put, split}
-use Rattle.page.specs.Short.{neighbour, betweenAt, fromRight, fromLeft, joined, lessKey, rekeyed}
-use Rattle.pool.specs.Pool.{poolLength, start, wordsOf, pageAt, written, applied, isFree, freePages, fresh}
-use Rattle.change.specs.Insertion.{room, settled, insertion}
-use Rattle.change.specs.Deletion.{needs, shares, shrunk, deletion}
-use Rattle.change.specs.Regrading.{regrading}
-use Rattle.slots.specs.Parts.{pathOf, besideOf, waitingOrder}
-use Rattle.slots.specs.Grant.{olderThan, noClash, noOlder}
-use Rattle.slots.specs.Book.{leaving, begins, goesOn, closes}
-use Rattle.slots.specs.Sound.{orderSound, slotSound, noClashingHolds, sound}
-use Rattle.slots.specs.Begin.{begun}
-use Rattle.slots.specs.Report.{reported}
-use Rattle.footing.specs.Granted.{deletes, atLeaf, comesDown, goesLeft, besides, granted}
-use Rattle.footing.specs.Fitting.{pagesSound, descends, sameLevels, leftmost, fitting, soundForStep, verdict}
-use Rattle.index.specs.Step.{stepped}
-use Rattle.index.specs.Make.{made}
+use Rattle.index.specs.Unfolded.{everyCall}
 use Rattle.runs.specs.Run.{called, run, runFrom}
 use Rattle.promises.specs.Bench.{Row, RowsHold, bench}
 use Rattle.promises.specs.MoreRows.{more}
@@ -33,9 +13,9 @@ use Rattle.promises.specs.LongRun.{again, longRows}
 use Rattle.promises.specs.NextRows.{nextRows}
 use Rattle.promises.specs.RegradeRows.{regradeRows}
 
--- Everything that a call unfolds to: who unfolds this unfolds all of it.
+-- Everything that a run unfolds to: who unfolds this unfolds all of it.
 calls : Unit {0}
-unfolding largestK largestN tallest slotCount searchHolds regradeHolds pathHolds siblingHolds all count member distinct apart allBelow anyBelow countBelow listBelow firstBelow padded flat encode pairs view place has information atOrAbove without regraded risesFrom rises soundByItself put split neighbour betweenAt fromRight fromLeft joined lessKey rekeyed poolLength start wordsOf pageAt written applied isFree freePages fresh room settled insertion needs shares shrunk deletion regrading pathOf besideOf waitingOrder olderThan noClash noOlder leaving begins goesOn closes orderSound slotSound noClashingHolds sound begun reported deletes atLeaf comesDown goesLeft besides granted pagesSound descends sameLevels leftmost fitting soundForStep verdict stepped made called run runFrom
+unfolding everyCall called run runFrom
 calls = tt
 
 -- Two lists are compared number by number, so that the prover computes a test and compares no terms.

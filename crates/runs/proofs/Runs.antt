@@ -7,10 +7,10 @@ use mathlib.Core.Path.{_≡_, refl, sym, ap, subst, _∙_}
 use lib.Dec.{ltb, leb}
 use lib.ListN.{length}
 use borrow.Author.Tests.{leb-true, ltb-true, ltb-false, eq-eqb}
-use Rattle.ground.specs.Limits.{largestK, largestN, slotCount, wordRange}
+use Rattle.ground.specs.Limits.{largestK, kInRange, largestN, nInRange, slotCount, wordRange}
 use Rattle.ground.proofs.Bools.{true-or-false, and-first, and-second, and-both, not-of-true, not-of-false}
 use Rattle.ground.proofs.Choice.{cond-true, cond-false}
-use Rattle.pool.specs.Pool.{kInRange, nInRange, poolLength, fresh}
+use Rattle.pool.specs.Pool.{poolLength, fresh}
 use Rattle.slots.specs.declared.Op.{Op}
 use Rattle.slots.specs.declared.Op.the-variants.{Search, Insert, Delete, Next, Regrade}
 use Rattle.slots.specs.declared.Slot.{Slot}

@@ -4,9 +4,9 @@ use mathlib.Core.Bool.{true, _&&_}
 use mathlib.Core.List.{List, [], _∷_}
 use mathlib.Core.Path.{_≡_}
 use lib.ListN.{length}
-use Rattle.ground.specs.Limits.{wordRange}
+use Rattle.ground.specs.Limits.{kInRange, nInRange, wordRange}
 use Rattle.page.specs.Words.{Entry}
-use Rattle.pool.specs.Pool.{kInRange, nInRange, poolLength}
+use Rattle.pool.specs.Pool.{poolLength}
 use Rattle.slots.specs.declared.Op.{Op}
 use Rattle.slots.specs.declared.Op.the-variants.{Search, Insert, Delete, Next, Regrade}
 use Rattle.slots.specs.declared.Answer.{Answer}

@@ -2,4 +2,3 @@ pub mod Script
 pub mod Heard
 pub mod Reading
 pub mod Promises
-pub mod Library

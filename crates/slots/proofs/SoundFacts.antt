@@ -5,7 +5,7 @@ use mathlib.Core.Path.{_≡_, refl}
 use mathlib.Core.List.{_∷_}
 use lib.Dec.{leb, ltb, eqb}
 use borrow.Author.Tests.{leb-true, le-leb, ltb-true, lt-ltb, eq-eqb, ne-eqb}
-use Rattle.ground.specs.Limits.{largestK, largestN, slotCount}
+use Rattle.ground.specs.Limits.{largestK, kInRange, largestN, nInRange, slotCount}
 use Rattle.ground.specs.Tests.{all, allBelow, member, distinct, apart}
 use Rattle.ground.proofs.Bools.{not-both, and-first, and-second, and-both}
 use Rattle.ground.proofs.Tests.{all-member, all-from-members, allBelow-at, allBelow-from}
@@ -15,7 +15,7 @@ use Rattle.slots.specs.declared.Slot.{Slot}
 use Rattle.slots.specs.declared.State.{State}
 use Rattle.slots.specs.Parts.{isOpen, held, slotAt, openAt, waitingOrder, idleState}
 use Rattle.slots.specs.Locks.{lockAt, isXi}
-use Rattle.slots.specs.Sound.{numbersInRange, orderSound, withinLimits, belowAndOnce, ifOpen, slotSound, noClashingHolds, sound}
+use Rattle.slots.specs.Sound.{namesEach, orderSound, withinLimits, belowAndOnce, ifOpen, slotSound, noClashingHolds, sound}
 
 -- one slot, in a pool of n pages
 pub record SoundSlot (n : ℕ) (s : Slot) : Type 0 where
@@ -68,7 +68,10 @@ slot-sound n s h =
     (if-open-from (s .task) (belowAndOnce n s)
     (λ o. and-both (all-from-members (λ (q : ℕ). ltb q n) (s .want ∷ held s) (λ p m. lt-ltb p n (h .below o p m))) (h .different o)))
 
--- the two tests that go through the slots, by name
+-- the test of k and N, and the two that go through the slots, by name
+abbrev numbersTest : State → Bool
+numbersTest st = kInRange (st .k) && nInRange (st .n)
+
 abbrev slotsTest : State → Bool
 slotsTest st = allBelow slotCount (λ (s : ℕ). slotSound (st .n) (slotAt st s))
 
@@ -76,33 +79,31 @@ abbrev apartTest : State → ℕ → ℕ → Bool
 apartTest st s t = eqb s t || not (isXi (lockAt st s)) || apart (held (slotAt st s)) (held (slotAt st t))
 
 module _ (st : State) (h : sound st ≡ true) where
-  numbers-told : numbersInRange st ≡ true
+  numbers-told : numbersTest st ≡ true
   unfolding sound
-  numbers-told = and-first (numbersInRange st) (orderSound st) (and-first (numbersInRange st && orderSound st) (slotsTest st) (and-first (numbersInRange st && orderSound st && slotsTest st) (noClashingHolds st) h))
+  numbers-told = and-first (numbersTest st) (orderSound st) (and-first (numbersTest st && orderSound st) (slotsTest st) (and-first (numbersTest st && orderSound st && slotsTest st) (noClashingHolds st) h))
 
   order-told : orderSound st ≡ true
   unfolding sound
-  order-told = and-second (numbersInRange st) (orderSound st) (and-first (numbersInRange st && orderSound st) (slotsTest st) (and-first (numbersInRange st && orderSound st && slotsTest st) (noClashingHolds st) h))
+  order-told = and-second (numbersTest st) (orderSound st) (and-first (numbersTest st && orderSound st) (slotsTest st) (and-first (numbersTest st && orderSound st && slotsTest st) (noClashingHolds st) h))
 
   slots-told : slotsTest st ≡ true
   unfolding sound
-  slots-told = and-second (numbersInRange st && orderSound st) (slotsTest st) (and-first (numbersInRange st && orderSound st && slotsTest st) (noClashingHolds st) h)
+  slots-told = and-second (numbersTest st && orderSound st) (slotsTest st) (and-first (numbersTest st && orderSound st && slotsTest st) (noClashingHolds st) h)
 
   apart-told : noClashingHolds st ≡ true
   unfolding sound
-  apart-told = and-second (numbersInRange st && orderSound st && slotsTest st) (noClashingHolds st) h
+  apart-told = and-second (numbersTest st && orderSound st && slotsTest st) (noClashingHolds st) h
 
 -- the four numbers
-numbers-facts : (st : State) → numbersInRange st ≡ true → (1 ≤ st .k) × (st .k ≤ largestK) × (1 ≤ st .n) × (st .n ≤ largestN)
+numbers-facts : (st : State) → numbersTest st ≡ true → (1 ≤ st .k) × (st .k ≤ largestK) × (1 ≤ st .n) × (st .n ≤ largestN)
 numbers-facts st h =
-    let a = leb 1 (st .k) in
-    let b = leb (st .k) largestK in
-    let c = leb 1 (st .n) in
-    let d = leb (st .n) largestN in (
-      leb-true 1 (st .k) (and-first a b (and-first (a && b) c (and-first (a && b && c) d h))),
-      leb-true (st .k) largestK (and-second a b (and-first (a && b) c (and-first (a && b && c) d h))),
-      leb-true 1 (st .n) (and-second (a && b) c (and-first (a && b && c) d h)),
-      leb-true (st .n) largestN (and-second (a && b && c) d h),
+    let ks = and-first (kInRange (st .k)) (nInRange (st .n)) h in
+    let ns = and-second (kInRange (st .k)) (nInRange (st .n)) h in (
+      leb-true 1 (st .k) (and-first (leb 1 (st .k)) (leb (st .k) largestK) ks),
+      leb-true (st .k) largestK (and-second (leb 1 (st .k)) (leb (st .k) largestK) ks),
+      leb-true 1 (st .n) (and-first (leb 1 (st .n)) (leb (st .n) largestN) ns),
+      leb-true (st .n) largestN (and-second (leb 1 (st .n)) (leb (st .n) largestN) ns),
     )
 
 -- the waiting order
@@ -119,7 +120,7 @@ pub record OrderFacts (st : State) : Type 0 where
   pub names : (s : ℕ) → s < slotCount → namesTest st s ≡ true
 
 order-facts : (st : State) → orderSound st ≡ true → OrderFacts st
-unfolding orderSound
+unfolding namesEach waitingOrder
 order-facts st h =
     let a = leb (st .waiting) slotCount in
     let b = all (namedTest st) (waitingOrder st) in
@@ -177,12 +178,12 @@ apart-from-facts st s t h = by-both (eqb s t) (isXi (lockAt st s)) (λ e. h (λ 
 
 -- And the record gives the test.
 pub facts-sound : (st : State) → SoundState st → sound st ≡ true
-unfolding sound orderSound noClashingHolds
+unfolding sound namesEach waitingOrder noClashingHolds
 facts-sound st f =
     and-both
     (and-both
     (and-both
-    (and-both (and-both (and-both (le-leb 1 (st .k) (f .kLeast)) (le-leb (st .k) largestK (f .kMost))) (le-leb 1 (st .n) (f .nLeast))) (le-leb (st .n) largestN (f .nMost)))
+    (and-both (and-both (le-leb 1 (st .k) (f .kLeast)) (le-leb (st .k) largestK (f .kMost))) (and-both (le-leb 1 (st .n) (f .nLeast)) (le-leb (st .n) largestN (f .nMost))))
     (and-both
     (and-both
     (and-both (le-leb (st .waiting) slotCount (f .waits)) (all-from-members (namedTest st) (waitingOrder st) (λ s m. and-both (lt-ltb s slotCount (f .orderBelow s m)) (f .orderOpen s m))))

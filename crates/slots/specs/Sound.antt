@@ -1,29 +1,30 @@
 -- When a state is sound. "What the caller hears" of document 01.
 use Prim.Native.Nat.{ℕ}
 use mathlib.Core.Bool.{Bool, true, not, _&&_, _||_}
-use mathlib.Core.List.{_∷_}
+use mathlib.Core.List.{List, _∷_}
 use lib.Dec.{leb, ltb, eqb}
-use Rattle.ground.specs.Limits.{largestK, largestN, slotCount, searchHolds, regradeHolds, pathHolds, siblingHolds}
+use lib.ListN.{take}
+use Rattle.ground.specs.Limits.{kInRange, nInRange, slotCount, searchHolds, regradeHolds, pathHolds, siblingHolds}
 use Rattle.ground.specs.Tests.{all, allBelow, member, distinct, apart}
 use Rattle.slots.specs.declared.Op.the-variants.{Search, Insert, Delete, Next, Regrade}
 use Rattle.slots.specs.declared.Task.{Task}
 use Rattle.slots.specs.declared.Task.the-variants.{Closed, Open}
 use Rattle.slots.specs.declared.Slot.{Slot}
 use Rattle.slots.specs.declared.State.{State}
-use Rattle.slots.specs.Parts.{held, slotAt, openAt, waitingOrder}
+use Rattle.slots.specs.Parts.{held, slotAt, openAt}
 use Rattle.slots.specs.Locks.{lockAt, isXi}
 
--- "A state is sound if k and N are in range"
-abbrev pub numbersInRange : State → Bool
-numbersInRange st = leb 1 (st .k) && leb (st .k) largestK && leb 1 (st .n) && leb (st .n) largestN
+-- the first so many cells of an order name each open slot once and no other
+unfoldable pub namesEach : (ℕ → Bool) → ℕ → List ℕ → Bool
+namesEach opened waiting order =
+    leb waiting slotCount
+    && all (λ (s : ℕ). ltb s slotCount && opened s) (take waiting order)
+    && distinct (take waiting order)
+    && allBelow slotCount (λ (s : ℕ). not (opened s) || member s (take waiting order))
 
 -- "the waiting order names each open slot once and no other"
-unfoldable pub orderSound : State → Bool
-orderSound st =
-    leb (st .waiting) slotCount
-    && all (λ (s : ℕ). ltb s slotCount && openAt st s) (waitingOrder st)
-    && distinct (waitingOrder st)
-    && allBelow slotCount (λ (s : ℕ). not (openAt st s) || member s (waitingOrder st))
+abbrev pub orderSound : State → Bool
+orderSound st = namesEach (openAt st) (st .waiting) (st .order)
 
 -- How many pages a slot may hold: on its path, and beside it.
 pub record MayHold : Type 0 where
@@ -65,9 +66,10 @@ unfoldable pub noClashingHolds : State → Bool
 noClashingHolds st =
     allBelow slotCount (λ (s : ℕ). allBelow slotCount (λ (t : ℕ). eqb s t || not (isXi (lockAt st s)) || apart (held (slotAt st s)) (held (slotAt st t))))
 
+-- "A state is sound if k and N are in range; the waiting order .."
 unfoldable pub sound : State → Bool
 sound st =
-    numbersInRange st
+    kInRange (st .k) && nInRange (st .n)
     && orderSound st
     && allBelow slotCount (λ (s : ℕ). slotSound (st .n) (slotAt st s))
     && noClashingHolds st

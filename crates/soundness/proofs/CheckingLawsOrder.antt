@@ -17,7 +17,7 @@ use Rattle.ground.specs.Limits.{slotCount}
 use Rattle.ground.specs.Tests.{all, allBelow, member, distinct, countBelow}
 use Rattle.ground.proofs.Bools.{and-both, and-first, and-second, and-first-fails, and-second-fails, and-fails, or-second, not-of-true, not-of-false, false-if-not-true}
 use Rattle.ground.proofs.Tests.{all-none, member-none, member-here, member-more, distinct-none, allBelow-at, allBelow-from, countBelow-same, countBelow-less, countBelow-fails, countBelow-some, below-or-at}
-use Rattle.soundness.specs.Checking.{namesEach}
+use Rattle.slots.specs.Sound.{namesEach}
 use Rattle.soundness.proofs.CheckingLaws.{all-on, all-stop, differ-on, differ-stop}
 
 -- the first i cells of the order name open slots, none twice, and the marks are those of the other open slots

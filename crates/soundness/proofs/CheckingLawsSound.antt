@@ -7,20 +7,20 @@ use mathlib.Core.Path.{_≡_, refl, sym, ap, ap₂, _∙_, fun-ext}
 use borrow.Author.Tests.{ltb-true, ne-eqb, le-leb}
 use lib.Dec.{leb, ltb}
 use lib.ListN.{getD, take}
-use Rattle.ground.specs.Limits.{largestK, largestN, slotCount}
+use Rattle.ground.specs.Limits.{kInRange, nInRange, slotCount}
 use Rattle.ground.specs.Tests.{all, allBelow, member, distinct}
 use Rattle.ground.proofs.Bools.{and-first, and-second, and-both, not-of-false, and-first-fails, and-second-fails, not-both, false-if-not-true, true-or-false}
 use Rattle.ground.proofs.Choice.{cond-false}
 use Rattle.ground.proofs.Tests.{allBelow-same, allBelow-from}
 use Rattle.slots.specs.declared.Slot.{Slot}
-use Rattle.slots.specs.Parts.{idleState, slotAt, openAt, isOpen, waitingOrder}
-use Rattle.slots.specs.Sound.{orderSound, slotSound, noClashingHolds, sound}
+use Rattle.slots.specs.Parts.{idleState, slotAt, openAt, isOpen}
+use Rattle.slots.specs.Sound.{namesEach, orderSound, slotSound, noClashingHolds, sound}
 use Rattle.slots.proofs.SoundFacts.{SoundState, sound-facts, empty-unsound}
 use Rattle.lent.specs.Words.{cell, highestKind, taskFrom, orderIn, asRead, known, stateOf}
 use Rattle.lent.specs.Holds.{WithinRows}
 use Rattle.lent.proofs.StateLaws.{slot-read, state-known}
 use Rattle.lent.proofs.HoldLaws.{all-both, by-kind, kind-known}
-use Rattle.soundness.specs.Checking.{namesEach, rowFine, deepFine, openKind, xiAlone}
+use Rattle.soundness.specs.Checking.{rowFine, deepFine, openKind, xiAlone}
 use Rattle.soundness.proofs.CheckingLawsRows.{slot-fits, row-at, rows-short}
 use Rattle.soundness.proofs.CheckingLawsAlone.{no-clashes}
 
@@ -57,7 +57,7 @@ kind-open ws s e h n =
     open-as ws s e h ∙ and-both (not-of-false (ne-eqb (cell ws 0 s) 0 n)) (le-leb (cell ws 0 s) highestKind (kind-known ws e s h))
 
 order-words : (ws : List ℕ) → known ws ≡ true → orderSound (asRead ws) ≡ namesEach (λ (s : ℕ). openKind (cell ws 0 s)) (getD ws 2 0) (orderIn ws)
-unfolding orderSound waitingOrder namesEach slotCount
+unfolding slotCount
 order-words ws e =
     named-same (openAt (asRead ws)) (λ (s : ℕ). openKind (cell ws 0 s)) (getD ws 2 0) (orderIn ws)
     (λ s h. open-as ws s e h)
@@ -88,7 +88,7 @@ reorder true false false d a = refl
 
 module _ (ws : List ℕ) where
   abbrev numbers : Bool
-  numbers = leb 1 (getD ws 0 0) && leb (getD ws 0 0) largestK && leb 1 (getD ws 1 0) && leb (getD ws 1 0) largestN
+  numbers = kInRange (getD ws 0 0) && nInRange (getD ws 1 0)
 
   abbrev rows : Bool
   rows = allBelow 16 (rowFine ws (getD ws 1 0))

@@ -32,22 +32,21 @@ use lent::granting::some_deep;
 ghost use Prim.Native.Nat.{ℕ, _≤_, _<_};
 ghost use mathlib.Core.Bool.{true, false, not, _&&_};
 ghost use mathlib.Core.Path.{_≡_};
-ghost use lib.Dec.{leb};
 ghost use lib.ListN.{length, getD, take};
-ghost use Rattle.ground.specs.Limits.{largestK, largestN, slotCount};
+ghost use Rattle.ground.specs.Limits.{kInRange, nInRange, slotCount};
 ghost use Rattle.ground.specs.Tests.{all, allBelow, countBelow};
 ghost use Rattle.slots.specs.Report.{maskBelow};
-ghost use Rattle.slots.specs.Sound.{belowAndOnce, sound};
+ghost use Rattle.slots.specs.Sound.{namesEach, belowAndOnce, sound};
 ghost use Rattle.lent.specs.Words.{cell, column, slotIn, orderIn, stateOf};
 ghost use Rattle.lent.specs.Holds.{WithinRows, othersHold};
-ghost use Rattle.soundness.specs.Checking.{mayEnter, namesEach, fineRow, rowFine, mayHoldMore, moreFine, deepFine, openKind, aloneIn, updates, xiAlone};
+ghost use Rattle.soundness.specs.Checking.{mayEnter, fineRow, rowFine, mayHoldMore, moreFine, deepFine, openKind, aloneIn, updates, xiAlone};
 
 // The longest path, as the words have it.
 const DEPTH_LIMIT: u32 = HELD as u32;
 
 // k and N are in range.
 pub fn numbers_in_range(k: usize, n: usize) -> bool
-    ensures { λ r. ⌜ r ≡ (leb 1 k && leb k largestK && leb 1 n && leb n largestN) ⌝ }
+    ensures { λ r. ⌜ r ≡ kInRange k && nInRange n ⌝ }
 {
     if k < 1 {
         return false;

@@ -1,30 +1,23 @@
 -- The little program computed: document 01's example, the making of its pool, and inputs at the edge.
 use mathlib.Core.List.{[]}
 use mathlib.Core.Path.{_≡_, refl}
-use Rattle.ground.specs.Limits.{largestK, largestN, tallest, slotCount, searchHolds, regradeHolds, pathHolds, siblingHolds}
-use Rattle.ground.specs.Tests.{all, count, member, distinct, apart, allBelow, listBelow, padded}
-use Rattle.page.specs.Words.{flat, encode, pairs, view}
-use Rattle.page.specs.Place.{place, has, information, atOrAbove, regraded}
-use Rattle.page.specs.Sound.{risesFrom, rises, soundByItself}
-use Rattle.page.specs.Splits.{put, split}
-use Rattle.pool.specs.Pool.{poolLength, start, wordsOf, pageAt, written, applied, isFree, freePages, fresh}
-use Rattle.change.specs.Insertion.{room, settled, insertion}
-use Rattle.change.specs.Regrading.{regrading}
+use Rattle.ground.specs.Limits.{largestK, largestN}
+use Rattle.pool.specs.Pool.{poolLength, fresh}
 use Rattle.slots.specs.declared.Answer.the-variants.{Made}
-use Rattle.slots.specs.Parts.{pathOf, besideOf, waitingOrder, idleState}
-use Rattle.slots.specs.Grant.{olderThan, noClash, noOlder}
-use Rattle.slots.specs.Book.{leaving, begins, goesOn, closes}
-use Rattle.slots.specs.Sound.{orderSound, slotSound, noClashingHolds, sound}
-use Rattle.slots.specs.Begin.{begun}
+use Rattle.slots.specs.Parts.{idleState}
 use Rattle.lines.specs.Text.{bytes, startsWith as begins-with}
 use Rattle.lines.specs.Meaning.{digits, value, front, stepping, searching, deleting, askingNext, informing, keying, inserting, askingRegrade, asking, beginning, meaning}
 use Rattle.lines.specs.Decimal.{digitsWithin, decimal}
-use Rattle.footing.specs.Granted.{atLeaf, comesDown, granted}
-use Rattle.footing.specs.Fitting.{pagesSound, descends, sameLevels, fitting, soundForStep, verdict}
-use Rattle.index.specs.Step.{left, stepped}
+use Rattle.index.specs.Step.{left}
 use Rattle.index.specs.Make.{made}
+use Rattle.index.specs.Unfolded.{everyCall}
 use Rattle.talk.specs.Split.{linesOf}
 use Rattle.talk.specs.Talk.{replies, programK, programPages, blank, opening, mostBytes, programWrites}
+
+-- Everything that the program unfolds to: what a call does, what a line means, how an answer is written.
+program : Unit {0}
+unfolding everyCall begins-with digits value front stepping searching deleting askingNext informing keying inserting askingRegrade asking beginning meaning digitsWithin decimal linesOf replies blank mostBytes programWrites
+program = tt
 
 -- the program's pool is made, and is fresh
 pub opened : opening ≡ left Made (idleState programK programPages) (fresh programK programPages)
@@ -35,17 +28,17 @@ opened = refl
 -- `Found 3`, `SlotIdle`, one a line, no header." The third line stays Waiting under 02 (iii): the older want is an insertion's, and ξ
 -- goes with nothing.
 pub example : programWrites (bytes "b 0 i 12 3\nb 1 s 12\nt 1\nt 0\nt 1\nt 1\n") ≡ bytes "Begun\nBegun\nWaiting\nInserted\nFound 3\nSlotIdle\n"
-unfolding largestK largestN tallest slotCount searchHolds pathHolds siblingHolds all count member distinct apart allBelow listBelow padded flat encode pairs view place has information risesFrom rises soundByItself put split poolLength start wordsOf pageAt written applied isFree freePages fresh room settled insertion pathOf besideOf waitingOrder olderThan noClash noOlder leaving begins goesOn closes orderSound slotSound noClashingHolds sound begun begins-with digits value front stepping searching deleting informing keying inserting asking beginning meaning digitsWithin decimal atLeaf comesDown granted pagesSound descends sameLevels fitting soundForStep verdict stepped made linesOf replies blank mostBytes programWrites
+unfolding program
 example = refl
 
 -- the next lot at or above: none in the empty pool, then the only one
 pub next-example : programWrites (bytes "b 0 n 5\nt 0\nb 0 i 12 3\nt 0\nb 0 n 5\nt 0\nb 0 n 13\nt 0\n") ≡ bytes "Begun\nNone\nBegun\nInserted\nBegun\nNext 12 3\nBegun\nNone\n"
-unfolding largestK largestN tallest slotCount searchHolds pathHolds siblingHolds all count member distinct apart allBelow listBelow padded flat encode pairs view place has information atOrAbove risesFrom rises soundByItself put split poolLength start wordsOf pageAt written applied isFree freePages fresh room settled insertion pathOf besideOf waitingOrder olderThan noClash noOlder leaving begins goesOn closes orderSound slotSound noClashingHolds sound begun begins-with digits value front stepping searching deleting askingNext informing keying inserting asking beginning meaning digitsWithin decimal atLeaf comesDown granted pagesSound descends sameLevels fitting soundForStep verdict stepped made linesOf replies blank mostBytes programWrites
+unfolding program
 next-example = refl
 
 -- new information under a key: no such key in the empty pool; then the old information is answered, and the new one is there
 pub regrade-example : programWrites (bytes "b 0 g 12 5\nt 0\nb 0 i 12 3\nt 0\nb 0 g 12 5\nt 0\nb 0 i 12 7\nt 0\n") ≡ bytes "Begun\nNoSuchKey\nBegun\nInserted\nBegun\nRegraded 3\nBegun\nAlreadyThere 5\n"
-unfolding largestK largestN tallest slotCount searchHolds regradeHolds pathHolds siblingHolds all count member distinct apart allBelow listBelow padded flat encode pairs view place has information regraded risesFrom rises soundByItself put split poolLength start wordsOf pageAt written applied isFree freePages fresh room settled insertion regrading pathOf besideOf waitingOrder olderThan noClash noOlder leaving begins goesOn closes orderSound slotSound noClashingHolds sound begun begins-with digits value front stepping searching deleting informing keying inserting askingRegrade asking beginning meaning digitsWithin decimal atLeaf comesDown granted pagesSound descends sameLevels fitting soundForStep verdict stepped made linesOf replies blank mostBytes programWrites
+unfolding program
 regrade-example = refl
 
 -- "empty input writes nothing"

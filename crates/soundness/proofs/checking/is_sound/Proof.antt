@@ -4,7 +4,7 @@ use Rattle.soundness.proofs.CheckingLawsRows.{rows-short}
 use Rattle.soundness.specs.Checking.{rowFine, deepFine}
 use Rattle.ground.proofs.Bools.{and-second}
 use Rattle.ground.specs.Tests.{allBelow}
-use Rattle.ground.specs.Limits.{largestK, largestN}
+use Rattle.ground.specs.Limits.{kInRange, largestN, nInRange}
 use borrow.Author.Tests.{not-true, not-false, leb-true}
 use lib.ListN.{getD}
 use lib.Dec.{leb}
@@ -26,10 +26,10 @@ numbers-in-range-requires : tie.Need-numbers-in-range-requires
 numbers-in-range-requires c κs = search needs
 
 numbers-said : (c : tie.After-numbers-in-range)
-    → c .numbers-in-range .result ≡ (leb 1 (getD (c .before .before .before .args .cells .now) 0 0) && leb (getD (c .before .before .before .args .cells .now) 0 0) largestK && leb 1 (getD (c .before .before .before .args .cells .now) 1 0) && leb (getD (c .before .before .before .args .cells .now) 1 0) largestN)
+    → c .numbers-in-range .result ≡ kInRange (getD (c .before .before .before .args .cells .now) 0 0) && nInRange (getD (c .before .before .before .args .cells .now) 1 0)
 numbers-said c =
     c .numbers-in-range .ensures
-    ∙ ap₂ (λ (k n : ℕ). leb 1 k && leb k largestK && leb 1 n && leb n largestN) (c .before .k-of .ensures) (c .before .before .n-of .ensures)
+    ∙ ap₂ (λ (k n : ℕ). kInRange k && nInRange n) (c .before .k-of .ensures) (c .before .before .n-of .ensures)
 
 returns : tie.Need-returns
 returns c = sound-numbers (c .before .before .before .before .args .cells .now) (numbers-said (c .before)) (not-true (c .before .numbers-in-range .result) (c .if1 .taken))
@@ -39,7 +39,7 @@ unfolding largestN
 cast-bound c =
     let k : ℕ = c .before .before .k-of .result in
     let n : ℕ = c .before .before .before .n-of .result in
-    let few = leb-true n 1024 (and-second (leb 1 k && leb k largestK && leb 1 n) (leb n 1024) (sym (c .before .numbers-in-range .ensures) ∙ not-false (c .before .numbers-in-range .result) (c .if1 .left))) in
+    let few = leb-true n 1024 (and-second (leb 1 n) (leb n 1024) (and-second (kInRange k) (nInRange n) (sym (c .before .numbers-in-range .ensures) ∙ not-false (c .before .numbers-in-range .result) (c .if1 .left)))) in
     omega arith
 
 rows-fine-requires : tie.Need-rows-fine-requires

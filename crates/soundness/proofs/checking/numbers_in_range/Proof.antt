@@ -1,4 +1,4 @@
--- `state::checking::numbers_in_range` meets its contract: the tests on the way are those of the rule, in its order.
+-- The tests on the way are those of the rule, in its order.
 use borrow.Author.Tests.{le-leb, lt-leb}
 use Rattle.ground.specs.Limits.{largestK, largestN}
 use Rattle.soundness.proofs.checking.numbers_in_range.Statement.{statement}

@@ -1,6 +1,7 @@
 -- The marks are those of the open slots.
 use Rattle.soundness.proofs.CheckingLawsSound.{named-same}
-use Rattle.soundness.specs.Checking.{namesEach, openKind}
+use Rattle.soundness.specs.Checking.{openKind}
+use Rattle.slots.specs.Sound.{namesEach}
 use Rattle.lent.specs.Words.{cell, orderIn}
 use Rattle.ground.specs.Limits.{slotCount}
 use lib.ListN.{getD}

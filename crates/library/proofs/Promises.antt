@@ -7,12 +7,12 @@ use mathlib.Core.Path.{_≡_, refl, sym, ap, subst, _∙_}
 use native.Mathlib.Omega.{arith}
 use lib.Dec.{eqb}
 use lib.ListN.{length, getD}
-use Rattle.ground.specs.Limits.{wordRange}
+use Rattle.ground.specs.Limits.{kInRange, nInRange, wordRange}
 use Rattle.ground.specs.Tests.{all, member}
 use Rattle.ground.proofs.Bools.{and-first, and-both}
 use Rattle.ground.proofs.Choice.{cond-ind}
 use Rattle.ground.proofs.Tests.{all-member}
-use Rattle.pool.specs.Pool.{kInRange, nInRange, poolLength}
+use Rattle.pool.specs.Pool.{poolLength}
 use Rattle.slots.specs.declared.State.{State}
 use Rattle.slots.specs.declared.Answer.{Answer}
 use Rattle.slots.specs.declared.Answer.the-variants.{Made}
@@ -34,7 +34,7 @@ use Rattle.promises.proofs.Demand1.{range-tested, make-demand}
 use Rattle.promises.proofs.Demand2.{call-heard, demand2}
 use Rattle.promises.proofs.Demand3.{demand3}
 use Rattle.promises.proofs.Regrading.{regrading-holds}
-use Rattle.script.specs.Library.{Went, begins, steps, reports, Follow, OpenedBy, making, beginsWith, callsIn, toldFirst, toldIn, quietNumber, quietFour, LibraryRuns, LibraryPromises, LibraryKeepsLots}
+use Rattle.library.specs.Promises.{Went, begins, steps, reports, Follow, OpenedBy, making, beginsWith, callsIn, toldFirst, toldIn, quietNumber, quietFour, LibraryRuns, LibraryPromises, LibraryKeepsLots}
 
 -- ---- what is left and told
 

@@ -1,0 +1,42 @@
+-- For who computes examples by the rules: all that a call unfolds to, in one list. Who unfolds `everyCall` unfolds all of it.
+use Rattle.ground.specs.Limits.{largestK, largestN, tallest, slotCount, searchHolds, regradeHolds, pathHolds, siblingHolds}
+use Rattle.ground.specs.Tests.{all, count, member, distinct, apart, allBelow, anyBelow, countBelow, listBelow, firstBelow, padded}
+use Rattle.page.specs.Words.{flat, encode, pairs, view}
+use Rattle.page.specs.Place.{place, has, information, atOrAbove, without, regraded}
+use Rattle.page.specs.Sound.{risesFrom, rises, soundByItself}
+use Rattle.page.specs.Splits.{put, split}
+use Rattle.page.specs.Short.{neighbour, betweenAt, fromRight, fromLeft, joined, lessKey, rekeyed}
+use Rattle.pool.specs.Pool.{poolLength, start, wordsOf, pageAt, written, applied, isFree, freePages, fresh}
+use Rattle.change.specs.Insertion.{room, settled, insertion}
+use Rattle.change.specs.Deletion.{needs, shares, shrunk, deletion}
+use Rattle.change.specs.Regrading.{regrading}
+use Rattle.slots.specs.Parts.{pathOf, besideOf, waitingOrder}
+use Rattle.slots.specs.Grant.{olderThan, noClash, noOlder}
+use Rattle.slots.specs.Book.{leaving, begins, goesOn, closes}
+use Rattle.slots.specs.Sound.{namesEach, slotSound, noClashingHolds, sound}
+use Rattle.slots.specs.Begin.{begun}
+use Rattle.slots.specs.Report.{reported}
+use Rattle.footing.specs.Granted.{deletes, atLeaf, comesDown, goesLeft, besides, granted}
+use Rattle.footing.specs.Fitting.{pagesSound, descends, sameLevels, leftmost, fitting, soundForStep, verdict}
+use Rattle.index.specs.Step.{stepped}
+use Rattle.index.specs.Make.{made}
+
+-- numbers, tests and folds
+grounds : Unit {0}
+unfolding largestK largestN tallest slotCount searchHolds regradeHolds pathHolds siblingHolds all count member distinct apart allBelow anyBelow countBelow listBelow firstBelow padded
+grounds = tt
+
+-- pages, the pool, and how they change
+pages : Unit {0}
+unfolding flat encode pairs view place has information atOrAbove without regraded risesFrom rises soundByItself put split neighbour betweenAt fromRight fromLeft joined lessKey rekeyed poolLength start wordsOf pageAt written applied isFree freePages fresh room settled insertion needs shares shrunk deletion regrading
+pages = tt
+
+-- slots, locks and the waiting order
+slotted : Unit {0}
+unfolding pathOf besideOf waitingOrder olderThan noClash noOlder leaving begins goesOn closes namesEach slotSound noClashingHolds sound begun reported
+slotted = tt
+
+-- making, begin, step and report
+unfoldable pub everyCall : Unit {0}
+unfolding grounds pages slotted deletes atLeaf comesDown goesLeft besides granted pagesSound descends sameLevels leftmost fitting soundForStep verdict stepped made
+everyCall = tt
