@@ -24,11 +24,12 @@ use Rattle.embed.specs.declared.asking.Asked.the-variants.{Known, Unknown}
 use Rattle.embed.specs.Asked.{askedBy}
 use Rattle.embed.specs.Told.{told}
 use Rattle.embed.specs.Statements.{beginTold, beginNext}
-use Rattle.runs.specs.Run.{Call, begin, step, report, called, run, Start, IsStart, freshPool, runFrom, InWords, Run}
+use Rattle.runs.specs.Calls.{Call, begin, step, report, called, answersOf}
+use Rattle.runs.specs.Run.{run, Start, IsStart, freshPool, runFrom, InWords, Run}
 use Rattle.runs.proofs.Invariant.{Invariant}
 use Rattle.runs.proofs.Runs.{call-keeps, words-append, start-ready}
 use Rattle.promises.specs.Demand1.{MakingInRange}
-use Rattle.promises.specs.Demand2.{AfterEveryCall, answersOf}
+use Rattle.promises.specs.Demand2.{AfterEveryCall}
 use Rattle.promises.specs.Regrading.{IsThere, NotDeleted, NeverNowhere}
 use Rattle.promises.proofs.Demand1.{range-tested, make-demand}
 use Rattle.promises.proofs.Demand2.{call-heard, demand2}

@@ -47,7 +47,8 @@ use Rattle.index.specs.Step.{Left, left, stepped}
 use Rattle.tree.specs.Tree.{Tr, entriesOf}
 use Rattle.tree.specs.Change.{writtenPages}
 use Rattle.tree.proofs.Words.{fit-writes}
-use Rattle.runs.specs.Run.{Call, begin, step, report, called, runFrom}
+use Rattle.runs.specs.Calls.{Call, begin, step, report, called, answersOf}
+use Rattle.runs.specs.Run.{runFrom}
 use Rattle.runs.specs.Stance.{Safe, Stance, Takes}
 use Rattle.runs.specs.Waits.{Barred}
 use Rattle.runs.specs.Step.{Ended}
@@ -60,7 +61,7 @@ use Rattle.runs.proofs.Older.{older-before, before-older}
 use Rattle.runs.proofs.PlainLaws.{none-below, below-none}
 use Rattle.runs.proofs.Agreement.{plain-counted}
 use Rattle.promises.specs.Demand1.{Exactly}
-use Rattle.promises.specs.Demand2.{Reader, AfterEveryCall, Seen, InTheWay, StepLocks, CallLocks, answersOf, Words, Demand2Holds}
+use Rattle.promises.specs.Demand2.{Reader, AfterEveryCall, Seen, InTheWay, StepLocks, CallLocks, Words, Demand2Holds}
 use Rattle.promises.proofs.Seen.{step-seen}
 
 -- ---- after every call

@@ -19,9 +19,8 @@ use Rattle.slots.specs.declared.Op.{Op}
 use Rattle.slots.specs.declared.Op.the-variants.{Search, Insert, Delete, Next, Regrade}
 use Rattle.slots.specs.declared.Task.the-variants.{Open}
 use Rattle.slots.specs.declared.State.{State}
-use Rattle.slots.specs.declared.Lock.the-variants.{None}
 use Rattle.slots.specs.declared.Answer.{Answer}
-use Rattle.slots.specs.declared.Answer.the-variants.{Waiting, Moved, Begun, Reported, BadSlot, SlotBusy, SlotIdle, BadPage, Next as NextLot, Regraded}
+use Rattle.slots.specs.declared.Answer.the-variants.{Waiting, Moved, Begun, Next as NextLot, Regraded}
 use Rattle.slots.specs.Parts.{keyOf, isDelete, isNext, goesBeside, held, pathOf, besideOf, slotAt, openAt, wantAt, holdsAt, waitingOrder, Opened}
 use Rattle.slots.specs.Locks.{lockOf, clash}
 use Rattle.slots.specs.Grant.{olderThan}
@@ -31,7 +30,8 @@ use Rattle.slots.specs.Book.{leaving}
 use Rattle.footing.specs.Granted.{isSafe}
 use Rattle.index.specs.Step.{Left}
 use Rattle.tree.specs.Tree.{Tr, occurs, PoolForms}
-use Rattle.runs.specs.Run.{Call, begin, step, report, called, Start, runFrom, CallInWords, Run}
+use Rattle.runs.specs.Calls.{Call, begin, step, report, called, CallInWords, answersOf}
+use Rattle.runs.specs.Run.{Start, runFrom, Run}
 use Rattle.runs.specs.Stance.{Safe, Stance, Takes}
 use Rattle.runs.specs.Waits.{Barred, Before}
 use Rattle.runs.specs.Done.{writing}
@@ -156,13 +156,6 @@ CallLocks st ws (begin s op) after = Unchanged st ws after ⊎ Begins st ws s op
 CallLocks st ws (step s) after = StepLocks st ws s after
 CallLocks st ws (report p) after = (after .state ≡ st) × (after .words ≡ ws)
 
--- ---- what is heard in a run: BadState, BadPool and Damaged never are
-
-abbrev pub answersOf : Call → List Answer
-answersOf (begin s op) = Begun ∷ BadSlot ∷ SlotBusy ∷ []
-answersOf (step s) = Waiting ∷ Moved ∷ BadSlot ∷ SlotIdle ∷ ending
-answersOf (report p) = Reported None 0 0 ∷ BadPage ∷ []
-
 -- ---- the words of the rules that are used above, pinned
 
 pub record Words (k : ℕ) : Type 0 where
@@ -197,7 +190,7 @@ pub record Demand2 (start : Start) (cs : List Call) : Type 0 where
   pub left : AfterEveryCall (start .state .k) (start .state .n) (runFrom start cs .state) (runFrom start cs .words)
   pub next : (c : Call) → CallInWords c
       → AfterEveryCall (start .state .k) (start .state .n) (called (runFrom start cs .state) (runFrom start cs .words) c .state) (called (runFrom start cs .state) (runFrom start cs .words) c .words)
-  -- what any further call takes and gives up, and what it answers
+  -- what any further call takes and gives up, and what it answers: never BadState, BadPool or Damaged
   pub locks : (c : Call) → CallLocks (runFrom start cs .state) (runFrom start cs .words) c (called (runFrom start cs .state) (runFrom start cs .words) c)
   pub heard : (c : Call) → isOneOf (called (runFrom start cs .state) (runFrom start cs .words) c .answer) (answersOf c) ≡ true
   pub words : Words (start .state .k)

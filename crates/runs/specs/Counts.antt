@@ -5,7 +5,6 @@ use Prim.Native.Nat.{ℕ, _+_, _-_, _*_, _≤_}
 use mathlib.Core.Bool.{Bool, true, false, not, cond, _&&_}
 use mathlib.Core.List.{List, [], _∷_}
 use mathlib.Core.Path.{_≡_}
-use lib.Dec.{eqb}
 use Rattle.ground.specs.Limits.{slotGrants}
 use Rattle.pool.specs.Pool.{pageAt}
 use Rattle.slots.specs.declared.Op.{Op}
@@ -14,13 +13,12 @@ use Rattle.slots.specs.declared.State.{State}
 use Rattle.slots.specs.declared.Answer.the-variants.{Begun}
 use Rattle.slots.specs.Heard.{changesNothing}
 use Rattle.slots.specs.Parts.{openAt}
-use Rattle.runs.specs.Run.{Call, begin, step, report, called, InWords}
+use Rattle.runs.specs.Calls.{Call, begin, called, isStepOf}
+use Rattle.runs.specs.Run.{InWords}
 
 -- the call is a granted step of slot s: it is neither refused nor answered Waiting
 abbrev pub grantedTo : ℕ → State → List ℕ → Call → Bool
-grantedTo s st ws (begin t op) = false
-grantedTo s st ws (step t) = eqb t s && not (changesNothing (called st ws (step t) .answer))
-grantedTo s st ws (report p) = false
+grantedTo s st ws c = isStepOf s c && not (changesNothing (called st ws c .answer))
 
 -- how many granted steps the operation of slot s has among these calls, until it ends
 unfoldable pub grantsOf : ℕ → List Call → State → List ℕ → ℕ

@@ -10,7 +10,7 @@ use Rattle.slots.specs.declared.Op.the-variants.{Search}
 use Rattle.slots.specs.declared.Answer.{Answer}
 use Rattle.slots.specs.declared.Answer.the-variants.{Inserted, Deleted, Begun, Regraded}
 use Rattle.slots.specs.Heard.{isOneOf, countedAnswers}
-use Rattle.runs.specs.Run.{Call, begin, step, report}
+use Rattle.runs.specs.Calls.{Call, begin, step, report}
 use Rattle.runs.specs.Plain.{plain}
 
 -- An operation that has ended: in which slot, which one, and its answer.

@@ -3,29 +3,19 @@ use Prim.Native.Nat.{ℕ, _≤_, _<_}
 use mathlib.Core.Bool.{Bool, true, false, _||_}
 use mathlib.Core.List.{List, [], _∷_, _++_}
 use mathlib.Core.Path.{_≡_}
-use lib.Dec.{eqb}
 use lib.ListN.{length}
 use Rattle.ground.specs.Limits.{slotCount, roundsEnough}
 use Rattle.slots.specs.declared.State.{State}
 use Rattle.slots.specs.Parts.{openAt}
-use Rattle.runs.specs.Run.{Call, begin, step, report, run}
+use Rattle.runs.specs.Calls.{Call, isBegin, isStepOf}
+use Rattle.runs.specs.Run.{run}
 
--- no operation is begun by the call, or by the calls
-abbrev pub isBegin : Call → Bool
-isBegin (begin s op) = true
-isBegin (step s) = false
-isBegin (report p) = false
-
+-- an operation is begun by one of the calls
 abbrev pub anyBegin : List Call → Bool
 anyBegin [] = false
 anyBegin (c ∷ cs) = isBegin c || anyBegin cs
 
--- slot s is stepped by the call, or by one of the calls
-abbrev pub isStepOf : ℕ → Call → Bool
-isStepOf s (begin t op) = false
-isStepOf s (step t) = eqb t s
-isStepOf s (report p) = false
-
+-- slot s is stepped by one of the calls
 abbrev pub anyStepOf : ℕ → List Call → Bool
 anyStepOf s [] = false
 anyStepOf s (c ∷ cs) = isStepOf s c || anyStepOf s cs

@@ -19,10 +19,10 @@ use Rattle.lines.specs.Names.{answerLine, badLine}
 use Rattle.lines.specs.Ends.{firstLine}
 use Rattle.talk.specs.Split.{ended, linesOf}
 use Rattle.talk.proofs.OneEach.{answer-line, bad-line}
-use Rattle.runs.specs.Run.{Call, begin, step, called, run, InWords}
+use Rattle.runs.specs.Calls.{Call, begin, step, called, answersOf}
+use Rattle.runs.specs.Run.{run, InWords}
 use Rattle.runs.proofs.Invariant.{Invariant}
 use Rattle.runs.proofs.Runs.{call-keeps}
-use Rattle.promises.specs.Demand2.{answersOf}
 use Rattle.promises.proofs.Demand2.{call-heard}
 use Rattle.script.specs.Script.{callsBy, saidTo}
 use Rattle.script.specs.Promises.{quiet}
