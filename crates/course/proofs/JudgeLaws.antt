@@ -30,12 +30,12 @@ use Rattle.slots.specs.declared.Op.the-variants.{Search, Insert, Delete, Next, 
 use Rattle.slots.specs.declared.Answer.{Answer}
 use Rattle.slots.specs.declared.Answer.the-variants.{Found, NotFound, Inserted, AlreadyThere, Deleted, NoSuchKey, NoRoom, Regraded}
 use Rattle.slots.specs.declared.Slot.{Slot}
-use Rattle.slots.specs.Parts.{keyOf, isNext, pathOf, besideOf, held}
+use Rattle.slots.specs.Parts.{keyOf, isNext, pathOf, besideOf, held, Stand, onPages, wantBeside, wantsNext, withOp, standOf}
 use Rattle.course.specs.declared.judging.Course.{Course}
 use Rattle.course.specs.declared.judging.Course.the-variants.{Broken, Goes}
 use Rattle.footing.specs.Granted.{Verdict, broken, goes, ends, isSafe, kept, deletes, byNeed, atLeaf, fromLeaf, comesDown, goesLeft, besides, atItsLeaf, granted}
 use Rattle.footing.specs.Fitting.{descends, rightlyKept, rightlyBeside, sameLevels, isSibling, isNone, rightlyAcross, fitting}
-use Rattle.footing.specs.Standing.{SlotStanding, standPath, standBeside}
+use Rattle.footing.specs.Standing.{SlotStanding, stood}
 use Rattle.footing.proofs.AcrossLaws.{across-idle}
 use Rattle.course.specs.Judged.{onSecond, judgedAt, judged, ifNew, courseOf, ready, nextCourse, searchCourse, insertCourse, regradeCourse, needCourse, deleteCourse, standsLast}
 
@@ -43,90 +43,94 @@ use Rattle.course.specs.Judged.{onSecond, judgedAt, judged, ifNew, cours
 
 module _ (k : ℕ) (memory : ℕ → Page) (free : List ℕ) where
   -- what an operation does that stands at this leaf below these fathers
-  act : Op → List ℕ → List ℕ → ℕ → List ℕ → Verdict
-  act op path siblings leaf fathers =
-      cond (isLeaf (memory leaf))
-      (judgedAt op k memory free path siblings leaf fathers)
-      (goes path siblings (route (keyOf op) (memory leaf)))
+  act : Stand → ℕ → List ℕ → Verdict
+  act z leaf fathers =
+      cond (isLeaf (memory leaf)) (judgedAt (z .op) k memory free z leaf fathers) (goes (wantsNext z (route (keyOf (z .op)) (memory leaf))))
 
   -- a deletion that stands rightly at its leaf goes on with its siblings, a Next with its second way
-  beside-acts : (op : Op) (path siblings up : List ℕ) (want : ℕ) → atItsLeaf memory up ≡ true
-      → rightlyBeside op k memory up siblings want || rightlyAcross op k memory path siblings want ≡ true
+  beside-acts : (op : Op) (z : Stand) (up : List ℕ) → atItsLeaf memory up ≡ true
+      → rightlyBeside k memory (withOp op z) up || rightlyAcross k memory (withOp op z) (z .path) ≡ true
       → cond (isNext op)
-      (goesLeft memory path siblings want)
-      (fromLeaf (λ (leaf : ℕ) (fathers : List ℕ). deletes k memory (keyOf op) path leaf fathers (siblings ++ want ∷ [])) up)
-      ≡ fromLeaf (act op path (siblings ++ want ∷ [])) up
-  unfolding act judgedAt goesLeft
-  beside-acts op path siblings [] want leaf right = absurd (false≢true leaf)
-  beside-acts (Search x) path siblings (p ∷ up) want leaf right = not-both right (sym (across-idle (Search x) k memory path siblings want refl))
-  beside-acts (Insert x v) path siblings (p ∷ up) want leaf right = not-both right (sym (across-idle (Insert x v) k memory path siblings want refl))
-  beside-acts (Delete x) path siblings (p ∷ up) want leaf right =
-      let more : List ℕ = siblings ++ want ∷ [] in
+      (goesLeft memory (withOp op z))
+      (fromLeaf (λ (leaf : ℕ) (fathers : List ℕ). deletes k memory (keyOf op) (wantBeside (withOp op z)) leaf fathers) up)
+      ≡ fromLeaf (act (wantBeside (withOp op z))) up
+  unfolding act judgedAt atLeaf goesLeft
+  beside-acts op z [] leaf right = absurd (false≢true leaf)
+  beside-acts (Search x) z (p ∷ up) leaf right = not-both right (sym (across-idle k memory (withOp (Search x) z) (z .path) refl))
+  beside-acts (Insert x v) z (p ∷ up) leaf right = not-both right (sym (across-idle k memory (withOp (Insert x v) z) (z .path) refl))
+  beside-acts (Delete x) z (p ∷ up) leaf right =
+      let more : Stand = wantBeside (withOp (Delete x) z) in
       let found : Bool = has x (memory p .entries) in
-      let next : Bool = isSibling (needs k memory x p up siblings) want in
-      let levels : Bool = sameLevels memory (p ∷ up) more in
+      let next : Bool = isSibling (needs k memory x p up (z .beside)) (z .want) in
+      let levels : Bool = sameLevels memory (p ∷ up) (more .beside) in
       let there : found ≡ true =
       ⊎-elim (λ beside. and-first found next (and-first (found && next) levels beside))
-      (λ across. not-both across (sym (across-idle (Delete x) k memory path siblings want refl)))
-      (or-cases (found && next && levels) (rightlyAcross (Delete x) k memory path siblings want) right) in
+      (λ across. not-both across (sym (across-idle k memory (withOp (Delete x) z) (z .path) refl)))
+      (or-cases (found && next && levels) (rightlyAcross k memory (withOp (Delete x) z) (z .path)) right) in
       sym
-      (cond-true (judgedAt (Delete x) k memory free path more p up) (goes path more (route x (memory p))) leaf
-      ∙ cond-true (deletes k memory x path p up more) (ends NoSuchKey []) there)
-  beside-acts (Next x) path siblings (p ∷ up) want leaf right =
-      let more : List ℕ = siblings ++ want ∷ [] in
+      (cond-true (judgedAt (Delete x) k memory free more p up) (goes (wantsNext more (route x (memory p)))) leaf
+      ∙ cond-true (deletes k memory x more p up) (ends NoSuchKey []) there)
+  beside-acts (Next x) z (p ∷ up) leaf right =
+      let more : Stand = wantBeside (withOp (Next x) z) in
       sym
-      (cond-true (judgedAt (Next x) k memory free path more p up) (goes path more (route x (memory p))) leaf
-      ∙ ap (onSecond (atLeaf (Next x) k memory free path p up) memory path more) (reverse-append siblings (want ∷ [])))
-  beside-acts (Regrade x v) path siblings (p ∷ up) want leaf right = not-both right (sym (across-idle (Regrade x v) k memory path siblings want refl))
+      (cond-true (judgedAt (Next x) k memory free more p up) (goes (wantsNext more (route x (memory p)))) leaf
+      ∙ ap (onSecond (atLeaf (Next x) k memory free more p up) memory more) (reverse-append (z .beside) (z .want ∷ [])))
+  beside-acts (Regrade x v) z (p ∷ up) leaf right = not-both right (sym (across-idle k memory (withOp (Regrade x v) z) (z .path) refl))
 
   -- without siblings the rule at a leaf is the one for an operation that comes down
-  alone-acts : (op : Op) (path : List ℕ) (leaf : ℕ) (fathers : List ℕ) → atLeaf op k memory free path leaf fathers ≡ judgedAt op k memory free path [] leaf fathers
-  unfolding atLeaf judgedAt
-  alone-acts (Search x) path leaf fathers = refl
-  alone-acts (Insert x v) path leaf fathers = refl
-  alone-acts (Delete x) path leaf fathers = refl
-  alone-acts (Next x) path leaf fathers = refl
-  alone-acts (Regrade x v) path leaf fathers = refl
+  alone-acts : (op : Op) (z : Stand) (path : List ℕ) (leaf : ℕ) (fathers : List ℕ)
+      → atLeaf op k memory free (onPages z path []) leaf fathers ≡ judgedAt op k memory free (onPages z path []) leaf fathers
+  unfolding judgedAt
+  alone-acts (Search x) z path leaf fathers = refl
+  alone-acts (Insert x v) z path leaf fathers = refl
+  alone-acts (Delete x) z path leaf fathers = refl
+  alone-acts (Next x) z path leaf fathers = refl
+  alone-acts (Regrade x v) z path leaf fathers = refl
 
   -- an operation that comes down to page p stands at a path that ends there
-  down-acts : (op : Op) (path : List ℕ) (p : ℕ) (fathers : List ℕ) → reverse path ≡ p ∷ fathers
-      → cond (isLeaf (memory p)) (fromLeaf (λ (leaf : ℕ) (up : List ℕ). atLeaf op k memory free path leaf up) (reverse path)) (goes path [] (route (keyOf op) (memory p)))
-      ≡ fromLeaf (act op path []) (reverse path)
+  down-acts : (z : Stand) (path : List ℕ) (p : ℕ) (fathers : List ℕ) → reverse path ≡ p ∷ fathers
+      → cond (isLeaf (memory p))
+      (fromLeaf (λ (leaf : ℕ) (up : List ℕ). atLeaf (z .op) k memory free (onPages z path []) leaf up) (reverse path))
+      (goes (wantsNext (onPages z path []) (route (keyOf (z .op)) (memory p))))
+      ≡ fromLeaf (act (onPages z path [])) (reverse path)
   unfolding act
-  down-acts op path p fathers e =
+  down-acts z path p fathers e =
+      let down : Stand = onPages z path [] in
       subst
       (λ (ups : List ℕ).
-      cond (isLeaf (memory p)) (fromLeaf (λ (leaf : ℕ) (up : List ℕ). atLeaf op k memory free path leaf up) ups) (goes path [] (route (keyOf op) (memory p)))
-      ≡ fromLeaf (act op path []) ups)
+      cond (isLeaf (memory p)) (fromLeaf (λ (leaf : ℕ) (up : List ℕ). atLeaf (z .op) k memory free down leaf up) ups) (goes (wantsNext down (route (keyOf (z .op)) (memory p))))
+      ≡ fromLeaf (act down) ups)
       (sym e)
-      (ap (λ (v : Verdict). cond (isLeaf (memory p)) v (goes path [] (route (keyOf op) (memory p)))) (alone-acts op path p fathers))
+      (ap (λ (v : Verdict). cond (isLeaf (memory p)) v (goes (wantsNext down (route (keyOf (z .op)) (memory p))))) (alone-acts (z .op) z path p fathers))
 
 -- What a step comes to that is granted to an operation with the right pages is what the operation does from where it then stands.
-pub granted-judged : (op : Op) (k : ℕ) (memory : ℕ → Page) (free path siblings : List ℕ) (want : ℕ) → fitting op k memory path siblings want ≡ true
-    → granted op k memory free path siblings want
-    ≡ judged op k memory free (standPath op k memory path want) (standBeside memory path siblings want)
-unfolding granted judged fitting besides comesDown act
-granted-judged op k memory free path siblings want h =
-    let leaf : Bool = atItsLeaf memory (reverse path) in
-    let below : Bool = descends memory (keyOf op) (path ++ want ∷ []) && isNone siblings in
-    let beside : Bool = descends memory (keyOf op) path && (rightlyBeside op k memory (reverse path) siblings want || rightlyAcross op k memory path siblings want) in
-    let right : cond leaf beside below ≡ true = and-second (rightlyKept op k memory path want) (cond leaf beside below) h in
+pub granted-judged : (k : ℕ) (memory : ℕ → Page) (free : List ℕ) (z : Stand) → fitting k memory z ≡ true
+    → granted k memory free z ≡ judged k memory free (stood k memory z)
+unfolding granted judged fitting besides comesDown act stood
+granted-judged k memory free z h =
+    let leaf : Bool = atItsLeaf memory (reverse (z .path)) in
+    let below : Bool = descends memory (keyOf (z .op)) (z .path ++ z .want ∷ []) && isNone (z .beside) in
+    let beside : Bool = descends memory (keyOf (z .op)) (z .path) && (rightlyBeside k memory z (reverse (z .path)) || rightlyAcross k memory z (z .path)) in
+    let right : cond leaf beside below ≡ true = and-second (rightlyKept (z .op) k memory (z .path) (z .want)) (cond leaf beside below) h in
     split leaf refl right
   where
-    split : (b : Bool) → atItsLeaf memory (reverse path) ≡ b
-        → cond b (descends memory (keyOf op) path && (rightlyBeside op k memory (reverse path) siblings want || rightlyAcross op k memory path siblings want)) (descends memory (keyOf op) (path ++ want ∷ []) && isNone siblings) ≡ true
-        → cond b (besides op k memory path siblings want) (comesDown op k memory free path want)
-        ≡ judged op k memory free (cond b path (kept op k memory path want)) (cond b (siblings ++ want ∷ []) [])
+    split : (b : Bool) → atItsLeaf memory (reverse (z .path)) ≡ b
+        → cond b (descends memory (keyOf (z .op)) (z .path) && (rightlyBeside k memory z (reverse (z .path)) || rightlyAcross k memory z (z .path))) (descends memory (keyOf (z .op)) (z .path ++ z .want ∷ []) && isNone (z .beside)) ≡ true
+        → cond b (besides k memory z) (comesDown k memory free z)
+        ≡ judged k memory free (onPages z (cond b (z .path) (kept k memory z)) (cond b (z .beside ++ z .want ∷ []) []))
     split true leaf right =
-        beside-acts k memory free op path siblings (reverse path) want leaf
-        (and-second (descends memory (keyOf op) path) (rightlyBeside op k memory (reverse path) siblings want || rightlyAcross op k memory path siblings want) right)
+        beside-acts k memory free (z .op) z (reverse (z .path)) leaf
+        (and-second (descends memory (keyOf (z .op)) (z .path)) (rightlyBeside k memory z (reverse (z .path)) || rightlyAcross k memory z (z .path)) right)
     split false above right =
         cond-ind
-        (λ (l : List ℕ). cond (isLeaf (memory want)) (fromLeaf (λ (p : ℕ) (up : List ℕ). atLeaf op k memory free l p up) (reverse l)) (goes l [] (route (keyOf op) (memory want)))
-        ≡ judged op k memory free l [])
-        (isSafe op k (memory want))
-        (λ safe. down-acts k memory free op (want ∷ []) want [] refl)
-        (λ full. down-acts k memory free op (path ++ want ∷ []) want (reverse path) (reverse-append path (want ∷ [])))
+        (λ (l : List ℕ).
+        cond (isLeaf (memory (z .want)))
+        (fromLeaf (λ (p : ℕ) (up : List ℕ). atLeaf (z .op) k memory free (onPages z l []) p up) (reverse l))
+        (goes (wantsNext (onPages z l []) (route (keyOf (z .op)) (memory (z .want)))))
+        ≡ judged k memory free (onPages z l []))
+        (isSafe (z .op) k (memory (z .want)))
+        (λ safe. down-acts k memory free z (z .want ∷ []) (z .want) [] refl)
+        (λ full. down-acts k memory free z (z .path ++ z .want ∷ []) (z .want) (reverse (z .path)) (reverse-append (z .path) (z .want ∷ [])))
 
 -- ---- what is known where an operation stands
 
@@ -195,7 +199,7 @@ above stand = fathersOf (stand .depth) (stand .path)
 -- The course is what the rule says of an operation that stands so, and a change may count on what it asks.
 abbrev pub Judges : Op → ℕ → (ℕ → Page) → List ℕ → Slot → Course → Type 0
 Judges op k memory free stand course =
-    (courseOf k memory free (pathOf stand) (besideOf stand) course ≡ ifNew (judged op k memory free (pathOf stand) (besideOf stand)))
+    (courseOf k memory free (standOf op stand) course ≡ ifNew (judged k memory free (standOf op stand)))
     × ready op memory (pathOf stand) course
 
 -- an answer, or the whole change, is no page to want next
@@ -205,32 +209,32 @@ ends-new false a a′ ws ws′ = refl
 
 module _ (k : ℕ) (memory : ℕ → Page) (free : List ℕ) (stand : Slot) where
   -- the rule's word for a course
-  abbrev said : Course → Verdict
-  said = courseOf k memory free (pathOf stand) (besideOf stand)
+  abbrev said : Op → Course → Verdict
+  said op = courseOf k memory free (standOf op stand)
 
   -- on to a page that is none of those held
-  pub next-judges : (op : Op) (next : ℕ) → (said (nextCourse stand next) ≡ ifNew (goes (pathOf stand) (besideOf stand) next)) × ready op memory (pathOf stand) (nextCourse stand next)
+  pub next-judges : (op : Op) (next : ℕ) → (said op (nextCourse stand next) ≡ ifNew (goes (wantsNext (standOf op stand) next))) × ready op memory (pathOf stand) (nextCourse stand next)
   next-judges op next = split (member next (held stand))
     where
-      split : (b : Bool) → (said (cond b Broken (Goes next)) ≡ cond (not b) (goes (pathOf stand) (besideOf stand) next) broken) × ready op memory (pathOf stand) (cond b Broken (Goes next))
+      split : (b : Bool) → (said op (cond b Broken (Goes next)) ≡ cond (not b) (goes (wantsNext (standOf op stand) next)) broken) × ready op memory (pathOf stand) (cond b Broken (Goes next))
       split true = (refl, tt)
       split false = (refl, tt)
 
   module _ (up : reverse (pathOf stand) ≡ lowest stand ∷ above stand) where
     -- what the rule says above the leaves, and at a leaf
     judged-above : (op : Op) → isLeaf (memory (lowest stand)) ≡ false
-        → judged op k memory free (pathOf stand) (besideOf stand) ≡ goes (pathOf stand) (besideOf stand) (route (keyOf op) (memory (lowest stand)))
+        → judged k memory free (standOf op stand) ≡ goes (wantsNext (standOf op stand) (route (keyOf op) (memory (lowest stand))))
     unfolding judged act
     judged-above op high =
-        ap (fromLeaf (act k memory free op (pathOf stand) (besideOf stand))) up
-        ∙ cond-false (judgedAt op k memory free (pathOf stand) (besideOf stand) (lowest stand) (above stand)) (goes (pathOf stand) (besideOf stand) (route (keyOf op) (memory (lowest stand)))) high
+        ap (fromLeaf (act k memory free (standOf op stand))) up
+        ∙ cond-false (judgedAt op k memory free (standOf op stand) (lowest stand) (above stand)) (goes (wantsNext (standOf op stand) (route (keyOf op) (memory (lowest stand))))) high
 
     pub judged-leaf : (op : Op) → isLeaf (memory (lowest stand)) ≡ true
-        → judged op k memory free (pathOf stand) (besideOf stand) ≡ judgedAt op k memory free (pathOf stand) (besideOf stand) (lowest stand) (above stand)
+        → judged k memory free (standOf op stand) ≡ judgedAt op k memory free (standOf op stand) (lowest stand) (above stand)
     unfolding judged act
     judged-leaf op low =
-        ap (fromLeaf (act k memory free op (pathOf stand) (besideOf stand))) up
-        ∙ cond-true (judgedAt op k memory free (pathOf stand) (besideOf stand) (lowest stand) (above stand)) (goes (pathOf stand) (besideOf stand) (route (keyOf op) (memory (lowest stand)))) low
+        ap (fromLeaf (act k memory free (standOf op stand))) up
+        ∙ cond-true (judgedAt op k memory free (standOf op stand) (lowest stand) (above stand)) (goes (wantsNext (standOf op stand) (route (keyOf op) (memory (lowest stand))))) low
 
     -- above the leaves the operation goes on to where its key leads
     pub goes-judges : (op : Op) (key next : ℕ) (course : Course) → isLeaf (memory (lowest stand)) ≡ false → key ≡ keyOf op
@@ -239,11 +243,11 @@ module _ (k : ℕ) (memory : ℕ → Page) (free : List ℕ) (stand : Slot) wher
         let on = next-judges op next in
         let leads : next ≡ route (keyOf op) (memory (lowest stand)) = read ∙ ap (λ (y : ℕ). route y (memory (lowest stand))) asked in
         subst (Judges op k memory free stand) (sym r)
-        (on .0 ∙ ap (λ (p : ℕ). ifNew (goes (pathOf stand) (besideOf stand) p)) leads ∙ sym (ap ifNew (judged-above op high)), on .1)
+        (on .0 ∙ ap (λ (p : ℕ). ifNew (goes (wantsNext (standOf op stand) p))) leads ∙ sym (ap ifNew (judged-above op high)), on .1)
 
     -- at a leaf the operation does this
     pub leaf-judges : isLeaf (memory (lowest stand)) ≡ true → (op o : Op) (course done : Course) → op ≡ o → course ≡ done
-        → (said done ≡ ifNew (judgedAt o k memory free (pathOf stand) (besideOf stand) (lowest stand) (above stand))) × ready o memory (pathOf stand) done
+        → (said o done ≡ ifNew (judgedAt o k memory free (standOf o stand) (lowest stand) (above stand))) × ready o memory (pathOf stand) done
         → Judges op k memory free stand course
     leaf-judges low op o course done told r h =
         subst (λ (q : Op). Judges q k memory free stand course) (sym told)
@@ -253,7 +257,7 @@ module _ (k : ℕ) (memory : ℕ → Page) (free : List ℕ) (stand : Slot) wher
 
     module _ (low : isLeaf (memory (lowest stand)) ≡ true) (op : Op) (lot : Lot) (course : Course) where
       judges-at : (o : Op) (known : Lot → Course) → lot ≡ looked (keyOf o) (memory (lowest stand) .entries) → op ≡ o → course ≡ known lot
-          → (said (known (looked (keyOf o) (memory (lowest stand) .entries))) ≡ ifNew (judgedAt o k memory free (pathOf stand) (besideOf stand) (lowest stand) (above stand)))
+          → (said o (known (looked (keyOf o) (memory (lowest stand) .entries))) ≡ ifNew (judgedAt o k memory free (standOf o stand) (lowest stand) (above stand)))
           × ready o memory (pathOf stand) (known (looked (keyOf o) (memory (lowest stand) .entries)))
           → Judges op k memory free stand course
       judges-at o known read told r h =
@@ -265,7 +269,7 @@ module _ (k : ℕ) (memory : ℕ → Page) (free : List ℕ) (stand : Slot) wher
           judges-at (Search x) searchCourse read told r
           (split (has x (memory (lowest stand) .entries)) (information x (memory (lowest stand) .entries)))
         where
-          split : (b : Bool) (v : ℕ) → (said (searchCourse (cond b (There v) Missing)) ≡ ends (cond b (Found v) NotFound) [])
+          split : (b : Bool) (v : ℕ) → (said (Search x) (searchCourse (cond b (There v) Missing)) ≡ ends (cond b (Found v) NotFound) [])
               × ready (Search x) memory (pathOf stand) (searchCourse (cond b (There v) Missing))
           split true v = (refl, tt)
           split false v = (refl, tt)
@@ -280,7 +284,7 @@ module _ (k : ℕ) (memory : ℕ → Page) (free : List ℕ) (stand : Slot) wher
           change : ℕ → List ℕ → Verdict
           change leaf fathers = cond (ltb (length free) (room k memory leaf (pathOf stand))) (ends NoRoom []) (ends Inserted (insertion k memory x v free leaf fathers))
 
-          split : (b : Bool) (v′ : ℕ) → (said (insertCourse (cond b (There v′) Missing) x v) ≡ ifNew (cond b (ends (AlreadyThere v′) []) (change (lowest stand) (above stand))))
+          split : (b : Bool) (v′ : ℕ) → (said (Insert x v) (insertCourse (cond b (There v′) Missing) x v) ≡ ifNew (cond b (ends (AlreadyThere v′) []) (change (lowest stand) (above stand))))
               × ready (Insert x v) memory (pathOf stand) (insertCourse (cond b (There v′) Missing) x v)
           split true v′ = (refl, tt)
           split false v′ = (
@@ -298,7 +302,7 @@ module _ (k : ℕ) (memory : ℕ → Page) (free : List ℕ) (stand : Slot) wher
           old = information x (memory (lowest stand) .entries)
 
           split : (b : Bool) → has x (memory (lowest stand) .entries) ≡ b
-              → (said (regradeCourse (cond b (There old) Missing) x v) ≡ ifNew (cond b (ends (Regraded old) (regrading memory x v (lowest stand))) (ends NoSuchKey [])))
+              → (said (Regrade x v) (regradeCourse (cond b (There old) Missing) x v) ≡ ifNew (cond b (ends (Regraded old) (regrading memory x v (lowest stand))) (ends NoSuchKey [])))
               × ready (Regrade x v) memory (pathOf stand) (regradeCourse (cond b (There old) Missing) x v)
           split true there = (
             ap (fromLeaf (λ (leaf : ℕ) (fathers : List ℕ). ends (Regraded old) (regrading memory x v leaf))) up,
@@ -307,7 +311,7 @@ module _ (k : ℕ) (memory : ℕ → Page) (free : List ℕ) (stand : Slot) wher
           split false missing = (refl, tt)
 
       pub delete-judges : (x : ℕ) → lot ≡ looked x (memory (lowest stand) .entries) → op ≡ Delete x → course ≡ deleteCourse k memory x lot stand → Judges op k memory free stand course
-      unfolding judgedAt deletes
+      unfolding judgedAt atLeaf deletes
       delete-judges x read told r =
           judges-at (Delete x) (λ (l : Lot). deleteCourse k memory x l stand) read told r (split (has x (memory (lowest stand) .entries)) refl)
         where
@@ -316,7 +320,7 @@ module _ (k : ℕ) (memory : ℕ → Page) (free : List ℕ) (stand : Slot) wher
 
           -- by what is needed, once the key is known to be there
           byNeeds : (need : Need) → has x (memory (lowest stand) .entries) ≡ true
-              → (said (needCourse stand x found need) ≡ ifNew (byNeed (pathOf stand) (besideOf stand) (ends (Deleted found) (deletion k memory x (lowest stand) (above stand) (besideOf stand))) need))
+              → (said (Delete x) (needCourse stand x found need) ≡ ifNew (byNeed (standOf (Delete x) stand) (ends (Deleted found) (deletion k memory x (lowest stand) (above stand) (besideOf stand))) need))
               × ready (Delete x) memory (pathOf stand) (needCourse stand x found need)
           byNeeds nothing there = (
             ap (fromLeaf (λ (leaf : ℕ) (fathers : List ℕ). ends (Deleted found) (deletion k memory x leaf fathers (besideOf stand)))) up,
@@ -326,8 +330,8 @@ module _ (k : ℕ) (memory : ℕ → Page) (free : List ℕ) (stand : Slot) wher
           byNeeds astray there = (refl, tt)
 
           split : (b : Bool) → has x (memory (lowest stand) .entries) ≡ b
-              → (said (deleteCourse k memory x (cond b (There found) Missing) stand)
-              ≡ ifNew (cond b (deletes k memory x (pathOf stand) (lowest stand) (above stand) (besideOf stand)) (ends NoSuchKey [])))
+              → (said (Delete x) (deleteCourse k memory x (cond b (There found) Missing) stand)
+              ≡ ifNew (cond b (deletes k memory x (standOf (Delete x) stand) (lowest stand) (above stand)) (ends NoSuchKey [])))
               × ready (Delete x) memory (pathOf stand) (deleteCourse k memory x (cond b (There found) Missing) stand)
           split true there = byNeeds (needs k memory x (lowest stand) (above stand) (besideOf stand)) there
           split false missing = (refl, tt)

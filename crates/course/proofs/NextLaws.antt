@@ -3,7 +3,7 @@ use Prim.Native.Nat.{ℕ, _-_}
 use mathlib.Core.Bool.{Bool, true, false, cond}
 use mathlib.Core.List.{List, [], _∷_, reverse}
 use mathlib.Core.Logic.{_≢_}
-use mathlib.Core.Path.{_≡_, refl, sym, ap, ap₂, _∙_, subst}
+use mathlib.Core.Path.{_≡_, refl, sym, ap, _∙_, subst}
 use native.Mathlib.Omega.{arith}
 use borrow.Author.Tests.{eqb-true, eqb-false}
 use lib.Dec.{eqb}
@@ -19,7 +19,7 @@ use Rattle.slots.specs.declared.Op.{Op}
 use Rattle.slots.specs.declared.Op.the-variants.{Next}
 use Rattle.slots.specs.declared.Answer.the-variants.{None as NoLot}
 use Rattle.slots.specs.declared.Slot.{Slot}
-use Rattle.slots.specs.Parts.{pathOf, besideOf}
+use Rattle.slots.specs.Parts.{pathOf, besideOf, Stand, wantsNext, standOf}
 use Rattle.course.specs.declared.judging.Course.{Course}
 use Rattle.course.specs.declared.judging.Course.the-variants.{Ends}
 use Rattle.footing.specs.Granted.{Verdict, goes, ends, isSafe, nextAnswer, crosses, byNearest, atLeaf}
@@ -61,42 +61,43 @@ unfolding besideOf
 none-second stand e = ap (λ (j : ℕ). take j (stand .beside)) e
 
 module _ (k : ℕ) (memory : ℕ → Page) (free : List ℕ) (x : ℕ) (stand : Slot) where
+  abbrev z : Stand
+  z = standOf (Next x) stand
+
   -- the course is the rule's word, and nothing is to be counted on
   abbrev Says : Verdict → Course → Type 0
   Says verdict course =
-      (courseOf k memory free (pathOf stand) (besideOf stand) course ≡ ifNew verdict) × ready (Next x) memory (pathOf stand) course
+      (courseOf k memory free z course ≡ ifNew verdict) × ready (Next x) memory (pathOf stand) course
 
   -- ---- at its first leaf
 
-  module _ (below : List ℕ) (top : pathOf stand ≡ getD (stand .path) 0 0 ∷ below) (none : besideOf stand ≡ []) where
+  module _ (below : List ℕ) (top : pathOf stand ≡ getD (stand .path) 0 0 ∷ below) where
     -- by the top page of its path
-    cross-says : Says (crosses (Next x) k memory (pathOf stand)) (crossCourse k memory x stand)
+    cross-says : Says (crosses x k memory z (pathOf stand)) (crossCourse k memory x stand)
     cross-says =
-        subst (λ (path : List ℕ). Says (crosses (Next x) k memory path) (crossCourse k memory x stand)) (sym top)
+        subst (λ (path : List ℕ). Says (crosses x k memory z path) (crossCourse k memory x stand)) (sym top)
         (split (isSafe (Next x) k (memory (getD (stand .path) 0 0))))
       where
         next : ℕ
         next = neighbour x (memory (getD (stand .path) 0 0))
 
-        split : (b : Bool) → Says (cond b (goes (getD (stand .path) 0 0 ∷ below) [] next) (ends NoLot [])) (cond b (nextCourse stand next) (Ends NoLot))
-        split true =
-            let on = next-judges k memory free stand (Next x) next in
-            (on .0 ∙ ap₂ (λ (path second : List ℕ). ifNew (goes path second next)) top none, on .1)
+        split : (b : Bool) → Says (cond b (goes (wantsNext z next)) (ends NoLot [])) (cond b (nextCourse stand next) (Ends NoLot))
+        split true = next-judges k memory free stand (Next x) next
         split false = (refl, tt)
 
     -- by the leaf's entries at or above the key
-    first-says : Says (atLeaf (Next x) k memory free (pathOf stand) (lowest stand) (above stand)) (firstCourse k memory x stand)
+    first-says : Says (atLeaf (Next x) k memory free z (lowest stand) (above stand)) (firstCourse k memory x stand)
     unfolding atLeaf
     first-says = split (atOrAbove x (memory (lowest stand) .entries))
       where
-        split : (es : List Entry) → Says (byNearest (crosses (Next x) k memory (pathOf stand)) es) (nearCourse (crossCourse k memory x stand) (nearest es))
+        split : (es : List Entry) → Says (byNearest (crosses x k memory z (pathOf stand)) es) (nearCourse (crossCourse k memory x stand) (nearest es))
         split [] = cross-says
         split (e ∷ es) = (refl, tt)
 
   -- ---- on its second way, at page p
 
   left-says : (p : ℕ)
-      → Says (cond (isLeaf (memory p)) (ends (nextAnswer (memory p .entries)) []) (goes (pathOf stand) (besideOf stand) (pointer 0 (memory p))))
+      → Says (cond (isLeaf (memory p)) (ends (nextAnswer (memory p .entries)) []) (goes (wantsNext z (pointer 0 (memory p)))))
       (leftCourse memory stand p)
   left-says p = split (isLeaf (memory p))
     where
@@ -105,7 +106,7 @@ module _ (k : ℕ) (memory : ℕ → Page) (free : List ℕ) (x : ℕ) (stand : 
       first (e ∷ es) = (refl, tt)
 
       split : (b : Bool)
-          → Says (cond b (ends (nextAnswer (memory p .entries)) []) (goes (pathOf stand) (besideOf stand) (pointer 0 (memory p))))
+          → Says (cond b (ends (nextAnswer (memory p .entries)) []) (goes (wantsNext z (pointer 0 (memory p)))))
           (cond b (nearCourse (Ends NoLot) (nearest (memory p .entries))) (nextCourse stand (pointer 0 (memory p))))
       split true = first (memory p .entries)
       split false = next-judges k memory free stand (Next x) (pointer 0 (memory p))
@@ -119,19 +120,19 @@ next-does {k} {stand = stand} op x memory free course h low told r =
     leaf-judges k memory free stand (stand-upward h) low op (Next x) course (nextsCourse k memory x stand) told r (split (eqb (stand .breadth) 0) refl)
   where
     whole : Verdict
-    whole = atLeaf (Next x) k memory free (pathOf stand) (lowest stand) (above stand)
+    whole = atLeaf (Next x) k memory free (standOf (Next x) stand) (lowest stand) (above stand)
 
     split : (b : Bool) → eqb (stand .breadth) 0 ≡ b
-        → Says k memory free x stand (onSecond whole memory (pathOf stand) (besideOf stand) (reverse (besideOf stand)))
+        → Says k memory free x stand (onSecond whole memory (standOf (Next x) stand) (reverse (besideOf stand)))
         (cond b (firstCourse k memory x stand) (leftCourse memory stand (getD (stand .beside) (stand .breadth - 1) 0)))
     split true e =
         let none = none-second stand (eqb-true (stand .breadth) 0 e) in
-        subst (λ (up : List ℕ). Says k memory free x stand (onSecond whole memory (pathOf stand) (besideOf stand) up) (firstCourse k memory x stand))
+        subst (λ (up : List ℕ). Says k memory free x stand (onSecond whole memory (standOf (Next x) stand) up) (firstCourse k memory x stand))
         (sym (ap reverse none))
-        (first-says k memory free x stand (drop 1 (pathOf stand)) (stand-top h) none)
+        (first-says k memory free x stand (drop 1 (pathOf stand)) (stand-top h))
     split false e =
         subst
-        (λ (up : List ℕ). Says k memory free x stand (onSecond whole memory (pathOf stand) (besideOf stand) up)
+        (λ (up : List ℕ). Says k memory free x stand (onSecond whole memory (standOf (Next x) stand) up)
         (leftCourse memory stand (getD (stand .beside) (stand .breadth - 1) 0)))
         (sym (second-upward h (eqb-false (stand .breadth) 0 e)))
         (left-says k memory free x stand (getD (stand .beside) (stand .breadth - 1) 0))

@@ -29,9 +29,9 @@ use Rattle.change.proofs.HeldLaws.{Known, held-known, held-front, held-back, he
 use Rattle.slots.specs.declared.Op.{Op}
 use Rattle.slots.specs.declared.Op.the-variants.{Search, Insert, Delete, Next, Regrade}
 use Rattle.slots.specs.declared.Slot.{Slot}
-use Rattle.slots.specs.Parts.{keyOf, isDelete, isNext, isOpen, openSlot, pathOf, besideOf, held}
+use Rattle.slots.specs.Parts.{keyOf, isDelete, isNext, isOpen, openSlot, pathOf, besideOf, held, Stand, holding, onPages, wantBeside, standOf, slotOf}
 use Rattle.slots.proofs.SoundFacts.{sound-slot}
-use Rattle.slots.proofs.Keeping.{path-new, beside-new}
+use Rattle.slots.proofs.Keeping.{stand-new}
 use Rattle.footing.specs.Granted.{isSafe, kept, atItsLeaf}
 use Rattle.footing.specs.Fitting.{descends, pagesSound, rightlyKept, sameLevels, isSibling, rightlyBeside, isNone, leftmost, turnsRight, rightlyAcross, fitting}
 use Rattle.footing.specs.Standing.{Asks, fits, stood, standPath, standBeside, Standing, SlotStanding}
@@ -95,9 +95,9 @@ distinct-last xs a t =
 -- ---- coming down
 
 -- a path without siblings
-stands-alone : {op : Op} {k n : ℕ} {ws path : List ℕ} → 1 ≤ length path → Held k n ws path → Falls (pageAt k ws) path
-    → distinct path ≡ true → Topped op k (pageAt k ws) path → Standing op k n ws path []
-stands-alone {k = k} {n = n} {ws = ws} {path = path} some held falls different top =
+stands-alone : (z : Stand) {k n : ℕ} {ws path : List ℕ} → 1 ≤ length path → Held k n ws path → Falls (pageAt k ws) path
+    → distinct path ≡ true → Topped (z .op) k (pageAt k ws) path → Standing k n ws (onPages z path [])
+stands-alone z {k} {n} {ws} {path} some held falls different top =
     record {
       some = some;
       deep = way-short held falls;
@@ -111,15 +111,15 @@ stands-alone {k = k} {n = n} {ws = ws} {path = path} some held falls different t
     }
 
 -- the want at the end of the path, or alone
-stands-below : {op : Op} {k n : ℕ} {ws : List ℕ} (path : List ℕ) (want : ℕ) → Held k n ws (path ++ want ∷ [])
-    → distinct (want ∷ path) ≡ true → Falls (pageAt k ws) (path ++ want ∷ []) → rightlyKept op k (pageAt k ws) path want ≡ true
-    → Standing op k n ws (kept op k (pageAt k ws) path want) []
-stands-below {op} {k} {n} {ws} path want held different falls right =
-    let last = distinct-last path want different in
-    cond-ind (λ (now : List ℕ). Standing op k n ws now []) (isSafe op k (pageAt k ws want))
-    (λ safe. stands-alone (omega arith) (held-back path (want ∷ []) held) (λ i h. absurd (not-suc-le-zero (le-of-suc-le-suc h)))
-    (distinct-back path (want ∷ []) last) (inr safe))
-    (λ unsafe. stands-alone (omega (arith, length-append path (want ∷ []))) held falls last (longer-top op k (pageAt k ws) path want right))
+stands-below : {k n : ℕ} {ws : List ℕ} (z : Stand) → Held k n ws (z .path ++ z .want ∷ [])
+    → distinct (z .want ∷ z .path) ≡ true → Falls (pageAt k ws) (z .path ++ z .want ∷ []) → rightlyKept (z .op) k (pageAt k ws) (z .path) (z .want) ≡ true
+    → Standing k n ws (onPages z (kept k (pageAt k ws) z) [])
+stands-below {k} {n} {ws} z held different falls right =
+    let last = distinct-last (z .path) (z .want) different in
+    cond-ind (λ (now : List ℕ). Standing k n ws (onPages z now [])) (isSafe (z .op) k (pageAt k ws (z .want)))
+    (λ safe. stands-alone z (omega arith) (held-back (z .path) (z .want ∷ []) held) (λ i h. absurd (not-suc-le-zero (le-of-suc-le-suc h)))
+    (distinct-back (z .path) (z .want ∷ []) last) (inr safe))
+    (λ unsafe. stands-alone z (omega (arith, length-append (z .path) (z .want ∷ []))) held falls last (longer-top (z .op) k (pageAt k ws) (z .path) (z .want) right))
 
 -- ---- at its leaf
 
@@ -210,21 +210,20 @@ needed-others k memory x p (father ∷ up) (s ∷ siblings) want other t =
     t
 
 -- what a deletion at its leaf tells, by the leaf and its fathers
-beside-needs : (op : Op) (k : ℕ) (memory : ℕ → Page) (leaf : ℕ) (fathers siblings : List ℕ) (want : ℕ)
-    → rightlyBeside op k memory (leaf ∷ fathers) siblings want ≡ true
-    → isSibling (needs k memory (keyOf op) leaf fathers siblings) want ≡ true
-beside-needs op k memory leaf fathers siblings want t =
-    let a = isDelete op && has (keyOf op) (memory leaf .entries) in
-    let b = isSibling (needs k memory (keyOf op) leaf fathers siblings) want in
-    and-second a b (and-first (a && b) (sameLevels memory (leaf ∷ fathers) (siblings ++ want ∷ [])) t)
+beside-needs : (k : ℕ) (memory : ℕ → Page) (z : Stand) (leaf : ℕ) (fathers : List ℕ) → rightlyBeside k memory z (leaf ∷ fathers) ≡ true
+    → isSibling (needs k memory (keyOf (z .op)) leaf fathers (z .beside)) (z .want) ≡ true
+beside-needs k memory z leaf fathers t =
+    let a = isDelete (z .op) && has (keyOf (z .op)) (memory leaf .entries) in
+    let b = isSibling (needs k memory (keyOf (z .op)) leaf fathers (z .beside)) (z .want) in
+    and-second a b (and-first (a && b) (sameLevels memory (leaf ∷ fathers) (z .beside ++ z .want ∷ [])) t)
 
-beside-levels : (op : Op) (k : ℕ) (memory : ℕ → Page) (up siblings : List ℕ) (want : ℕ)
-    → rightlyBeside op k memory up siblings want ≡ true → sameLevels memory up (siblings ++ want ∷ []) ≡ true
-beside-levels op k memory [] siblings want t = absurd (false≢true t)
-beside-levels op k memory (leaf ∷ fathers) siblings want t =
-    let a = isDelete op && has (keyOf op) (memory leaf .entries) in
-    let b = isSibling (needs k memory (keyOf op) leaf fathers siblings) want in
-    and-second (a && b) (sameLevels memory (leaf ∷ fathers) (siblings ++ want ∷ [])) t
+beside-levels : (k : ℕ) (memory : ℕ → Page) (z : Stand) (up : List ℕ) → rightlyBeside k memory z up ≡ true
+    → sameLevels memory up (z .beside ++ z .want ∷ []) ≡ true
+beside-levels k memory z [] t = absurd (false≢true t)
+beside-levels k memory z (leaf ∷ fathers) t =
+    let a = isDelete (z .op) && has (keyOf (z .op)) (memory leaf .entries) in
+    let b = isSibling (needs k memory (keyOf (z .op)) leaf fathers (z .beside)) (z .want) in
+    and-second (a && b) (sameLevels memory (leaf ∷ fathers) (z .beside ++ z .want ∷ [])) t
 
 -- a path whose last page is a leaf has a page
 leaf-some : (memory : ℕ → Page) (path : List ℕ) → atItsLeaf memory (reverse path) ≡ true → 1 ≤ length path
@@ -232,26 +231,26 @@ leaf-some memory [] t = absurd (false≢true t)
 leaf-some memory (p ∷ path) t = omega arith
 
 -- the want behind the pages beside a path
-stands-with : (op : Op) {k n : ℕ} {ws : List ℕ} (path siblings : List ℕ) (want : ℕ) → 1 ≤ length path → Falls (pageAt k ws) path
-    → Held k n ws (path ++ siblings ++ want ∷ [])
-    → distinct (want ∷ (path ++ siblings)) ≡ true
-    → rightlyKept op k (pageAt k ws) path want ≡ true
-    → length (siblings ++ want ∷ []) ≤ length path
-    → (isDelete op ≡ true → (i j : ℕ) → j < length (siblings ++ want ∷ []) → i + j + 1 ≡ length path
-    → pageAt k ws (getD path i 0) .level ≡ pageAt k ws (getD (siblings ++ want ∷ []) j 0) .level)
-    → (isDelete op ≡ true → Others (siblings ++ want ∷ []))
-    → Standing op k n ws path (siblings ++ want ∷ [])
-stands-with op {k} {n} {ws} path siblings want some falls held different above few levels others =
-    let together = append-assoc path siblings (want ∷ []) in
-    let pages : Held k n ws (path ++ (siblings ++ want ∷ [])) = subst (Held k n ws) together held in
+stands-with : {k n : ℕ} {ws : List ℕ} (z : Stand) → 1 ≤ length (z .path) → Falls (pageAt k ws) (z .path)
+    → Held k n ws (holding z ++ z .want ∷ [])
+    → distinct (z .want ∷ holding z) ≡ true
+    → rightlyKept (z .op) k (pageAt k ws) (z .path) (z .want) ≡ true
+    → length (z .beside ++ z .want ∷ []) ≤ length (z .path)
+    → (isDelete (z .op) ≡ true → (i j : ℕ) → j < length (z .beside ++ z .want ∷ []) → i + j + 1 ≡ length (z .path)
+    → pageAt k ws (getD (z .path) i 0) .level ≡ pageAt k ws (getD (z .beside ++ z .want ∷ []) j 0) .level)
+    → (isDelete (z .op) ≡ true → Others (z .beside ++ z .want ∷ []))
+    → Standing k n ws (wantBeside z)
+stands-with {k} {n} {ws} z some falls held different above few levels others =
+    let together = append-assoc (z .path) (z .beside) (z .want ∷ []) in
+    let pages : Held k n ws (holding (wantBeside z)) = subst (Held k n ws) together held in
     record {
       some = some;
-      deep = way-short (held-front path (siblings ++ want ∷ []) pages) falls;
+      deep = way-short (held-front (z .path) (z .beside ++ z .want ∷ []) pages) falls;
       few = few;
       held = pages;
       descends = falls;
-      different = subst (λ (ps : List ℕ). distinct ps ≡ true) together (distinct-last (path ++ siblings) want different);
-      top = kept-top op k (pageAt k ws) path want some above;
+      different = subst (λ (ps : List ℕ). distinct ps ≡ true) together (distinct-last (holding z) (z .want) different);
+      top = kept-top (z .op) k (pageAt k ws) (z .path) (z .want) some above;
       levels = levels;
       others = others;
     }
@@ -266,46 +265,50 @@ father-names {k} {ws = ws} {path = path} x held falls i h =
     let upper = ne-eqb (pageAt k ws (getD path i 0) .level) 1 (λ one. omega arith) in
     neighbour-other x (father .facts) upper (held-upper (held .least) father upper)
 
-module _ (op : Op) {k n : ℕ} {ws : List ℕ} (path siblings : List ℕ) (want : ℕ) (some : 1 ≤ length path)
-    (falls : Falls (pageAt k ws) path) (right : rightlyBeside op k (pageAt k ws) (reverse path) siblings want ≡ true) where
+module _ {k n : ℕ} {ws : List ℕ} (z : Stand) (some : 1 ≤ length (z .path)) (falls : Falls (pageAt k ws) (z .path))
+    (right : rightlyBeside k (pageAt k ws) z (reverse (z .path)) ≡ true) where
   -- neither a sibling nor the want is page 0
-  beside-others : Held k n ws path → Others (siblings ++ want ∷ [])
+  beside-others : Held k n ws (z .path) → Others (z .beside ++ z .want ∷ [])
   beside-others held =
+      let path = z .path in
+      let x = keyOf (z .op) in
       let d = length path - 1 in
-      needed-others k (pageAt k ws) (keyOf op) (getD path d 0) (upward d path) siblings want
+      needed-others k (pageAt k ws) x (getD path d 0) (upward d path) (z .beside) (z .want)
       (λ i h. let long = length-upward d path in
-      subst (λ (p : ℕ). neighbour (keyOf op) (pageAt k ws p) ≢ 0) (sym (upward-at d i (d - 1 - i) path (omega arith)))
-      (father-names (keyOf op) held falls (d - 1 - i) (omega arith)))
-      (beside-needs op k (pageAt k ws) (getD path d 0) (upward d path) siblings want
-      (subst (λ (up : List ℕ). rightlyBeside op k (pageAt k ws) up siblings want ≡ true)
+      subst (λ (p : ℕ). neighbour x (pageAt k ws p) ≢ 0) (sym (upward-at d i (d - 1 - i) path (omega arith)))
+      (father-names x held falls (d - 1 - i) (omega arith)))
+      (beside-needs k (pageAt k ws) z (getD path d 0) (upward d path)
+      (subst (λ (up : List ℕ). rightlyBeside k (pageAt k ws) z up ≡ true)
       (reverse-upward path ∙ upward-father (length path) path some) right))
 
   -- the want behind the siblings
-  stands-beside : Held k n ws (path ++ siblings ++ want ∷ []) → distinct (want ∷ (path ++ siblings)) ≡ true
-      → rightlyKept op k (pageAt k ws) path want ≡ true → Standing op k n ws path (siblings ++ want ∷ [])
+  stands-beside : Held k n ws (holding z ++ z .want ∷ []) → distinct (z .want ∷ holding z) ≡ true
+      → rightlyKept (z .op) k (pageAt k ws) (z .path) (z .want) ≡ true → Standing k n ws (wantBeside z)
   stands-beside held different above =
-      let beside = siblings ++ want ∷ [] in
-      let levels = beside-levels op k (pageAt k ws) (reverse path) siblings want right in
-      stands-with op path siblings want some falls held different above
+      let path = z .path in
+      let beside = z .beside ++ z .want ∷ [] in
+      let levels = beside-levels k (pageAt k ws) z (reverse path) right in
+      stands-with z some falls held different above
       (omega (arith, levels-few (pageAt k ws) (reverse path) beside levels, length-reverse path))
       (λ _ i j h e.
       subst (λ (p : ℕ). pageAt k ws p .level ≡ pageAt k ws (getD beside j 0) .level)
       (ap (λ (up : List ℕ). getD up j 0) (reverse-upward path) ∙ upward-at (length path) j i path e)
       (levels-at (pageAt k ws) (reverse path) beside levels j h))
-      (λ _. beside-others (held-front path siblings (held-front (path ++ siblings) (want ∷ []) held)))
+      (λ _. beside-others (held-front path (z .beside) (held-front (holding z) (z .want ∷ []) held)))
 
 -- ---- on a second way
 
 -- what a Next on its second way tells: it is no deletion, and its way turns right at its top page
-across-told : (op : Op) (k : ℕ) (memory : ℕ → Page) (path second : List ℕ) (want : ℕ) → rightlyAcross op k memory path second want ≡ true
-    → (isNext op ≡ true) × (turnsRight memory (keyOf op) (getD path 0 0) (second ++ want ∷ []) ≡ true)
-across-told op k memory [] second want t = absurd (false≢true t)
-across-told op k memory (top ∷ below) second want t =
-    let none = isNone (atOrAbove (keyOf op) (memory (getD (reverse (top ∷ below)) 0 0) .entries)) in
-    let safe = isSafe op k (memory top) in
-    let turns = turnsRight memory (keyOf op) top (second ++ want ∷ []) in (
-      and-first (isNext op) none (and-first (isNext op && none) safe (and-first (isNext op && none && safe) turns t)),
-      and-second (isNext op && none && safe) turns t,
+across-told : (k : ℕ) (memory : ℕ → Page) (z : Stand) (path : List ℕ) → rightlyAcross k memory z path ≡ true
+    → (isNext (z .op) ≡ true) × (turnsRight memory (keyOf (z .op)) (getD path 0 0) (z .beside ++ z .want ∷ []) ≡ true)
+across-told k memory z [] t = absurd (false≢true t)
+across-told k memory z (top ∷ below) t =
+    let nexts = isNext (z .op) in
+    let none = isNone (atOrAbove (keyOf (z .op)) (memory (getD (reverse (top ∷ below)) 0 0) .entries)) in
+    let safe = isSafe (z .op) k (memory top) in
+    let turns = turnsRight memory (keyOf (z .op)) top (z .beside ++ z .want ∷ []) in (
+      and-first nexts none (and-first (nexts && none) safe (and-first (nexts && none && safe) turns t)),
+      and-second (nexts && none && safe) turns t,
     )
 
 no-deletion : (op : Op) → isNext op ≡ true → isDelete op ≡ true → ⊥
@@ -333,19 +336,20 @@ leaf-level memory path some leaf =
     eqb-true (memory (getD path (length path - 1) 0) .level) 1
     (subst (λ (up : List ℕ). atItsLeaf memory up ≡ true) (reverse-upward path ∙ upward-father (length path) path some) leaf)
 
-module _ (op : Op) {k n : ℕ} {ws : List ℕ} (path second : List ℕ) (want : ℕ) (some : 1 ≤ length path)
-    (falls : Falls (pageAt k ws) path) (right : rightlyAcross op k (pageAt k ws) path second want ≡ true)
-    (leaf : atItsLeaf (pageAt k ws) (reverse path) ≡ true) where
+module _ {k n : ℕ} {ws : List ℕ} (z : Stand) (some : 1 ≤ length (z .path)) (falls : Falls (pageAt k ws) (z .path))
+    (right : rightlyAcross k (pageAt k ws) z (z .path) ≡ true) (leaf : atItsLeaf (pageAt k ws) (reverse (z .path)) ≡ true) where
   -- the way has fewer pages than the path: both go down from the top page, and the path ends in a leaf
-  across-few : Held k n ws (path ++ (second ++ want ∷ [])) → length (second ++ want ∷ []) ≤ length path
+  across-few : Held k n ws (holding (wantBeside z)) → length (z .beside ++ z .want ∷ []) ≤ length (z .path)
   across-few held =
       let memory : ℕ → Page = pageAt k ws in
-      let way : List ℕ = second ++ want ∷ [] in
+      let path : List ℕ = z .path in
+      let second : List ℕ = z .beside in
+      let way : List ℕ = second ++ z .want ∷ [] in
       let top : ℕ = getD path 0 0 in
-      let long : length way ≡ length second + 1 = length-append second (want ∷ []) in
+      let long : length way ≡ length second + 1 = length-append second (z .want ∷ []) in
       let down = falls-steps memory path falls (length path - 1) (omega arith) in
       let low = leaf-level memory path some leaf in
-      let left = turn-falls memory (keyOf op) top way (across-told op k memory path second want right .1) in
+      let left = turn-falls memory (keyOf (z .op)) top way (across-told k memory z path right .1) in
       let across = falls-steps memory (top ∷ way) left (length second + 1) (omega arith) in
       let last = held-at (held-back path way held) (length second) (omega arith) .facts .lowest in
       let same : memory (getD (top ∷ way) (length second + 1) 0) .level ≡ memory (getD way (length second) 0) .level =
@@ -353,14 +357,14 @@ module _ (op : Op) {k n : ℕ} {ws : List ℕ} (path second : List ℕ) (want : 
       omega arith
 
   -- the want behind the second way
-  stands-across : Held k n ws (path ++ second ++ want ∷ []) → distinct (want ∷ (path ++ second)) ≡ true
-      → rightlyKept op k (pageAt k ws) path want ≡ true → Standing op k n ws path (second ++ want ∷ [])
+  stands-across : Held k n ws (holding z ++ z .want ∷ []) → distinct (z .want ∷ holding z) ≡ true
+      → rightlyKept (z .op) k (pageAt k ws) (z .path) (z .want) ≡ true → Standing k n ws (wantBeside z)
   stands-across held different above =
-      let next = across-told op k (pageAt k ws) path second want right .0 in
-      stands-with op path second want some falls held different above
-      (across-few (subst (Held k n ws) (append-assoc path second (want ∷ [])) held))
-      (λ d. absurd (no-deletion op next d))
-      (λ d. absurd (no-deletion op next d))
+      let next = across-told k (pageAt k ws) z (z .path) right .0 in
+      stands-with z some falls held different above
+      (across-few (subst (Held k n ws) (append-assoc (z .path) (z .beside) (z .want ∷ [])) held))
+      (λ d. absurd (no-deletion (z .op) next d))
+      (λ d. absurd (no-deletion (z .op) next d))
 
 -- ---- the slot
 
@@ -375,24 +379,21 @@ none-beside : (path siblings : List ℕ) → isNone siblings ≡ true → path +
 none-beside path [] t = append-nil path
 none-beside path (s ∷ siblings) t = absurd (false≢true t)
 
--- a slot made of this path and these siblings stands there
-stands-new : (op : Op) {k n : ℕ} {ws : List ℕ} (want : ℕ) (path siblings : List ℕ) → Standing op k n ws path siblings
-    → SlotStanding op k n ws (openSlot op want path siblings)
-stands-new op {k} {n} {ws} want path siblings h =
-    let own = sym (path-new op want path siblings) in
-    let others = sym (beside-new op want path siblings) in
-    record {
-      exact = ap₂ (λ (ps ss : List ℕ). openSlot op want ps ss) own others;
-      standing = subst (λ (ps : List ℕ). Standing op k n ws ps (besideOf (openSlot op want path siblings))) own
-          (subst (λ (ss : List ℕ). Standing op k n ws path ss) others h);
-    }
+-- a slot made to stand here stands here
+stands-new : {k n : ℕ} {ws : List ℕ} (z : Stand) → Standing k n ws z → SlotStanding (z .op) k n ws (slotOf z)
+stands-new {k} {n} {ws} z h =
+    let same : z ≡ standOf (z .op) (slotOf z) = sym (stand-new z) in
+    record { exact = ap slotOf same; standing = subst (Standing k n ws) same h }
 
-module _ {op : Op} {k n : ℕ} {ws : List ℕ} {slot : Slot} (asks : Asks k n ws op slot) (fit : fits op k n ws slot ≡ true) where
+module _ {op : Op} {k n : ℕ} {ws : List ℕ} {slot : Slot} (asks : Asks k n ws op slot) (fit : fits k n ws (standOf op slot) ≡ true) where
+  abbrev z : Stand
+  z = standOf op slot
+
   -- the pages that the slot holds and wants
   fits-held : Held k n ws (pagesOf slot)
   unfolding fits
   fits-held =
-      asks-held asks (sym (and-first (pagesSound k n ws (pagesOf slot)) (fitting op k (pageAt k ws) (pathOf slot) (besideOf slot) (slot .want)) fit)) refl
+      asks-held asks (sym (and-first (pagesSound k n ws (pagesOf slot)) (fitting k (pageAt k ws) z) fit)) refl
 
   pub path-held : Held k n ws (pathOf slot)
   path-held = held-front (pathOf slot) (besideOf slot) (held-front (held slot) (slot .want ∷ []) fits-held)
@@ -406,10 +407,10 @@ module _ {op : Op} {k n : ℕ} {ws : List ℕ} {slot : Slot} (asks : Asks k n ws
 
   -- they are those that the rules would have it hold and want: by the two ways of the rule
   abbrev besideTest : Bool
-  besideTest = rightlyBeside op k (pageAt k ws) (reverse (pathOf slot)) (besideOf slot) (slot .want)
+  besideTest = rightlyBeside k (pageAt k ws) z (reverse (pathOf slot))
 
   abbrev acrossTest : Bool
-  acrossTest = rightlyAcross op k (pageAt k ws) (pathOf slot) (besideOf slot) (slot .want)
+  acrossTest = rightlyAcross k (pageAt k ws) z (pathOf slot)
 
   abbrev atLeafTest : Bool
   atLeafTest = descends (pageAt k ws) (keyOf op) (pathOf slot) && (besideTest || acrossTest)
@@ -423,7 +424,7 @@ module _ {op : Op} {k n : ℕ} {ws : List ℕ} {slot : Slot} (asks : Asks k n ws
   fits-fitting : keptTest && cond (atItsLeaf (pageAt k ws) (reverse (pathOf slot))) atLeafTest belowTest ≡ true
   unfolding fits fitting
   fits-fitting =
-      and-second (pagesSound k n ws (pagesOf slot)) (fitting op k (pageAt k ws) (pathOf slot) (besideOf slot) (slot .want)) fit
+      and-second (pagesSound k n ws (pagesOf slot)) (fitting k (pageAt k ws) z) fit
 
   fits-kept : keptTest ≡ true
   fits-kept = and-first keptTest (cond (atItsLeaf (pageAt k ws) (reverse (pathOf slot))) atLeafTest belowTest) fits-fitting
@@ -435,14 +436,14 @@ module _ {op : Op} {k n : ℕ} {ws : List ℕ} {slot : Slot} (asks : Asks k n ws
     leaf-told : atLeafTest ≡ true
     leaf-told = sym (cond-true atLeafTest belowTest leaf) ∙ fits-way
 
-    stood-beside : Standing op k n ws (pathOf slot) (besideOf slot ++ slot .want ∷ [])
+    stood-beside : Standing k n ws (wantBeside z)
     stood-beside =
         let way = descends (pageAt k ws) (keyOf op) (pathOf slot) in
         let some = leaf-some (pageAt k ws) (pathOf slot) leaf in
         let falls = descends-levels (pageAt k ws) (keyOf op) (pathOf slot) (and-first way (besideTest || acrossTest) leaf-told) in
         ⊎-elim
-        (λ beside. stands-beside op (pathOf slot) (besideOf slot) (slot .want) some falls beside fits-held all-different fits-kept)
-        (λ across. stands-across op (pathOf slot) (besideOf slot) (slot .want) some falls across leaf fits-held all-different fits-kept)
+        (λ beside. stands-beside z some falls beside fits-held all-different fits-kept)
+        (λ across. stands-across z some falls across leaf fits-held all-different fits-kept)
         (or-cases besideTest acrossTest (and-second way (besideTest || acrossTest) leaf-told))
 
   module _ (coming : atItsLeaf (pageAt k ws) (reverse (pathOf slot)) ≡ false) where
@@ -462,9 +463,9 @@ module _ {op : Op} {k n : ℕ} {ws : List ℕ} {slot : Slot} (asks : Asks k n ws
         descends-levels (pageAt k ws) (keyOf op) (pathOf slot ++ slot .want ∷ [])
         (and-first (descends (pageAt k ws) (keyOf op) (pathOf slot ++ slot .want ∷ [])) (isNone (besideOf slot)) below-told)
 
-    stood-below : Standing op k n ws (kept op k (pageAt k ws) (pathOf slot) (slot .want)) []
+    stood-below : Standing k n ws (onPages z (kept k (pageAt k ws) z) [])
     stood-below =
-        stands-below (pathOf slot) (slot .want) longer-held
+        stands-below z longer-held
         (subst (λ (pages : List ℕ). distinct (slot .want ∷ pages) ≡ true) no-siblings all-different)
         longer-falls
         fits-kept
@@ -479,13 +480,13 @@ module _ {op : Op} {k n : ℕ} {ws : List ℕ} {slot : Slot} (asks : Asks k n ws
       omega (arith, length-append (take (slot .depth) (slot .path)) (slot .want ∷ []), length-take (slot .depth) (slot .path))
 
 -- Once its want is granted, an operation stands where the rules would have it.
-pub stood-stands : (op : Op) (k n : ℕ) (ws : List ℕ) (slot : Slot) → Asks k n ws op slot → fits op k n ws slot ≡ true
-    → SlotStanding op k n ws (stood op k (pageAt k ws) slot)
+pub stood-stands : (op : Op) (k n : ℕ) (ws : List ℕ) (slot : Slot) → Asks k n ws op slot → fits k n ws (standOf op slot) ≡ true
+    → SlotStanding op k n ws (slotOf (stood k (pageAt k ws) (standOf op slot)))
 unfolding stood
 stood-stands op k n ws slot asks fit =
-    stands-new op (slot .want) (standPath op k (pageAt k ws) (pathOf slot) (slot .want))
-    (standBeside (pageAt k ws) (pathOf slot) (besideOf slot) (slot .want))
-    (cond-both (λ (ps ss : List ℕ). Standing op k n ws ps ss) (atItsLeaf (pageAt k ws) (reverse (pathOf slot)))
+    let here : Stand = standOf op slot in
+    stands-new (onPages here (standPath k (pageAt k ws) here) (standBeside (pageAt k ws) here))
+    (cond-both (λ (ps ss : List ℕ). Standing k n ws (onPages here ps ss)) (atItsLeaf (pageAt k ws) (reverse (pathOf slot)))
     (stood-beside asks fit)
     (stood-below asks fit))
 
@@ -493,43 +494,48 @@ stood-stands op k n ws slot asks fit =
 
 module _ (op : Op) (k : ℕ) (memory : ℕ → Page) (slot : Slot) {leaf : Bool}
     (told : leaf ≡ atItsLeaf memory (reverse (pathOf slot))) where
+  abbrev here : Stand
+  here = standOf op slot
+
+  abbrev standsAt : List ℕ → List ℕ → Slot
+  standsAt path beside = slotOf (onPages here path beside)
+
   -- the last page of the path is a leaf
   pub stood-at-leaf : {r : Slot} → leaf ≡ true → r ≡ openSlot op (slot .want) (pathOf slot) (besideOf slot ++ slot .want ∷ [])
-      → r ≡ stood op k memory slot
+      → r ≡ slotOf (stood k memory here)
   unfolding stood
   stood-at-leaf t e =
       e
       ∙ sym
-      (ap₂ (λ (ps ss : List ℕ). openSlot op (slot .want) ps ss)
-      (cond-true (pathOf slot) (kept op k memory (pathOf slot) (slot .want)) (sym told ∙ t))
+      (ap₂ standsAt
+      (cond-true (pathOf slot) (kept k memory here) (sym told ∙ t))
       (cond-true (besideOf slot ++ slot .want ∷ []) [] (sym told ∙ t)))
 
   -- it is not
-  stood-coming : {r : Slot} → leaf ≡ false → r ≡ openSlot op (slot .want) (kept op k memory (pathOf slot) (slot .want)) []
-      → r ≡ stood op k memory slot
+  stood-coming : {r : Slot} → leaf ≡ false → r ≡ standsAt (kept k memory here) [] → r ≡ slotOf (stood k memory here)
   unfolding stood
   stood-coming f e =
       e
       ∙ sym
-      (ap₂ (λ (ps ss : List ℕ). openSlot op (slot .want) ps ss)
-      (cond-false (pathOf slot) (kept op k memory (pathOf slot) (slot .want)) (sym told ∙ f))
+      (ap₂ standsAt
+      (cond-false (pathOf slot) (kept k memory here) (sym told ∙ f))
       (cond-false (besideOf slot ++ slot .want ∷ []) [] (sym told ∙ f)))
 
   module _ {safe : Bool} (tested : safe ≡ isSafe op k (memory (slot .want))) where
     -- coming down to a safe page
     pub stood-on-safe : {r : Slot} → leaf ≡ false → safe ≡ true → r ≡ openSlot op (slot .want) (slot .want ∷ []) []
-        → r ≡ stood op k memory slot
+        → r ≡ slotOf (stood k memory here)
     stood-on-safe f t e =
         stood-coming f
         (e
-        ∙ ap (λ (ps : List ℕ). openSlot op (slot .want) ps [])
+        ∙ ap (λ (ps : List ℕ). standsAt ps [])
         (sym (cond-true (slot .want ∷ []) (pathOf slot ++ slot .want ∷ []) (sym tested ∙ t))))
 
     -- and to another
     pub stood-on-other : {r : Slot} → leaf ≡ false → safe ≡ false → r ≡ openSlot op (slot .want) (pathOf slot ++ slot .want ∷ []) []
-        → r ≡ stood op k memory slot
+        → r ≡ slotOf (stood k memory here)
     stood-on-other f u e =
         stood-coming f
         (e
-        ∙ ap (λ (ps : List ℕ). openSlot op (slot .want) ps [])
+        ∙ ap (λ (ps : List ℕ). standsAt ps [])
         (sym (cond-false (slot .want ∷ []) (pathOf slot ++ slot .want ∷ []) (sym tested ∙ u))))

@@ -23,60 +23,59 @@ use Rattle.slots.specs.declared.Op.{Op}
 use Rattle.slots.specs.declared.Op.the-variants.{Search, Insert, Delete, Next, Regrade}
 use Rattle.slots.specs.declared.Answer.the-variants.{Found, NotFound, Inserted, AlreadyThere, Deleted, NoSuchKey, NoRoom, Next as NextLot, None as NoLot, Regraded}
 use Rattle.slots.specs.declared.Slot.{Slot}
-use Rattle.slots.specs.Parts.{keyOf, isDelete, besideOf, held}
+use Rattle.slots.specs.Parts.{keyOf, isDelete, besideOf, held, Stand, wantsNext}
 use Rattle.course.specs.declared.judging.Course.{Course}
 use Rattle.course.specs.declared.judging.Course.the-variants.{Broken, Goes, Ends, Inserts, Deletes, Regrades}
-use Rattle.footing.specs.Granted.{Verdict, broken, goes, ends, isSafe, deletes, nextAnswer, atLeaf, fromLeaf}
+use Rattle.footing.specs.Granted.{Verdict, broken, goes, ends, isSafe, nextAnswer, atLeaf, fromLeaf}
 use Rattle.footing.specs.Fitting.{nextIsNew}
 
 -- A Next at its first leaf, or on its second way, given upward: there the last page of it tells.
-abbrev pub onSecond : Verdict → (ℕ → Page) → List ℕ → List ℕ → List ℕ → Verdict
-onSecond first memory path second [] = first
-onSecond first memory path second (p ∷ up) =
-    cond (isLeaf (memory p)) (ends (nextAnswer (memory p .entries)) []) (goes path second (pointer 0 (memory p)))
+abbrev pub onSecond : Verdict → (ℕ → Page) → Stand → List ℕ → Verdict
+onSecond first memory z [] = first
+onSecond first memory z (p ∷ up) =
+    cond (isLeaf (memory p)) (ends (nextAnswer (memory p .entries)) []) (goes (wantsNext z (pointer 0 (memory p))))
 
--- at the leaf, with these siblings held
-unfoldable pub judgedAt : Op → ℕ → (ℕ → Page) → List ℕ → List ℕ → List ℕ → ℕ → List ℕ → Verdict
-judgedAt (Search x) k memory free path siblings leaf fathers = atLeaf (Search x) k memory free path leaf fathers
-judgedAt (Insert x v) k memory free path siblings leaf fathers = atLeaf (Insert x v) k memory free path leaf fathers
-judgedAt (Delete x) k memory free path siblings leaf fathers =
-    cond (has x (memory leaf .entries)) (deletes k memory x path leaf fathers siblings) (ends NoSuchKey [])
-judgedAt (Next x) k memory free path siblings leaf fathers =
-    onSecond (atLeaf (Next x) k memory free path leaf fathers) memory path siblings (reverse siblings)
-judgedAt (Regrade x v) k memory free path siblings leaf fathers = atLeaf (Regrade x v) k memory free path leaf fathers
+-- at the leaf, with the pages beside the path held: by the operation of the slot that stands there
+unfoldable pub judgedAt : Op → ℕ → (ℕ → Page) → List ℕ → Stand → ℕ → List ℕ → Verdict
+judgedAt (Search x) k memory free z leaf fathers = atLeaf (Search x) k memory free z leaf fathers
+judgedAt (Insert x v) k memory free z leaf fathers = atLeaf (Insert x v) k memory free z leaf fathers
+judgedAt (Delete x) k memory free z leaf fathers = atLeaf (Delete x) k memory free z leaf fathers
+judgedAt (Next x) k memory free z leaf fathers =
+    onSecond (atLeaf (Next x) k memory free z leaf fathers) memory z (reverse (z .beside))
+judgedAt (Regrade x v) k memory free z leaf fathers = atLeaf (Regrade x v) k memory free z leaf fathers
 
--- the operation stands at this path and these siblings
-unfoldable pub judged : Op → ℕ → (ℕ → Page) → List ℕ → List ℕ → List ℕ → Verdict
-judged op k memory free path siblings =
+-- the operation stands here
+unfoldable pub judged : ℕ → (ℕ → Page) → List ℕ → Stand → Verdict
+judged k memory free z =
     fromLeaf
     (λ (leaf : ℕ) (fathers : List ℕ).
     cond (isLeaf (memory leaf))
-    (judgedAt op k memory free path siblings leaf fathers)
-    (goes path siblings (route (keyOf op) (memory leaf))))
-    (reverse path)
+    (judgedAt (z .op) k memory free z leaf fathers)
+    (goes (wantsNext z (route (keyOf (z .op)) (memory leaf)))))
+    (reverse (z .path))
 
 -- "and the page it would want next is none that it would then hold"
 abbrev pub ifNew : Verdict → Verdict
 ifNew v = cond (nextIsNew v) v broken
 
--- the rule's word for a course, for an operation that stands at this path and these siblings
-abbrev pub courseOf : ℕ → (ℕ → Page) → List ℕ → List ℕ → List ℕ → Course → Verdict
-courseOf k memory free path siblings Broken = broken
-courseOf k memory free path siblings (Goes next) = goes path siblings next
-courseOf k memory free path siblings (Ends a) = ends a []
-courseOf k memory free path siblings (Inserts x v) =
+-- the rule's word for a course, for an operation that stands here
+abbrev pub courseOf : ℕ → (ℕ → Page) → List ℕ → Stand → Course → Verdict
+courseOf k memory free z Broken = broken
+courseOf k memory free z (Goes next) = goes (wantsNext z next)
+courseOf k memory free z (Ends a) = ends a []
+courseOf k memory free z (Inserts x v) =
     fromLeaf
     (λ (leaf : ℕ) (fathers : List ℕ).
-    cond (ltb (length free) (room k memory leaf path))
+    cond (ltb (length free) (room k memory leaf (z .path)))
     (ends NoRoom [])
     (ends Inserted (insertion k memory x v free leaf fathers)))
-    (reverse path)
-courseOf k memory free path siblings (Deletes x v) =
+    (reverse (z .path))
+courseOf k memory free z (Deletes x v) =
     fromLeaf
-    (λ (leaf : ℕ) (fathers : List ℕ). ends (Deleted v) (deletion k memory x leaf fathers siblings))
-    (reverse path)
-courseOf k memory free path siblings (Regrades x v old) =
-    fromLeaf (λ (leaf : ℕ) (fathers : List ℕ). ends (Regraded old) (regrading memory x v leaf)) (reverse path)
+    (λ (leaf : ℕ) (fathers : List ℕ). ends (Deleted v) (deletion k memory x leaf fathers (z .beside)))
+    (reverse (z .path))
+courseOf k memory free z (Regrades x v old) =
+    fromLeaf (λ (leaf : ℕ) (fathers : List ℕ). ends (Regraded old) (regrading memory x v leaf)) (reverse (z .path))
 
 -- the key stands in the last page of a path, given upward
 abbrev pub standsLast : (ℕ → Page) → ℕ → List ℕ → Type 0

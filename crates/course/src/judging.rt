@@ -20,7 +20,7 @@ ghost use Rattle.page.specs.Reading.{Readable};
 ghost use Rattle.pool.specs.Pool.{wordsOf, pageAt, freePages};
 ghost use Rattle.pool.specs.Wrapped.{InPool};
 ghost use Rattle.slots.specs.declared.Op.the-variants.{Delete, Next};
-ghost use Rattle.slots.specs.Parts.{pathOf, besideOf};
+ghost use Rattle.slots.specs.Parts.{pathOf, standOf};
 ghost use Rattle.footing.specs.Standing.{SlotStanding};
 ghost use Rattle.course.specs.Judged.{judged, ifNew, courseOf, ready, nextCourse, searchCourse, insertCourse, regradeCourse, deleteCourse, crossCourse, firstCourse, leftCourse, nextsCourse};
 
@@ -149,7 +149,7 @@ pub fn nexts(words: &[u32], k: usize, n: usize, x: u32, stand: Slot) -> Course
 // What the operation does from where it stands.
 pub fn judge(words: &[u32], k: usize, n: usize, op: Op, stand: Slot) -> Course
     requires { ⌜ SlotStanding op k n (now words) stand ⌝ }
-    ensures { λ r. ⌜ courseOf k (pageAt k (now (words .entry))) (freePages k n (now (words .entry))) (pathOf stand) (besideOf stand) r ≡ ifNew (judged op k (pageAt k (now (words .entry))) (freePages k n (now (words .entry))) (pathOf stand) (besideOf stand)) ⌝ }
+    ensures { λ r. ⌜ courseOf k (pageAt k (now (words .entry))) (freePages k n (now (words .entry))) (standOf op stand) r ≡ ifNew (judged k (pageAt k (now (words .entry))) (freePages k n (now (words .entry))) (standOf op stand)) ⌝ }
     ensures { λ r. ⌜ ready op (pageAt k (now (words .entry))) (pathOf stand) r ⌝ }
 {
     let path = stand.path;

@@ -9,13 +9,14 @@ use slots::making::holding_one;
 ghost use mathlib.Core.Path.{_≡_};
 ghost use mathlib.Core.Bool.{true};
 ghost use Rattle.pool.specs.Pool.{pageAt};
+ghost use Rattle.slots.specs.Parts.{standOf, slotOf};
 ghost use Rattle.footing.specs.Standing.{Asks, fits, stood};
 
 // At its leaf it holds one more page beside its path. Coming down, it holds the page alone, if that is safe, or one more on its path.
 pub fn stands(words: &[u32], k: usize, n: usize, op: Op, slot: Slot) -> Slot
     requires { ⌜ Asks k n (now words) op slot ⌝ }
-    requires { ⌜ fits op k n (now words) slot ≡ true ⌝ }
-    ensures { λ r. ⌜ r ≡ stood op k (pageAt k (now (words .entry))) slot ⌝ }
+    requires { ⌜ fits k n (now words) (standOf op slot) ≡ true ⌝ }
+    ensures { λ r. ⌜ r ≡ slotOf (stood k (pageAt k (now (words .entry))) (standOf op slot)) ⌝ }
 {
     let path = slot.path;
     let want = slot.want;

@@ -21,7 +21,7 @@ use Rattle.change.specs.Held.{Held, leafOf}
 use Rattle.change.proofs.HeldLaws.{held-some, on-path}
 use Rattle.slots.specs.declared.Op.{Op}
 use Rattle.slots.specs.declared.Op.the-variants.{Next}
-use Rattle.slots.specs.Parts.{keyOf, isNext}
+use Rattle.slots.specs.Parts.{keyOf, isNext, Stand, stand, withOp}
 use Rattle.footing.specs.Granted.{isSafe}
 use Rattle.footing.specs.Fitting.{isNone, leftmost, turnsRight, rightlyAcross}
 use Rattle.footing.proofs.LookLaws.{told-true, told-false, namesBelow, held-two}
@@ -74,17 +74,16 @@ held-top-with path depth more long some held =
 -- ---- a slot on its second way
 
 -- only a Next has one
-pub across-idle : (op : Op) (k : ℕ) (memory : ℕ → Page) (path second : List ℕ) (want : ℕ) → isNext op ≡ false
-    → false ≡ rightlyAcross op k memory path second want
-across-idle op k memory [] second want f = refl
-across-idle op k memory (top ∷ below) second want f =
+pub across-idle : (k : ℕ) (memory : ℕ → Page) (z : Stand) (path : List ℕ) → isNext (z .op) ≡ false → false ≡ rightlyAcross k memory z path
+across-idle k memory z [] f = refl
+across-idle k memory z (top ∷ below) f =
     sym
     (ap
     (λ (b : Bool).
     b
-    && isNone (atOrAbove (keyOf op) (memory (getD (reverse (top ∷ below)) 0 0) .entries))
-    && isSafe op k (memory top)
-    && turnsRight memory (keyOf op) top (second ++ want ∷ []))
+    && isNone (atOrAbove (keyOf (z .op)) (memory (getD (reverse (top ∷ below)) 0 0) .entries))
+    && isSafe (z .op) k (memory top)
+    && turnsRight memory (keyOf (z .op)) top (z .beside ++ z .want ∷ []))
     f)
 
 -- what was read at or above a key tells whether there is none
@@ -102,8 +101,11 @@ nearest-none es e = ap isNothing e ∙ by-entries es
 -- The rule for a Next of x that stands at its leaf, a test at a time.
 module _ (k : ℕ) (memory : ℕ → Page) (path : List ℕ) (depth : ℕ) (second : List ℕ) (want : ℕ) (long : depth ≤ length path)
     (some : 1 ≤ depth) {op : Op} {x : ℕ} (nexts : op ≡ Next x) where
+  abbrev z : Stand
+  z = stand op (take depth path) second want
+
   abbrev answer : Bool
-  answer = rightlyAcross op k memory (take depth path) second want
+  answer = rightlyAcross k memory z (take depth path)
 
   abbrev top : ℕ
   top = getD path 0 0
@@ -124,7 +126,7 @@ module _ (k : ℕ) (memory : ℕ → Page) (path : List ℕ) (depth : ℕ) (seco
   by-tests =
       let first = next-cell path depth 0 long some in
       let leaf = ap (λ (up : List ℕ). getD up 0 0) (ap reverse (sym first) ∙ last-first path depth long some) in
-      ap₂ (λ (o : Op) (pages : List ℕ). rightlyAcross o k memory pages second want) nexts first
+      ap₂ (λ (o : Op) (pages : List ℕ). rightlyAcross k memory (withOp o z) pages) nexts first
       ∙ ap (λ (p : ℕ). isNone (atOrAbove x (memory p .entries)) && more && turned) leaf
 
   module _ {near : Nearest} (read : near ≡ nearest above) where

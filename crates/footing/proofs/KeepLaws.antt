@@ -27,7 +27,7 @@ use Rattle.change.specs.Held.{Held, Needing, upward, leafOf, fathersOf}
 use Rattle.change.proofs.HeldLaws.{Known, held-known, held-front, upward-father, upward-reverse}
 use Rattle.slots.specs.declared.Op.{Op}
 use Rattle.slots.specs.declared.Op.the-variants.{Delete}
-use Rattle.slots.specs.Parts.{keyOf, isDelete}
+use Rattle.slots.specs.Parts.{keyOf, isDelete, Stand, stand, withOp}
 use Rattle.slots.proofs.MakingLaws.{length-add}
 use Rattle.footing.specs.Granted.{isSafe, atItsLeaf}
 use Rattle.footing.specs.Fitting.{descends, rightlyKept, sameLevels, isSibling, rightlyBeside}
@@ -213,17 +213,16 @@ beside-held {k} {n} {ws} pages siblings want e held =
     subst (Held k n ws) (append-assoc pages siblings (want ∷ []) ∙ ap (λ (l : List ℕ). pages ++ l) (sym e)) held
 
 -- only a deletion goes on from its leaf to a sibling
-pub beside-idle : (op : Op) (k : ℕ) (memory : ℕ → Page) (up siblings : List ℕ) (want : ℕ) → isDelete op ≡ false
-    → false ≡ rightlyBeside op k memory up siblings want
-beside-idle op k memory [] siblings want f = refl
-beside-idle op k memory (leaf ∷ fathers) siblings want f =
+pub beside-idle : (k : ℕ) (memory : ℕ → Page) (z : Stand) (up : List ℕ) → isDelete (z .op) ≡ false → false ≡ rightlyBeside k memory z up
+beside-idle k memory z [] f = refl
+beside-idle k memory z (leaf ∷ fathers) f =
     sym
     (ap
     (λ (b : Bool).
     b
-    && has (keyOf op) (memory leaf .entries)
-    && isSibling (needs k memory (keyOf op) leaf fathers siblings) want
-    && sameLevels memory (leaf ∷ fathers) (siblings ++ want ∷ []))
+    && has (keyOf (z .op)) (memory leaf .entries)
+    && isSibling (needs k memory (keyOf (z .op)) leaf fathers (z .beside)) (z .want)
+    && sameLevels memory (leaf ∷ fathers) (z .beside ++ z .want ∷ []))
     f)
 
 -- what was read under a key tells whether it is there
@@ -244,8 +243,11 @@ module _ {k n : ℕ} {ws path : List ℕ} {depth : ℕ} {siblings : List ℕ} {b
   abbrev memory : ℕ → Page
   memory = pageAt k ws
 
+  abbrev z : Stand
+  z = stand op (take depth path) (take beside siblings) want
+
   abbrev answer : Bool
-  answer = rightlyBeside op k memory (reverse (take depth path)) (take beside siblings) want
+  answer = rightlyBeside k memory z (reverse (take depth path))
 
   abbrev there : Bool
   there = has x (memory (leafOf depth path) .entries)
@@ -259,7 +261,7 @@ module _ {k n : ℕ} {ws path : List ℕ} {depth : ℕ} {siblings : List ℕ} {b
   by-leaf : answer ≡ there && isSibling next want && levelled
   by-leaf =
       let turned = last-first path depth (omega (arith, needing .deep, needing .pathCells)) (needing .some) in
-      ap₂ (λ (o : Op) (up : List ℕ). rightlyBeside o k memory up (take beside siblings) want) deletes turned
+      ap₂ (λ (o : Op) (up : List ℕ). rightlyBeside k memory (withOp o z) up) deletes turned
       ∙ ap (λ (up : List ℕ). there && isSibling next want && sameLevels memory up (take beside siblings ++ want ∷ [])) (sym turned)
 
   -- the key is not there

@@ -28,7 +28,7 @@ use Rattle.slots.specs.declared.Op.the-variants.{Search, Insert, Delete, Next, 
 use Rattle.slots.specs.declared.Task.{Task}
 use Rattle.slots.specs.declared.Task.the-variants.{Open}
 use Rattle.slots.specs.declared.Slot.{Slot}
-use Rattle.slots.specs.Parts.{keyOf, isOpen, pathOf, besideOf, held}
+use Rattle.slots.specs.Parts.{keyOf, isOpen, pathOf, besideOf, held, Stand, standOf}
 use Rattle.slots.specs.Sound.{limitsOf, withinLimits}
 use Rattle.slots.proofs.SoundFacts.{SoundSlot, sound-slot}
 use Rattle.footing.specs.Granted.{atItsLeaf}
@@ -414,6 +414,9 @@ module _ (op : Op) (k n : ℕ) (ws : List ℕ) (slot : Slot) where
   abbrev memory : ℕ → Page
   memory = pageAt k ws
 
+  abbrev z : Stand
+  z = standOf op slot
+
   abbrev keptTest : Bool
   keptTest = rightlyKept op k memory (pathOf slot) (slot .want)
 
@@ -421,10 +424,10 @@ module _ (op : Op) (k n : ℕ) (ws : List ℕ) (slot : Slot) where
   wayTest x = descends memory x (pathOf slot)
 
   abbrev besideTest : Bool
-  besideTest = rightlyBeside op k memory (reverse (pathOf slot)) (besideOf slot) (slot .want)
+  besideTest = rightlyBeside k memory z (reverse (pathOf slot))
 
   abbrev acrossTest : Bool
-  acrossTest = rightlyAcross op k memory (pathOf slot) (besideOf slot) (slot .want)
+  acrossTest = rightlyAcross k memory z (pathOf slot)
 
   abbrev lastTest : ℕ → Bool
   lastTest x = lastLeads memory x (reverse (pathOf slot)) (slot .want)
@@ -437,16 +440,16 @@ module _ (op : Op) (k n : ℕ) (ws : List ℕ) (slot : Slot) where
   comingTest = descends memory (keyOf op) (pathOf slot ++ slot .want ∷ []) && isNone (besideOf slot)
 
   -- one test that fails
-  pub fits-unsound : {answer : Bool} → answer ≡ pagesSound k n ws (pagesOf slot) → not answer ≡ true → fits op k n ws slot ≡ false
+  pub fits-unsound : {answer : Bool} → answer ≡ pagesSound k n ws (pagesOf slot) → not answer ≡ true → fits k n ws z ≡ false
   unfolding fits
-  fits-unsound said f = and-first-fails (fitting op k memory (pathOf slot) (besideOf slot) (slot .want)) (told-false said f)
+  fits-unsound said f = and-first-fails (fitting k memory z) (told-false said f)
 
-  pub fits-not-kept : {answer : Bool} → answer ≡ keptTest → not answer ≡ true → fits op k n ws slot ≡ false
+  pub fits-not-kept : {answer : Bool} → answer ≡ keptTest → not answer ≡ true → fits k n ws z ≡ false
   unfolding fits fitting
   fits-not-kept said f = and-second-fails (pagesSound k n ws (pagesOf slot)) (and-first-fails _ (told-false said f))
 
   module _ {x : ℕ} {down : Bool} (key : x ≡ keyOf op) (way : down ≡ wayTest x) where
-    pub fits-no-way : not down ≡ true → fits op k n ws slot ≡ false
+    pub fits-no-way : not down ≡ true → fits k n ws z ≡ false
     unfolding fits fitting
     fits-no-way f =
         let none : wayTest (keyOf op) ≡ false = sym (ap wayTest key) ∙ told-false way f in
@@ -462,27 +465,27 @@ module _ (op : Op) (k n : ℕ) (ws : List ℕ) (slot : Slot) where
 
     module _ {sound kept : Bool} (pages : sound ≡ pagesSound k n ws (pagesOf slot)) (p : not sound ≡ false) (rightly : kept ≡ keptTest)
         (q : not kept ≡ false) (d : not down ≡ false) {leaf : Bool} (at : leaf ≡ atItsLeaf memory (reverse (pathOf slot))) where
-      whichever : fits op k n ws slot ≡ cond (atItsLeaf memory (reverse (pathOf slot))) atLeafTest comingTest
+      whichever : fits k n ws z ≡ cond (atItsLeaf memory (reverse (pathOf slot))) atLeafTest comingTest
       unfolding fits fitting
       whichever = both-hold (cond (atItsLeaf memory (reverse (pathOf slot))) atLeafTest comingTest) (told-true pages p) (told-true rightly q)
 
       -- where they hold, it is the pages beside the path that count at the leaf: a deletion's siblings, or a second way
-      at-the-leaf : leaf ≡ true → fits op k n ws slot ≡ besideTest || acrossTest
+      at-the-leaf : leaf ≡ true → fits k n ws z ≡ besideTest || acrossTest
       at-the-leaf there =
           whichever ∙ cond-true atLeafTest comingTest (sym at ∙ there) ∙ ap (λ (t : Bool). t && (besideTest || acrossTest)) (way-down d)
 
       module _ {beside : Bool} (sibling : beside ≡ besideTest) where
-        pub fits-beside : leaf ≡ true → beside ≡ true → true ≡ fits op k n ws slot
+        pub fits-beside : leaf ≡ true → beside ≡ true → true ≡ fits k n ws z
         fits-beside there t = sym (at-the-leaf there ∙ or-first acrossTest (sym sibling ∙ t))
 
-        pub fits-across : {answer : Bool} → leaf ≡ true → beside ≡ false → answer ≡ acrossTest → answer ≡ fits op k n ws slot
+        pub fits-across : {answer : Bool} → leaf ≡ true → beside ≡ false → answer ≡ acrossTest → answer ≡ fits k n ws z
         fits-across there f said = said ∙ sym (at-the-leaf there ∙ ap (λ (t : Bool). t || acrossTest) (sym sibling ∙ f))
 
       -- and the last page of the path above it
-      pub fits-coming : {answer : Bool} {y : ℕ} → leaf ≡ false → y ≡ keyOf op → answer ≡ lastTest y && isNone (besideOf slot) → answer ≡ fits op k n ws slot
+      pub fits-coming : {answer : Bool} {y : ℕ} → leaf ≡ false → y ≡ keyOf op → answer ≡ lastTest y && isNone (besideOf slot) → answer ≡ fits k n ws z
       fits-coming above key′ said =
           said
-          ∙ ap (λ (z : ℕ). lastTest z && isNone (besideOf slot)) key′
+          ∙ ap (λ (u : ℕ). lastTest u && isNone (besideOf slot)) key′
           ∙ sym
           (whichever
           ∙ cond-false atLeafTest comingTest (sym at ∙ above)

@@ -12,7 +12,7 @@ use Rattle.page.specs.Sound.{soundByItself}
 use Rattle.pool.specs.Pool.{wordsOf, pageAt, freePages}
 use Rattle.change.specs.Deletion.{Need, nothing, sibling, astray, needs}
 use Rattle.slots.specs.declared.Op.{Op}
-use Rattle.slots.specs.Parts.{keyOf, isDelete, isNext}
+use Rattle.slots.specs.Parts.{keyOf, isDelete, isNext, Stand, holding}
 use Rattle.footing.specs.Granted.{Verdict, broken, goes, ends, isSafe, granted, atItsLeaf}
 
 -- "each held page and the wanted one has level 1 to 10 .., μ in range, rising keys, pointers all different and from 1 to
@@ -50,14 +50,14 @@ isSibling (sibling s) want = eqb s want
 isSibling astray want = false
 
 -- A deletion that stands at its leaf: the key is there, the siblings held are those that the rules took so far, and the
--- want is the next one.
-abbrev pub rightlyBeside : Op → ℕ → (ℕ → Page) → List ℕ → List ℕ → ℕ → Bool
-rightlyBeside op k memory [] siblings want = false
-rightlyBeside op k memory (leaf ∷ fathers) siblings want =
-    isDelete op
-    && has (keyOf op) (memory leaf .entries)
-    && isSibling (needs k memory (keyOf op) leaf fathers siblings) want
-    && sameLevels memory (leaf ∷ fathers) (siblings ++ want ∷ [])
+-- want is the next one. Its path is given upward.
+abbrev pub rightlyBeside : ℕ → (ℕ → Page) → Stand → List ℕ → Bool
+rightlyBeside k memory z [] = false
+rightlyBeside k memory z (leaf ∷ fathers) =
+    isDelete (z .op)
+    && has (keyOf (z .op)) (memory leaf .entries)
+    && isSibling (needs k memory (keyOf (z .op)) leaf fathers (z .beside)) (z .want)
+    && sameLevels memory (leaf ∷ fathers) (z .beside ++ z .want ∷ [])
 
 abbrev pub isNone : {A : Type 0} → List A → Bool
 isNone [] = true
@@ -79,38 +79,35 @@ turnsRight memory x top (p ∷ rest) =
 -- A Next that goes down its second way: its leaf has no key at or above its own, the top page of its path has a child to the
 -- right, and what it holds beside the path and wants is that child's leftmost way so far. (Only a deletion and a Next go on
 -- from their leaf.)
-abbrev pub rightlyAcross : Op → ℕ → (ℕ → Page) → List ℕ → List ℕ → ℕ → Bool
-rightlyAcross op k memory [] second want = false
-rightlyAcross op k memory (top ∷ below) second want =
-    isNext op
-    && isNone (atOrAbove (keyOf op) (memory (getD (reverse (top ∷ below)) 0 0) .entries))
-    && isSafe op k (memory top)
-    && turnsRight memory (keyOf op) top (second ++ want ∷ [])
+abbrev pub rightlyAcross : ℕ → (ℕ → Page) → Stand → List ℕ → Bool
+rightlyAcross k memory z [] = false
+rightlyAcross k memory z (top ∷ below) =
+    isNext (z .op)
+    && isNone (atOrAbove (keyOf (z .op)) (memory (getD (reverse (top ∷ below)) 0 0) .entries))
+    && isSafe (z .op) k (memory top)
+    && turnsRight memory (keyOf (z .op)) top (z .beside ++ z .want ∷ [])
 
 -- "and if these pages, read again, are the ones the rules would have this operation hold and want at this point"
-unfoldable pub fitting : Op → ℕ → (ℕ → Page) → List ℕ → List ℕ → ℕ → Bool
-fitting op k memory path siblings want =
-    rightlyKept op k memory path want
-    && cond (atItsLeaf memory (reverse path))
-    (descends memory (keyOf op) path && (rightlyBeside op k memory (reverse path) siblings want || rightlyAcross op k memory path siblings want))
-    (descends memory (keyOf op) (path ++ want ∷ []) && isNone siblings)
+unfoldable pub fitting : ℕ → (ℕ → Page) → Stand → Bool
+fitting k memory z =
+    rightlyKept (z .op) k memory (z .path) (z .want)
+    && cond (atItsLeaf memory (reverse (z .path)))
+    (descends memory (keyOf (z .op)) (z .path) && (rightlyBeside k memory z (reverse (z .path)) || rightlyAcross k memory z (z .path)))
+    (descends memory (keyOf (z .op)) (z .path ++ z .want ∷ []) && isNone (z .beside))
 
 -- "and the page it would want next is none that it would then hold"
 abbrev pub nextIsNew : Verdict → Bool
 nextIsNew broken = false
-nextIsNew (goes path siblings want) = not (member want (path ++ siblings))
+nextIsNew (goes z) = not (member (z .want) (holding z))
 nextIsNew (ends answer writes) = true
 
 -- "Pages are sound for a step if": all of these together
-unfoldable pub soundForStep : Op → ℕ → ℕ → List ℕ → List ℕ → List ℕ → ℕ → Bool
-soundForStep op k n ws path siblings want =
-    pagesSound k n ws (path ++ siblings ++ want ∷ [])
-    && fitting op k (pageAt k ws) path siblings want
-    && nextIsNew (granted op k (pageAt k ws) (freePages k n ws) path siblings want)
+unfoldable pub soundForStep : ℕ → ℕ → List ℕ → Stand → Bool
+soundForStep k n ws z =
+    pagesSound k n ws (holding z ++ z .want ∷ [])
+    && fitting k (pageAt k ws) z
+    && nextIsNew (granted k (pageAt k ws) (freePages k n ws) z)
 
 -- What a granted step comes to, damage included: what the rules say where the pages are sound for the step.
-unfoldable pub verdict : Op → ℕ → ℕ → List ℕ → List ℕ → List ℕ → ℕ → Verdict
-verdict op k n ws path siblings want =
-    cond (soundForStep op k n ws path siblings want)
-    (granted op k (pageAt k ws) (freePages k n ws) path siblings want)
-    broken
+unfoldable pub verdict : ℕ → ℕ → List ℕ → Stand → Verdict
+verdict k n ws z = cond (soundForStep k n ws z) (granted k (pageAt k ws) (freePages k n ws) z) broken

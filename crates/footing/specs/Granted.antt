@@ -17,13 +17,13 @@ use Rattle.slots.specs.declared.Op.{Op}
 use Rattle.slots.specs.declared.Op.the-variants.{Search, Insert, Delete, Next, Regrade}
 use Rattle.slots.specs.declared.Answer.{Answer}
 use Rattle.slots.specs.declared.Answer.the-variants.{Found, NotFound, Inserted, AlreadyThere, Deleted, NoSuchKey, NoRoom, Next as NextLot, None as NoLot, Regraded}
-use Rattle.slots.specs.Parts.{keyOf, isNext}
+use Rattle.slots.specs.Parts.{keyOf, isNext, Stand, onPages, wantBeside, wantsNext}
 
--- What a granted step comes to: the pages are not sound for it; the slot goes on, holding this path and these siblings
--- and wanting this page; or the operation ends with this answer, and these pages are written.
+-- What a granted step comes to: the pages are not sound for it; the slot goes on and stands here; or the operation ends with this
+-- answer, and these pages are written.
 pub data Verdict : Type 0 where
   broken : Verdict
-  goes : List ℕ → List ℕ → ℕ → Verdict
+  goes : Stand → Verdict
   ends : Answer → List Write → Verdict
 
 -- "Search gives up the father." "Insertion: if the page has μ < 2k, all its ancestors are given up." "Deletion: the
@@ -37,60 +37,60 @@ isSafe (Delete x) k P = ltb k (μ P)
 isSafe (Next x) k P = not (isLeaf P) && hasRight x P
 isSafe (Regrade x v) k P = true
 
--- the path after page p is granted
-abbrev pub kept : Op → ℕ → (ℕ → Page) → List ℕ → ℕ → List ℕ
-kept op k memory path p = cond (isSafe op k (memory p)) (p ∷ []) (path ++ p ∷ [])
+-- the path after the wanted page is granted
+abbrev pub kept : ℕ → (ℕ → Page) → Stand → List ℕ
+kept k memory z = cond (isSafe (z .op) k (memory (z .want))) (z .want ∷ []) (z .path ++ z .want ∷ [])
 
 -- what a deletion does by what it needs: the whole change, one more page wanted, or nothing at all
-abbrev pub byNeed : List ℕ → List ℕ → Verdict → Need → Verdict
-byNeed path siblings whole nothing = whole
-byNeed path siblings whole (sibling s) = goes path siblings s
-byNeed path siblings whole astray = broken
+abbrev pub byNeed : Stand → Verdict → Need → Verdict
+byNeed z whole nothing = whole
+byNeed z whole (sibling s) = goes (wantsNext z s)
+byNeed z whole astray = broken
 
--- A deletion of x that stands at its leaf and holds these siblings. "If the leaf would be short, and is not page 0, the
+-- A deletion of x that stands at its leaf, with the siblings that it holds. "If the leaf would be short, and is not page 0, the
 -- slot wants its sibling, then .. the father's sibling, and so on up. When no more is needed, the whole change is made
 -- in that step."
-unfoldable pub deletes : ℕ → (ℕ → Page) → ℕ → List ℕ → ℕ → List ℕ → List ℕ → Verdict
-deletes k memory x path leaf fathers siblings =
-    byNeed path siblings
-    (ends (Deleted (information x (memory leaf .entries))) (deletion k memory x leaf fathers siblings))
-    (needs k memory x leaf fathers siblings)
+unfoldable pub deletes : ℕ → (ℕ → Page) → ℕ → Stand → ℕ → List ℕ → Verdict
+deletes k memory x z leaf fathers =
+    byNeed z
+    (ends (Deleted (information x (memory leaf .entries))) (deletion k memory x leaf fathers (z .beside)))
+    (needs k memory x leaf fathers (z .beside))
 
 -- "answers Next with the first entry .., or None": of the entries from that one on
 abbrev pub nextAnswer : List Entry → Answer
 nextAnswer [] = NoLot
 nextAnswer (e ∷ es) = NextLot (e .key) (e .value)
 
--- A Next whose leaf has no such key, by the top page of its path: it goes on to "the next child to the right" of that page,
+-- A Next of x whose leaf has no such key, by the top page of its path: it goes on to "the next child to the right" of that page,
 -- or there is none at all.
-abbrev pub crosses : Op → ℕ → (ℕ → Page) → List ℕ → Verdict
-crosses op k memory [] = broken
-crosses op k memory (top ∷ below) =
-    cond (isSafe op k (memory top)) (goes (top ∷ below) [] (neighbour (keyOf op) (memory top))) (ends NoLot [])
+abbrev pub crosses : ℕ → ℕ → (ℕ → Page) → Stand → List ℕ → Verdict
+crosses x k memory z [] = broken
+crosses x k memory z (top ∷ below) =
+    cond (isSafe (Next x) k (memory top)) (goes (wantsNext z (neighbour x (memory top)))) (ends NoLot [])
 
 -- a Next at its leaf, by the leaf's entries at or above the key
 abbrev pub byNearest : Verdict → List Entry → Verdict
 byNearest further [] = further
 byNearest further (e ∷ es) = ends (nextAnswer (e ∷ es)) []
 
--- At the leaf, with its path upward held: the leaf and its fathers.
+-- At the leaf, with its path upward held: the leaf and its fathers. By the operation of the slot that stands there.
 -- "Search .. At a leaf it answers". "Insertion .. At the leaf: a key already there is answered so; then room is counted;
 -- then the whole change is made." "Deletion .. At the leaf: a missing key is answered so." Next: a key at or above is answered
 -- at once. 02 (iv): "AlreadyThere shall now carry the information there." Regrading "puts new information under a key that is there
 -- and answers Regraded with the old information, or NoSuchKey".
-unfoldable pub atLeaf : Op → ℕ → (ℕ → Page) → List ℕ → List ℕ → ℕ → List ℕ → Verdict
-atLeaf (Search x) k memory free path leaf fathers =
+unfoldable pub atLeaf : Op → ℕ → (ℕ → Page) → List ℕ → Stand → ℕ → List ℕ → Verdict
+atLeaf (Search x) k memory free z leaf fathers =
     ends (cond (has x (memory leaf .entries)) (Found (information x (memory leaf .entries))) NotFound) []
-atLeaf (Insert x v) k memory free path leaf fathers =
+atLeaf (Insert x v) k memory free z leaf fathers =
     cond (has x (memory leaf .entries))
     (ends (AlreadyThere (information x (memory leaf .entries))) [])
-    (cond (ltb (length free) (room k memory leaf path))
+    (cond (ltb (length free) (room k memory leaf (z .path)))
     (ends NoRoom [])
     (ends Inserted (insertion k memory x v free leaf fathers)))
-atLeaf (Delete x) k memory free path leaf fathers =
-    cond (has x (memory leaf .entries)) (deletes k memory x path leaf fathers []) (ends NoSuchKey [])
-atLeaf (Next x) k memory free path leaf fathers = byNearest (crosses (Next x) k memory path) (atOrAbove x (memory leaf .entries))
-atLeaf (Regrade x v) k memory free path leaf fathers =
+atLeaf (Delete x) k memory free z leaf fathers =
+    cond (has x (memory leaf .entries)) (deletes k memory x z leaf fathers) (ends NoSuchKey [])
+atLeaf (Next x) k memory free z leaf fathers = byNearest (crosses x k memory z (z .path)) (atOrAbove x (memory leaf .entries))
+atLeaf (Regrade x v) k memory free z leaf fathers =
     cond (has x (memory leaf .entries))
     (ends (Regraded (information x (memory leaf .entries))) (regrading memory x v leaf))
     (ends NoSuchKey [])
@@ -100,35 +100,36 @@ abbrev pub fromLeaf : (ℕ → List ℕ → Verdict) → List ℕ → Verdict
 fromLeaf act [] = broken
 fromLeaf act (leaf ∷ fathers) = act leaf fathers
 
--- Coming down, page p is granted: above the leaves the next want is the route from it.
-unfoldable pub comesDown : Op → ℕ → (ℕ → Page) → List ℕ → List ℕ → ℕ → Verdict
-comesDown op k memory free path p =
-    let path′ = kept op k memory path p in
-    cond (isLeaf (memory p))
-    (fromLeaf (λ (leaf : ℕ) (fathers : List ℕ). atLeaf op k memory free path′ leaf fathers) (reverse path′))
-    (goes path′ [] (route (keyOf op) (memory p)))
+-- Coming down, the wanted page is granted: above the leaves the next want is the route from it.
+unfoldable pub comesDown : ℕ → (ℕ → Page) → List ℕ → Stand → Verdict
+comesDown k memory free z =
+    let down = onPages z (kept k memory z) [] in
+    cond (isLeaf (memory (z .want)))
+    (fromLeaf (λ (leaf : ℕ) (fathers : List ℕ). atLeaf (z .op) k memory free down leaf fathers) (reverse (down .path)))
+    (goes (wantsNext down (route (keyOf (z .op)) (memory (z .want)))))
 
--- Standing at its leaf, a Next is granted the page p of its second way: "goes down the leftmost way .., giving nothing up until its
--- answer".
-unfoldable pub goesLeft : (ℕ → Page) → List ℕ → List ℕ → ℕ → Verdict
-goesLeft memory path second p =
-    cond (isLeaf (memory p)) (ends (nextAnswer (memory p .entries)) []) (goes path (second ++ p ∷ []) (pointer 0 (memory p)))
+-- Standing at its leaf, a Next is granted the wanted page of its second way: "goes down the leftmost way .., giving nothing up until
+-- its answer".
+unfoldable pub goesLeft : (ℕ → Page) → Stand → Verdict
+goesLeft memory z =
+    cond (isLeaf (memory (z .want)))
+    (ends (nextAnswer (memory (z .want) .entries)) [])
+    (goes (wantsNext (wantBeside z) (pointer 0 (memory (z .want)))))
 
--- Standing at its leaf, a deletion is granted the sibling p, or a Next a page of its second way.
-unfoldable pub besides : Op → ℕ → (ℕ → Page) → List ℕ → List ℕ → ℕ → Verdict
-besides op k memory path siblings p =
-    cond (isNext op)
-    (goesLeft memory path siblings p)
+-- Standing at its leaf, a deletion is granted the sibling that it wants, or a Next a page of its second way.
+unfoldable pub besides : ℕ → (ℕ → Page) → Stand → Verdict
+besides k memory z =
+    cond (isNext (z .op))
+    (goesLeft memory z)
     (fromLeaf
-    (λ (leaf : ℕ) (fathers : List ℕ). deletes k memory (keyOf op) path leaf fathers (siblings ++ p ∷ []))
-    (reverse path))
+    (λ (leaf : ℕ) (fathers : List ℕ). deletes k memory (keyOf (z .op)) (wantBeside z) leaf fathers)
+    (reverse (z .path)))
 
 -- the lowest page of a path is a leaf
 abbrev pub atItsLeaf : (ℕ → Page) → List ℕ → Bool
 atItsLeaf memory [] = false
 atItsLeaf memory (p ∷ up) = isLeaf (memory p)
 
--- What the step comes to in which a slot with this operation, path and siblings is granted its want.
-unfoldable pub granted : Op → ℕ → (ℕ → Page) → List ℕ → List ℕ → List ℕ → ℕ → Verdict
-granted op k memory free path siblings want =
-    cond (atItsLeaf memory (reverse path)) (besides op k memory path siblings want) (comesDown op k memory free path want)
+-- What the step comes to in which a slot that stands here is granted its want.
+unfoldable pub granted : ℕ → (ℕ → Page) → List ℕ → Stand → Verdict
+granted k memory free z = cond (atItsLeaf memory (reverse (z .path))) (besides k memory z) (comesDown k memory free z)

@@ -25,7 +25,7 @@ ghost use Prim.Native.Nat.{_≤_, _<_};
 ghost use Rattle.ground.specs.Limits.{pathHolds};
 ghost use Rattle.pool.specs.Pool.{pageAt};
 ghost use Rattle.change.specs.Held.{Held};
-ghost use Rattle.slots.specs.Parts.{keyOf, pathOf, besideOf};
+ghost use Rattle.slots.specs.Parts.{keyOf, pathOf, besideOf, standOf};
 ghost use Rattle.footing.specs.Granted.{atItsLeaf};
 ghost use Rattle.footing.specs.Fitting as rule;
 ghost use Rattle.footing.specs.Standing.{Asks, lastLeads};
@@ -68,7 +68,7 @@ pub fn fits_beside(words: &[u32], k: usize, n: usize, op: Op, slot: Slot) -> boo
     requires { ⌜ (slot .depth ≤ pathHolds) × (slot .breadth < pathHolds) × (Held k n (now words) (pathOf slot ++ besideOf slot ++ slot .want ∷ [])) ⌝ }
     requires { ⌜ rule.descends (pageAt k (now words)) (keyOf op) (pathOf slot) ≡ true ⌝ }
     requires { ⌜ atItsLeaf (pageAt k (now words)) (reverse (pathOf slot)) ≡ true ⌝ }
-    ensures { λ r. ⌜ r ≡ rule.rightlyBeside op k (pageAt k (now (words .entry))) (reverse (pathOf slot)) (besideOf slot) (slot .want) ⌝ }
+    ensures { λ r. ⌜ r ≡ rule.rightlyBeside k (pageAt k (now (words .entry))) (standOf op slot) (reverse (pathOf slot)) ⌝ }
 {
     let Op::Delete(x) = op else {
         return false;
@@ -103,7 +103,7 @@ pub fn fits_beside(words: &[u32], k: usize, n: usize, op: Op, slot: Slot) -> boo
 pub fn fits_across(words: &[u32], k: usize, n: usize, op: Op, slot: Slot) -> bool
     requires { ⌜ (slot .depth ≤ pathHolds) × (slot .breadth < pathHolds) × (Held k n (now words) (pathOf slot ++ besideOf slot ++ slot .want ∷ [])) ⌝ }
     requires { ⌜ atItsLeaf (pageAt k (now words)) (reverse (pathOf slot)) ≡ true ⌝ }
-    ensures { λ r. ⌜ r ≡ rule.rightlyAcross op k (pageAt k (now (words .entry))) (pathOf slot) (besideOf slot) (slot .want) ⌝ }
+    ensures { λ r. ⌜ r ≡ rule.rightlyAcross k (pageAt k (now (words .entry))) (standOf op slot) (pathOf slot) ⌝ }
 {
     let Op::Next(x) = op else {
         return false;
@@ -132,7 +132,7 @@ pub fn fits_across(words: &[u32], k: usize, n: usize, op: Op, slot: Slot) -> boo
 // All of these together.
 pub fn fits(words: &[u32], k: usize, n: usize, op: Op, slot: Slot) -> bool
     requires { ⌜ Asks k n (now words) op slot ⌝ }
-    ensures { λ r. ⌜ r ≡ asked.fits op k n (now (words .entry)) slot ⌝ }
+    ensures { λ r. ⌜ r ≡ asked.fits k n (now (words .entry)) (standOf op slot) ⌝ }
 {
     if !pages_sound(words, k, n, op, slot) {
         return false;

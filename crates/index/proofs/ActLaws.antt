@@ -36,7 +36,7 @@ use Rattle.slots.specs.declared.Slot.{Slot}
 use Rattle.slots.specs.declared.State.{State}
 use Rattle.slots.specs.declared.Answer.{Answer}
 use Rattle.slots.specs.declared.Answer.the-variants.{Moved, Inserted, Deleted, NoRoom, Damaged, Regraded}
-use Rattle.slots.specs.Parts.{isDelete, pathOf, besideOf, closedSlot, waitingOrder}
+use Rattle.slots.specs.Parts.{isDelete, pathOf, besideOf, wantsNext, standOf, closedSlot, waitingOrder}
 use Rattle.slots.specs.Book.{leaving, requeued, goesOn, closes}
 use Rattle.slots.proofs.OrderLaws.{length-leaving, length-waiting}
 use Rattle.lent.specs.Words.{orderIn, asRead, known, stateOf, laidInto}
@@ -221,10 +221,10 @@ module _ (cells : List ℕ) {ws : List ℕ} {s : ℕ} {op : Op} {stand : Slot} (
 
   -- the rule's word for a course, and what it leaves
   abbrev said : Course → Verdict
-  said = courseOf (st .k) (pageAt (st .k) ws) (freePages (st .k) (st .n) ws) (pathOf stand) (besideOf stand)
+  said = courseOf (st .k) (pageAt (st .k) ws) (freePages (st .k) (st .n) ws) (standOf op stand)
 
   abbrev leaves : Course → Answer → List ℕ → List ℕ → Type 0
-  leaves course r cells′ after = Leaves cells ws s op (said course) r cells′ after
+  leaves course r cells′ after = Leaves cells ws s (said course) r cells′ after
 
   inside : s < 16
   unfolding slotCount
@@ -255,7 +255,7 @@ module _ (cells : List ℕ) {ws : List ℕ} {s : ℕ} {op : Op} {stand : Slot} (
   pub acts-goes : {course : Course} {next : ℕ} {cells′ : List ℕ} → course ≡ Goes next → cells′ ≡ laidInto cells s (requeued st s (wanting next stand)) → leaves course Moved cells′ ws
   unfolding goesOn
   acts-goes {next = next} {cells′ = cells′} is e =
-      let same : requeued st s (wanting next stand) ≡ goesOn st s op next (pathOf stand) (besideOf stand) =
+      let same : requeued st s (wanting next stand) ≡ goesOn st s (wantsNext (standOf op stand) next) =
       ap (λ (slot : Slot). requeued st s (wanting next slot)) (a .stands .exact) in
       subst (λ (c : Course). leaves c Moved cells′ ws) (sym is)
       (record { answer = refl; state = ap stateOf e ∙ gone-state next ∙ same; all = e ∙ ap (laidInto cells s) same; words = refl })
@@ -274,7 +274,7 @@ module _ (cells : List ℕ) {ws : List ℕ} {s : ℕ} {op : Op} {stand : Slot} (
   unfolding applied
   acts-inserts {x = x} {v = v} {answer = answer} {cells′ = cells′} {words = words} is heard made e =
       subst (λ (c : Course). leaves c answer cells′ words) (sym is)
-      (subst (λ (up : List ℕ). Leaves cells ws s op (fromLeaf change up) answer cells′ words) (sym (stand-upward (a .stands)))
+      (subst (λ (up : List ℕ). Leaves cells ws s (fromLeaf change up) answer cells′ words) (sym (stand-upward (a .stands)))
       (split (lacksRoom (st .k) (st .n) ws stand) heard made))
     where
       free : List ℕ
@@ -290,7 +290,7 @@ module _ (cells : List ℕ) {ws : List ℕ} {s : ℕ} {op : Op} {stand : Slot} (
       writes = insertion (st .k) (pageAt (st .k) ws) x v free (standLeaf stand) (standFathers stand)
 
       split : (b : Bool) → answer ≡ cond b NoRoom Inserted → words ≡ cond b ws (applied (st .k) writes ws)
-          → Leaves cells ws s op (cond b (ends NoRoom []) (ends Inserted writes)) answer cells′ words
+          → Leaves cells ws s (cond b (ends NoRoom []) (ends Inserted writes)) answer cells′ words
       split true h w = record { answer = h; state = ap stateOf e ∙ closed-state; all = e; words = w }
       split false h w = record { answer = h; state = ap stateOf e ∙ closed-state; all = e; words = w }
 
@@ -298,10 +298,10 @@ module _ (cells : List ℕ) {ws : List ℕ} {s : ℕ} {op : Op} {stand : Slot} (
   acts-change : (answer : Answer) (writes : ℕ → List ℕ → List Write) {cells′ words : List ℕ}
       → words ≡ applied (st .k) (writes (standLeaf stand) (standFathers stand)) ws
       → cells′ ≡ laidInto cells s (closes st s)
-      → Leaves cells ws s op (fromLeaf (λ (leaf : ℕ) (fathers : List ℕ). ends answer (writes leaf fathers)) (reverse (pathOf stand))) answer cells′ words
+      → Leaves cells ws s (fromLeaf (λ (leaf : ℕ) (fathers : List ℕ). ends answer (writes leaf fathers)) (reverse (pathOf stand))) answer cells′ words
   acts-change answer writes {cells′} {words} made e =
       subst
-      (λ (up : List ℕ). Leaves cells ws s op (fromLeaf (λ (leaf : ℕ) (fathers : List ℕ). ends answer (writes leaf fathers)) up) answer cells′ words)
+      (λ (up : List ℕ). Leaves cells ws s (fromLeaf (λ (leaf : ℕ) (fathers : List ℕ). ends answer (writes leaf fathers)) up) answer cells′ words)
       (sym (stand-upward (a .stands)))
       (record { answer = refl; state = ap stateOf e ∙ closed-state; all = e; words = made })
 

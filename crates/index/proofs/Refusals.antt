@@ -2,7 +2,7 @@
 use Prim.Native.Nat.{ℕ}
 use mathlib.Core.Bool.{true, false, not, _&&_, false≢true}
 use mathlib.Core.Path.{_≡_, refl, sym, _∙_}
-use mathlib.Core.List.{List, [], _∷_, _++_, map, reverse}
+use mathlib.Core.List.{List, [], _∷_, map, reverse}
 use lib.Dec.{leb, ltb, eqb}
 use lib.ListN.{length}
 use borrow.Author.Tests.{eqb-true, not-true}
@@ -28,7 +28,7 @@ use Rattle.slots.specs.declared.Answer.{Answer}
 use Rattle.slots.specs.declared.Answer.the-variants.{Waiting, Moved}
 use Rattle.slots.specs.Heard.{numberOf, refuses, changesNothing, ending}
 use Rattle.slots.specs.Begin.{begun}
-use Rattle.slots.specs.Parts.{keyOf, isNext, slotAt, idleState, pathOf, besideOf}
+use Rattle.slots.specs.Parts.{keyOf, isNext, slotAt, idleState, Stand, onPages, wantBeside, standOf}
 use Rattle.slots.specs.Sound.{sound}
 use Rattle.slots.specs.Grant.{grants}
 use Rattle.lent.specs.Words.{stateOf, lentAfter}
@@ -41,65 +41,65 @@ use Rattle.index.specs.Statements.{BeginSays, StepSays}
 -- an operation ends with an answer of a granted step: with no refusal, and not with Waiting
 abbrev pub Answers : Verdict → Type 0
 Answers broken = Unit {0}
-Answers (goes path siblings want) = Unit {0}
+Answers (goes z) = Unit {0}
 Answers (ends answer writes) = ofGranted answer ≡ true
 
-by-need : (path siblings : List ℕ) (whole : Verdict) (n : Need) → Answers whole → Answers (byNeed path siblings whole n)
-by-need path siblings whole nothing h = h
-by-need path siblings whole (sibling s) h = tt
-by-need path siblings whole astray h = tt
+by-need : (z : Stand) (whole : Verdict) (n : Need) → Answers whole → Answers (byNeed z whole n)
+by-need z whole nothing h = h
+by-need z whole (sibling s) h = tt
+by-need z whole astray h = tt
 
-deletes-answers : (k : ℕ) (memory : ℕ → Page) (x : ℕ) (path : List ℕ) (leaf : ℕ) (fathers siblings : List ℕ) → Answers (deletes k memory x path leaf fathers siblings)
+deletes-answers : (k : ℕ) (memory : ℕ → Page) (x : ℕ) (z : Stand) (leaf : ℕ) (fathers : List ℕ) → Answers (deletes k memory x z leaf fathers)
 unfolding deletes member
-deletes-answers k memory x path leaf fathers siblings = by-need path siblings _ (needs k memory x leaf fathers siblings) refl
+deletes-answers k memory x z leaf fathers = by-need z _ (needs k memory x leaf fathers (z .beside)) refl
 
 next-answers : (es : List Entry) → ofGranted (nextAnswer es) ≡ true
 unfolding member
 next-answers [] = refl
 next-answers (e ∷ es) = refl
 
-crosses-answers : (op : Op) (k : ℕ) (memory : ℕ → Page) (path : List ℕ) → Answers (crosses op k memory path)
+crosses-answers : (x k : ℕ) (memory : ℕ → Page) (z : Stand) (path : List ℕ) → Answers (crosses x k memory z path)
 unfolding member
-crosses-answers op k memory [] = tt
-crosses-answers op k memory (top ∷ below) = cond-ind Answers (isSafe op k (memory top)) (λ _. tt) (λ _. refl)
+crosses-answers x k memory z [] = tt
+crosses-answers x k memory z (top ∷ below) = cond-ind Answers (isSafe (Next x) k (memory top)) (λ _. tt) (λ _. refl)
 
 by-nearest : (further : Verdict) (es : List Entry) → Answers further → Answers (byNearest further es)
 by-nearest further [] h = h
 by-nearest further (e ∷ es) h = next-answers (e ∷ es)
 
-leaf-answers : (op : Op) (k : ℕ) (memory : ℕ → Page) (free path : List ℕ) (leaf : ℕ) (fathers : List ℕ) → Answers (atLeaf op k memory free path leaf fathers)
+leaf-answers : (op : Op) (k : ℕ) (memory : ℕ → Page) (free : List ℕ) (z : Stand) (leaf : ℕ) (fathers : List ℕ) → Answers (atLeaf op k memory free z leaf fathers)
 unfolding atLeaf member
-leaf-answers (Search x) k memory free path leaf fathers = cond-ind (λ (a : Answer). ofGranted a ≡ true) (has x (memory leaf .entries)) (λ _. refl) (λ _. refl)
-leaf-answers (Insert x v) k memory free path leaf fathers =
+leaf-answers (Search x) k memory free z leaf fathers = cond-ind (λ (a : Answer). ofGranted a ≡ true) (has x (memory leaf .entries)) (λ _. refl) (λ _. refl)
+leaf-answers (Insert x v) k memory free z leaf fathers =
     cond-ind Answers (has x (memory leaf .entries)) (λ _. refl)
-    (λ _. cond-ind Answers (ltb (length free) (room k memory leaf path)) (λ _. refl) (λ _. refl))
-leaf-answers (Delete x) k memory free path leaf fathers =
-    cond-ind Answers (has x (memory leaf .entries)) (λ _. deletes-answers k memory x path leaf fathers []) (λ _. refl)
-leaf-answers (Next x) k memory free path leaf fathers =
-    by-nearest (crosses (Next x) k memory path) (atOrAbove x (memory leaf .entries)) (crosses-answers (Next x) k memory path)
-leaf-answers (Regrade x v) k memory free path leaf fathers = cond-ind Answers (has x (memory leaf .entries)) (λ _. refl) (λ _. refl)
+    (λ _. cond-ind Answers (ltb (length free) (room k memory leaf (z .path))) (λ _. refl) (λ _. refl))
+leaf-answers (Delete x) k memory free z leaf fathers =
+    cond-ind Answers (has x (memory leaf .entries)) (λ _. deletes-answers k memory x z leaf fathers) (λ _. refl)
+leaf-answers (Next x) k memory free z leaf fathers =
+    by-nearest (crosses x k memory z (z .path)) (atOrAbove x (memory leaf .entries)) (crosses-answers x k memory z (z .path))
+leaf-answers (Regrade x v) k memory free z leaf fathers = cond-ind Answers (has x (memory leaf .entries)) (λ _. refl) (λ _. refl)
 
 from-leaf : (act : ℕ → List ℕ → Verdict) → ((leaf : ℕ) (fathers : List ℕ) → Answers (act leaf fathers)) → (up : List ℕ) → Answers (fromLeaf act up)
 from-leaf act h [] = tt
 from-leaf act h (leaf ∷ fathers) = h leaf fathers
 
-left-answers : (memory : ℕ → Page) (path second : List ℕ) (p : ℕ) → Answers (goesLeft memory path second p)
+left-answers : (memory : ℕ → Page) (z : Stand) → Answers (goesLeft memory z)
 unfolding goesLeft
-left-answers memory path second p = cond-ind Answers (isLeaf (memory p)) (λ _. next-answers (memory p .entries)) (λ _. tt)
+left-answers memory z = cond-ind Answers (isLeaf (memory (z .want))) (λ _. next-answers (memory (z .want) .entries)) (λ _. tt)
 
-pub granted-answers : (op : Op) (k : ℕ) (memory : ℕ → Page) (free path siblings : List ℕ) (want : ℕ) → Answers (granted op k memory free path siblings want)
+pub granted-answers : (k : ℕ) (memory : ℕ → Page) (free : List ℕ) (z : Stand) → Answers (granted k memory free z)
 unfolding granted comesDown besides
-granted-answers op k memory free path siblings want =
-    cond-ind Answers (atItsLeaf memory (reverse path))
-    (λ _. cond-ind Answers (isNext op)
-    (λ _. left-answers memory path siblings want)
-    (λ _. from-leaf _ (λ leaf fathers. deletes-answers k memory (keyOf op) path leaf fathers (siblings ++ want ∷ [])) (reverse path)))
-    (λ _. cond-ind Answers (isLeaf (memory want)) (λ _. from-leaf _ (λ leaf fathers. leaf-answers op k memory free (kept op k memory path want) leaf fathers) (reverse (kept op k memory path want))) (λ _. tt))
+granted-answers k memory free z =
+    let down : Stand = onPages z (kept k memory z) [] in
+    cond-ind Answers (atItsLeaf memory (reverse (z .path)))
+    (λ _. cond-ind Answers (isNext (z .op))
+    (λ _. left-answers memory z)
+    (λ _. from-leaf _ (λ leaf fathers. deletes-answers k memory (keyOf (z .op)) (wantBeside z) leaf fathers) (reverse (z .path))))
+    (λ _. cond-ind Answers (isLeaf (memory (z .want))) (λ _. from-leaf _ (λ leaf fathers. leaf-answers (z .op) k memory free down leaf fathers) (reverse (down .path))) (λ _. tt))
 
-pub verdict-answers : (op : Op) (k n : ℕ) (ws path siblings : List ℕ) (want : ℕ) → Answers (verdict op k n ws path siblings want)
+pub verdict-answers : (k n : ℕ) (ws : List ℕ) (z : Stand) → Answers (verdict k n ws z)
 unfolding verdict
-verdict-answers op k n ws path siblings want =
-    cond-ind Answers (soundForStep op k n ws path siblings want) (λ _. granted-answers op k (pageAt k ws) (freePages k n ws) path siblings want) (λ _. tt)
+verdict-answers k n ws z = cond-ind Answers (soundForStep k n ws z) (λ _. granted-answers k (pageAt k ws) (freePages k n ws) z) (λ _. tt)
 
 -- an answer of a granted step is none that leaves all as given
 pub changes : (a : Answer) → ofGranted a ≡ true → changesNothing a ≡ false
@@ -119,17 +119,16 @@ Stays st ws after = changesNothing (after .answer) ≡ true → AsGiven st ws af
 unchanged : (st : State) (ws : List ℕ) (a : Answer) → Stays st ws (left a st ws)
 unchanged st ws a _ = record { state = refl; words = refl }
 
-acted-stays : (st : State) (ws : List ℕ) (s : ℕ) (op : Op) (v : Verdict) → Answers v → Stays st ws (acted st ws s op v)
-acted-stays st ws s op broken h = unchanged st ws _
-acted-stays st ws s op (goes path siblings want) h = λ e. absurd (false≢true e)
-acted-stays st ws s op (ends answer writes) h = λ e. not-both e (changes answer h)
+acted-stays : (st : State) (ws : List ℕ) (s : ℕ) (v : Verdict) → Answers v → Stays st ws (acted st ws s v)
+acted-stays st ws s broken h = unchanged st ws _
+acted-stays st ws s (goes z) h = λ e. absurd (false≢true e)
+acted-stays st ws s (ends answer writes) h = λ e. not-both e (changes answer h)
 
 task-stays : (st : State) (ws : List ℕ) (s : ℕ) (slot : Slot) (task : Task) → Stays st ws (steppedTask st ws s slot task)
 task-stays st ws s slot Closed = unchanged st ws _
 task-stays st ws s slot (Open op) =
-    let v = verdict op (st .k) (st .n) ws (pathOf slot) (besideOf slot) (slot .want) in
     cond-ind (Stays st ws) (grants st s)
-    (λ _. acted-stays st ws s op v (verdict-answers op (st .k) (st .n) ws (pathOf slot) (besideOf slot) (slot .want)))
+    (λ _. acted-stays st ws s (verdict (st .k) (st .n) ws (standOf op slot)) (verdict-answers (st .k) (st .n) ws (standOf op slot)))
     (λ _. unchanged st ws _)
 
 -- A step that is refused or answered Waiting leaves state and words as given.
@@ -153,17 +152,15 @@ make-refused k n ws =
 abbrev SameLength : List ℕ → Left → Type 0
 SameLength ws after = length (after .words) ≡ length ws
 
-acted-length : (st : State) (ws : List ℕ) (s : ℕ) (op : Op) (v : Verdict) → SameLength ws (acted st ws s op v)
-acted-length st ws s op broken = refl
-acted-length st ws s op (goes path siblings want) = refl
-acted-length st ws s op (ends answer writes) = length-applied (st .k) writes ws
+acted-length : (st : State) (ws : List ℕ) (s : ℕ) (v : Verdict) → SameLength ws (acted st ws s v)
+acted-length st ws s broken = refl
+acted-length st ws s (goes z) = refl
+acted-length st ws s (ends answer writes) = length-applied (st .k) writes ws
 
 task-length : (st : State) (ws : List ℕ) (s : ℕ) (slot : Slot) (task : Task) → SameLength ws (steppedTask st ws s slot task)
 task-length st ws s slot Closed = refl
 task-length st ws s slot (Open op) =
-    cond-ind (SameLength ws) (grants st s)
-    (λ _. acted-length st ws s op (verdict op (st .k) (st .n) ws (pathOf slot) (besideOf slot) (slot .want)))
-    (λ _. refl)
+    cond-ind (SameLength ws) (grants st s) (λ _. acted-length st ws s (verdict (st .k) (st .n) ws (standOf op slot))) (λ _. refl)
 
 -- No step changes the pool's length, and no making does.
 pub step-length : (st : State) (ws : List ℕ) (s : ℕ) → length (stepped st ws s .words) ≡ length ws

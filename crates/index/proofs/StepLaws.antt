@@ -3,7 +3,7 @@
 use Prim.Native.Nat.{ℕ, _≤_, _<_}
 use mathlib.Core.Bool.{Bool, true, false, cond, not, _&&_}
 use mathlib.Core.List.{List, [], _∷_, _++_}
-use mathlib.Core.Path.{_≡_, refl, sym, ap, ap₂, _∙_, subst}
+use mathlib.Core.Path.{_≡_, refl, sym, ap, _∙_, subst}
 use lib.Dec.{ltb, eqb}
 use lib.ListN.{length, getD}
 use borrow.Author.Tests.{le-leb, lt-ltb, le-ltb, eqb-true}
@@ -20,9 +20,9 @@ use Rattle.slots.specs.declared.Answer.{Answer}
 use Rattle.slots.specs.declared.Answer.the-variants.{Waiting, BadState, BadPool, BadSlot, SlotIdle, Damaged}
 use Rattle.slots.specs.Grant.{grants}
 use Rattle.slots.specs.Heard.{heard, changesNothing}
-use Rattle.slots.specs.Parts.{slotAt, isOpen, pathOf, besideOf}
+use Rattle.slots.specs.Parts.{slotAt, isOpen, Stand, holding, standOf, slotOf}
 use Rattle.slots.specs.Sound.{slotSound, sound}
-use Rattle.slots.proofs.Keeping.{path-new, beside-new}
+use Rattle.slots.proofs.Keeping.{stand-new}
 use Rattle.slots.proofs.SoundFacts.{SoundState, sound-facts, facts-sound, slot-sound}
 use Rattle.lent.specs.Words.{asRead, known, stateOf, laidInto, lentAfter}
 use Rattle.lent.proofs.StateLaws.{state-known}
@@ -30,7 +30,7 @@ use Rattle.soundness.proofs.CheckingLawsSound.{SoundWords}
 use Rattle.course.specs.declared.judging.Course.{Course}
 use Rattle.footing.specs.Granted.{Verdict, broken, goes, ends, granted}
 use Rattle.footing.specs.Fitting.{pagesSound, fitting, nextIsNew, soundForStep, verdict}
-use Rattle.footing.specs.Standing.{Asks, SlotStanding, fits, standPath, standBeside, stood}
+use Rattle.footing.specs.Standing.{Asks, SlotStanding, fits, stood}
 use Rattle.course.specs.Judged.{judged, ifNew, courseOf}
 use Rattle.course.proofs.JudgeLaws.{granted-judged}
 use Rattle.course.proofs.StandLaws.{stood-stands}
@@ -43,38 +43,37 @@ use Rattle.index.proofs.Refusals.{Answers, verdict-answers, changes}
 -- ---- a granted step
 
 module _ (op : Op) (k n : ℕ) (ws : List ℕ) (slot : Slot) where
+  abbrev z : Stand
+  z = standOf op slot
+
   abbrev here : Verdict
-  here = verdict op k n ws (pathOf slot) (besideOf slot) (slot .want)
+  here = verdict k n ws z
 
   abbrev rule : Verdict
-  rule = granted op k (pageAt k ws) (freePages k n ws) (pathOf slot) (besideOf slot) (slot .want)
+  rule = granted k (pageAt k ws) (freePages k n ws) z
 
   -- the pages are sound for the step if they fit and the page wanted next is new
-  by-fit : here ≡ cond (fits op k n ws slot && nextIsNew rule) rule broken
+  by-fit : here ≡ cond (fits k n ws z && nextIsNew rule) rule broken
   unfolding verdict soundForStep fits
   by-fit = refl
 
-  verdict-damaged : fits op k n ws slot ≡ false → here ≡ broken
+  verdict-damaged : fits k n ws z ≡ false → here ≡ broken
   verdict-damaged f = by-fit ∙ cond-false rule broken (and-first-fails (nextIsNew rule) f)
 
   -- where they fit, the rule is the one for an operation that stands where this one then does
-  rule-judged : (stand : Slot) → stand ≡ stood op k (pageAt k ws) slot → fits op k n ws slot ≡ true
-      → rule ≡ judged op k (pageAt k ws) (freePages k n ws) (pathOf stand) (besideOf stand)
+  rule-judged : (stand : Slot) → stand ≡ slotOf (stood k (pageAt k ws) z) → fits k n ws z ≡ true
+      → rule ≡ judged k (pageAt k ws) (freePages k n ws) (standOf op stand)
   unfolding fits stood
   rule-judged stand e t =
-      let path = standPath op k (pageAt k ws) (pathOf slot) (slot .want) in
-      let siblings = standBeside (pageAt k ws) (pathOf slot) (besideOf slot) (slot .want) in
-      granted-judged op k (pageAt k ws) (freePages k n ws) (pathOf slot) (besideOf slot) (slot .want)
-      (and-second (pagesSound k n ws (pathOf slot ++ besideOf slot ++ slot .want ∷ [])) (fitting op k (pageAt k ws) (pathOf slot) (besideOf slot) (slot .want)) t)
-      ∙ sym
-      (ap₂ (judged op k (pageAt k ws) (freePages k n ws))
-      (ap pathOf e ∙ path-new op (slot .want) path siblings)
-      (ap besideOf e ∙ beside-new op (slot .want) path siblings))
+      let after : Stand = stood k (pageAt k ws) z in
+      granted-judged k (pageAt k ws) (freePages k n ws) z
+      (and-second (pagesSound k n ws (holding z ++ z .want ∷ [])) (fitting k (pageAt k ws) z) t)
+      ∙ sym (ap (judged k (pageAt k ws) (freePages k n ws)) (ap (standOf op) e ∙ stand-new after))
 
-  verdict-course : {stand : Slot} (course : Course) → stand ≡ stood op k (pageAt k ws) slot → fits op k n ws slot ≡ true
-      → courseOf k (pageAt k ws) (freePages k n ws) (pathOf stand) (besideOf stand) course
-      ≡ ifNew (judged op k (pageAt k ws) (freePages k n ws) (pathOf stand) (besideOf stand))
-      → here ≡ courseOf k (pageAt k ws) (freePages k n ws) (pathOf stand) (besideOf stand) course
+  verdict-course : {stand : Slot} (course : Course) → stand ≡ slotOf (stood k (pageAt k ws) z) → fits k n ws z ≡ true
+      → courseOf k (pageAt k ws) (freePages k n ws) (standOf op stand) course
+      ≡ ifNew (judged k (pageAt k ws) (freePages k n ws) (standOf op stand))
+      → here ≡ courseOf k (pageAt k ws) (freePages k n ws) (standOf op stand) course
   verdict-course {stand = stand} course e t found =
       by-fit
       ∙ ap (λ (b : Bool). cond (b && nextIsNew rule) rule broken) t
@@ -85,24 +84,24 @@ module _ (op : Op) (k n : ℕ) (ws : List ℕ) (slot : Slot) where
 module _
     (cells : List ℕ) {ws : List ℕ} {s : ℕ} {op : Op} {slot : Slot} (exist : known cells ≡ true) (waits : Waits (asRead cells) s)
     (asks : Asks (asRead cells .k) (asRead cells .n) ws op slot)
-    {fit : Bool} (told : fit ≡ fits op (asRead cells .k) (asRead cells .n) ws slot)
+    {fit : Bool} (told : fit ≡ fits (asRead cells .k) (asRead cells .n) ws (standOf op slot))
   where
     abbrev st : State
     st = asRead cells
 
     -- they do not fit
-    pub granted-damaged : fit ≡ false → Leaves cells ws s op (here op (st .k) (st .n) ws slot) Damaged cells ws
+    pub granted-damaged : fit ≡ false → Leaves cells ws s (here op (st .k) (st .n) ws slot) Damaged cells ws
     granted-damaged f =
-        subst (λ (v : Verdict). Leaves cells ws s op v Damaged cells ws) (sym (verdict-damaged op (st .k) (st .n) ws slot (sym told ∙ f)))
+        subst (λ (v : Verdict). Leaves cells ws s v Damaged cells ws) (sym (verdict-damaged op (st .k) (st .n) ws slot (sym told ∙ f)))
         (record { answer = refl; state = state-known cells exist; all = refl; words = refl })
 
     -- they fit
     module _ (t : fit ≡ true) where
-      pub granted-fits : fits op (st .k) (st .n) ws slot ≡ true
+      pub granted-fits : fits (st .k) (st .n) ws (standOf op slot) ≡ true
       granted-fits = sym told ∙ t
 
       -- the operation stands here
-      module _ {stand : Slot} (e : stand ≡ stood op (st .k) (pageAt (st .k) ws) slot) where
+      module _ {stand : Slot} (e : stand ≡ slotOf (stood (st .k) (pageAt (st .k) ws) (standOf op slot))) where
         pub granted-stands : SlotStanding op (st .k) (st .n) ws stand
         granted-stands = subst (SlotStanding op (st .k) (st .n) ws) (sym e) (stood-stands op (st .k) (st .n) ws slot asks granted-fits)
 
@@ -111,13 +110,13 @@ module _
 
         -- what the course leaves is what the rule says
         pub granted-leaves : (course : Course)
-            → courseOf (st .k) (pageAt (st .k) ws) (freePages (st .k) (st .n) ws) (pathOf stand) (besideOf stand) course
-            ≡ ifNew (judged op (st .k) (pageAt (st .k) ws) (freePages (st .k) (st .n) ws) (pathOf stand) (besideOf stand))
+            → courseOf (st .k) (pageAt (st .k) ws) (freePages (st .k) (st .n) ws) (standOf op stand) course
+            ≡ ifNew (judged (st .k) (pageAt (st .k) ws) (freePages (st .k) (st .n) ws) (standOf op stand))
             → {r : Answer} {cells′ after : List ℕ}
-            → Leaves cells ws s op (courseOf (st .k) (pageAt (st .k) ws) (freePages (st .k) (st .n) ws) (pathOf stand) (besideOf stand) course) r cells′ after
-            → Leaves cells ws s op (here op (st .k) (st .n) ws slot) r cells′ after
+            → Leaves cells ws s (courseOf (st .k) (pageAt (st .k) ws) (freePages (st .k) (st .n) ws) (standOf op stand) course) r cells′ after
+            → Leaves cells ws s (here op (st .k) (st .n) ws slot) r cells′ after
         granted-leaves course found {r} {cells′} {after} h =
-            subst (λ (v : Verdict). Leaves cells ws s op v r cells′ after) (sym (verdict-course op (st .k) (st .n) ws slot course e granted-fits found)) h
+            subst (λ (v : Verdict). Leaves cells ws s v r cells′ after) (sym (verdict-course op (st .k) (st .n) ws slot course e granted-fits found)) h
 
 -- ---- the tests, in their order
 
@@ -143,12 +142,12 @@ same-says {cells} {ws} {s} a e q =
     left-says (left a (stateOf cells) ws) e refl refl (sym (cond-true cells (laidInto cells s (stateOf cells)) q)) refl
 
 -- the words of the state by the verdict, and by the answer
-acted-cells : (cells ws : List ℕ) (s : ℕ) (op : Op) (v : Verdict) → Answers v
-    → actedCells cells s v (acted (asRead cells) ws s op v .state) ≡ lentAfter cells s (acted (asRead cells) ws s op v .answer) (acted (asRead cells) ws s op v .state)
+acted-cells : (cells ws : List ℕ) (s : ℕ) (v : Verdict) → Answers v
+    → actedCells cells s v (acted (asRead cells) ws s v .state) ≡ lentAfter cells s (acted (asRead cells) ws s v .answer) (acted (asRead cells) ws s v .state)
 unfolding lentAfter
-acted-cells cells ws s op broken h = refl
-acted-cells cells ws s op (goes path siblings want) h = refl
-acted-cells cells ws s op (ends answer writes) h = sym (cond-false cells _ (changes answer h))
+acted-cells cells ws s broken h = refl
+acted-cells cells ws s (goes z) h = refl
+acted-cells cells ws s (ends answer writes) h = sym (cond-false cells _ (changes answer h))
 
 -- The state is sound, the words are a pool's, and there is such a slot.
 pub record Passed (st : State) (ws : List ℕ) (s : ℕ) : Type 0 where
@@ -238,13 +237,13 @@ module _ {st : State} {ws : List ℕ} {s : ℕ} (p : Passed st ws s) where
 
       -- whether it is granted its want was tested
       module _ {granted : Bool} (told : granted ≡ grants st s) where
-        by-grant : cond granted (acted st ws s op (here op (st .k) (st .n) ws slot)) (left Waiting st ws) ≡ stepped st ws s
-        by-grant = ap (λ (b : Bool). cond b (acted st ws s op (here op (st .k) (st .n) ws slot)) (left Waiting st ws)) told ∙ by-task task
+        by-grant : cond granted (acted st ws s (here op (st .k) (st .n) ws slot)) (left Waiting st ws) ≡ stepped st ws s
+        by-grant = ap (λ (b : Bool). cond b (acted st ws s (here op (st .k) (st .n) ws slot)) (left Waiting st ws)) told ∙ by-task task
 
         is-waiting : granted ≡ false → left Waiting st ws ≡ stepped st ws s
         is-waiting f = sym (cond-false _ _ f) ∙ by-grant
 
-        is-granted : granted ≡ true → acted st ws s op (here op (st .k) (st .n) ws slot) ≡ stepped st ws s
+        is-granted : granted ≡ true → acted st ws s (here op (st .k) (st .n) ws slot) ≡ stepped st ws s
         is-granted t = sym (cond-true _ _ t) ∙ by-grant
 
 -- ---- what is promised, by the words
@@ -284,11 +283,11 @@ module _ (cells ws : List ℕ) (s : ℕ) (w : SoundWords cells) where
       says-waiting f = given Waiting (is-waiting p read task told f) refl
 
       pub says-granted : {r : Answer} {cells′ after : List ℕ} → granted ≡ true
-          → Leaves cells ws s op (here op (getD cells 0 0) (getD cells 1 0) ws slot) r cells′ after
+          → Leaves cells ws s (here op (getD cells 0 0) (getD cells 1 0) ws slot) r cells′ after
           → StepSays cells ws s r cells′ after
       says-granted t h =
           let v = here op (getD cells 0 0) (getD cells 1 0) ws slot in
-          let l : Left = acted (asRead cells) ws s op v in
+          let l : Left = acted (asRead cells) ws s v in
           left-says l (as-read l (is-granted p read task told t)) (h .answer) (h .state)
-          (h .all ∙ acted-cells cells ws s op v (verdict-answers op (getD cells 0 0) (getD cells 1 0) ws (pathOf slot) (besideOf slot) (slot .want)))
+          (h .all ∙ acted-cells cells ws s v (verdict-answers (getD cells 0 0) (getD cells 1 0) ws (standOf op slot)))
           (h .words)

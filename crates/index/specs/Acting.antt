@@ -26,15 +26,15 @@ use Rattle.index.specs.Step.{acted}
 -- the words of the state after a verdict: as given, or with the slot and the order as the next state has them
 abbrev pub actedCells : List ℕ → ℕ → Verdict → State → List ℕ
 actedCells cells s broken st = cells
-actedCells cells s (goes path siblings want) st = laidInto cells s st
+actedCells cells s (goes z) st = laidInto cells s st
 actedCells cells s (ends answer writes) st = laidInto cells s st
 
 -- What a granted step gives back and leaves, by its verdict.
-pub record Leaves (cells ws : List ℕ) (s : ℕ) (op : Op) (v : Verdict) (r : Answer) (cells′ after : List ℕ) : Type 0 where
-  pub answer : r ≡ acted (asRead cells) ws s op v .answer
-  pub state : stateOf cells′ ≡ acted (asRead cells) ws s op v .state
-  pub all : cells′ ≡ actedCells cells s v (acted (asRead cells) ws s op v .state)
-  pub words : after ≡ acted (asRead cells) ws s op v .words
+pub record Leaves (cells ws : List ℕ) (s : ℕ) (v : Verdict) (r : Answer) (cells′ after : List ℕ) : Type 0 where
+  pub answer : r ≡ acted (asRead cells) ws s v .answer
+  pub state : stateOf cells′ ≡ acted (asRead cells) ws s v .state
+  pub all : cells′ ≡ actedCells cells s v (acted (asRead cells) ws s v .state)
+  pub words : after ≡ acted (asRead cells) ws s v .words
 
 -- Slot s of the state waits for its want.
 pub record Waits (st : State) (s : ℕ) : Type 0 where

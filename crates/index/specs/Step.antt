@@ -6,7 +6,6 @@ use lib.Dec.{ltb, eqb}
 use lib.ListN.{length}
 use Rattle.ground.specs.Limits.{slotCount}
 use Rattle.pool.specs.Pool.{poolLength, applied}
-use Rattle.slots.specs.declared.Op.{Op}
 use Rattle.slots.specs.declared.Task.{Task}
 use Rattle.slots.specs.declared.Task.the-variants.{Closed, Open}
 use Rattle.slots.specs.declared.Slot.{Slot}
@@ -14,7 +13,7 @@ use Rattle.slots.specs.declared.State.{State}
 use Rattle.slots.specs.declared.Answer.{Answer}
 use Rattle.slots.specs.declared.Answer.the-variants.{Waiting, Moved, BadState, BadPool, BadSlot, SlotIdle, Damaged}
 use Rattle.slots.specs.Heard.{isOneOf, ending}
-use Rattle.slots.specs.Parts.{slotAt, pathOf, besideOf}
+use Rattle.slots.specs.Parts.{slotAt, standOf}
 use Rattle.slots.specs.Sound.{sound}
 use Rattle.slots.specs.Grant.{grants}
 use Rattle.slots.specs.Book.{goesOn, closes}
@@ -38,18 +37,16 @@ ofGranted a = isOneOf a (Moved ∷ ending)
 
 -- Moved, with the new holdings and want; an ending answer, with the pages written; or Damaged: "as given, the slot stays
 -- open, the lock is not taken".
-abbrev pub acted : State → List ℕ → ℕ → Op → Verdict → Left
-acted st ws s op broken = left Damaged st ws
-acted st ws s op (goes path siblings want) = left Moved (goesOn st s op want path siblings) ws
-acted st ws s op (ends answer writes) = left answer (closes st s) (applied (st .k) writes ws)
+abbrev pub acted : State → List ℕ → ℕ → Verdict → Left
+acted st ws s broken = left Damaged st ws
+acted st ws s (goes z) = left Moved (goesOn st s z) ws
+acted st ws s (ends answer writes) = left answer (closes st s) (applied (st .k) writes ws)
 
 -- Slot s, by its task. "Otherwise it is answered Waiting and nothing changes."
 abbrev pub steppedTask : State → List ℕ → ℕ → Slot → Task → Left
 steppedTask st ws s slot Closed = left SlotIdle st ws
 steppedTask st ws s slot (Open op) =
-    cond (grants st s)
-    (acted st ws s op (verdict op (st .k) (st .n) ws (pathOf slot) (besideOf slot) (slot .want)))
-    (left Waiting st ws)
+    cond (grants st s) (acted st ws s (verdict (st .k) (st .n) ws (standOf op slot))) (left Waiting st ws)
 
 -- "Order. .. Step: 1, 2, 3, 5, Waiting, 6."
 unfoldable pub stepped : State → List ℕ → ℕ → Left

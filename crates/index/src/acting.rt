@@ -25,7 +25,7 @@ ghost use Rattle.pool.specs.Pool.{pageAt, freePages};
 ghost use Rattle.change.specs.Held.{Holding};
 ghost use Rattle.deletion.specs.Deleting.{Deleting};
 ghost use Rattle.slots.specs.declared.Op.the-variants.{Insert};
-ghost use Rattle.slots.specs.Parts.{pathOf, besideOf};
+ghost use Rattle.slots.specs.Parts.{pathOf, standOf};
 ghost use Rattle.slots.specs.Book.{requeued};
 ghost use Rattle.lent.specs.Words.{asRead, known, laidInto};
 ghost use Rattle.footing.specs.Fitting.{verdict};
@@ -92,7 +92,7 @@ pub fn act(
 ) -> Answer
     requires { ⌜ (known (now state) ≡ true) × (Acts (asRead (now state)) (now words) s op stand) ⌝ }
     requires { ⌜ ready op (pageAt (asRead (now state) .k) (now words)) (pathOf stand) course ⌝ }
-    ensures { λ r. ⌜ Leaves (now (state .entry)) (now (words .entry)) s op (courseOf (asRead (now (state .entry)) .k) (pageAt (asRead (now (state .entry)) .k) (now (words .entry))) (freePages (asRead (now (state .entry)) .k) (asRead (now (state .entry)) .n) (now (words .entry))) (pathOf stand) (besideOf stand) course) r (now (state .exit)) (now (words .exit)) ⌝ }
+    ensures { λ r. ⌜ Leaves (now (state .entry)) (now (words .entry)) s (courseOf (asRead (now (state .entry)) .k) (pageAt (asRead (now (state .entry)) .k) (now (words .entry))) (freePages (asRead (now (state .entry)) .k) (asRead (now (state .entry)) .n) (now (words .entry))) (standOf op stand) course) r (now (state .exit)) (now (words .exit)) ⌝ }
 {
     sized(state);
     let k = state[WIDTH] as usize;
@@ -135,7 +135,7 @@ pub fn granted_step(
 ) -> Answer
     requires { ⌜ (known (now state) ≡ true) × (Waits (asRead (now state)) s) ⌝ }
     requires { ⌜ Asks (asRead (now state) .k) (asRead (now state) .n) (now words) op slot ⌝ }
-    ensures { λ r. ⌜ Leaves (now (state .entry)) (now (words .entry)) s op (verdict op (asRead (now (state .entry)) .k) (asRead (now (state .entry)) .n) (now (words .entry)) (pathOf slot) (besideOf slot) (slot .want)) r (now (state .exit)) (now (words .exit)) ⌝ }
+    ensures { λ r. ⌜ Leaves (now (state .entry)) (now (words .entry)) s (verdict (asRead (now (state .entry)) .k) (asRead (now (state .entry)) .n) (now (words .entry)) (standOf op slot)) r (now (state .exit)) (now (words .exit)) ⌝ }
 {
     let k = state[WIDTH] as usize;
     let n = state[PAGES] as usize;

@@ -16,7 +16,7 @@ use Rattle.page.specs.Place.{pointer}
 use Rattle.page.specs.Short.{hasRight, neighbour}
 use Rattle.slots.specs.declared.Op.{Op}
 use Rattle.slots.specs.declared.Op.the-variants.{Search, Insert, Delete, Next, Regrade}
-use Rattle.slots.specs.Parts.{keyOf, isNext}
+use Rattle.slots.specs.Parts.{keyOf, isNext, Stand}
 use Rattle.footing.specs.Granted.{isSafe}
 use Rattle.tree.specs.Tree.{Tr, occurs, way, Forms}
 use Rattle.tree.specs.Facts.{WayFacts, SecondWay, PlacedFor}
@@ -28,17 +28,17 @@ use Rattle.runs.proofs.Paths.{member-reverse}
 
 -- Where the two ways run: the top page of the path is page `index` + 1 of x's way, and the second way goes down below it, by pages of
 -- the way of the key `beyond .key`.
-pub record Across (memory : ℕ → Page) (x l : ℕ) (t : Tr l) (path second : List ℕ) (want : ℕ) : Type 0 where
+pub record Across (memory : ℕ → Page) (l : ℕ) (t : Tr l) (z : Stand) : Type 0 where
   pub index : ℕ
-  pub long : length path ≡ index + 2
+  pub long : length (z .path) ≡ index + 2
   pub inside : index < l
-  pub top : getD (way x l t) (suc index) 0 ≡ getD path 0 0
+  pub top : getD (way (keyOf (z .op)) l t) (suc index) 0 ≡ getD (z .path) 0 0
   -- the path, read upward, is x's way
-  pub first : (j : ℕ) → j ≤ suc index → getD (reverse path) j 0 ≡ getD (way x l t) j 0
-  pub beyond : SecondWay memory x l t index
-  pub few : length second ≤ index
+  pub first : (j : ℕ) → j ≤ suc index → getD (reverse (z .path)) j 0 ≡ getD (way (keyOf (z .op)) l t) j 0
+  pub beyond : SecondWay memory (keyOf (z .op)) l t index
+  pub few : length (z .beside) ≤ index
   -- the pages of the second way and the want, from the top downward
-  pub on : (j : ℕ) → j ≤ length second → getD (second ++ want ∷ []) j 0 ≡ getD (way (beyond .key) l t) (index - j) 0
+  pub on : (j : ℕ) → j ≤ length (z .beside) → getD (z .beside ++ z .want ∷ []) j 0 ≡ getD (way (beyond .key) l t) (index - j) 0
 
 -- the top page is the last one of the path read upward
 pub top-upward : (path : List ℕ) (i : ℕ) → length path ≡ suc i → getD (reverse path) i 0 ≡ getD path 0 0
@@ -55,34 +55,34 @@ next-right (Delete x) k P asks safe = absurd (false≢true asks)
 next-right (Next x) k P asks safe = and-second (not (isLeaf P)) (hasRight x P) safe
 next-right (Regrade x v) k P asks safe = absurd (false≢true asks)
 
-module _ (op : Op) (k n : ℕ) (memory : ℕ → Page) (l : ℕ) (t : Tr l) (one : 1 ≤ k) (forms : Forms k n memory l t)
-    (key : keyOf op < wordRange) (path second : List ℕ) (want : ℕ) (c : Crossing op k memory l t path second want) where
+module _ (k n : ℕ) (memory : ℕ → Page) (l : ℕ) (t : Tr l) (one : 1 ≤ k) (forms : Forms k n memory l t)
+    (z : Stand) (key : keyOf (z .op) < wordRange) (c : Crossing k memory l t z) where
   abbrev x : ℕ
-  x = keyOf op
+  x = keyOf (z .op)
 
   abbrev i : ℕ
-  i = length path - 2
+  i = length (z .path) - 2
 
   path-inside : i < l
   path-inside =
       omega
-      (arith, c .fewer, ap length (c .whole), length-append (reverse path) (c .upper), length-reverse path, way-facts k n memory l t forms x key .pages)
+      (arith, c .fewer, ap length (c .whole), length-append (reverse (z .path)) (c .upper), length-reverse (z .path), way-facts k n memory l t forms x key .pages)
 
-  upward-first : (j : ℕ) → j ≤ suc i → getD (reverse path) j 0 ≡ getD (way x l t) j 0
+  upward-first : (j : ℕ) → j ≤ suc i → getD (reverse (z .path)) j 0 ≡ getD (way x l t) j 0
   upward-first j h =
-      sym (List·getD-append (reverse path) (c .upper) 0 j (omega (arith, length-reverse path, c .fewer)))
+      sym (List·getD-append (reverse (z .path)) (c .upper) 0 j (omega (arith, length-reverse (z .path), c .fewer)))
       ∙ ap (λ (w : List ℕ). getD w j 0) (sym (c .whole))
 
-  top-page : getD (way x l t) (suc i) 0 ≡ getD path 0 0
-  top-page = sym (upward-first (suc i) (omega arith)) ∙ top-upward path (suc i) (omega (arith, c .fewer))
+  top-page : getD (way x l t) (suc i) 0 ≡ getD (z .path) 0 0
+  top-page = sym (upward-first (suc i) (omega arith)) ∙ top-upward (z .path) (suc i) (omega (arith, c .fewer))
 
   turning : SecondWay memory x l t i
   turning =
       next-facts k n memory l t one forms x key .second i path-inside
-      (ap (λ (p : ℕ). hasRight x (memory p)) top-page ∙ next-right op k (memory (getD path 0 0)) (c .asksNext) (c .right))
+      (ap (λ (p : ℕ). hasRight x (memory p)) top-page ∙ next-right (z .op) k (memory (getD (z .path) 0 0)) (c .asksNext) (c .right))
 
   -- each page is what the one before it leads to, in the slot and on the second way
-  second-on : (j : ℕ) → j ≤ length second → getD (second ++ want ∷ []) j 0 ≡ getD (way (turning .key) l t) (i - j) 0
+  second-on : (j : ℕ) → j ≤ length (z .beside) → getD (z .beside ++ z .want ∷ []) j 0 ≡ getD (way (turning .key) l t) (i - j) 0
   second-on zero h =
       let e : i ≡ i - 0 = omega arith in
       c .turns
@@ -91,8 +91,8 @@ module _ (op : Op) (k n : ℕ) (memory : ℕ → Page) (l : ℕ) (t : Tr l) (one
       ∙ ap (λ (a : ℕ). getD (way (turning .key) l t) a 0) e
   second-on (suc j) h =
       let e : suc (i - suc j) ≡ i - j = omega (arith, c .fewer) in
-      let before : getD second j 0 ≡ getD (way (turning .key) l t) (suc (i - suc j)) 0
-      = sym (List·getD-append second (want ∷ []) 0 j h)
+      let before : getD (z .beside) j 0 ≡ getD (way (turning .key) l t) (suc (i - suc j)) 0
+      = sym (List·getD-append (z .beside) (z .want ∷ []) 0 j h)
       ∙ second-on j (omega arith)
       ∙ ap (λ (a : ℕ). getD (way (turning .key) l t) a 0) (sym e) in
       c .leftmost j h
@@ -100,7 +100,7 @@ module _ (op : Op) (k n : ℕ) (memory : ℕ → Page) (l : ℕ) (t : Tr l) (one
       ∙ sym (turning .leftmost (i - suc j) (omega (arith, c .fewer)))
 
   -- A Next past its leaf stands on two ways of the tree.
-  pub across : Across memory x l t path second want
+  pub across : Across memory l t z
   across = record {
     index = i;
     long = omega (arith, c .fewer);
@@ -114,62 +114,62 @@ module _ (op : Op) (k n : ℕ) (memory : ℕ → Page) (l : ℕ) (t : Tr l) (one
 
 -- ---- what follows for the pages of the second way and the want
 
-module _ (k n : ℕ) (memory : ℕ → Page) (l : ℕ) (t : Tr l) (forms : Forms k n memory l t) (x : ℕ) (key : x < wordRange)
-    (path second : List ℕ) (want : ℕ) (a : Across memory x l t path second want) where
+module _ (k n : ℕ) (memory : ℕ → Page) (l : ℕ) (t : Tr l) (forms : Forms k n memory l t) (z : Stand)
+    (key : keyOf (z .op) < wordRange) (a : Across memory l t z) where
   -- the first way, and the second
-  pub first-facts : WayFacts memory x l t
-  first-facts = way-facts k n memory l t forms x key
+  pub first-facts : WayFacts memory (keyOf (z .op)) l t
+  first-facts = way-facts k n memory l t forms (keyOf (z .op)) key
 
   pub second-facts : WayFacts memory (a .beyond .key) l t
   second-facts = way-facts k n memory l t forms (a .beyond .key) (a .beyond .inWords)
 
   -- their levels fall by one
-  pub second-level : (j : ℕ) → j ≤ length second → memory (getD (second ++ want ∷ []) j 0) .level ≡ (a .index - j) + 1
+  pub second-level : (j : ℕ) → j ≤ length (z .beside) → memory (getD (z .beside ++ z .want ∷ []) j 0) .level ≡ (a .index - j) + 1
   second-level j h =
       ap (λ (p : ℕ). memory p .level) (a .on j h) ∙ second-facts .level (a .index - j) (omega (arith, a .inside))
 
   -- they stand in ranges that have the second key
-  pub second-placed : (j : ℕ) → j ≤ length second
-      → PlacedFor (a .beyond .key) l t 0 wordRange (getD (second ++ want ∷ []) j 0) ((a .index - j) + 1)
+  pub second-placed : (j : ℕ) → j ≤ length (z .beside)
+      → PlacedFor (a .beyond .key) l t 0 wordRange (getD (z .beside ++ z .want ∷ []) j 0) ((a .index - j) + 1)
   second-placed j h =
       subst (λ (p : ℕ). PlacedFor (a .beyond .key) l t 0 wordRange p ((a .index - j) + 1)) (sym (a .on j h))
       (place-facts k n memory l t forms .onWay (a .beyond .key) (a .index - j) (a .beyond .inWords) (omega (arith, a .inside)))
 
   -- where such a page stands among them
-  pub second-at : (q : ℕ) → member q (second ++ want ∷ []) ≡ true → (j : ℕ) × (j ≤ length second) × (getD (second ++ want ∷ []) j 0 ≡ q)
+  pub second-at : (q : ℕ) → member q (z .beside ++ z .want ∷ []) ≡ true → (j : ℕ) × (j ≤ length (z .beside)) × (getD (z .beside ++ z .want ∷ []) j 0 ≡ q)
   second-at q m =
-      let found = member-at q (second ++ want ∷ []) 0 m in
-      (found .0, omega (arith, found .1, length-append second (want ∷ [])), found .2)
+      let found = member-at q (z .beside ++ z .want ∷ []) 0 m in
+      (found .0, omega (arith, found .1, length-append (z .beside) (z .want ∷ [])), found .2)
 
   -- they are pages of the tree,
-  pub second-pages : (q : ℕ) → member q (second ++ want ∷ []) ≡ true → 1 ≤ occurs q l t
+  pub second-pages : (q : ℕ) → member q (z .beside ++ z .want ∷ []) ≡ true → 1 ≤ occurs q l t
   second-pages q m =
       let (j, h, e) = second-at q m in
       let spot = second-placed j h in
       subst (λ (p : ℕ). 1 ≤ occurs p l t) e
-      (place-facts k n memory l t forms .counted (getD (second ++ want ∷ []) j 0) ((a .index - j) + 1) (spot .from) (spot .to) (spot .stands))
+      (place-facts k n memory l t forms .counted (getD (z .beside ++ z .want ∷ []) j 0) ((a .index - j) + 1) (spot .from) (spot .to) (spot .stands))
 
   -- none of them on the path, for on each level the two ways have different pages,
-  pub second-new : (q : ℕ) → member q (second ++ want ∷ []) ≡ true → member q path ≡ false
+  pub second-new : (q : ℕ) → member q (z .beside ++ z .want ∷ []) ≡ true → member q (z .path) ≡ false
   second-new q m =
-      false-if-not-true (member q path)
+      false-if-not-true (member q (z .path))
       (λ y.
       let (j, h, e) = second-at q m in
-      let (i, b, f) = member-at q (reverse path) 0 (member-reverse q path ∙ y) in
-      let low : i ≤ suc (a .index) = omega (arith, b, length-reverse path, a .long) in
-      let here : getD (way x l t) i 0 ≡ q = sym (a .first i low) ∙ f in
+      let (i, b, f) = member-at q (reverse (z .path)) 0 (member-reverse q (z .path) ∙ y) in
+      let low : i ≤ suc (a .index) = omega (arith, b, length-reverse (z .path), a .long) in
+      let here : getD (way (keyOf (z .op)) l t) i 0 ≡ q = sym (a .first i low) ∙ f in
       let level : memory q .level ≡ i + 1 = sym (ap (λ (p : ℕ). memory p .level) here) ∙ first-facts .level i (omega (arith, a .inside)) in
       let beside : memory q .level ≡ (a .index - j) + 1 = sym (ap (λ (p : ℕ). memory p .level) e) ∙ second-level j h in
       let same : i ≡ a .index - j = omega arith in
       a .beyond .parts (a .index - j) (omega arith)
-      (sym (a .on j h) ∙ e ∙ sym here ∙ ap (λ (b : ℕ). getD (way x l t) b 0) same))
+      (sym (a .on j h) ∙ e ∙ sym here ∙ ap (λ (b : ℕ). getD (way (keyOf (z .op)) l t) b 0) same))
 
   -- and all of them different, for their levels are
-  pub second-different : distinct (second ++ want ∷ []) ≡ true
+  pub second-different : distinct (z .beside ++ z .want ∷ []) ≡ true
   second-different =
-      distinct-from (second ++ want ∷ []) 0
+      distinct-from (z .beside ++ z .want ∷ []) 0
       (λ i j below inside e.
-      let len = length-append second (want ∷ []) in
+      let len = length-append (z .beside) (z .want ∷ []) in
       let upper = second-level i (omega arith) in
       let lower = second-level j (omega arith) in
       let same = ap (λ (p : ℕ). memory p .level) e in

@@ -19,7 +19,7 @@ use Rattle.slots.specs.declared.State.{State}
 use Rattle.slots.specs.declared.Outcome.{Outcome}
 use Rattle.slots.specs.declared.Answer.{Answer}
 use Rattle.slots.specs.declared.Answer.the-variants.{Waiting, Moved, Begun, BadSlot, SlotBusy, SlotIdle}
-use Rattle.slots.specs.Parts.{slotAt, pathOf, besideOf, wantAt, openSlot, closedSlot, Opened}
+use Rattle.slots.specs.Parts.{Stand, standOf, slotOf, slotAt, openSlot, closedSlot, Opened}
 use Rattle.slots.specs.Heard.{isOneOf, countedAnswers}
 use Rattle.slots.specs.Book.{rewritten, begins, goesOn, closes}
 use Rattle.slots.proofs.OrderLaws.{same-or-not}
@@ -50,10 +50,10 @@ pub same-entries : (k n : ℕ) (ws : List ℕ) (l : ℕ) (t : Tr l) (l′ : ℕ)
 same-entries k n ws l t l′ t′ f f′ = ap entriesAny (pool-determined k n ws l t l′ t′ f f′)
 
 -- after an operation that ended they are those that it ended with
-pub ended-entries : (st : State) (ws : List ℕ) (inv : Invariant st ws) (op : Op) (path siblings : List ℕ) (want : ℕ) (a : Answer) (writes : List Write)
-    → (e : Ended op (st .k) (st .n) ws (inv .height) (inv .tree) path siblings want a writes)
+pub ended-entries : (st : State) (ws : List ℕ) (inv : Invariant st ws) (z : Stand) (a : Answer) (writes : List Write)
+    → (e : Ended (st .k) (st .n) ws (inv .height) (inv .tree) z a writes)
     → (l : ℕ) (t : Tr l) → PoolForms (st .k) (st .n) (applied (st .k) writes ws) l t → entriesOf l t ≡ e .entries
-ended-entries st ws inv op path siblings want a writes e l t f =
+ended-entries st ws inv z a writes e l t f =
     same-entries (st .k) (st .n) (applied (st .k) writes ws) l t (e .leads .height) (e .leads .tree) f
     (pool-leads (st .k) (st .n) ws (inv .height) (inv .tree) writes (e .entries) (inv .forms) (e .leads))
     ∙ e .leads .entries
@@ -102,9 +102,9 @@ module _ (st : State) (ws : List ℕ) (inv : Invariant st ws) (s : ℕ) (b : s <
       (λ op′ e. cond-true op (asked s) (eq-eqb s s refl) ∙ same-op e)
       (λ u n. cond-false op (asked u) (ne-eqb u s n))
 
-  knows-onward : (op : Op) (want : ℕ) (path siblings : List ℕ) → Opened st s op → Knows (goesOn st s op want path siblings) asked
+  knows-onward : (z : Stand) → Opened st s (z .op) → Knows (goesOn st s z) asked
   unfolding goesOn
-  knows-onward op want path siblings runs = knows-anew (openSlot op want path siblings) asked (λ op′ e. knows s op b runs ∙ same-op e) (λ u n. refl)
+  knows-onward z runs = knows-anew (slotOf z) asked (λ op′ e. knows s (z .op) b runs ∙ same-op e) (λ u n. refl)
 
   knows-closed : Knows (closes st s) asked
   unfolding closes
@@ -149,7 +149,7 @@ module _ (st : State) (ws : List ℕ) (inv : Invariant st ws) (asked : ℕ → O
 
   -- an operation that ends: as the plain list has it, or for want of room
   ended-adds : (s : ℕ) (op : Op) (a : Answer) (writes : List Write) (b : s < slotCount) → Opened st s op
-      → (e : Ended op (st .k) (st .n) ws (inv .height) (inv .tree) (pathOf (slotAt st s)) (besideOf (slotAt st s)) (wantAt st s) a writes)
+      → (e : Ended (st .k) (st .n) ws (inv .height) (inv .tree) (standOf op (slotAt st s)) a writes)
       → Adds (entriesIn st ws inv) (step s) asked (left a (closes st s) (applied (st .k) writes ws)) (e .entries)
   unfolding done plainAnswers plainEntries member
   ended-adds s op a writes b runs e = ⊎-elim plainly (λ none. roomless (none .0) (none .1)) (e .how)
@@ -199,13 +199,13 @@ module _ (st : State) (ws : List ℕ) (inv : Invariant st ws) (asked : ℕ → O
   step-adds s (noSlot b e) = still s BadSlot st knows refl e
   step-adds s (idle b c e) = still s SlotIdle st knows refl e
   step-adds s (waits op b runs g e) = still s Waiting st knows refl e
-  step-adds s (onward op path siblings want b runs g e stance takes) =
-      still s Moved (goesOn st s op want path siblings) (knows-onward st ws inv s b asked knows op want path siblings runs) refl e
+  step-adds s (onward op z b runs g e same stance takes) =
+      still s Moved (goesOn st s z) (knows-onward st ws inv s b asked knows z (runs ∙ ap Open (sym same))) refl e
   step-adds s (over op a writes b runs g e ends) =
       subst (λ (r : Left). (es : List Entry) × Adds (entriesIn st ws inv) (step s) asked r es × ((l : ℕ) (t : Tr l) → PoolForms (st .k) (st .n) (r .words) l t → entriesOf l t ≡ es)) (sym e) (
         ends .entries,
         ended-adds s op a writes b runs ends,
-        ended-entries st ws inv op (pathOf (slotAt st s)) (besideOf (slotAt st s)) (wantAt st s) a writes ends,
+        ended-entries st ws inv (standOf op (slotAt st s)) a writes ends,
       )
 
   -- every call

@@ -23,14 +23,14 @@ use Rattle.slots.specs.declared.Slot.{Slot}
 use Rattle.slots.specs.declared.State.{State}
 use Rattle.slots.specs.declared.Answer.{Answer}
 use Rattle.slots.specs.declared.Answer.the-variants.{Waiting, Moved, BadState, BadPool, BadSlot, SlotIdle}
-use Rattle.slots.specs.Parts.{isOpen, onlyReads, held, keyOf, slotAt, openAt, wantAt, holdsAt, pathOf, besideOf, openSlot, closedSlot, Opened}
+use Rattle.slots.specs.Parts.{isOpen, onlyReads, held, keyOf, Stand, stand, holding, standOf, slotOf, slotAt, openAt, wantAt, holdsAt, openSlot, closedSlot, Opened}
 use Rattle.slots.specs.Locks.{lockOf, lockAt, isXi}
 use Rattle.slots.specs.Grant.{grants}
 use Rattle.slots.specs.Book.{rewritten, begins, goesOn, closes}
 use Rattle.slots.proofs.SoundFacts.{SoundState, facts-sound}
 use Rattle.slots.proofs.OrderLaws.{same-or-not}
 use Rattle.slots.proofs.GrantLaws.{taking-alone}
-use Rattle.slots.proofs.Keeping.{Shaped, slot-here, slot-other, path-new, beside-new, begins-sound, begins-shaped, closes-sound, closes-shaped, goes-on-sound, goes-on-shaped}
+use Rattle.slots.proofs.Keeping.{Shaped, slot-here, slot-other, path-new, beside-new, stand-new, begins-sound, begins-shaped, closes-sound, closes-shaped, goes-on-sound, goes-on-shaped}
 use Rattle.footing.specs.Fitting.{verdict}
 use Rattle.index.specs.Step.{Left, left, acted, steppedTask, stepped}
 use Rattle.tree.specs.Tree.{Tr, PoolForms}
@@ -45,7 +45,7 @@ use Rattle.runs.proofs.Stepping.{granted-comes}
 
 -- a slot stands in a pool
 abbrev StandsIn : ℕ → List ℕ → (l : ℕ) → Tr l → Op → Slot → Type 0
-StandsIn k ws l t op slot = Stance op k (pageAt k ws) l t (pathOf slot) (besideOf slot) (slot .want)
+StandsIn k ws l t op slot = Stance k (pageAt k ws) l t (standOf op slot)
 
 -- an open task has one operation, and a closed one none
 abbrev opOf : Task → Op → Op
@@ -112,47 +112,43 @@ module _ (st : State) (ws : List ℕ) (inv : Invariant st ws) (s : ℕ) (b : s <
       (subst (λ (o : Op). keyOf o < wordRange) same key, subst (λ (o : Op). StandsIn (st .k) ws (inv .height) (inv .tree) o (openSlot op 0 [] [])) same (inl starting)))
       (λ u op′ c n runs. inv .stands u op′ c runs)
     where
-      starting : Starting (pathOf (openSlot op 0 [] [])) (besideOf (openSlot op 0 [] [])) 0
-      starting = record { noPath = path-new op 0 [] []; noSiblings = beside-new op 0 [] []; wantsRoot = refl }
+      starting : Starting (standOf op (openSlot op 0 [] []))
+      starting = record { noPath = path-new (stand op [] [] 0); noSiblings = beside-new (stand op [] [] 0); wantsRoot = refl }
 
   -- Going on: the slot holds what it took and stands again.
-  pub move-keeps : (op : Op) (path siblings : List ℕ) (want : ℕ) → Opened st s op → grants st s ≡ true
-      → Stance op (st .k) (pageAt (st .k) ws) (inv .height) (inv .tree) path siblings want
-      → ((p : ℕ) → member p (path ++ siblings) ≡ true → (holdsAt st s p ≡ true) ⊎ (p ≡ wantAt st s))
-      → Invariant (goesOn st s op want path siblings) ws
+  pub move-keeps : (z : Stand) → Opened st s (z .op) → grants st s ≡ true
+      → Stance (st .k) (pageAt (st .k) ws) (inv .height) (inv .tree) z
+      → ((p : ℕ) → member p (holding z) ≡ true → (holdsAt st s p ≡ true) ⊎ (p ≡ wantAt st s))
+      → Invariant (goesOn st s z) ws
   unfolding goesOn
-  move-keeps op path siblings want runs granted stance from =
-      slot-anew (openSlot op want path siblings) _ _ ws (inv .height) (inv .tree)
-      (goes-on-shaped st (inv .shaped) (inv .sound) s b op want path siblings opened)
-      (goes-on-sound st (inv .shaped) (inv .sound) s b op want path siblings opened (well .limits) (well .below) (well .different)
-      (λ u c n x. taking-alone st (inv .sound) s b opened granted (path ++ siblings) from u c n
+  move-keeps z runs granted stance from =
+      slot-anew (slotOf z) _ _ ws (inv .height) (inv .tree)
+      (goes-on-shaped st (inv .shaped) (inv .sound) s b z opened)
+      (goes-on-sound st (inv .shaped) (inv .sound) s b z opened (well .limits) (well .below) (well .different)
+      (λ u c n x. taking-alone st (inv .sound) s b opened granted (holding z) from u c n
       (subst (λ (task : Task). isXi (lockOf task) || isXi (lockAt st u) ≡ true) (sym runs) x)))
       (inv .forms)
-      (λ op′ e. let same : op ≡ op′ = same-op e in
-      (subst (λ (o : Op). keyOf o < wordRange) same key, subst (λ (o : Op). StandsIn (st .k) ws (inv .height) (inv .tree) o slot) same here))
+      (λ op′ e. let same : z .op ≡ op′ = same-op e in
+      (subst (λ (o : Op). keyOf o < wordRange) same key, subst (λ (o : Op). StandsIn (st .k) ws (inv .height) (inv .tree) o (slotOf z)) same here))
       (λ u op′ c n rs. inv .stands u op′ c rs)
     where
-      slot : Slot
-      slot = openSlot op want path siblings
-
       opened : openAt st s ≡ true
       opened = ap isOpen runs
 
-      key : keyOf op < wordRange
-      key = inv .keys s op b runs
+      key : keyOf (z .op) < wordRange
+      key = inv .keys s (z .op) b runs
 
-      well : WellHeld op (st .n) (inv .height) (inv .tree) path siblings want
-      well = well-held op (st .k) (st .n) ws (inv .height) (inv .tree) path siblings want
+      well : WellHeld (st .n) (inv .height) (inv .tree) z
+      well = well-held (st .k) (st .n) ws (inv .height) (inv .tree) z
           (record { kLeast = inv .sound .kLeast; kMost = inv .sound .kMost; nMost = inv .sound .nMost; key = key; forms = inv .forms; stance = stance })
 
-      here : StandsIn (st .k) ws (inv .height) (inv .tree) op slot
-      here = subst (λ (ss : List ℕ). Stance op (st .k) (pageAt (st .k) ws) (inv .height) (inv .tree) (pathOf slot) ss want) (sym (beside-new op want path siblings))
-          (subst (λ (ps : List ℕ). Stance op (st .k) (pageAt (st .k) ws) (inv .height) (inv .tree) ps siblings want) (sym (path-new op want path siblings)) stance)
+      here : StandsIn (st .k) ws (inv .height) (inv .tree) (z .op) (slotOf z)
+      here = subst (Stance (st .k) (pageAt (st .k) ws) (inv .height) (inv .tree)) (sym (stand-new z)) stance
 
   -- What an operation writes as it ends no other slot holds: where one of the two updates, they hold apart; where both only read,
   -- nothing is written.
   pub others-unwritten : (op : Op) (a : Answer) (writes : List Write) → Opened st s op → grants st s ≡ true
-      → Ended op (st .k) (st .n) ws (inv .height) (inv .tree) (pathOf (slotAt st s)) (besideOf (slotAt st s)) (wantAt st s) a writes
+      → Ended (st .k) (st .n) ws (inv .height) (inv .tree) (standOf op (slotAt st s)) a writes
       → (u : ℕ) (op′ : Op) → u < slotCount → u ≢ s → Opened st u op′ → (q : ℕ) → holdsAt st u q ≡ true → member q (writtenPages writes) ≡ false
   others-unwritten op a writes runs granted e u op′ c n rs q m =
       false-if-not-true (member q (writtenPages writes)) (λ w. ⊎-elim
@@ -163,8 +159,8 @@ module _ (st : State) (ws : List ℕ) (inv : Invariant st ws) (s : ℕ) (b : s <
       (λ x. not-both w (nothing-written (or-first-fails (isXi (lockAt st s)) (isXi (lockAt st u)) x)))
       (true-or-false (isXi (lockAt st s) || isXi (lockAt st u))))
     where
-      well : WellHeld op′ (st .n) (inv .height) (inv .tree) (pathOf (slotAt st u)) (besideOf (slotAt st u)) (wantAt st u)
-      well = well-held op′ (st .k) (st .n) ws (inv .height) (inv .tree) (pathOf (slotAt st u)) (besideOf (slotAt st u)) (wantAt st u) (scene st ws inv u op′ c rs)
+      well : WellHeld (st .n) (inv .height) (inv .tree) (standOf op′ (slotAt st u))
+      well = well-held (st .k) (st .n) ws (inv .height) (inv .tree) (standOf op′ (slotAt st u)) (scene st ws inv u op′ c rs)
 
       alone : isXi (lockAt st s) || isXi (lockAt st u) ≡ true → apart (wantAt st s ∷ held (slotAt st s)) (held (slotAt st u)) ≡ true
       alone x = taking-alone st (inv .sound) s b (ap isOpen runs) granted (wantAt st s ∷ held (slotAt st s))
@@ -175,7 +171,7 @@ module _ (st : State) (ws : List ℕ) (inv : Invariant st ws) (s : ℕ) (b : s <
 
   -- Ending: the slot closes, and what it wrote no other slot holds.
   pub end-keeps : (op : Op) (a : Answer) (writes : List Write) → Opened st s op → grants st s ≡ true
-      → Ended op (st .k) (st .n) ws (inv .height) (inv .tree) (pathOf (slotAt st s)) (besideOf (slotAt st s)) (wantAt st s) a writes
+      → Ended (st .k) (st .n) ws (inv .height) (inv .tree) (standOf op (slotAt st s)) a writes
       → Invariant (closes st s) (applied (st .k) writes ws)
   unfolding closes
   end-keeps op a writes runs granted e =
@@ -185,9 +181,9 @@ module _ (st : State) (ws : List ℕ) (inv : Invariant st ws) (s : ℕ) (b : s <
       (pool-leads (st .k) (st .n) ws (inv .height) (inv .tree) writes (e .entries) (inv .forms) (e .leads))
       (λ op′ c. absurd (closed-open c))
       (λ u op′ c n rs. subst
-      (λ (m : ℕ → Page). Stance op′ (st .k) m (e .leads .height) (e .leads .tree) (pathOf (slotAt st u)) (besideOf (slotAt st u)) (wantAt st u))
+      (λ (m : ℕ → Page). Stance (st .k) m (e .leads .height) (e .leads .tree) (standOf op′ (slotAt st u)))
       (sym memory-after)
-      (others-keep op′ (st .k) (st .n) (pageAt (st .k) ws) (inv .height) (inv .tree) writes (e .entries) (pathOf (slotAt st u)) (besideOf (slotAt st u)) (wantAt st u)
+      (others-keep (st .k) (st .n) (pageAt (st .k) ws) (inv .height) (inv .tree) writes (e .entries) (standOf op′ (slotAt st u))
       (inv .sound .kLeast) (inv .keys u op′ c rs) (inv .forms .forms) (e .leads) (others-unwritten op a writes runs granted e u op′ c n rs) (inv .stands u op′ c rs)))
     where
       opened : openAt st s ≡ true
@@ -204,15 +200,16 @@ pub data StepOf (st : State) (ws : List ℕ) (inv : Invariant st ws) (s : ℕ) :
   idle : s < slotCount → openAt st s ≡ false → stepped st ws s ≡ left SlotIdle st ws → StepOf st ws inv s
   waits : (op : Op) → s < slotCount → Opened st s op → grants st s ≡ false → stepped st ws s ≡ left Waiting st ws → StepOf st ws inv s
   -- the slot goes on: it stands again, and holds what the rules say
-  onward : (op : Op) (path siblings : List ℕ) (want : ℕ) → s < slotCount → Opened st s op → grants st s ≡ true
-      → stepped st ws s ≡ left Moved (goesOn st s op want path siblings) ws
-      → Stance op (st .k) (pageAt (st .k) ws) (inv .height) (inv .tree) path siblings want
-      → Takes op (st .k) (pageAt (st .k) ws) (pathOf (slotAt st s)) (besideOf (slotAt st s)) (wantAt st s) path siblings
+  onward : (op : Op) (z : Stand) → s < slotCount → Opened st s op → grants st s ≡ true
+      → stepped st ws s ≡ left Moved (goesOn st s z) ws
+      → z .op ≡ op
+      → Stance (st .k) (pageAt (st .k) ws) (inv .height) (inv .tree) z
+      → Takes (st .k) (pageAt (st .k) ws) (standOf op (slotAt st s)) z
       → StepOf st ws inv s
   -- the operation ends
   over : (op : Op) (a : Answer) (writes : List Write) → s < slotCount → Opened st s op → grants st s ≡ true
       → stepped st ws s ≡ left a (closes st s) (applied (st .k) writes ws)
-      → Ended op (st .k) (st .n) ws (inv .height) (inv .tree) (pathOf (slotAt st s)) (besideOf (slotAt st s)) (wantAt st s) a writes
+      → Ended (st .k) (st .n) ws (inv .height) (inv .tree) (standOf op (slotAt st s)) a writes
       → StepOf st ws inv s
 
 module _ (st : State) (ws : List ℕ) (inv : Invariant st ws) (s : ℕ) where
@@ -227,15 +224,15 @@ module _ (st : State) (ws : List ℕ) (inv : Invariant st ws) (s : ℕ) where
   within b = past ∙ cond-false (left BadSlot st ws) _ (not-of-true (lt-ltb s slotCount b))
 
   comes-to : (op : Op) → (b : s < slotCount) → Opened st s op → grants st s ≡ true
-      → stepped st ws s ≡ acted st ws s op (verdict op (st .k) (st .n) ws (pathOf (slotAt st s)) (besideOf (slotAt st s)) (wantAt st s))
-      → Comes op (st .k) (st .n) ws (inv .height) (inv .tree) (pathOf (slotAt st s)) (besideOf (slotAt st s)) (wantAt st s)
+      → stepped st ws s ≡ acted st ws s (verdict (st .k) (st .n) ws (standOf op (slotAt st s)))
+      → Comes (st .k) (st .n) ws (inv .height) (inv .tree) (standOf op (slotAt st s))
       → StepOf st ws inv s
-  comes-to op b runs g e (moves path siblings want v stance takes) = onward op path siblings want b runs g (e ∙ ap (acted st ws s op) v) stance takes
-  comes-to op b runs g e (stops a writes v ended) = over op a writes b runs g (e ∙ ap (acted st ws s op) v) ended
+  comes-to op b runs g e (moves z v same stance takes) = onward op z b runs g (e ∙ ap (acted st ws s) v) same stance takes
+  comes-to op b runs g e (stops a writes v ended) = over op a writes b runs g (e ∙ ap (acted st ws s) v) ended
 
   -- a granted step does what it comes to by the rule
   pub granted-does : (op : Op) → s < slotCount → Opened st s op → grants st s ≡ true
-      → stepped st ws s ≡ acted st ws s op (verdict op (st .k) (st .n) ws (pathOf (slotAt st s)) (besideOf (slotAt st s)) (wantAt st s))
+      → stepped st ws s ≡ acted st ws s (verdict (st .k) (st .n) ws (standOf op (slotAt st s)))
   granted-does op b runs g = within b ∙ ap (steppedTask st ws s (slotAt st s)) runs ∙ cond-true _ (left Waiting st ws) g
 
   by-task : (b : s < slotCount) (task : Task) → slotAt st s .task ≡ task → StepOf st ws inv s
@@ -244,40 +241,39 @@ module _ (st : State) (ws : List ℕ) (inv : Invariant st ws) (s : ℕ) where
       let told : stepped st ws s ≡ steppedTask st ws s (slotAt st s) (Open op) = within b ∙ ap (steppedTask st ws s (slotAt st s)) e in
       ⊎-elim
       (λ g. comes-to op b e g (granted-does op b e g)
-      (granted-comes op (st .k) (st .n) ws (inv .height) (inv .tree) (pathOf (slotAt st s)) (besideOf (slotAt st s)) (wantAt st s) (scene st ws inv s op b e)))
-      (λ g. waits op b e g (told ∙ cond-false (acted st ws s op (verdict op (st .k) (st .n) ws (pathOf (slotAt st s)) (besideOf (slotAt st s)) (wantAt st s))) (left Waiting st ws) g))
+      (granted-comes (st .k) (st .n) ws (inv .height) (inv .tree) (standOf op (slotAt st s)) (scene st ws inv s op b e)))
+      (λ g. waits op b e g (told ∙ cond-false (acted st ws s (verdict (st .k) (st .n) ws (standOf op (slotAt st s)))) (left Waiting st ws) g))
       (true-or-false (grants st s))
 
   pub step-of : StepOf st ws inv s
   step-of =
       ⊎-elim
       (λ y. by-task (ltb-true s slotCount y) (slotAt st s .task) refl)
-      (λ z. noSlot (ltb-false s slotCount z) (past ∙ cond-true (left BadSlot st ws) _ (not-of-false z)))
+      (λ f. noSlot (ltb-false s slotCount f) (past ∙ cond-true (left BadSlot st ws) _ (not-of-false f)))
       (true-or-false (ltb s slotCount))
 
 -- what a slot that goes on holds, it held or wanted
-takes-from : (op : Op) (k : ℕ) (memory : ℕ → Page) (path siblings : List ℕ) (want : ℕ) (path′ siblings′ : List ℕ) → Takes op k memory path siblings want path′ siblings′
-    → (p : ℕ) → member p (path′ ++ siblings′) ≡ true → (member p (path ++ siblings) ≡ true) ⊎ (p ≡ want)
-takes-from op k memory path siblings want path′ siblings′ (inl g) p m =
+takes-from : (k : ℕ) (memory : ℕ → Page) (z z′ : Stand) → Takes k memory z z′
+    → (p : ℕ) → member p (holding z′) ≡ true → (member p (holding z) ≡ true) ⊎ (p ≡ z .want)
+takes-from k memory z z′ (inl g) p m =
     ⊎-elim (λ h. not-both h (member-none p)) inr
-    (member-last p [] want (subst (λ (ps : List ℕ). member p ps ≡ true) (ap₂ _++_ (g .holds) (g .still)) m))
-takes-from op k memory path siblings want path′ siblings′ (inr (inl g)) p m =
-    ⊎-elim (λ h. inl (member-append p path siblings ∙ or-first (member p siblings) h)) inr
-    (member-last p path want (subst (λ (ps : List ℕ). member p ps ≡ true) (ap₂ _++_ (g .holds) (g .still) ∙ append-nil (path ++ want ∷ [])) m))
-takes-from op k memory path siblings want path′ siblings′ (inr (inr g)) p m =
-    ⊎-elim (λ h. inl (member-append p path siblings ∙ or-first (member p siblings) h))
-    (λ h. ⊎-elim (λ g. inl (member-append p path siblings ∙ or-second (member p path) g)) inr (member-last p siblings want h))
-    (or-cases (member p path) (member p (siblings ++ want ∷ []))
-    (sym (member-append p path (siblings ++ want ∷ [])) ∙ subst (λ (ps : List ℕ). member p ps ≡ true) (ap₂ _++_ (g .still) (g .holds)) m))
+    (member-last p [] (z .want) (subst (λ (ps : List ℕ). member p ps ≡ true) (ap₂ _++_ (g .holds) (g .still)) m))
+takes-from k memory z z′ (inr (inl g)) p m =
+    ⊎-elim (λ h. inl (member-append p (z .path) (z .beside) ∙ or-first (member p (z .beside)) h)) inr
+    (member-last p (z .path) (z .want) (subst (λ (ps : List ℕ). member p ps ≡ true) (ap₂ _++_ (g .holds) (g .still) ∙ append-nil (z .path ++ z .want ∷ [])) m))
+takes-from k memory z z′ (inr (inr g)) p m =
+    ⊎-elim (λ h. inl (member-append p (z .path) (z .beside) ∙ or-first (member p (z .beside)) h))
+    (λ h. ⊎-elim (λ g. inl (member-append p (z .path) (z .beside) ∙ or-second (member p (z .path)) g)) inr (member-last p (z .beside) (z .want) h))
+    (or-cases (member p (z .path)) (member p (z .beside ++ z .want ∷ []))
+    (sym (member-append p (z .path) (z .beside ++ z .want ∷ [])) ∙ subst (λ (ps : List ℕ). member p ps ≡ true) (ap₂ _++_ (g .still) (g .holds)) m))
 
 -- A step keeps what holds of a run.
 pub step-keeps : (st : State) (ws : List ℕ) (inv : Invariant st ws) (s : ℕ) → StepOf st ws inv s → Invariant (stepped st ws s .state) (stepped st ws s .words)
 step-keeps st ws inv s (noSlot b e) = subst (λ (r : Left). Invariant (r .state) (r .words)) (sym e) inv
 step-keeps st ws inv s (idle b c e) = subst (λ (r : Left). Invariant (r .state) (r .words)) (sym e) inv
 step-keeps st ws inv s (waits op b runs g e) = subst (λ (r : Left). Invariant (r .state) (r .words)) (sym e) inv
-step-keeps st ws inv s (onward op path siblings want b runs g e stance takes) =
+step-keeps st ws inv s (onward op z b runs g e same stance takes) =
     subst (λ (r : Left). Invariant (r .state) (r .words)) (sym e)
-    (move-keeps st ws inv s b op path siblings want runs g stance
-    (takes-from op (st .k) (pageAt (st .k) ws) (pathOf (slotAt st s)) (besideOf (slotAt st s)) (wantAt st s) path siblings takes))
+    (move-keeps st ws inv s b z (runs ∙ ap Open (sym same)) g stance (takes-from (st .k) (pageAt (st .k) ws) (standOf op (slotAt st s)) z takes))
 step-keeps st ws inv s (over op a writes b runs g e ended) =
     subst (λ (r : Left). Invariant (r .state) (r .words)) (sym e) (end-keeps st ws inv s b op a writes runs g ended)

@@ -17,11 +17,12 @@ use Rattle.page.specs.Words.{Page}
 use Rattle.pool.specs.Pool.{pageAt}
 use Rattle.slots.specs.declared.Op.{Op}
 use Rattle.slots.specs.declared.Op.the-variants.{Search, Insert, Delete, Next, Regrade}
+use Rattle.slots.specs.declared.Task.the-variants.{Open}
 use Rattle.slots.specs.declared.Slot.{Slot}
 use Rattle.slots.specs.declared.State.{State}
 use Rattle.slots.specs.declared.Outcome.{Outcome}
 use Rattle.slots.specs.Heard.{numberOf, changesNothing}
-use Rattle.slots.specs.Parts.{isOpen, goesBeside, openSlot, pathOf, besideOf, slotAt, openAt, wantAt, Opened}
+use Rattle.slots.specs.Parts.{isOpen, goesBeside, openSlot, pathOf, Stand, stand, standOf, slotAt, openAt, wantAt, Opened}
 use Rattle.slots.specs.Book.{begins, goesOn}
 use Rattle.slots.specs.Begin.{begun}
 use Rattle.slots.proofs.Keeping.{Shaped, slot-here, slot-other, path-new}
@@ -36,8 +37,8 @@ use Rattle.runs.specs.Counts.{grantedTo, grantsOf, endsWithin, heightGra
 use Rattle.runs.proofs.Invariant.{Invariant}
 use Rattle.runs.proofs.Calls.{same-op}
 use Rattle.runs.proofs.Runs.{BeginOf, noSuch, busy, begins-so, begin-of, call-keeps}
-use Rattle.runs.proofs.Measure.{lowestOf, leftOpen, grantsLeft, Where, atStart, onTheWay, atTheLeaf}
-use Rattle.runs.proofs.MeasureLaws.{Undisturbed, nothing-disturbed, undisturbed-measure, step-undisturbed, measure-falls, measure-bound, kept-path, goes-on-here, goes-on-k, closes-here, comes, moved, ended-so, after-moving, kept-left, where-slot, low-above, start-above}
+use Rattle.runs.proofs.Measure.{lowestOf, grantsLeft, Where, atStart, onTheWay, atTheLeaf}
+use Rattle.runs.proofs.MeasureLaws.{Undisturbed, nothing-disturbed, undisturbed-measure, step-undisturbed, measure-falls, measure-bound, kept-path, goes-on-here, goes-on-k, closes-here, comes, moved, ended-so, after-moving, leftAt, kept-left, where-slot, low-above, start-above}
 use Rattle.runs.proofs.Steps.{Goes, step-cases}
 use Rattle.runs.proofs.Verdicts.{coming-goes, coming-ends}
 
@@ -178,31 +179,32 @@ module _ (st : State) (ws : List ℕ) (inv : Invariant st ws) (s : ℕ) (g : Goe
       → WentDown (stepped st ws s .state) (stepped st ws s .words) s (g .op) m (length path)
   grant-down m above wanted = by-comes (comes st ws inv s g)
     where
-      by-comes : Comes (g .op) (st .k) (st .n) ws (inv .height) (inv .tree) path (besideOf (slotAt st s)) (wantAt st s)
+      by-comes : Comes (st .k) (st .n) ws (inv .height) (inv .tree) (standOf (g .op) (slotAt st s))
           → WentDown (stepped st ws s .state) (stepped st ws s .words) s (g .op) m (length path)
-      by-comes (moves path′ siblings′ want′ e stance takes) =
+      by-comes (moves z′ e same stance takes) =
           let memory : ℕ → Page = pageAt (st .k) ws in
-          let went = coming-goes (g .op) (st .k) (st .n) ws path (besideOf (slotAt st s)) (wantAt st s) above path′ siblings′ want′ e in
-          let how = kept-path (g .op) (st .k) memory path (wantAt st s) in
-          let here = goes-on-here st (inv .shaped) s (g .inside) (g .op) want′ path′ siblings′ in
-          let holds : pathOf (slotAt (goesOn st s (g .op) want′ path′ siblings′) s) ≡ kept (g .op) (st .k) memory path (wantAt st s)
-          = ap pathOf here ∙ path-new (g .op) want′ path′ siblings′ ∙ went .0 in
-          let left-over : grantsLeft (goesOn st s (g .op) want′ path′ siblings′) ws s ≡ 2 * (m + 1) + (length (kept (g .op) (st .k) memory path (wantAt st s)) - 1) - 2
-          = after-moving st ws inv s g path′ siblings′ want′ ∙ ap₂ (leftOpen memory) (went .0) (went .1) ∙ kept-left (g .op) (st .k) memory path (wantAt st s) (m + 1) wanted in
+          let z : Stand = standOf (g .op) (slotAt st s) in
+          let went = coming-goes (st .k) (st .n) ws z above z′ e in
+          let how = kept-path (st .k) memory z in
+          let here = goes-on-here st (inv .shaped) s (g .inside) z′ in
+          let holds : pathOf (slotAt (goesOn st s z′) s) ≡ kept (st .k) memory z
+          = ap pathOf here ∙ path-new z′ ∙ ap (λ (y : Stand). y .path) went in
+          let left-over : grantsLeft (goesOn st s z′) ws s ≡ 2 * (m + 1) + (length (kept (st .k) memory z) - 1) - 2
+          = after-moving st ws inv s g z′ ∙ ap (leftAt memory) went ∙ kept-left (st .k) memory z (m + 1) wanted in
           inr (subst (λ (r : Left). Under (r .state) (r .words) s (g .op) (m + 1) × (grantsLeft (r .state) (r .words) s ≤ 2 * m + length path))
-          (sym (moved st ws inv s g path′ siblings′ want′ e)) (
+          (sym (moved st ws inv s g z′ e)) (
             record {
-              runs = ap (λ (slot : Slot). slot .task) here;
+              runs = ap (λ (slot : Slot). slot .task) here ∙ ap Open same;
               some = subst (λ (p : List ℕ). 1 ≤ length p) (sym holds) (how .some);
               lowest =
-                  ap (λ (k : ℕ). pageAt k ws (lowestOf (pathOf (slotAt (goesOn st s (g .op) want′ path′ siblings′) s))) .level) (goes-on-k st s (g .op) want′ path′ siblings′)
+                  ap (λ (k : ℕ). pageAt k ws (lowestOf (pathOf (slotAt (goesOn st s z′) s))) .level) (goes-on-k st s z′)
                   ∙ ap (λ (p : ℕ). memory p .level) (ap lowestOf holds ∙ how .lowest)
                   ∙ wanted;
             },
             omega (arith, left-over, how .most, how .some),
           ))
       by-comes (stops a writes e ended) =
-          let leaf = coming-ends (g .op) (st .k) (st .n) ws path (besideOf (slotAt st s)) (wantAt st s) above a writes e in
+          let leaf = coming-ends (st .k) (st .n) ws (standOf (g .op) (slotAt st s)) above a writes e in
           inl (
             subst (λ (r : Left). openAt (r .state) s ≡ false) (sym (ended-so st ws inv s g a writes e))
                 (ap (λ (slot : Slot). isOpen (slot .task)) (closes-here st (inv .shaped) s (g .inside))),
@@ -314,7 +316,7 @@ module _ (s : ℕ) (b : s < slotCount) where
 
       granted-now : ((lower : ℕ) → Under next after s op lower → endsWithin s cs next after ≡ true → Needs op (lower - 1) (grantsOf s cs next after))
           → GrantCall st ws s c
-          → Where op (pageAt (st .k) ws) (inv .height) (inv .tree) (pathOf (slotAt st s)) (besideOf (slotAt st s)) (wantAt st s)
+          → Where (pageAt (st .k) ws) (inv .height) (inv .tree) (standOf op (slotAt st s))
           → Needs op (level - 1) (grantsOf s (c ∷ cs) st ws)
       granted-now rest g (atStart e f h) = absurd (omega (arith, u .some, ap length e))
       granted-now rest g (atTheLeaf w f d) = (omega (arith, u .lowest, w .level), λ so. not-both d (straight-down op so))
@@ -359,7 +361,7 @@ module _ (s : ℕ) (b : s < slotCount) where
       kept-inv = call-keeps st ws inv c (words .0)
 
       granted-now : GrantCall st ws s c
-          → Where op (pageAt (st .k) ws) (inv .height) (inv .tree) (pathOf (slotAt st s)) (besideOf (slotAt st s)) (wantAt st s)
+          → Where (pageAt (st .k) ws) (inv .height) (inv .tree) (standOf op (slotAt st s))
           → (endsWithin s (c ∷ cs) st ws ≡ true → Needs op (heightGranted s (c ∷ cs) st ws) (grantsOf s (c ∷ cs) st ws))
           × (grantsOf s (c ∷ cs) st ws ≤ 2 * heightGranted s (c ∷ cs) st ws - 1)
       granted-now g (onTheWay low w e h) = absurd (omega (arith, w .some, ap length none))
@@ -408,4 +410,4 @@ counts-from st ws inv s op cs words heard-begun = by-begin (begin-of st ws inv s
         let here : slotAt (begun st s op .state) s ≡ openSlot op 0 [] [] = ap (λ (o : Outcome). slotAt (o .state) s) e ∙ begins-here st (inv .shaped) s b op in
         grant-counts s b op cs (begun st s op .state) ws (call-keeps st ws inv (begin s op) (words .0)) (words .1)
         (ap (λ (slot : Slot). slot .task) here)
-        (ap pathOf here ∙ path-new op 0 [] [])
+        (ap pathOf here ∙ path-new (stand op [] [] 0))

@@ -18,7 +18,7 @@ use Rattle.page.specs.Place.{place, pointer}
 use Rattle.page.specs.Short.{neighbour}
 use Rattle.page.proofs.PlaceLaws.{place-most}
 use Rattle.slots.specs.declared.Op.{Op}
-use Rattle.slots.specs.Parts.{keyOf}
+use Rattle.slots.specs.Parts.{keyOf, Stand, holding}
 use Rattle.tree.specs.Tree.{Tr, Stands, way, Forms}
 use Rattle.tree.specs.Facts.{Placed, WayFacts, PlaceFacts}
 use Rattle.tree.proofs.Search.{way-facts}
@@ -81,14 +81,14 @@ pub record UnderPath (memory : ℕ → Page) (l : ℕ) (t : Tr l) (path : List �
   pub father : Father memory l t (getD (reverse path) index 0) q
 
 -- The father of page q is held: in the path, or beside it.
-pub record UnderHeld (memory : ℕ → Page) (l : ℕ) (t : Tr l) (path siblings : List ℕ) (q : ℕ) : Type 0 where
+pub record UnderHeld (memory : ℕ → Page) (l : ℕ) (t : Tr l) (z : Stand) (q : ℕ) : Type 0 where
   pub above : ℕ
-  pub held : member above (path ++ siblings) ≡ true
+  pub held : member above (holding z) ≡ true
   pub father : Father memory l t above q
 
-under-held : (memory : ℕ → Page) (l : ℕ) (t : Tr l) (path siblings : List ℕ) (q : ℕ) → UnderPath memory l t path q → UnderHeld memory l t path siblings q
-under-held memory l t path siblings q u =
-    record { above = getD (reverse path) (u .index) 0; held = upward-held path siblings (u .index) (u .held); father = u .father }
+under-held : (memory : ℕ → Page) (l : ℕ) (t : Tr l) (z : Stand) (q : ℕ) → UnderPath memory l t (z .path) q → UnderHeld memory l t z q
+under-held memory l t z q u =
+    record { above = getD (reverse (z .path)) (u .index) 0; held = upward-held (z .path) (z .beside) (u .index) (u .held); father = u .father }
 
 module _ (k n : ℕ) (memory : ℕ → Page) (l : ℕ) (t : Tr l) (forms : Forms k n memory l t) where
   facts : PlaceFacts memory l t
@@ -242,58 +242,58 @@ module _ (k n : ℕ) (memory : ℕ → Page) (l : ℕ) (t : Tr l) (forms : Forms
 
   -- ---- what an open slot holds and wants
 
-  module _ (op : Op) (key : keyOf op < wordRange) (path siblings : List ℕ) (want : ℕ) where
+  module _ (z : Stand) (key : keyOf (z .op) < wordRange) where
     -- coming down, it wants the page under the lowest one of its path
-    module _ (c : Coming op k memory l t path siblings want) where
+    module _ (c : Coming k memory l t z) where
       base : ℕ
-      base = length (c .lower ++ want ∷ [])
+      base = length (c .lower ++ z .want ∷ [])
 
       base-is : base ≡ suc (length (c .lower))
       unfolding base
-      base-is = omega (arith, length-append (c .lower) (want ∷ []))
+      base-is = omega (arith, length-append (c .lower) (z .want ∷ []))
 
-      coming-climbs : Climbs (keyOf op) path base
+      coming-climbs : Climbs (keyOf (z .op)) (z .path) base
       unfolding base
       coming-climbs =
-          climbs (keyOf op) (c .lower ++ want ∷ []) path (c .upper) key (c .whole ∙ sym (append-assoc (c .lower) (want ∷ []) (reverse path ++ c .upper)))
+          climbs (keyOf (z .op)) (c .lower ++ z .want ∷ []) (z .path) (c .upper) key (c .whole ∙ sym (append-assoc (c .lower) (z .want ∷ []) (reverse (z .path) ++ c .upper)))
 
-      coming-under : UnderPath memory l t path want
+      coming-under : UnderPath memory l t (z .path) (z .want)
       coming-under =
           let i : ℕ = length (c .lower) in
           let some = c .rightly .some in
-          let wanted : getD (way (keyOf op) l t) i 0 ≡ want
-          = ap (λ (w : List ℕ). getD w i 0) (c .whole) ∙ getD-append-seam (c .lower) want (reverse path ++ c .upper) 0 in
+          let wanted : getD (way (keyOf (z .op)) l t) i 0 ≡ z .want
+          = ap (λ (w : List ℕ). getD w i 0) (c .whole) ∙ getD-append-seam (c .lower) (z .want) (reverse (z .path) ++ c .upper) 0 in
           record {
             index = 0;
             held = some;
-            father = subst (Father memory l t (getD (reverse path) 0 0)) wanted
-                (subst (λ (p : ℕ). Father memory l t p (getD (way (keyOf op) l t) i 0))
-                (path-at (keyOf op) key path base coming-climbs 0 (suc i) some (omega (arith, base-is)))
-                (father-on-way (keyOf op) i key (omega (arith, coming-climbs .inside, base-is))));
+            father = subst (Father memory l t (getD (reverse (z .path)) 0 0)) wanted
+                (subst (λ (p : ℕ). Father memory l t p (getD (way (keyOf (z .op)) l t) i 0))
+                (path-at (keyOf (z .op)) key (z .path) base coming-climbs 0 (suc i) some (omega (arith, base-is)))
+                (father-on-way (keyOf (z .op)) i key (omega (arith, coming-climbs .inside, base-is))));
           }
 
     -- at its leaf, it wants a neighbour
-    module _ (b : WantsSibling op k memory l t path siblings want) where
-      beside-climbs : Climbs (keyOf op) path 0
-      beside-climbs = climbs (keyOf op) [] path (b .upper) key (b .whole)
+    module _ (b : WantsSibling k memory l t z) where
+      beside-climbs : Climbs (keyOf (z .op)) (z .path) 0
+      beside-climbs = climbs (keyOf (z .op)) [] (z .path) (b .upper) key (b .whole)
 
-      beside-under : UnderPath memory l t path want
-      beside-under = neighbour-under (keyOf op) key path 0 beside-climbs (length siblings) want (b .fewer) (b .wantsNext)
+      beside-under : UnderPath memory l t (z .path) (z .want)
+      beside-under = neighbour-under (keyOf (z .op)) key (z .path) 0 beside-climbs (length (z .beside)) (z .want) (b .fewer) (b .wantsNext)
 
     -- Past its leaf, it wants a page of its second way.
-    module _ (c : Crossing op k memory l t path siblings want) where
-      crossing-climbs : Climbs (keyOf op) path 0
-      crossing-climbs = climbs (keyOf op) [] path (c .upper) key (c .whole)
+    module _ (c : Crossing k memory l t z) where
+      crossing-climbs : Climbs (keyOf (z .op)) (z .path) 0
+      crossing-climbs = climbs (keyOf (z .op)) [] (z .path) (c .upper) key (c .whole)
 
       -- the pages of the second way from the top downward, the want behind them
       abbrev secondWay : List ℕ
-      secondWay = siblings ++ want ∷ []
+      secondWay = z .beside ++ z .want ∷ []
 
       -- the first one is under the top page of the path
-      turns-under : UnderPath memory l t path (getD secondWay 0 0)
+      turns-under : UnderPath memory l t (z .path) (getD secondWay 0 0)
       turns-under =
-          neighbour-under (keyOf op) key path 0 crossing-climbs (length path - 2) (getD secondWay 0 0) (omega (arith, c .fewer))
-          (c .turns ∙ ap (λ (p : ℕ). neighbour (keyOf op) (memory p)) (sym (top-upward path (suc (length path - 2)) (omega (arith, c .fewer)))))
+          neighbour-under (keyOf (z .op)) key (z .path) 0 crossing-climbs (length (z .path) - 2) (getD secondWay 0 0) (omega (arith, c .fewer))
+          (c .turns ∙ ap (λ (p : ℕ). neighbour (keyOf (z .op)) (memory p)) (sym (top-upward (z .path) (suc (length (z .path) - 2)) (omega (arith, c .fewer)))))
 
       -- Page j of the second way stands j + 1 levels below the top page, in a range that begins at this key or behind it.
       record SecondAt (low j : ℕ) : Type 0 where
@@ -301,27 +301,27 @@ module _ (k n : ℕ) (memory : ℕ → Page) (l : ℕ) (t : Tr l) (forms : Forms
         from : ℕ
         to : ℕ
         stands : Stands l t 0 wordRange (getD secondWay j 0) (under + 1) from to
-        deep : under + j + 2 ≡ length path
+        deep : under + j + 2 ≡ length (z .path)
         later : low ≤ from
 
       -- the top page is on the level of the path's length
-      top-level : (p level a b : ℕ) → Top path p → Stands l t 0 wordRange p level a b → level ≡ length path
+      top-level : (p level a b : ℕ) → Top (z .path) p → Stands l t 0 wordRange p level a b → level ≡ length (z .path)
       top-level p level a b top s =
           let i : ℕ = top .index in
-          let spot = facts .onWay (keyOf op) i key (omega (arith, top .last, crossing-climbs .inside)) in
-          let here : getD (way (keyOf op) l t) i 0 ≡ p
-          = path-at (keyOf op) key path 0 crossing-climbs i i (omega (arith, top .last)) (omega arith) ∙ top .here in
+          let spot = facts .onWay (keyOf (z .op)) i key (omega (arith, top .last, crossing-climbs .inside)) in
+          let here : getD (way (keyOf (z .op)) l t) i 0 ≡ p
+          = path-at (keyOf (z .op)) key (z .path) 0 crossing-climbs i i (omega (arith, top .last)) (omega arith) ∙ top .here in
           let same = facts .only p level a b (i + 1) (spot .from) (spot .to) s
           (subst (λ (q : ℕ). Stands l t 0 wordRange q (i + 1) (spot .from) (spot .to)) here (spot .stands)) in
           omega (arith, same .sameLevel, top .last)
 
       -- from one page to the next, by p0
-      second-next : (low j : ℕ) → j < length siblings → SecondAt low j → SecondAt low (suc j)
+      second-next : (low j : ℕ) → j < length (z .beside) → SecondAt low j → SecondAt low (suc j)
       second-next low j h s =
           let v : ℕ = s .under - 1 in
           let e : s .under + 1 ≡ v + 2 = omega (arith, s .deep, c .fewer) in
-          let below = facts .pointed (getD siblings j 0) v (s .from) (s .to) 0
-          (subst (λ (q : ℕ). Stands l t 0 wordRange q (v + 2) (s .from) (s .to)) (List·getD-append siblings (want ∷ []) 0 j h)
+          let below = facts .pointed (getD (z .beside) j 0) v (s .from) (s .to) 0
+          (subst (λ (q : ℕ). Stands l t 0 wordRange q (v + 2) (s .from) (s .to)) (List·getD-append (z .beside) (z .want ∷ []) 0 j h)
           (subst (λ (level : ℕ). Stands l t 0 wordRange (getD secondWay j 0) level (s .from) (s .to)) e (s .stands)))
           (omega arith) in
           record {
@@ -333,70 +333,70 @@ module _ (k n : ℕ) (memory : ℕ → Page) (l : ℕ) (t : Tr l) (forms : Forms
             later = omega (arith, s .later, below .low);
           }
 
-      module _ (p level a b : ℕ) (top : Top path p) (st : Stands l t 0 wordRange p level a b) where
+      module _ (p level a b : ℕ) (top : Top (z .path) p) (st : Stands l t 0 wordRange p level a b) where
         second-first : SecondAt a 0
         second-first =
-            let v : ℕ = length path - 2 in
+            let v : ℕ = length (z .path) - 2 in
             let e : level ≡ v + 2 = omega (arith, top-level p level a b top st, c .fewer) in
-            let named : p ≡ getD path 0 0
-            = sym (top .here) ∙ top-upward path (top .index) (omega (arith, top .last)) in
-            let below = facts .neighbours p v a b (keyOf op) (subst (λ (m : ℕ). Stands l t 0 wordRange p m a b) e st) in
+            let named : p ≡ getD (z .path) 0 0
+            = sym (top .here) ∙ top-upward (z .path) (top .index) (omega (arith, top .last)) in
+            let below = facts .neighbours p v a b (keyOf (z .op)) (subst (λ (m : ℕ). Stands l t 0 wordRange p m a b) e st) in
             record {
               under = v;
               from = below .from;
               to = below .to;
               stands = subst (λ (q : ℕ). Stands l t 0 wordRange q (v + 1) (below .from) (below .to))
-                  (ap (λ (r : ℕ). neighbour (keyOf op) (memory r)) named ∙ sym (c .turns)) (below .stands);
+                  (ap (λ (r : ℕ). neighbour (keyOf (z .op)) (memory r)) named ∙ sym (c .turns)) (below .stands);
               deep = omega (arith, c .fewer);
               later = below .low;
             }
 
-        second-at : (j : ℕ) → j ≤ length siblings → SecondAt a j
+        second-at : (j : ℕ) → j ≤ length (z .beside) → SecondAt a j
         second-at zero h = second-first
         second-at (suc j) h = second-next a j h (second-at j (omega arith))
 
         -- so all of them lie inside the top page
-        second-inside : Inside l t level a want
+        second-inside : Inside l t level a (z .want)
         second-inside =
-            let s = second-at (length siblings) (omega arith) in
+            let s = second-at (length (z .beside)) (omega arith) in
             record {
               newLevel = s .under + 1;
               from = s .from;
               to = s .to;
-              stands = subst (λ (q : ℕ). Stands l t 0 wordRange q (s .under + 1) (s .from) (s .to)) (getD-append-seam siblings want [] 0) (s .stands);
+              stands = subst (λ (q : ℕ). Stands l t 0 wordRange q (s .under + 1) (s .from) (s .to)) (getD-append-seam (z .beside) (z .want) [] 0) (s .stands);
               lower = omega (arith, s .deep, top-level p level a b top st);
               later = s .later;
             }
 
       -- each of them stands in the tree
-      second-placed : (j : ℕ) → j ≤ length siblings → SecondAt 0 j
+      second-placed : (j : ℕ) → j ≤ length (z .beside) → SecondAt 0 j
       second-placed j h =
-          let i : ℕ = length path - 1 in
-          let spot = facts .onWay (keyOf op) i key (omega (arith, crossing-climbs .inside, c .fewer)) in
-          let s = second-at (getD (way (keyOf op) l t) i 0) (i + 1) (spot .from) (spot .to)
+          let i : ℕ = length (z .path) - 1 in
+          let spot = facts .onWay (keyOf (z .op)) i key (omega (arith, crossing-climbs .inside, c .fewer)) in
+          let s = second-at (getD (way (keyOf (z .op)) l t) i 0) (i + 1) (spot .from) (spot .to)
           (record {
             index = i;
             last = omega (arith, c .fewer);
-            here = sym (path-at (keyOf op) key path 0 crossing-climbs i i (omega (arith, c .fewer)) (omega arith));
+            here = sym (path-at (keyOf (z .op)) key (z .path) 0 crossing-climbs i i (omega (arith, c .fewer)) (omega arith));
           })
           (spot .stands) j h in
           record { under = s .under; from = s .from; to = s .to; stands = s .stands; deep = s .deep; later = omega arith }
 
       -- the father of each is held: the top page of the path, or the page before it
-      second-under : (j : ℕ) → j ≤ length siblings → UnderHeld memory l t path siblings (getD secondWay j 0)
-      second-under zero h = under-held memory l t path siblings (getD secondWay 0 0) turns-under
+      second-under : (j : ℕ) → j ≤ length (z .beside) → UnderHeld memory l t z (getD secondWay j 0)
+      second-under zero h = under-held memory l t z (getD secondWay 0 0) turns-under
       second-under (suc j) h =
           let s = second-placed j (omega arith) in
-          let q : ℕ = getD siblings j 0 in
+          let q : ℕ = getD (z .beside) j 0 in
           let e : s .under + 1 ≡ (s .under - 1) + 2 = omega (arith, s .deep, c .fewer) in
           record {
             above = q;
-            held = member-append q path siblings ∙ or-second (member q path) (member-from q siblings j 0 h refl);
+            held = member-append q (z .path) (z .beside) ∙ or-second (member q (z .path)) (member-from q (z .beside) j 0 h refl);
             father = record {
               under = s .under - 1;
               from = s .from;
               to = s .to;
-              stands = subst (λ (r : ℕ). Stands l t 0 wordRange r ((s .under - 1) + 2) (s .from) (s .to)) (List·getD-append siblings (want ∷ []) 0 j h)
+              stands = subst (λ (r : ℕ). Stands l t 0 wordRange r ((s .under - 1) + 2) (s .from) (s .to)) (List·getD-append (z .beside) (z .want ∷ []) 0 j h)
                   (subst (λ (level : ℕ). Stands l t 0 wordRange (getD secondWay j 0) level (s .from) (s .to)) e (s .stands));
               index = 0;
               most = omega arith;
@@ -405,62 +405,62 @@ module _ (k n : ℕ) (memory : ℕ → Page) (l : ℕ) (t : Tr l) (forms : Forms
           }
 
     -- An open slot wants page 0, or a page whose father it holds.
-    pub wants-under : Stance op k memory l t path siblings want → (want ≡ 0) ⊎ UnderHeld memory l t path siblings want
+    pub wants-under : Stance k memory l t z → (z .want ≡ 0) ⊎ UnderHeld memory l t z (z .want)
     wants-under (inl s) = inl (s .wantsRoot)
-    wants-under (inr (inl c)) = inr (under-held memory l t path siblings want (coming-under c))
-    wants-under (inr (inr (inl b))) = inr (under-held memory l t path siblings want (beside-under b))
+    wants-under (inr (inl c)) = inr (under-held memory l t z (z .want) (coming-under c))
+    wants-under (inr (inr (inl b))) = inr (under-held memory l t z (z .want) (beside-under b))
     wants-under (inr (inr (inr c))) =
-        inr (subst (UnderHeld memory l t path siblings) (getD-append-seam siblings want [] 0) (second-under c (length siblings) (omega arith)))
+        inr (subst (UnderHeld memory l t z) (getD-append-seam (z .beside) (z .want) [] 0) (second-under c (length (z .beside)) (omega arith)))
 
     -- A page that it holds is the top one of its path, or it holds the page's father.
-    path-cases : (base p : ℕ) → Climbs (keyOf op) path base → (j : ℕ) → j < length path → getD (reverse path) j 0 ≡ p
-        → Top path p ⊎ UnderHeld memory l t path siblings p
+    path-cases : (base p : ℕ) → Climbs (keyOf (z .op)) (z .path) base → (j : ℕ) → j < length (z .path) → getD (reverse (z .path)) j 0 ≡ p
+        → Top (z .path) p ⊎ UnderHeld memory l t z p
     path-cases base p up j h e =
         ⊎-elim
         (λ top. inl (record { index = j; last = top; here = e }))
-        (λ more. inr (subst (UnderHeld memory l t path siblings) e
-        (under-held memory l t path siblings (getD (reverse path) j 0) (path-under (keyOf op) key path base up j more))))
+        (λ more. inr (subst (UnderHeld memory l t z) e
+        (under-held memory l t z (getD (reverse (z .path)) j 0) (path-under (keyOf (z .op)) key (z .path) base up j more))))
         (eq-or-lt-of-le h)
 
-    pub held-under : Stance op k memory l t path siblings want → (p : ℕ) → member p (path ++ siblings) ≡ true
-        → Top path p ⊎ UnderHeld memory l t path siblings p
+    pub held-under : Stance k memory l t z → (p : ℕ) → member p (holding z) ≡ true
+        → Top (z .path) p ⊎ UnderHeld memory l t z p
     held-under (inl s) p m =
-        not-both (subst (λ (xs : List ℕ). member p (xs ++ siblings) ≡ true) (s .noPath) m) (ap (member p) (s .noSiblings) ∙ member-none p)
+        not-both (subst (λ (xs : List ℕ). member p (xs ++ z .beside) ≡ true) (s .noPath) m) (ap (member p) (s .noSiblings) ∙ member-none p)
     held-under (inr (inl c)) p m =
         ⊎-elim
         (λ found. path-cases (base c) p (coming-climbs c) (found .0) (found .1) (found .2))
         (λ found. absurd (omega (arith, ap length (c .noSiblings), found .1)))
-        (held-at p path siblings m)
+        (held-at p (z .path) (z .beside) m)
     held-under (inr (inr (inl b))) p m =
         ⊎-elim
         (λ found. path-cases 0 p (beside-climbs b) (found .0) (found .1) (found .2))
-        (λ found. inr (under-held memory l t path siblings p (neighbour-under (keyOf op) key path 0 (beside-climbs b) (found .0) p
+        (λ found. inr (under-held memory l t z p (neighbour-under (keyOf (z .op)) key (z .path) 0 (beside-climbs b) (found .0) p
         (omega (arith, b .fewer, found .1)) (sym (found .2) ∙ b .neighbours (found .0) (found .1)))))
-        (held-at p path siblings m)
+        (held-at p (z .path) (z .beside) m)
     held-under (inr (inr (inr c))) p m =
         ⊎-elim
         (λ found. path-cases 0 p (crossing-climbs c) (found .0) (found .1) (found .2))
-        (λ found. inr (subst (UnderHeld memory l t path siblings)
-        (List·getD-append siblings (want ∷ []) 0 (found .0) (found .1) ∙ found .2)
+        (λ found. inr (subst (UnderHeld memory l t z)
+        (List·getD-append (z .beside) (z .want ∷ []) 0 (found .0) (found .1) ∙ found .2)
         (second-under c (found .0) (omega (arith, found .1)))))
-        (held-at p path siblings m)
+        (held-at p (z .path) (z .beside) m)
 
     -- What it wants lies inside the top page of its path, and lower.
-    pub wants-inside : Stance op k memory l t path siblings want → (p level a b : ℕ) → Top path p → Stands l t 0 wordRange p level a b
-        → Inside l t level a want
+    pub wants-inside : Stance k memory l t z → (p level a b : ℕ) → Top (z .path) p → Stands l t 0 wordRange p level a b
+        → Inside l t level a (z .want)
     wants-inside (inl s) p level a b top st = absurd (omega (arith, ap length (s .noPath), top .last))
     wants-inside (inr (inl c)) p level a b top st =
-        under-inside (keyOf op) key path (base c) (coming-climbs c) p want level a b top st (coming-under c)
+        under-inside (keyOf (z .op)) key (z .path) (base c) (coming-climbs c) p (z .want) level a b top st (coming-under c)
     wants-inside (inr (inr (inl d))) p level a b top st =
-        under-inside (keyOf op) key path 0 (beside-climbs d) p want level a b top st (beside-under d)
+        under-inside (keyOf (z .op)) key (z .path) 0 (beside-climbs d) p (z .want) level a b top st (beside-under d)
     wants-inside (inr (inr (inr c))) p level a b top st = second-inside c p level a b top st
 
     -- The wanted page stands in the tree.
-    pub wants-placed : Stance op k memory l t path siblings want → Placed l t 0 wordRange want
+    pub wants-placed : Stance k memory l t z → Placed l t 0 wordRange (z .want)
     wants-placed st =
         ⊎-elim
         (λ e. record { level = l + 1; from = 0; to = wordRange; stands = subst (λ (q : ℕ). Stands l t 0 wordRange q (l + 1) 0 wordRange) (sym e) root-place })
         (λ u. let f = u .father in
-        let c = child-inside (u .above) want (f .under + 2) (f .from) (f .to) (f .stands) f in
+        let c = child-inside (u .above) (z .want) (f .under + 2) (f .from) (f .to) (f .stands) f in
         record { level = c .newLevel; from = c .from; to = c .to; stands = c .stands })
         (wants-under st)

@@ -16,7 +16,7 @@ use Rattle.ground.proofs.Choice.{cond-ind, cond-false}
 use Rattle.page.specs.Words.{Page, isLeaf}
 use Rattle.page.specs.Place.{route}
 use Rattle.slots.specs.declared.Op.{Op}
-use Rattle.slots.specs.Parts.{keyOf}
+use Rattle.slots.specs.Parts.{keyOf, Stand, onPages, wantsNext}
 use Rattle.footing.specs.Granted.{isSafe, kept, atItsLeaf}
 use Rattle.footing.specs.Fitting.{descends, rightlyKept, rightlyBeside, rightlyAcross, isNone, fitting}
 use Rattle.tree.specs.Tree.{Tr, way}
@@ -31,11 +31,11 @@ abbrev pub HeldRightly : Op → ℕ → (ℕ → Page) → List ℕ → ℕ → 
 HeldRightly op k memory path want = ((path ≡ []) × (want ≡ 0)) ⊎ Rightly op k memory path
 
 -- A slot that comes down: it holds a stretch of its key's way, or nothing yet, and wants the next page of it.
-pub record Down (op : Op) (k : ℕ) (memory : ℕ → Page) (l : ℕ) (t : Tr l) (path : List ℕ) (want : ℕ) : Type 0 where
+pub record Down (k : ℕ) (memory : ℕ → Page) (l : ℕ) (t : Tr l) (z : Stand) : Type 0 where
   pub lower : List ℕ
   pub upper : List ℕ
-  pub whole : way (keyOf op) l t ≡ lower ++ want ∷ (reverse path ++ upper)
-  pub held : HeldRightly op k memory path want
+  pub whole : way (keyOf (z .op)) l t ≡ lower ++ z .want ∷ (reverse (z .path) ++ upper)
+  pub held : HeldRightly (z .op) k memory (z .path) (z .want)
 
 -- Once page p is granted: the path is a stretch of the key's way, and p is its lowest page.
 pub record Reached (op : Op) (k : ℕ) (memory : ℕ → Page) (l : ℕ) (t : Tr l) (path : List ℕ) (p : ℕ) : Type 0 where
@@ -106,8 +106,8 @@ module _ (op : Op) (k : ℕ) (memory : ℕ → Page) where
             (λ y.
             let inside : suc i < length path = ltb-true (suc i) (length path) y in
             subst (λ (q : ℕ). isSafe op k (memory q) ≡ false) (sym (List·getD-append path (p ∷ []) 0 (suc i) inside)) (r .unsafe i inside))
-            (λ z.
-            let last : length path ≤ suc i = ltb-false (suc i) (length path) z in
+            (λ o.
+            let last : length path ≤ suc i = ltb-false (suc i) (length path) o in
             let at : length path ≡ suc i = omega arith in
             subst (λ (q : ℕ). isSafe op k (memory q) ≡ false) (sym (getD-at path p [] 0 (suc i) at)) f);
       }
@@ -134,100 +134,97 @@ module _ (op : Op) (k : ℕ) (memory : ℕ → Page) where
   pub rightly-test : (path : List ℕ) (want : ℕ) → Rightly op k memory path → rightlyKept op k memory path want ≡ true
   rightly-test path want r = kept-test path want (inr r)
 
-  module _ (l : ℕ) (t : Tr l) (facts : WayFacts memory (keyOf op) l t) where
-    -- a slot that has begun, or comes down
-    pub starting-down : (path siblings : List ℕ) (want : ℕ) → Starting path siblings want → Down op k memory l t path want
-    starting-down path siblings want s =
-        let (L, p, cut) = one-last (way (keyOf op) l t) (omega (arith, facts .pages)) in
-        let len : length L ≡ l = omega (arith, ap length cut, length-append L (p ∷ []), facts .pages) in
-        let root : p ≡ want
-        = sym (getD-at L p [] 0 l len) ∙ ap (λ (w : List ℕ). getD w l 0) (sym cut) ∙ facts .root ∙ sym (s .wantsRoot) in
+module _ (k : ℕ) (memory : ℕ → Page) (l : ℕ) (t : Tr l) (z : Stand) (facts : WayFacts memory (keyOf (z .op)) l t) where
+  -- a slot that has begun, or comes down
+  pub starting-down : Starting z → Down k memory l t z
+  starting-down s =
+      let (L, p, cut) = one-last (way (keyOf (z .op)) l t) (omega (arith, facts .pages)) in
+      let len : length L ≡ l = omega (arith, ap length cut, length-append L (p ∷ []), facts .pages) in
+      let root : p ≡ z .want
+      = sym (getD-at L p [] 0 l len) ∙ ap (λ (w : List ℕ). getD w l 0) (sym cut) ∙ facts .root ∙ sym (s .wantsRoot) in
+      record {
+        lower = L;
+        upper = [];
+        whole = cut ∙ ap₂ (λ (q : ℕ) (ps : List ℕ). L ++ q ∷ (reverse ps ++ [])) root (sym (s .noPath));
+        held = inl (s .noPath, s .wantsRoot);
+      }
+
+  pub coming-down : Coming k memory l t z → Down k memory l t z
+  coming-down c = record { lower = c .lower; upper = c .upper; whole = c .whole; held = inr (c .rightly) }
+
+  module _ (down : Down k memory l t z) where
+    -- it does not stand at its leaf
+    pub down-above : atItsLeaf memory (reverse (z .path)) ≡ false
+    down-above = above-leaf memory (keyOf (z .op)) l t facts (reverse (z .path)) (down .lower) (z .want) (down .upper) (down .whole)
+
+    -- its pages are the ones the rules would have it hold and want
+    pub down-fitting : z .beside ≡ [] → fitting k memory z ≡ true
+    unfolding fitting
+    down-fitting none =
+        let stretch : way (keyOf (z .op)) l t ≡ down .lower ++ (reverse (z .path ++ z .want ∷ []) ++ down .upper)
+        = down .whole ∙ ap (λ (ps : List ℕ). down .lower ++ (ps ++ down .upper)) (sym (reverse-append (z .path) (z .want ∷ []))) in
+        and-both
+        (kept-test (z .op) k memory (z .path) (z .want) (down .held))
+        (cond-false
+        (descends memory (keyOf (z .op)) (z .path)
+        && (rightlyBeside k memory z (reverse (z .path)) || rightlyAcross k memory z (z .path)))
+        (descends memory (keyOf (z .op)) (z .path ++ z .want ∷ []) && isNone (z .beside))
+        down-above
+        ∙ and-both
+        (descends-way memory (keyOf (z .op)) l t facts (z .path ++ z .want ∷ []) (down .lower) (down .upper) stretch)
+        (ap isNone none))
+
+    -- what it holds once the want is granted
+    pub down-reached : Reached (z .op) k memory l t (kept k memory z) (z .want)
+    down-reached =
+        cond-ind (λ (ps : List ℕ). Reached (z .op) k memory l t ps (z .want)) (isSafe (z .op) k (memory (z .want)))
+        (λ safe. record {
+          fathers = [];
+          upward = refl;
+          lower = down .lower;
+          upper = reverse (z .path) ++ down .upper;
+          whole = down .whole;
+          rightly = rightly-alone (z .op) k memory (z .want) safe;
+        })
+        (λ f. record {
+          fathers = reverse (z .path);
+          upward = reverse-append (z .path) (z .want ∷ []);
+          lower = down .lower;
+          upper = down .upper;
+          whole = down .whole;
+          rightly = rightly-on (z .op) k memory (z .path) (z .want) (down .held) f;
+        })
+
+  -- ---- the granted page
+
+  module _ (path : List ℕ) (r : Reached (z .op) k memory l t path (z .want)) where
+    reached-level : memory (z .want) .level ≡ length (r .lower) + 1
+    reached-level = level-on-way memory (keyOf (z .op)) l t facts (r .lower) (z .want) (r .fathers ++ r .upper) (r .whole)
+
+    -- above the leaves, its route for the key is the next page of the way
+    pub reached-next : isLeaf (memory (z .want)) ≡ false → Coming k memory l t (wantsNext (onPages z path []) (route (keyOf (z .op)) (memory (z .want))))
+    reached-next upperPage =
+        let higher = eqb-false (memory (z .want) .level) 1 upperPage in
+        let some : 1 ≤ length (r .lower)
+        = by-test (ltb 0 (length (r .lower)))
+        (λ y. ltb-true 0 (length (r .lower)) y)
+        (λ o. let none = ltb-false 0 (length (r .lower)) o in absurd (higher (omega (arith, reached-level)))) in
+        let (L, q, cut) = one-last (r .lower) some in
+        let whole : way (keyOf (z .op)) l t ≡ L ++ q ∷ z .want ∷ (r .fathers ++ r .upper)
+        = r .whole ∙ ap (λ (ps : List ℕ). ps ++ z .want ∷ (r .fathers ++ r .upper)) cut ∙ append-snoc L q (z .want ∷ (r .fathers ++ r .upper)) in
+        let leadsTo : route (keyOf (z .op)) (memory (z .want)) ≡ q = facts .father L q (z .want) (r .fathers ++ r .upper) whole .0 in
         record {
           lower = L;
-          upper = [];
-          whole = cut ∙ ap₂ (λ (q : ℕ) (ps : List ℕ). L ++ q ∷ (reverse ps ++ [])) root (sym (s .noPath));
-          held = inl (s .noPath, s .wantsRoot);
+          upper = r .upper;
+          whole =
+              whole
+              ∙ ap₂ (λ (c : ℕ) (ps : List ℕ). L ++ c ∷ (ps ++ r .upper)) (sym leadsTo) (sym (r .upward));
+          rightly = r .rightly;
+          noSiblings = refl;
         }
 
-    pub coming-down : (path siblings : List ℕ) (want : ℕ) → Coming op k memory l t path siblings want → Down op k memory l t path want
-    coming-down path siblings want c = record { lower = c .lower; upper = c .upper; whole = c .whole; held = inr (c .rightly) }
-
-    module _ (path : List ℕ) (want : ℕ) (down : Down op k memory l t path want) where
-      -- it does not stand at its leaf
-      pub down-above : atItsLeaf memory (reverse path) ≡ false
-      down-above = above-leaf memory (keyOf op) l t facts (reverse path) (down .lower) want (down .upper) (down .whole)
-
-      -- its pages are the ones the rules would have it hold and want
-      pub down-fitting : (siblings : List ℕ) → siblings ≡ [] → fitting op k memory path siblings want ≡ true
-      unfolding fitting
-      down-fitting siblings none =
-          let stretch : way (keyOf op) l t ≡ down .lower ++ (reverse (path ++ want ∷ []) ++ down .upper)
-          = down .whole ∙ ap (λ (ps : List ℕ). down .lower ++ (ps ++ down .upper)) (sym (reverse-append path (want ∷ []))) in
-          and-both
-          (kept-test path want (down .held))
-          (cond-false
-          (descends memory (keyOf op) path
-          && (rightlyBeside op k memory (reverse path) siblings want || rightlyAcross op k memory path siblings want))
-          (descends memory (keyOf op) (path ++ want ∷ []) && isNone siblings)
-          down-above
-          ∙ and-both
-          (descends-way memory (keyOf op) l t facts (path ++ want ∷ []) (down .lower) (down .upper) stretch)
-          (ap isNone none))
-
-      -- what it holds once the want is granted
-      pub down-reached : Reached op k memory l t (kept op k memory path want) want
-      down-reached =
-          cond-ind (λ (ps : List ℕ). Reached op k memory l t ps want) (isSafe op k (memory want))
-          (λ safe. record {
-            fathers = [];
-            upward = refl;
-            lower = down .lower;
-            upper = reverse path ++ down .upper;
-            whole = down .whole;
-            rightly = rightly-alone want safe;
-          })
-          (λ f. record {
-            fathers = reverse path;
-            upward = reverse-append path (want ∷ []);
-            lower = down .lower;
-            upper = down .upper;
-            whole = down .whole;
-            rightly = rightly-on path want (down .held) f;
-          })
-
-    -- ---- the granted page
-
-    module _ (path : List ℕ) (p : ℕ) (r : Reached op k memory l t path p) where
-      abbrev x : ℕ
-      x = keyOf op
-
-      reached-level : memory p .level ≡ length (r .lower) + 1
-      reached-level = level-on-way memory x l t facts (r .lower) p (r .fathers ++ r .upper) (r .whole)
-
-      -- above the leaves, its route for the key is the next page of the way
-      pub reached-next : isLeaf (memory p) ≡ false → Coming op k memory l t path [] (route x (memory p))
-      reached-next upperPage =
-          let higher = eqb-false (memory p .level) 1 upperPage in
-          let some : 1 ≤ length (r .lower)
-          = by-test (ltb 0 (length (r .lower)))
-          (λ y. ltb-true 0 (length (r .lower)) y)
-          (λ z. let none = ltb-false 0 (length (r .lower)) z in absurd (higher (omega (arith, reached-level)))) in
-          let (L, q, cut) = one-last (r .lower) some in
-          let whole : way x l t ≡ L ++ q ∷ p ∷ (r .fathers ++ r .upper)
-          = r .whole ∙ ap (λ (ps : List ℕ). ps ++ p ∷ (r .fathers ++ r .upper)) cut ∙ append-snoc L q (p ∷ (r .fathers ++ r .upper)) in
-          let leadsTo : route x (memory p) ≡ q = facts .father L q p (r .fathers ++ r .upper) whole .0 in
-          record {
-            lower = L;
-            upper = r .upper;
-            whole =
-                whole
-                ∙ ap₂ (λ (c : ℕ) (ps : List ℕ). L ++ c ∷ (ps ++ r .upper)) (sym leadsTo) (sym (r .upward));
-            rightly = r .rightly;
-            noSiblings = refl;
-          }
-
-      -- a leaf is where the way ends
-      pub reached-leaf : isLeaf (memory p) ≡ true → way x l t ≡ p ∷ (r .fathers ++ r .upper)
-      reached-leaf leafPage =
-          let level = eqb-true (memory p .level) 1 leafPage in
-          r .whole ∙ ap (λ (ps : List ℕ). ps ++ p ∷ (r .fathers ++ r .upper)) (no-length (r .lower) (omega (arith, reached-level)))
+    -- a leaf is where the way ends
+    pub reached-leaf : isLeaf (memory (z .want)) ≡ true → way (keyOf (z .op)) l t ≡ z .want ∷ (r .fathers ++ r .upper)
+    reached-leaf leafPage =
+        let level = eqb-true (memory (z .want) .level) 1 leafPage in
+        r .whole ∙ ap (λ (ps : List ℕ). ps ++ z .want ∷ (r .fathers ++ r .upper)) (no-length (r .lower) (omega (arith, reached-level)))

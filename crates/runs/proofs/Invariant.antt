@@ -7,7 +7,7 @@ use Rattle.ground.specs.Limits.{slotCount, wordRange}
 use Rattle.pool.specs.Pool.{pageAt}
 use Rattle.slots.specs.declared.Op.{Op}
 use Rattle.slots.specs.declared.State.{State}
-use Rattle.slots.specs.Parts.{keyOf, slotAt, pathOf, besideOf, wantAt, Opened}
+use Rattle.slots.specs.Parts.{keyOf, slotAt, standOf, Opened}
 use Rattle.slots.proofs.SoundFacts.{SoundState}
 use Rattle.slots.proofs.Keeping.{Shaped}
 use Rattle.tree.specs.Tree.{Tr, PoolForms}
@@ -22,11 +22,11 @@ pub record Invariant (st : State) (ws : List ℕ) : Type 0 where
   pub forms : PoolForms (st .k) (st .n) ws height tree
   pub keys : (s : ℕ) (op : Op) → s < slotCount → Opened st s op → keyOf op < wordRange
   pub stands : (s : ℕ) (op : Op) → s < slotCount → Opened st s op
-      → Stance op (st .k) (pageAt (st .k) ws) height tree (pathOf (slotAt st s)) (besideOf (slotAt st s)) (wantAt st s)
+      → Stance (st .k) (pageAt (st .k) ws) height tree (standOf op (slotAt st s))
 
 -- what is known of an open slot
 pub scene : (st : State) (ws : List ℕ) (inv : Invariant st ws) (s : ℕ) (op : Op) → s < slotCount → Opened st s op
-    → Scene op (st .k) (st .n) ws (inv .height) (inv .tree) (pathOf (slotAt st s)) (besideOf (slotAt st s)) (wantAt st s)
+    → Scene (st .k) (st .n) ws (inv .height) (inv .tree) (standOf op (slotAt st s))
 scene st ws inv s op b runs = record {
   kLeast = inv .sound .kLeast;
   kMost = inv .sound .kMost;

@@ -25,7 +25,7 @@ use Rattle.slots.specs.declared.Op.{Op}
 use Rattle.slots.specs.declared.Op.the-variants.{Search, Insert, Delete, Next, Regrade}
 use Rattle.slots.specs.declared.Answer.{Answer}
 use Rattle.slots.specs.declared.Answer.the-variants.{Found, NotFound, Inserted, AlreadyThere, Deleted, NoSuchKey, NoRoom, Regraded}
-use Rattle.slots.specs.Parts.{keyOf}
+use Rattle.slots.specs.Parts.{keyOf, Stand, holding, wantsNext, withOp}
 use Rattle.slots.specs.Heard.{numberOf}
 use Rattle.footing.specs.Granted.{Verdict, goes, ends, byNeed, deletes, atLeaf}
 use Rattle.tree.specs.Tree.{Tr, entriesOf, way, leafOn, Forms, PoolForms}
@@ -43,14 +43,11 @@ use Rattle.runs.proofs.Paths.{member-reverse}
 use Rattle.runs.proofs.HeldPath.{held-way}
 use Rattle.runs.proofs.Needing.{AtLeaf, leaf-goes, leaf-ends, leaf-on-course}
 
--- What a slot with this operation, path, siblings and want comes to by this verdict: it goes on and stands as it should, or
--- its operation ends.
-pub data Does (op : Op) (k n : ℕ) (ws : List ℕ) (l : ℕ) (t : Tr l) (path siblings : List ℕ) (want : ℕ) (v : Verdict) : Type 0 where
-  on : (path′ siblings′ : List ℕ) (want′ : ℕ) → v ≡ goes path′ siblings′ want′ → Stance op k (pageAt k ws) l t path′ siblings′ want′
-      → Takes op k (pageAt k ws) path siblings want path′ siblings′
-      → Does op k n ws l t path siblings want v
-  done : (a : Answer) (writes : List Write) → v ≡ ends a writes → Ended op k n ws l t path siblings want a writes
-      → Does op k n ws l t path siblings want v
+-- What a slot that stands here comes to by this verdict: it goes on with the same operation and stands as it should, or its operation
+-- ends.
+pub data Does (k n : ℕ) (ws : List ℕ) (l : ℕ) (t : Tr l) (z : Stand) (v : Verdict) : Type 0 where
+  on : (z′ : Stand) → v ≡ goes z′ → z′ .op ≡ z .op → Stance k (pageAt k ws) l t z′ → Takes k (pageAt k ws) z z′ → Does k n ws l t z v
+  done : (a : Answer) (writes : List Write) → v ≡ ends a writes → Ended k n ws l t z a writes → Does k n ws l t z v
 
 -- only an insertion puts a key in
 abbrev isInsert : Op → Bool
@@ -99,7 +96,7 @@ module _ (memory : ℕ → Page) (x l : ℕ) (t : Tr l) (facts : WayFacts memory
   leaf-tells : information x (memory leaf .entries) ≡ information x (entriesOf l t)
   leaf-tells = ap (λ (P : Page). information x (P .entries)) leaf-page ∙ facts .tells
 
-module _ (k n : ℕ) (ws : List ℕ) (l : ℕ) (t : Tr l) (pool : PoolForms k n ws l t) (path₀ siblings₀ : List ℕ) (want : ℕ) where
+module _ (k n : ℕ) (ws : List ℕ) (l : ℕ) (t : Tr l) (pool : PoolForms k n ws l t) (z₀ : Stand) where
   abbrev memory : ℕ → Page
   memory = pageAt k ws
 
@@ -111,7 +108,7 @@ module _ (k n : ℕ) (ws : List ℕ) (l : ℕ) (t : Tr l) (pool : PoolForms k n 
 
   -- an operation that writes nothing ends so
   pub nothing-ends : (op : Op) (a : Answer) → AsPlain op k n ws l t a es ⊎ (NoRoomLeft op k n ws l t a [] × (es ≡ es))
-      → Ended op k n ws l t path₀ siblings₀ want a []
+      → Ended k n ws l t (withOp op z₀) a []
   nothing-ends op a how = record {
     entries = es;
     leads = leads-nothing k n memory l t (pool .forms);
@@ -124,7 +121,7 @@ module _ (k n : ℕ) (ws : List ℕ) (l : ℕ) (t : Tr l) (pool : PoolForms k n 
 
   -- the plain list stays as it is, and no new key is put in
   unchanged-ends : (op : Op) (a : Answer) → plain op es ≡ reply a es → ((y u : ℕ) → op ≡ Insert y u → has y es ≡ false → ⊥)
-      → Ended op k n ws l t path₀ siblings₀ want a []
+      → Ended k n ws l t (withOp op z₀) a []
   unchanged-ends op a same old =
       nothing-ends op a
       (inl (record {
@@ -142,51 +139,51 @@ module _ (k n : ℕ) (ws : List ℕ) (l : ℕ) (t : Tr l) (pool : PoolForms k n 
 
     -- ---- a search
 
-    pub search-does : (path fathers : List ℕ) → Does (Search x) k n ws l t path₀ siblings₀ want (atLeaf (Search x) k memory free path leaf fathers)
+    pub search-does : (z : Stand) (fathers : List ℕ) → Does k n ws l t (withOp (Search x) z₀) (atLeaf (Search x) k memory free z leaf fathers)
     unfolding atLeaf plain
-    search-does path fathers =
+    search-does z fathers =
         done (cond (has x es) (Found (information x es)) NotFound) []
         (ap₂ (λ (b : Bool) (v : ℕ). ends (cond b (Found v) NotFound) []) there-is told-is)
         (unchanged-ends (Search x) (cond (has x es) (Found (information x es)) NotFound) refl (λ y v e m. false≢true (ap isInsert e)))
 
     -- ---- an insertion
 
-    module _ (key : x < wordRange) (v : ℕ) (path fathers upper : List ℕ) (upward : reverse path ≡ leaf ∷ fathers)
-        (onWay : way x l t ≡ reverse path ++ upper) (rightly : Rightly (Insert x v) k memory path) (one : 1 ≤ k)
-        (inside : (q : ℕ) → member q path ≡ true → member q (want ∷ (path₀ ++ siblings₀)) ≡ true) where
+    module _ (key : x < wordRange) (v : ℕ) (z : Stand) (fathers upper : List ℕ) (upward : reverse (z .path) ≡ leaf ∷ fathers)
+        (onWay : way x l t ≡ reverse (z .path) ++ upper) (rightly : Rightly (Insert x v) k memory (z .path)) (one : 1 ≤ k)
+        (inside : (q : ℕ) → member q (z .path) ≡ true → member q (z₀ .want ∷ holding z₀) ≡ true) where
       -- the room that is counted is what the tree needs
-      room-is : room k memory leaf path ≡ treeRoom k x l t
+      room-is : room k memory leaf (z .path) ≡ treeRoom k x l t
       room-is =
-          room-reverse k memory leaf path
+          room-reverse k memory leaf (z .path)
           ∙ ap (room k memory leaf) upward
           ∙ roomOfTree k n memory l t x leaf fathers (pool .forms) key
-          (held-way (Insert x v) k n memory l t path leaf fathers upper (pool .forms) key rightly upward onWay)
+          (held-way (Insert x v) k n memory l t (z .path) leaf fathers upper (pool .forms) key rightly upward onWay)
 
       changes : has x es ≡ false → treeRoom k x l t ≤ length free → Inserts k n memory l t x v free leaf fathers
       changes new enough =
           insertionLeads k n memory l t x v free leaf fathers one (pool .forms) key new
-          (held-way (Insert x v) k n memory l t path leaf fathers upper (pool .forms) key rightly upward onWay)
+          (held-way (Insert x v) k n memory l t (z .path) leaf fathers upper (pool .forms) key rightly upward onWay)
           (free-facts k n ws l t pool .free)
-          (omega (arith, sym (ap (room k memory leaf) upward) ∙ sym (room-reverse k memory leaf path) ∙ room-is))
+          (omega (arith, sym (ap (room k memory leaf) upward) ∙ sym (room-reverse k memory leaf (z .path)) ∙ room-is))
 
       -- a key that is there
-      already : has x es ≡ true → Ended (Insert x v) k n ws l t path₀ siblings₀ want (AlreadyThere (information x (memory leaf .entries))) []
+      already : has x es ≡ true → Ended k n ws l t (withOp (Insert x v) z₀) (AlreadyThere (information x (memory leaf .entries))) []
       unfolding plain
       already there =
           unchanged-ends (Insert x v) (AlreadyThere (information x (memory leaf .entries)))
           (cond-true (reply (AlreadyThere (information x es)) es) (reply Inserted (inserted x v es)) there
           ∙ ap (λ (w : ℕ). reply (AlreadyThere w) es) (sym told-is))
-          (λ y u e new. not-both there (ap (λ (z : ℕ). has z es) (ap keyOf e) ∙ new))
+          (λ y u e new. not-both there (ap (λ (o : ℕ). has o es) (ap keyOf e) ∙ new))
 
       -- a new key without room
-      no-room : has x es ≡ false → length free < treeRoom k x l t → Ended (Insert x v) k n ws l t path₀ siblings₀ want NoRoom []
+      no-room : has x es ≡ false → length free < treeRoom k x l t → Ended k n ws l t (withOp (Insert x v) z₀) NoRoom []
       no-room new lacks =
           nothing-ends (Insert x v) NoRoom
           (inr (record { key = x; lot = v; inserts = refl; missing = new; needsMore = lacks; answer = refl; nothing = refl }, refl))
 
       -- a new key with room
       insertion-ends : has x es ≡ false → treeRoom k x l t ≤ length free
-          → Ended (Insert x v) k n ws l t path₀ siblings₀ want Inserted (insertion k memory x v free leaf fathers)
+          → Ended k n ws l t (withOp (Insert x v) z₀) Inserted (insertion k memory x v free leaf fathers)
       unfolding plain member
       insertion-ends new enough =
           let same : plain (Insert x v) es ≡ reply Inserted (inserted x v es)
@@ -198,11 +195,11 @@ module _ (k n : ℕ) (ws : List ℕ) (l : ℕ) (t : Tr l) (pool : PoolForms k n 
             how = inl (record {
               answer = ap (λ (r : Reply). r .answer) (sym same);
               entries = ap (λ (r : Reply). r .entries) (sym same);
-              room = λ y u e m. subst (λ (z : ℕ). treeRoom k z l t ≤ length free) (ap keyOf e) enough;
+              room = λ y u e m. subst (λ (o : ℕ). treeRoom k o l t ≤ length free) (ap keyOf e) enough;
             });
             only = λ q m.
                 ⊎-elim
-                (λ h. inl (inside q (sym (member-reverse q path) ∙ ap (member q) upward ∙ h)))
+                (λ h. inl (inside q (sym (member-reverse q (z .path)) ∙ ap (member q) upward ∙ h)))
                 (λ f. inr (free-facts k n ws l t pool .free .outside q (member-take q (room k memory leaf (leaf ∷ fathers)) free f)))
                 (change .writes q m);
             reads = λ y. absurd (false≢true y);
@@ -210,24 +207,24 @@ module _ (k n : ℕ) (ws : List ℕ) (l : ℕ) (t : Tr l) (pool : PoolForms k n 
             regrades = λ old e. absurd (omega (arith, ap numberOf e));
           }
 
-      pub insert-does : Does (Insert x v) k n ws l t path₀ siblings₀ want (atLeaf (Insert x v) k memory free path leaf fathers)
+      pub insert-does : Does k n ws l t (withOp (Insert x v) z₀) (atLeaf (Insert x v) k memory free z leaf fathers)
       unfolding atLeaf
       insert-does =
-          cond-ind (Does (Insert x v) k n ws l t path₀ siblings₀ want) (has x (memory leaf .entries))
+          cond-ind (Does k n ws l t (withOp (Insert x v) z₀)) (has x (memory leaf .entries))
           (λ y. done (AlreadyThere (information x (memory leaf .entries))) [] refl (already (sym there-is ∙ y)))
-          (λ z.
-          cond-ind (Does (Insert x v) k n ws l t path₀ siblings₀ want) (ltb (length free) (room k memory leaf path))
+          (λ o.
+          cond-ind (Does k n ws l t (withOp (Insert x v) z₀)) (ltb (length free) (room k memory leaf (z .path)))
           (λ y.
-          let lacks = ltb-true (length free) (room k memory leaf path) y in
-          done NoRoom [] refl (no-room (sym there-is ∙ z) (omega (arith, room-is))))
+          let lacks = ltb-true (length free) (room k memory leaf (z .path)) y in
+          done NoRoom [] refl (no-room (sym there-is ∙ o) (omega (arith, room-is))))
           (λ f.
-          let enough = ltb-false (length free) (room k memory leaf path) f in
-          done Inserted (insertion k memory x v free leaf fathers) refl (insertion-ends (sym there-is ∙ z) (omega (arith, room-is)))))
+          let enough = ltb-false (length free) (room k memory leaf (z .path)) f in
+          done Inserted (insertion k memory x v free leaf fathers) refl (insertion-ends (sym there-is ∙ o) (omega (arith, room-is)))))
 
     -- ---- a deletion
 
     -- a missing key
-    pub missing-ends : has x es ≡ false → Ended (Delete x) k n ws l t path₀ siblings₀ want NoSuchKey []
+    pub missing-ends : has x es ≡ false → Ended k n ws l t (withOp (Delete x) z₀) NoSuchKey []
     unfolding plain
     missing-ends missing =
         unchanged-ends (Delete x) NoSuchKey
@@ -235,14 +232,14 @@ module _ (k n : ℕ) (ws : List ℕ) (l : ℕ) (t : Tr l) (pool : PoolForms k n 
         (λ y u e m. false≢true (ap isInsert e))
 
     -- a key that is there, with these pages held
-    module _ (path fathers siblings : List ℕ) (at : AtLeaf k n memory l t x path leaf fathers siblings)
-        (takes : Takes (Delete x) k memory path₀ siblings₀ want path siblings)
-        (inside : (q : ℕ) → member q (leaf ∷ fathers ++ siblings) ≡ true → member q (want ∷ (path₀ ++ siblings₀)) ≡ true) where
+    module _ (z : Stand) (fathers : List ℕ) (at : AtLeaf k n memory l t x z leaf fathers)
+        (takes : (q : ℕ) → Takes k memory (withOp (Delete x) z₀) (wantsNext (withOp (Delete x) z) q))
+        (inside : (q : ℕ) → member q (leaf ∷ fathers ++ z .beside) ≡ true → member q (z₀ .want ∷ holding z₀) ≡ true) where
       abbrev change : Verdict
-      change = ends (Deleted (information x (memory leaf .entries))) (deletion k memory x leaf fathers siblings)
+      change = ends (Deleted (information x (memory leaf .entries))) (deletion k memory x leaf fathers (z .beside))
 
-      deletion-ends : needs k memory x leaf fathers siblings ≡ nothing
-          → Ended (Delete x) k n ws l t path₀ siblings₀ want (Deleted (information x (memory leaf .entries))) (deletion k memory x leaf fathers siblings)
+      deletion-ends : needs k memory x leaf fathers (z .beside) ≡ nothing
+          → Ended k n ws l t (withOp (Delete x) z₀) (Deleted (information x (memory leaf .entries))) (deletion k memory x leaf fathers (z .beside))
       unfolding plain member
       deletion-ends enough =
           let same : plain (Delete x) es ≡ reply (Deleted (information x es)) (without x es)
@@ -262,21 +259,21 @@ module _ (k n : ℕ) (ws : List ℕ) (l : ℕ) (t : Tr l) (pool : PoolForms k n 
             regrades = λ old e. absurd (omega (arith, ap numberOf e));
           }
 
-      by-need : (d : Need) → needs k memory x leaf fathers siblings ≡ d
-          → Does (Delete x) k n ws l t path₀ siblings₀ want (byNeed path siblings change d)
-      by-need nothing e = done (Deleted (information x (memory leaf .entries))) (deletion k memory x leaf fathers siblings) refl (deletion-ends e)
-      by-need (sibling s) e = on path siblings s refl (inr (inr (inl (leaf-goes at s e)))) takes
+      by-need : (d : Need) → needs k memory x leaf fathers (z .beside) ≡ d
+          → Does k n ws l t (withOp (Delete x) z₀) (byNeed (withOp (Delete x) z) change d)
+      by-need nothing e = done (Deleted (information x (memory leaf .entries))) (deletion k memory x leaf fathers (z .beside)) refl (deletion-ends e)
+      by-need (sibling s) e = on (wantsNext (withOp (Delete x) z) s) refl refl (inr (inr (inl (leaf-goes at s e)))) (takes s)
       by-need astray e = absurd (leaf-on-course at e)
 
-      pub delete-does : Does (Delete x) k n ws l t path₀ siblings₀ want (deletes k memory x path leaf fathers siblings)
+      pub delete-does : Does k n ws l t (withOp (Delete x) z₀) (deletes k memory x (withOp (Delete x) z) leaf fathers)
       unfolding deletes
-      delete-does = by-need (needs k memory x leaf fathers siblings) refl
+      delete-does = by-need (needs k memory x leaf fathers (z .beside)) refl
 
     -- ---- a regrading
 
-    module _ (key : x < wordRange) (v : ℕ) (last : leaf ≡ want) where
+    module _ (key : x < wordRange) (v : ℕ) (last : leaf ≡ z₀ .want) where
       -- a missing key
-      none-ends : has x es ≡ false → Ended (Regrade x v) k n ws l t path₀ siblings₀ want NoSuchKey []
+      none-ends : has x es ≡ false → Ended k n ws l t (withOp (Regrade x v) z₀) NoSuchKey []
       unfolding plain
       none-ends missing =
           unchanged-ends (Regrade x v) NoSuchKey
@@ -285,7 +282,7 @@ module _ (k n : ℕ) (ws : List ℕ) (l : ℕ) (t : Tr l) (pool : PoolForms k n 
 
       -- a key that is there
       regrading-ends : has x es ≡ true
-          → Ended (Regrade x v) k n ws l t path₀ siblings₀ want (Regraded (information x (memory leaf .entries))) (regrading memory x v leaf)
+          → Ended k n ws l t (withOp (Regrade x v) z₀) (Regraded (information x (memory leaf .entries))) (regrading memory x v leaf)
       unfolding plain member
       regrading-ends there =
           let same : plain (Regrade x v) es ≡ reply (Regraded (information x es)) (regraded x v es)
@@ -300,15 +297,15 @@ module _ (k n : ℕ) (ws : List ℕ) (l : ℕ) (t : Tr l) (pool : PoolForms k n 
               room = λ y u e m. absurd (false≢true (ap isInsert e));
             });
             only = λ q m.
-                inl (ap (λ (p : ℕ). member p (want ∷ (path₀ ++ siblings₀))) (made .writes q m ∙ last) ∙ member-here want (path₀ ++ siblings₀));
+                inl (ap (λ (p : ℕ). member p (z₀ .want ∷ holding z₀)) (made .writes q m ∙ last) ∙ member-here (z₀ .want) (holding z₀));
             reads = λ y. absurd (false≢true y);
             writers = λ y. absurd (true≢false y);
             regrades = λ old e q m. made .writes q m ∙ last;
           }
 
-      pub regrade-does : (path fathers : List ℕ) → Does (Regrade x v) k n ws l t path₀ siblings₀ want (atLeaf (Regrade x v) k memory free path leaf fathers)
+      pub regrade-does : (z : Stand) (fathers : List ℕ) → Does k n ws l t (withOp (Regrade x v) z₀) (atLeaf (Regrade x v) k memory free z leaf fathers)
       unfolding atLeaf
-      regrade-does path fathers =
-          cond-ind (Does (Regrade x v) k n ws l t path₀ siblings₀ want) (has x (memory leaf .entries))
+      regrade-does z fathers =
+          cond-ind (Does k n ws l t (withOp (Regrade x v) z₀)) (has x (memory leaf .entries))
           (λ y. done (Regraded (information x (memory leaf .entries))) (regrading memory x v leaf) refl (regrading-ends (sym there-is ∙ y)))
-          (λ z. done NoSuchKey [] refl (none-ends (sym there-is ∙ z)))
+          (λ o. done NoSuchKey [] refl (none-ends (sym there-is ∙ o)))

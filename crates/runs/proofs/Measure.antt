@@ -18,7 +18,7 @@ use Rattle.slots.specs.declared.Task.{Task}
 use Rattle.slots.specs.declared.Task.the-variants.{Closed, Open}
 use Rattle.slots.specs.declared.Slot.{Slot}
 use Rattle.slots.specs.declared.State.{State}
-use Rattle.slots.specs.Parts.{keyOf, isDelete, goesBeside, pathOf, besideOf, slotAt}
+use Rattle.slots.specs.Parts.{keyOf, isDelete, goesBeside, pathOf, besideOf, Stand, slotAt}
 use Rattle.tree.specs.Tree.{Tr, way, Forms}
 use Rattle.tree.proofs.Search.{way-facts}
 use Rattle.runs.specs.Stance.{Stance}
@@ -54,10 +54,10 @@ pub record Low (memory : ℕ → Page) (l : ℕ) (t : Tr l) (path : List ℕ) (h
   pub inside : height + length path ≤ l + 2
 
 -- Where an open slot stands, in levels.
-pub data Where (op : Op) (memory : ℕ → Page) (l : ℕ) (t : Tr l) (path siblings : List ℕ) (want : ℕ) : Type 0 where
-  atStart : path ≡ [] → siblings ≡ [] → memory want .level ≡ l + 1 → Where op memory l t path siblings want
-  onTheWay : (low : ℕ) → Low memory l t path (low + 2) → siblings ≡ [] → memory want .level ≡ low + 1 → Where op memory l t path siblings want
-  atTheLeaf : Low memory l t path 1 → suc (length siblings) < length path → goesBeside op ≡ true → Where op memory l t path siblings want
+pub data Where (memory : ℕ → Page) (l : ℕ) (t : Tr l) (z : Stand) : Type 0 where
+  atStart : z .path ≡ [] → z .beside ≡ [] → memory (z .want) .level ≡ l + 1 → Where memory l t z
+  onTheWay : (low : ℕ) → Low memory l t (z .path) (low + 2) → z .beside ≡ [] → memory (z .want) .level ≡ low + 1 → Where memory l t z
+  atTheLeaf : Low memory l t (z .path) 1 → suc (length (z .beside)) < length (z .path) → goesBeside (z .op) ≡ true → Where memory l t z
 
 -- a deletion goes beside its path
 deletes-beside : (op : Op) → isDelete op ≡ true → goesBeside op ≡ true
@@ -88,24 +88,25 @@ module _ (op : Op) (k n : ℕ) (memory : ℕ → Page) (l : ℕ) (t : Tr l) (for
   leaf-at : (path upper : List ℕ) → 1 ≤ length path → way (keyOf op) l t ≡ reverse path ++ upper → Low memory l t path 1
   leaf-at path upper some e = subst (Low memory l t path) (omega arith) (low-at path [] upper some e)
 
-  pub where-it-stands : (path siblings : List ℕ) (want : ℕ) → Stance op k memory l t path siblings want → Where op memory l t path siblings want
-  where-it-stands path siblings want (inl s) =
-      let facts = way-facts k n memory l t forms (keyOf op) key in
-      atStart (s .noPath) (s .noSiblings) (ap (λ (p : ℕ). memory p .level) (s .wantsRoot ∙ sym (facts .root)) ∙ facts .level l (omega arith))
-  where-it-stands path siblings want (inr (inl c)) =
-      let lower : List ℕ = c .lower in
-      let rest : List ℕ = reverse path ++ c .upper in
-      let longer : length (lower ++ want ∷ []) + 1 ≡ length lower + 2 = omega (arith, length-append lower (want ∷ [])) in
-      let low : Low memory l t path (length (lower ++ want ∷ []) + 1)
-      = low-at path (lower ++ want ∷ []) (c .upper) (c .rightly .some) (c .whole ∙ sym (append-assoc lower (want ∷ []) rest)) in
-      let len : length (way (keyOf op) l t) ≡ l + 1 = way-facts k n memory l t forms (keyOf op) key .pages in
-      let wanted = way-level (length lower) want (omega (arith, len, ap length (c .whole), length-append lower (want ∷ rest)))
-      (ap (λ (w : List ℕ). getD w (length lower) 0) (c .whole) ∙ getD-append-seam lower want rest 0) in
-      onTheWay (length lower) (subst (Low memory l t path) longer low) (c .noSiblings) wanted
-  where-it-stands path siblings want (inr (inr (inl b))) =
-      atTheLeaf (leaf-at path (b .upper) (b .rightly .some) (b .whole)) (b .fewer) (deletes-beside op (b .deletes))
-  where-it-stands path siblings want (inr (inr (inr c))) =
-      atTheLeaf (leaf-at path (c .upper) (c .rightly .some) (c .whole)) (c .fewer) (next-beside op (c .asksNext))
+pub where-it-stands : (k n : ℕ) (memory : ℕ → Page) (l : ℕ) (t : Tr l) (z : Stand) → Forms k n memory l t → keyOf (z .op) < wordRange
+    → Stance k memory l t z → Where memory l t z
+where-it-stands k n memory l t z forms key (inl s) =
+    let facts = way-facts k n memory l t forms (keyOf (z .op)) key in
+    atStart (s .noPath) (s .noSiblings) (ap (λ (p : ℕ). memory p .level) (s .wantsRoot ∙ sym (facts .root)) ∙ facts .level l (omega arith))
+where-it-stands k n memory l t z forms key (inr (inl c)) =
+    let lower : List ℕ = c .lower in
+    let rest : List ℕ = reverse (z .path) ++ c .upper in
+    let longer : length (lower ++ z .want ∷ []) + 1 ≡ length lower + 2 = omega (arith, length-append lower (z .want ∷ [])) in
+    let low : Low memory l t (z .path) (length (lower ++ z .want ∷ []) + 1)
+    = low-at (z .op) k n memory l t forms key (z .path) (lower ++ z .want ∷ []) (c .upper) (c .rightly .some) (c .whole ∙ sym (append-assoc lower (z .want ∷ []) rest)) in
+    let len : length (way (keyOf (z .op)) l t) ≡ l + 1 = way-facts k n memory l t forms (keyOf (z .op)) key .pages in
+    let wanted = way-level (z .op) k n memory l t forms key (length lower) (z .want) (omega (arith, len, ap length (c .whole), length-append lower (z .want ∷ rest)))
+    (ap (λ (w : List ℕ). getD w (length lower) 0) (c .whole) ∙ getD-append-seam lower (z .want) rest 0) in
+    onTheWay (length lower) (subst (Low memory l t (z .path)) longer low) (c .noSiblings) wanted
+where-it-stands k n memory l t z forms key (inr (inr (inl b))) =
+    atTheLeaf (leaf-at (z .op) k n memory l t forms key (z .path) (b .upper) (b .rightly .some) (b .whole)) (b .fewer) (deletes-beside (z .op) (b .deletes))
+where-it-stands k n memory l t z forms key (inr (inr (inr c))) =
+    atTheLeaf (leaf-at (z .op) k n memory l t forms key (z .path) (c .upper) (c .rightly .some) (c .whole)) (c .fewer) (next-beside (z .op) (c .asksNext))
 
 -- ---- the measure of an open slot, by where it stands
 
@@ -135,15 +136,15 @@ module _ (memory : ℕ → Page) (l : ℕ) (t : Tr l) where
       left-some memory path siblings (w .some) ∙ omega arith
 
   -- "So at most 19 a slot", and at least one while it is open
-  pub left-bounds : (op : Op) (path siblings : List ℕ) (want : ℕ) → l + 1 ≤ tallest → Where op memory l t path siblings want
-      → (1 ≤ leftOpen memory path siblings) × (leftOpen memory path siblings ≤ slotGrants)
-  left-bounds op path siblings want h (atStart e f g) =
-      let is = left-start path siblings e in (omega (arith, is, grants-of-height), omega (arith, is, grants-of-height))
-  left-bounds op path siblings want h (onTheWay low w e g) =
-      let is = left-coming path siblings low w e in
-      let inside : low + 2 + length path ≤ l + 2 = w .inside in
+  pub left-bounds : (z : Stand) → l + 1 ≤ tallest → Where memory l t z
+      → (1 ≤ leftOpen memory (z .path) (z .beside)) × (leftOpen memory (z .path) (z .beside) ≤ slotGrants)
+  left-bounds z h (atStart e f g) =
+      let is = left-start (z .path) (z .beside) e in (omega (arith, is, grants-of-height), omega (arith, is, grants-of-height))
+  left-bounds z h (onTheWay low w e g) =
+      let is = left-coming (z .path) (z .beside) low w e in
+      let inside : low + 2 + length (z .path) ≤ l + 2 = w .inside in
       (omega (arith, is), omega (arith, is, grants-of-height, w .some))
-  left-bounds op path siblings want h (atTheLeaf w f d) =
-      let is = left-leaf path siblings w f in
-      let inside : 1 + length path ≤ l + 2 = w .inside in
+  left-bounds z h (atTheLeaf w f d) =
+      let is = left-leaf (z .path) (z .beside) w f in
+      let inside : 1 + length (z .path) ≤ l + 2 = w .inside in
       (omega (arith, is), omega (arith, is, grants-of-height))

@@ -22,9 +22,9 @@ use Rattle.slots.specs.declared.Slot.{Slot}
 use Rattle.slots.specs.declared.State.{State}
 use Rattle.slots.specs.declared.Answer.{Answer}
 use Rattle.slots.specs.declared.Answer.the-variants.{Moved}
-use Rattle.slots.specs.Parts.{isOpen, openSlot, closedSlot, pathOf, besideOf, slotAt, openAt, wantAt, holdsAt, Opened}
+use Rattle.slots.specs.Parts.{isOpen, closedSlot, pathOf, besideOf, Stand, onPages, wantBeside, wantsNext, standOf, slotOf, slotAt, openAt, holdsAt, Opened}
 use Rattle.slots.specs.Book.{goesOn, closes}
-use Rattle.slots.proofs.Keeping.{Shaped, slot-here, slot-other, path-new, beside-new}
+use Rattle.slots.proofs.Keeping.{Shaped, slot-here, slot-other, stand-new}
 use Rattle.footing.specs.Granted.{Verdict, goes, ends, isSafe, kept, atItsLeaf}
 use Rattle.footing.specs.Fitting.{verdict}
 use Rattle.index.specs.Step.{Left, left, acted, stepped}
@@ -59,12 +59,12 @@ pub record KeptPath (path path′ : List ℕ) (want : ℕ) : Type 0 where
   pub some : 1 ≤ length path′
   pub most : length path′ ≤ length path + 1
 
-pub kept-path : (op : Op) (k : ℕ) (memory : ℕ → Page) (path : List ℕ) (want : ℕ) → KeptPath path (kept op k memory path want) want
-kept-path op k memory path want =
-    cond-ind (λ (p : List ℕ). KeptPath path p want) (isSafe op k (memory want))
+pub kept-path : (k : ℕ) (memory : ℕ → Page) (z : Stand) → KeptPath (z .path) (kept k memory z) (z .want)
+kept-path k memory z =
+    cond-ind (λ (p : List ℕ). KeptPath (z .path) p (z .want)) (isSafe (z .op) k (memory (z .want)))
     (λ _. record { lowest = refl; some = omega arith; most = omega arith })
-    (λ _. let long = length-append path (want ∷ []) in
-    record { lowest = ap (λ (p : List ℕ). getD p 0 0) (reverse-append path (want ∷ [])); some = omega arith; most = omega arith })
+    (λ _. let long = length-append (z .path) (z .want ∷ []) in
+    record { lowest = ap (λ (p : List ℕ). getD p 0 0) (reverse-append (z .path) (z .want ∷ [])); some = omega arith; most = omega arith })
 
 -- ---- a slot that goes on
 
@@ -80,53 +80,59 @@ module _ (memory : ℕ → Page) (l : ℕ) (t : Tr l) (path : List ℕ) where
   low-at-leaf w = at-its-leaf memory path (w .some) ∙ eq-eqb (memory (lowestOf path) .level) 1 (w .level)
 
 -- the measure of what is held once a page is granted on the way down
-pub kept-left : (op : Op) (k : ℕ) (memory : ℕ → Page) (path : List ℕ) (want level : ℕ) → memory want .level ≡ level
-    → leftOpen memory (kept op k memory path want) [] ≡ 2 * level + (length (kept op k memory path want) - 1) - 2
-kept-left op k memory path want level e =
-    let path′ : List ℕ = kept op k memory path want in
-    let how : KeptPath path path′ want = kept-path op k memory path want in
+pub kept-left : (k : ℕ) (memory : ℕ → Page) (z : Stand) (level : ℕ) → memory (z .want) .level ≡ level
+    → leftOpen memory (kept k memory z) [] ≡ 2 * level + (length (kept k memory z) - 1) - 2
+kept-left k memory z level e =
+    let path′ : List ℕ = kept k memory z in
+    let how : KeptPath (z .path) path′ (z .want) = kept-path k memory z in
     let there : memory (lowestOf path′) .level ≡ level = ap (λ (p : ℕ). memory p .level) (how .lowest) ∙ e in
     left-some memory path′ [] (how .some) ∙ ap (λ (n : ℕ). 2 * n + (length path′ - 1) - 2 - 0) there ∙ omega arith
 
-module _ (op : Op) (k : ℕ) (memory : ℕ → Page) (l : ℕ) (t : Tr l) (path siblings : List ℕ) (want : ℕ) where
+-- the measure of a slot that stands here
+abbrev pub leftAt : (ℕ → Page) → Stand → ℕ
+leftAt memory z = leftOpen memory (z .path) (z .beside)
+
+module _ (k : ℕ) (memory : ℕ → Page) (l : ℕ) (t : Tr l) (z : Stand) where
   -- A slot that goes on has fewer grants left.
-  moved-falls : (path′ siblings′ : List ℕ) → l + 1 ≤ tallest → Where op memory l t path siblings want
-      → (atItsLeaf memory (reverse path) ≡ true → (path′ ≡ path) × (siblings′ ≡ siblings ++ want ∷ []))
-      → (atItsLeaf memory (reverse path) ≡ false → (path′ ≡ kept op k memory path want) × (siblings′ ≡ []))
-      → leftOpen memory path′ siblings′ < leftOpen memory path siblings
-  moved-falls path′ siblings′ h (atStart e f g) beside coming =
-      let went = coming (start-above memory l t path e) in
-      let is : leftOpen memory path′ siblings′ ≡ 2 * (l + 1) + (length (kept op k memory path want) - 1) - 2
-      = ap₂ (leftOpen memory) (went .0) (went .1) ∙ kept-left op k memory path want (l + 1) g in
-      let was : leftOpen memory path siblings ≡ slotGrants = left-start memory l t path siblings e in
-      omega (arith, is, was, kept-path op k memory path want .most, ap length e, grants-of-height)
-  moved-falls path′ siblings′ h (onTheWay low w e g) beside coming =
-      let went = coming (low-above memory l t path low w) in
-      let is : leftOpen memory path′ siblings′ ≡ 2 * (low + 1) + (length (kept op k memory path want) - 1) - 2
-      = ap₂ (leftOpen memory) (went .0) (went .1) ∙ kept-left op k memory path want (low + 1) g in
-      let was : leftOpen memory path siblings ≡ 2 * low + length path + 1 = left-coming memory l t path siblings low w e in
-      let kept-most = kept-path op k memory path want .most in
-      let kept-some = kept-path op k memory path want .some in
+  moved-falls : (z′ : Stand) → l + 1 ≤ tallest → Where memory l t z
+      → (atItsLeaf memory (reverse (z .path)) ≡ true → z′ ≡ wantsNext (wantBeside z) (z′ .want))
+      → (atItsLeaf memory (reverse (z .path)) ≡ false → z′ ≡ wantsNext (onPages z (kept k memory z) []) (z′ .want))
+      → leftAt memory z′ < leftAt memory z
+  moved-falls z′ h (atStart e f g) beside coming =
+      let went = coming (start-above memory l t (z .path) e) in
+      let is : leftAt memory z′ ≡ 2 * (l + 1) + (length (kept k memory z) - 1) - 2
+      = ap (leftAt memory) went ∙ kept-left k memory z (l + 1) g in
+      let was : leftAt memory z ≡ slotGrants = left-start memory l t (z .path) (z .beside) e in
+      omega (arith, is, was, kept-path k memory z .most, ap length e, grants-of-height)
+  moved-falls z′ h (onTheWay low w e g) beside coming =
+      let went = coming (low-above memory l t (z .path) low w) in
+      let is : leftAt memory z′ ≡ 2 * (low + 1) + (length (kept k memory z) - 1) - 2
+      = ap (leftAt memory) went ∙ kept-left k memory z (low + 1) g in
+      let was : leftAt memory z ≡ 2 * low + length (z .path) + 1 = left-coming memory l t (z .path) (z .beside) low w e in
+      let kept-most = kept-path k memory z .most in
+      let kept-some = kept-path k memory z .some in
       omega (arith, is, was, kept-most, kept-some)
-  moved-falls path′ siblings′ h (atTheLeaf w f d) beside coming =
+  moved-falls z′ h (atTheLeaf w f d) beside coming =
+      let path : List ℕ = z .path in
+      let more : List ℕ = z .beside ++ z .want ∷ [] in
       let went = beside (low-at-leaf memory l t path w) in
       let one : memory (lowestOf path) .level ≡ 1 = w .level in
-      let longer : length (siblings ++ want ∷ []) ≡ length siblings + 1 = length-append siblings (want ∷ []) in
-      let is : leftOpen memory path′ siblings′ ≡ 2 * memory (lowestOf path) .level + (length path - 1) - 2 - length (siblings ++ want ∷ [])
-      = ap₂ (leftOpen memory) (went .0) (went .1) ∙ left-some memory path (siblings ++ want ∷ []) (w .some) in
-      let was : leftOpen memory path siblings ≡ length path - 1 - length siblings = left-leaf memory l t path siblings w f in
+      let longer : length more ≡ length (z .beside) + 1 = length-append (z .beside) (z .want ∷ []) in
+      let is : leftAt memory z′ ≡ 2 * memory (lowestOf path) .level + (length path - 1) - 2 - length more
+      = ap (leftAt memory) went ∙ left-some memory path more (w .some) in
+      let was : leftAt memory z ≡ length path - 1 - length (z .beside) = left-leaf memory l t path (z .beside) w f in
       omega (arith, is, was, one, longer)
 
 -- ---- one slot written
 
 module _ (st : State) (shaped : Shaped st) (s : ℕ) (b : s < slotCount) where
-  pub goes-on-here : (op : Op) (want : ℕ) (path siblings : List ℕ) → slotAt (goesOn st s op want path siblings) s ≡ openSlot op want path siblings
+  pub goes-on-here : (z : Stand) → slotAt (goesOn st s z) s ≡ slotOf z
   unfolding goesOn
-  goes-on-here op want path siblings = slot-here st shaped s b (openSlot op want path siblings) (st .order) (st .waiting)
+  goes-on-here z = slot-here st shaped s b (slotOf z) (st .order) (st .waiting)
 
-  pub goes-on-other : (op : Op) (want : ℕ) (path siblings : List ℕ) (u : ℕ) → u ≢ s → slotAt (goesOn st s op want path siblings) u ≡ slotAt st u
+  pub goes-on-other : (z : Stand) (u : ℕ) → u ≢ s → slotAt (goesOn st s z) u ≡ slotAt st u
   unfolding goesOn
-  goes-on-other op want path siblings u n = slot-other st shaped s b (openSlot op want path siblings) (st .order) (st .waiting) u n
+  goes-on-other z u n = slot-other st shaped s b (slotOf z) (st .order) (st .waiting) u n
 
   pub closes-here : slotAt (closes st s) s ≡ closedSlot
   unfolding closes
@@ -136,9 +142,9 @@ module _ (st : State) (shaped : Shaped st) (s : ℕ) (b : s < slotCount) where
   unfolding closes
   closes-other u n = slot-other st shaped s b closedSlot (st .order) (st .waiting) u n
 
-pub goes-on-k : (st : State) (s : ℕ) (op : Op) (want : ℕ) (path siblings : List ℕ) → goesOn st s op want path siblings .k ≡ st .k
+pub goes-on-k : (st : State) (s : ℕ) (z : Stand) → goesOn st s z .k ≡ st .k
 unfolding goesOn
-goes-on-k st s op want path siblings = refl
+goes-on-k st s z = refl
 
 pub closes-k : (st : State) (s : ℕ) → closes st s .k ≡ st .k
 unfolding closes
@@ -152,10 +158,10 @@ open-runs st s o = open-task (slotAt st s .task) o
 
 module _ (st : State) (ws : List ℕ) (inv : Invariant st ws) where
   pub where-slot : (s : ℕ) (op : Op) → s < slotCount → Opened st s op
-      → Where op (pageAt (st .k) ws) (inv .height) (inv .tree) (pathOf (slotAt st s)) (besideOf (slotAt st s)) (wantAt st s)
+      → Where (pageAt (st .k) ws) (inv .height) (inv .tree) (standOf op (slotAt st s))
   where-slot s op b runs =
-      where-it-stands op (st .k) (st .n) (pageAt (st .k) ws) (inv .height) (inv .tree) (inv .forms .forms) (inv .keys s op b runs)
-      (pathOf (slotAt st s)) (besideOf (slotAt st s)) (wantAt st s) (inv .stands s op b runs)
+      where-it-stands (st .k) (st .n) (pageAt (st .k) ws) (inv .height) (inv .tree) (standOf op (slotAt st s)) (inv .forms .forms)
+      (inv .keys s op b runs) (inv .stands s op b runs)
 
   -- "h is at most 10"
   pub not-too-tall : inv .height + 1 ≤ tallest
@@ -169,7 +175,7 @@ module _ (st : State) (ws : List ℕ) (inv : Invariant st ws) where
   measure-bound s b opened =
       let found = open-runs st s opened in
       let is = left-of-open s (found .0) (found .1) in
-      let bounds = left-bounds (pageAt (st .k) ws) (inv .height) (inv .tree) (found .0) (pathOf (slotAt st s)) (besideOf (slotAt st s)) (wantAt st s)
+      let bounds = left-bounds (pageAt (st .k) ws) (inv .height) (inv .tree) (standOf (found .0) (slotAt st s))
       not-too-tall (where-slot s (found .0) b (found .1)) in
       (omega (arith, is, bounds .0), omega (arith, is, bounds .1))
 
@@ -206,43 +212,44 @@ nothing-disturbed st ws u = record { slot = refl; level = λ _ _. refl }
 
 -- ---- a granted step
 
--- what it comes to
+-- where its slot stands, and what it comes to
+abbrev standAt : State → ℕ → Op → Stand
+standAt st s op = standOf op (slotAt st s)
+
 abbrev verdictOf : State → List ℕ → ℕ → Op → Verdict
-verdictOf st ws s op = verdict op (st .k) (st .n) ws (pathOf (slotAt st s)) (besideOf (slotAt st s)) (wantAt st s)
+verdictOf st ws s op = verdict (st .k) (st .n) ws (standAt st s op)
 
 module _ (st : State) (ws : List ℕ) (inv : Invariant st ws) (s : ℕ) (g : Goes st s) where
   abbrev op : Op
   op = g .op
 
-  pub comes : Comes op (st .k) (st .n) ws (inv .height) (inv .tree) (pathOf (slotAt st s)) (besideOf (slotAt st s)) (wantAt st s)
-  comes = granted-comes op (st .k) (st .n) ws (inv .height) (inv .tree) (pathOf (slotAt st s)) (besideOf (slotAt st s)) (wantAt st s)
-      (scene st ws inv s op (g .inside) (g .runs))
+  pub comes : Comes (st .k) (st .n) ws (inv .height) (inv .tree) (standAt st s op)
+  comes = granted-comes (st .k) (st .n) ws (inv .height) (inv .tree) (standAt st s op) (scene st ws inv s op (g .inside) (g .runs))
 
   -- the measure once it has moved
-  pub after-moving : (path′ siblings′ : List ℕ) (want′ : ℕ) → grantsLeft (goesOn st s op want′ path′ siblings′) ws s ≡ leftOpen (pageAt (st .k) ws) path′ siblings′
-  after-moving path′ siblings′ want′ =
-      ap₂ (λ (k : ℕ) (slot : Slot). leftSlot (pageAt k ws) slot) (goes-on-k st s op want′ path′ siblings′) (goes-on-here st (inv .shaped) s (g .inside) op want′ path′ siblings′)
-      ∙ ap₂ (leftOpen (pageAt (st .k) ws)) (path-new op want′ path′ siblings′) (beside-new op want′ path′ siblings′)
+  pub after-moving : (z′ : Stand) → grantsLeft (goesOn st s z′) ws s ≡ leftAt (pageAt (st .k) ws) z′
+  after-moving z′ =
+      ap₂ (λ (k : ℕ) (slot : Slot). leftSlot (pageAt k ws) slot) (goes-on-k st s z′) (goes-on-here st (inv .shaped) s (g .inside) z′)
+      ∙ ap (leftAt (pageAt (st .k) ws)) (stand-new z′)
 
-  pub moved : (path′ siblings′ : List ℕ) (want′ : ℕ) → verdictOf st ws s op ≡ goes path′ siblings′ want′
-      → stepped st ws s ≡ left Moved (goesOn st s op want′ path′ siblings′) ws
-  moved path′ siblings′ want′ e = granted-does st ws inv s op (g .inside) (g .runs) (g .granted) ∙ ap (acted st ws s op) e
+  pub moved : (z′ : Stand) → verdictOf st ws s op ≡ goes z′ → stepped st ws s ≡ left Moved (goesOn st s z′) ws
+  moved z′ e = granted-does st ws inv s op (g .inside) (g .runs) (g .granted) ∙ ap (acted st ws s) e
 
   pub ended-so : (a : Answer) (writes : List Write) → verdictOf st ws s op ≡ ends a writes
       → stepped st ws s ≡ left a (closes st s) (applied (st .k) writes ws)
-  ended-so a writes e = granted-does st ws inv s op (g .inside) (g .runs) (g .granted) ∙ ap (acted st ws s op) e
+  ended-so a writes e = granted-does st ws inv s op (g .inside) (g .runs) (g .granted) ∙ ap (acted st ws s) e
 
   -- Another slot is undisturbed by the step.
   pub step-undisturbed : (u : ℕ) → u < slotCount → u ≢ s → Undisturbed st ws (stepped st ws s .state) (stepped st ws s .words) u
   step-undisturbed u c n = by-comes comes
     where
-      by-comes : Comes op (st .k) (st .n) ws (inv .height) (inv .tree) (pathOf (slotAt st s)) (besideOf (slotAt st s)) (wantAt st s)
+      by-comes : Comes (st .k) (st .n) ws (inv .height) (inv .tree) (standAt st s op)
           → Undisturbed st ws (stepped st ws s .state) (stepped st ws s .words) u
-      by-comes (moves path′ siblings′ want′ e stance takes) =
-          subst (λ (r : Left). Undisturbed st ws (r .state) (r .words) u) (sym (moved path′ siblings′ want′ e))
+      by-comes (moves z′ e same stance takes) =
+          subst (λ (r : Left). Undisturbed st ws (r .state) (r .words) u) (sym (moved z′ e))
           (record {
-            slot = goes-on-other st (inv .shaped) s (g .inside) op want′ path′ siblings′ u n;
-            level = λ _ _. ap (λ (k : ℕ). pageAt k ws (lowestOf (pathOf (slotAt st u))) .level) (goes-on-k st s op want′ path′ siblings′);
+            slot = goes-on-other st (inv .shaped) s (g .inside) z′ u n;
+            level = λ _ _. ap (λ (k : ℕ). pageAt k ws (lowestOf (pathOf (slotAt st u))) .level) (goes-on-k st s z′);
           })
       by-comes (stops a writes e ended) =
           let low : ℕ = lowestOf (pathOf (slotAt st u)) in
@@ -269,19 +276,18 @@ module _ (st : State) (ws : List ℕ) (inv : Invariant st ws) (s : ℕ) (g : Goe
   pub measure-falls : grantsLeft (stepped st ws s .state) (stepped st ws s .words) s < grantsLeft st ws s
   measure-falls = by-comes comes
     where
-      by-comes : Comes op (st .k) (st .n) ws (inv .height) (inv .tree) (pathOf (slotAt st s)) (besideOf (slotAt st s)) (wantAt st s)
+      by-comes : Comes (st .k) (st .n) ws (inv .height) (inv .tree) (standAt st s op)
           → grantsLeft (stepped st ws s .state) (stepped st ws s .words) s < grantsLeft st ws s
-      by-comes (moves path′ siblings′ want′ e stance takes) =
+      by-comes (moves z′ e same stance takes) =
           let M : ℕ → Page = pageAt (st .k) ws in
-          let path : List ℕ = pathOf (slotAt st s) in
-          let siblings : List ℕ = besideOf (slotAt st s) in
+          let z : Stand = standAt st s op in
           let was = left-of-open st ws inv s op (g .runs) in
-          let falls = moved-falls op (st .k) M (inv .height) (inv .tree) path siblings (wantAt st s) path′ siblings′ (not-too-tall st ws inv)
+          let falls = moved-falls (st .k) M (inv .height) (inv .tree) z z′ (not-too-tall st ws inv)
           (where-slot st ws inv s op (g .inside) (g .runs))
-          (λ h. beside-goes op (st .k) (st .n) ws path siblings (wantAt st s) h path′ siblings′ want′ e)
-          (λ h. coming-goes op (st .k) (st .n) ws path siblings (wantAt st s) h path′ siblings′ want′ e) in
-          let is = after-moving path′ siblings′ want′ in
-          subst (λ (r : Left). grantsLeft (r .state) (r .words) s < grantsLeft st ws s) (sym (moved path′ siblings′ want′ e)) (omega (arith, was, falls, is))
+          (λ h. beside-goes (st .k) (st .n) ws z h z′ e)
+          (λ h. coming-goes (st .k) (st .n) ws z h z′ e) in
+          let is = after-moving z′ in
+          subst (λ (r : Left). grantsLeft (r .state) (r .words) s < grantsLeft st ws s) (sym (moved z′ e)) (omega (arith, was, falls, is))
       by-comes (stops a writes e ended) =
           let some = measure-bound st ws inv s (g .inside) (ap isOpen (g .runs)) .0 in
           let is : grantsLeft (closes st s) (applied (st .k) writes ws) s ≡ 0 = ap (leftSlot (pageAt (closes st s .k) (applied (st .k) writes ws))) (closes-here st (inv .shaped) s (g .inside)) in

@@ -18,6 +18,7 @@ use Rattle.page.specs.Place.{has}
 use Rattle.page.specs.Short.{neighbour}
 use Rattle.change.specs.Deletion.{Need, nothing, sibling, astray, satisfied, needs}
 use Rattle.slots.specs.declared.Op.the-variants.{Delete}
+use Rattle.slots.specs.Parts.{Stand, wantBeside, wantsNext, withOp}
 use Rattle.tree.specs.Tree.{Tr, entriesOf, way, Forms}
 use Rattle.tree.specs.Change.{HeldWay}
 use Rattle.tree.specs.Deletion.{canSpare, Deletes, Asked, Needed}
@@ -115,49 +116,49 @@ module _ (k : ℕ) (memory : ℕ → Page) (x : ℕ) where
 -- ---- a deletion at its leaf
 
 -- A deletion of x at its leaf, with the siblings that it took so far, each when asked.
-pub record AtLeaf (k n : ℕ) (memory : ℕ → Page) (l : ℕ) (t : Tr l) (x : ℕ) (path : List ℕ) (leaf : ℕ) (fathers siblings : List ℕ) : Type 0 where
+pub record AtLeaf (k n : ℕ) (memory : ℕ → Page) (l : ℕ) (t : Tr l) (x : ℕ) (z : Stand) (leaf : ℕ) (fathers : List ℕ) : Type 0 where
   pub forms : Forms k n memory l t
   pub kLeast : 1 ≤ k
   pub key : x < wordRange
   pub there : has x (entriesOf l t) ≡ true
-  pub upward : reverse path ≡ leaf ∷ fathers
+  pub upward : reverse (z .path) ≡ leaf ∷ fathers
   pub upper : List ℕ
-  pub whole : way x l t ≡ reverse path ++ upper
-  pub rightly : Rightly (Delete x) k memory path
-  pub asked : Asked k memory x leaf fathers siblings
+  pub whole : way x l t ≡ reverse (z .path) ++ upper
+  pub rightly : Rightly (Delete x) k memory (z .path)
+  pub asked : Asked k memory x leaf fathers (z .beside)
 
-module _ {k n : ℕ} {memory : ℕ → Page} {l : ℕ} {t : Tr l} {x : ℕ} {path : List ℕ} {leaf : ℕ} {fathers siblings : List ℕ}
-    (a : AtLeaf k n memory l t x path leaf fathers siblings) where
+module _ {k n : ℕ} {memory : ℕ → Page} {l : ℕ} {t : Tr l} {x : ℕ} {z : Stand} {leaf : ℕ} {fathers : List ℕ}
+    (a : AtLeaf k n memory l t x z leaf fathers) where
   leaf-held : HeldWay (canSpare k memory) x l t leaf fathers
-  leaf-held = held-way (Delete x) k n memory l t path leaf fathers (a .upper) (a .forms) (a .key) (a .rightly) (a .upward) (a .whole)
+  leaf-held = held-way (Delete x) k n memory l t (z .path) leaf fathers (a .upper) (a .forms) (a .key) (a .rightly) (a .upward) (a .whole)
 
   -- what it holds and wants is there to be had
-  pub leaf-needed : Needed k memory l t x leaf fathers siblings
-  leaf-needed = siblingsThere k n memory l t x leaf fathers siblings (a .kLeast) (a .forms) (a .key) (a .there) leaf-held (a .asked)
+  pub leaf-needed : Needed k memory l t x leaf fathers (z .beside)
+  leaf-needed = siblingsThere k n memory l t x leaf fathers (z .beside) (a .kLeast) (a .forms) (a .key) (a .there) leaf-held (a .asked)
 
   -- it needs nothing: the change is made
-  pub leaf-ends : needs k memory x leaf fathers siblings ≡ nothing → Deletes k n memory l t x leaf fathers siblings
-  leaf-ends e = deletionLeads k n memory l t x leaf fathers siblings (a .kLeast) (a .forms) (a .key) (a .there) leaf-held e
+  pub leaf-ends : needs k memory x leaf fathers (z .beside) ≡ nothing → Deletes k n memory l t x leaf fathers (z .beside)
+  leaf-ends e = deletionLeads k n memory l t x leaf fathers (z .beside) (a .kLeast) (a .forms) (a .key) (a .there) leaf-held e
 
   -- it holds the pages that the rules would have it hold
-  pub leaf-on-course : needs k memory x leaf fathers siblings ≡ astray → ⊥
+  pub leaf-on-course : needs k memory x leaf fathers (z .beside) ≡ astray → ⊥
   leaf-on-course = leaf-needed .onCourse
 
   -- no sibling is page 0, which is on every way
-  sibling-other : (j : ℕ) → j < length siblings → getD siblings j 0 ≢ 0
+  sibling-other : (j : ℕ) → j < length (z .beside) → getD (z .beside) j 0 ≢ 0
   sibling-other j h e =
       let facts = way-facts k n memory l t (a .forms) x (a .key) in
       let root = member-times 0 (way x l t) (member-from 0 (way x l t) l 0 (omega (arith, facts .pages)) (facts .root)) in
-      let here = member-times 0 siblings (member-from 0 siblings j 0 h e) in
-      omega (arith, times-append 0 (way x l t) siblings, distinct-times (way x l t ++ siblings) (leaf-needed .different) 0)
+      let here = member-times 0 (z .beside) (member-from 0 (z .beside) j 0 h e) in
+      omega (arith, times-append 0 (way x l t) (z .beside), distinct-times (way x l t ++ z .beside) (leaf-needed .different) 0)
 
   -- it needs a sibling: it stands as a slot that wants it
-  pub leaf-goes : (s : ℕ) → needs k memory x leaf fathers siblings ≡ sibling s → WantsSibling (Delete x) k memory l t path siblings s
+  pub leaf-goes : (s : ℕ) → needs k memory x leaf fathers (z .beside) ≡ sibling s → WantsSibling k memory l t (wantsNext (withOp (Delete x) z) s)
   leaf-goes s e =
-      let course = needs-course k memory x leaf fathers siblings s e in
-      let fewer = needs-length k memory x leaf fathers siblings s e in
-      let size : length path ≡ suc (length fathers) = sym (length-reverse path) ∙ ap length (a .upward) in
-      let at : (j : ℕ) → getD (reverse path) j 0 ≡ getD (leaf ∷ fathers) j 0 = λ j. ap (λ (up : List ℕ). getD up j 0) (a .upward) in
+      let course = needs-course k memory x leaf fathers (z .beside) s e in
+      let fewer = needs-length k memory x leaf fathers (z .beside) s e in
+      let size : length (z .path) ≡ suc (length fathers) = sym (length-reverse (z .path)) ∙ ap length (a .upward) in
+      let at : (j : ℕ) → getD (reverse (z .path)) j 0 ≡ getD (leaf ∷ fathers) j 0 = λ j. ap (λ (up : List ℕ). getD up j 0) (a .upward) in
       record {
         deletes = refl;
         there = a .there;
@@ -172,20 +173,19 @@ module _ {k n : ℕ} {memory : ℕ → Page} {l : ℕ} {t : Tr l} {x : ℕ} {pat
             (getD (leaf ∷ fathers) j 0) (member-from (getD (leaf ∷ fathers) j 0) (leaf ∷ fathers) j 0 (omega arith) refl)) other in
             let most = course .short j h in
             ap (λ (p : ℕ). μ (memory p)) (at j) ∙ omega arith;
-        notRoot = λ j h z. course .notRoot j h (sym (at j) ∙ z);
+        notRoot = λ j h e. course .notRoot j h (sym (at j) ∙ e);
         neighbours = λ j h. course .neighbours j h ∙ ap (λ (p : ℕ). neighbour x (memory p)) (sym (at (suc j)));
         joining = λ j h.
-            let least = page-least k memory n l t (a .forms) (getD siblings j 0)
-            (leaf-needed .pages (getD siblings j 0) (member-from (getD siblings j 0) siblings j 0 h refl)) (sibling-other j h) in
+            let least = page-least k memory n l t (a .forms) (getD (z .beside) j 0)
+            (leaf-needed .pages (getD (z .beside) j 0) (member-from (getD (z .beside) j 0) (z .beside) j 0 h refl)) (sibling-other j h) in
             let most = course .joining j h in
             omega arith;
-        wantsNext = course .wantsNext ∙ ap (λ (p : ℕ). neighbour x (memory p)) (sym (at (suc (length siblings))));
+        wantsNext = course .wantsNext ∙ ap (λ (p : ℕ). neighbour x (memory p)) (sym (at (suc (length (z .beside)))));
       }
 
   -- the sibling that was wanted is granted
-  pub beside-asked : {want : ℕ} → needs k memory x leaf fathers siblings ≡ sibling want
-      → AtLeaf k n memory l t x path leaf fathers (siblings ++ want ∷ [])
-  beside-asked {want} e = record {
+  pub beside-asked : needs k memory x leaf fathers (z .beside) ≡ sibling (z .want) → AtLeaf k n memory l t x (wantBeside z) leaf fathers
+  beside-asked e = record {
     forms = a .forms;
     kLeast = a .kLeast;
     key = a .key;
@@ -194,7 +194,7 @@ module _ {k n : ℕ} {memory : ℕ → Page} {l : ℕ} {t : Tr l} {x : ℕ} {pat
     upper = a .upper;
     whole = a .whole;
     rightly = a .rightly;
-    asked = asked-more k memory x leaf fathers siblings want (a .asked) e;
+    asked = asked-more k memory x leaf fathers (z .beside) (z .want) (a .asked) e;
   }
 
 -- a path that is not empty, upward: its leaf and the fathers
@@ -203,22 +203,22 @@ leaf-first [] h = absurd (omega arith)
 leaf-first (p ∷ up) h = (p, up, refl)
 
 -- a slot that wants a sibling stands at its leaf, and that sibling is the one it needs
-pub beside-leaf : {k n : ℕ} {memory : ℕ → Page} {l : ℕ} {t : Tr l} {x : ℕ} {path siblings : List ℕ} {want : ℕ}
-    → Forms k n memory l t → 1 ≤ k → x < wordRange → WantsSibling (Delete x) k memory l t path siblings want
-    → (leaf : ℕ) × (fathers : List ℕ) × AtLeaf k n memory l t x path leaf fathers siblings
-    × (needs k memory x leaf fathers siblings ≡ sibling want)
-beside-leaf {k} {n} {memory} {l} {t} {x} {path} {siblings} {want} forms one key b =
-    let (leaf, fathers, upward) = leaf-first (reverse path) (omega (arith, b .rightly .some, length-reverse path)) in
-    let size : length path ≡ suc (length fathers) = sym (length-reverse path) ∙ ap length upward in
-    let at : (j : ℕ) → getD (reverse path) j 0 ≡ getD (leaf ∷ fathers) j 0 = λ j. ap (λ (up : List ℕ). getD up j 0) upward in
-    let need : needs k memory x leaf fathers siblings ≡ sibling want
-    = course-needs k memory x leaf fathers siblings want (omega (arith, b .fewer))
+pub beside-leaf : {k n : ℕ} {memory : ℕ → Page} {l : ℕ} {t : Tr l} {x : ℕ} (z : Stand)
+    → Forms k n memory l t → 1 ≤ k → x < wordRange → WantsSibling k memory l t (withOp (Delete x) z)
+    → (leaf : ℕ) × (fathers : List ℕ) × AtLeaf k n memory l t x z leaf fathers
+    × (needs k memory x leaf fathers (z .beside) ≡ sibling (z .want))
+beside-leaf {k} {n} {memory} {l} {t} {x} z forms one key b =
+    let (leaf, fathers, upward) = leaf-first (reverse (z .path)) (omega (arith, b .rightly .some, length-reverse (z .path))) in
+    let size : length (z .path) ≡ suc (length fathers) = sym (length-reverse (z .path)) ∙ ap length upward in
+    let at : (j : ℕ) → getD (reverse (z .path)) j 0 ≡ getD (leaf ∷ fathers) j 0 = λ j. ap (λ (up : List ℕ). getD up j 0) upward in
+    let need : needs k memory x leaf fathers (z .beside) ≡ sibling (z .want)
+    = course-needs k memory x leaf fathers (z .beside) (z .want) (omega (arith, b .fewer))
     (record {
       short = λ j h. let same = ap (λ (p : ℕ). μ (memory p)) (at j) in omega (arith, b .short j h);
-      notRoot = λ j h z. b .notRoot j h (at j ∙ z);
+      notRoot = λ j h e. b .notRoot j h (at j ∙ e);
       neighbours = λ j h. b .neighbours j h ∙ ap (λ (p : ℕ). neighbour x (memory p)) (at (suc j));
       joining = λ j h. omega (arith, b .joining j h);
-      wantsNext = b .wantsNext ∙ ap (λ (p : ℕ). neighbour x (memory p)) (at (suc (length siblings)));
+      wantsNext = b .wantsNext ∙ ap (λ (p : ℕ). neighbour x (memory p)) (at (suc (length (z .beside))));
     }) in (
       leaf,
       fathers,
@@ -231,7 +231,7 @@ beside-leaf {k} {n} {memory} {l} {t} {x} {path} {siblings} {want} forms one key 
         upper = b .upper;
         whole = b .whole;
         rightly = b .rightly;
-        asked = course-asked k memory x leaf fathers siblings (λ h. astray≢sibling (sym h ∙ need));
+        asked = course-asked k memory x leaf fathers (z .beside) (λ h. astray≢sibling (sym h ∙ need));
       },
       need,
     )

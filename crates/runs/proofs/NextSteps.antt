@@ -20,8 +20,8 @@ use Rattle.page.specs.Short.{hasRight, neighbour}
 use Rattle.pool.specs.Pool.{pageAt, freePages}
 use Rattle.slots.specs.declared.Op.the-variants.{Next}
 use Rattle.slots.specs.declared.Answer.the-variants.{None as NoLot}
-use Rattle.slots.specs.Parts.{onlyReads}
-use Rattle.footing.specs.Granted.{goes, isSafe, nextAnswer, crosses, byNearest, atLeaf, goesLeft, besides}
+use Rattle.slots.specs.Parts.{onlyReads, Stand, onPages, wantBeside, wantsNext, withOp}
+use Rattle.footing.specs.Granted.{isSafe, nextAnswer, crosses, byNearest, atLeaf, goesLeft, besides}
 use Rattle.footing.specs.Fitting.{isNone, leftmost, turnsRight, rightlyAcross}
 use Rattle.tree.specs.Tree.{Tr, entriesOf, way, leafOn, Forms, PoolForms}
 use Rattle.tree.specs.Facts.{WayFacts, SameFirst, NextFacts}
@@ -68,16 +68,16 @@ turns-from memory x top [] some turns level left = absurd (omega arith)
 turns-from memory x top (p ∷ rest) some turns level left =
     and-both (and-both (eq-eqb (neighbour x (memory top)) p (sym turns)) (eq-eqb (memory top .level) (memory p .level + 1) level)) left
 
-across-from : (x k : ℕ) (memory : ℕ → Page) (path second : List ℕ) (want : ℕ) → 1 ≤ length path
+across-from : (x k : ℕ) (memory : ℕ → Page) (z : Stand) (path : List ℕ) → 1 ≤ length path
     → atOrAbove x (memory (getD (reverse path) 0 0) .entries) ≡ [] → isSafe (Next x) k (memory (getD path 0 0)) ≡ true
-    → turnsRight memory x (getD path 0 0) (second ++ want ∷ []) ≡ true → rightlyAcross (Next x) k memory path second want ≡ true
-across-from x k memory [] second want some none right turns = absurd (omega arith)
-across-from x k memory (top ∷ below) second want some none right turns =
+    → turnsRight memory x (getD path 0 0) (z .beside ++ z .want ∷ []) ≡ true → rightlyAcross k memory (withOp (Next x) z) path ≡ true
+across-from x k memory z [] some none right turns = absurd (omega arith)
+across-from x k memory z (top ∷ below) some none right turns =
     and-both (and-both (and-both {a = true} refl (ap isNone none)) right) turns
 
 -- ---- at its leaf
 
-module _ (k n : ℕ) (ws : List ℕ) (l : ℕ) (t : Tr l) (pool : PoolForms k n ws l t) (one : 1 ≤ k) (path₀ siblings₀ : List ℕ) (want : ℕ)
+module _ (k n : ℕ) (ws : List ℕ) (l : ℕ) (t : Tr l) (pool : PoolForms k n ws l t) (one : 1 ≤ k) (z₀ : Stand)
     (x : ℕ) (key : x < wordRange) (facts : WayFacts (pageAt k ws) x l t) where
   abbrev memory : ℕ → Page
   memory = pageAt k ws
@@ -90,15 +90,19 @@ module _ (k n : ℕ) (ws : List ℕ) (l : ℕ) (t : Tr l) (pool : PoolForms k n 
 
   -- a Next ends with the plain list's answer
   answers : (found : List Entry) → nextAnswer found ≡ nextAnswer (atOrAbove x es)
-      → Ended (Next x) k n ws l t path₀ siblings₀ want (nextAnswer found) []
+      → Ended k n ws l t (withOp (Next x) z₀) (nextAnswer found) []
   unfolding plain
   answers found same =
-      nothing-ends k n ws l t pool path₀ siblings₀ want (Next x) (nextAnswer found)
+      nothing-ends k n ws l t pool z₀ (Next x) (nextAnswer found)
       (inl (record { answer = same; entries = refl; room = λ y v e m. absurd (true≢false (ap onlyReads e)) }))
+
+  -- where it stands with this path
+  abbrev down : List ℕ → Stand
+  down path = onPages (withOp (Next x) z₀) path []
 
   module _ (path : List ℕ) (leaf : ℕ) (fathers upper : List ℕ) (upward : reverse path ≡ leaf ∷ fathers)
       (whole : way x l t ≡ leaf ∷ (fathers ++ upper)) (rightly : Rightly (Next x) k memory path)
-      (takes : Takes (Next x) k memory path₀ siblings₀ want path []) where
+      (takes : (q : ℕ) → Takes k memory (withOp (Next x) z₀) (wantsNext (down path) q)) where
     onWay : way x l t ≡ reverse path ++ upper
     onWay = whole ∙ ap (λ (ps : List ℕ). ps ++ upper) (sym upward)
 
@@ -117,8 +121,8 @@ module _ (k n : ℕ) (ws : List ℕ) (l : ℕ) (t : Tr l) (pool : PoolForms k n 
     two-pages safe =
         by-test (ltb 1 (length path))
         (λ y. ltb-true 1 (length path) y)
-        (λ z.
-        let short = ltb-false 1 (length path) z in
+        (λ o.
+        let short = ltb-false 1 (length path) o in
         let top : getD path 0 0 ≡ leaf = sym (top-upward path 0 (omega (arith, rightly .some))) ∙ lowest in
         not-both safe
         (ap (λ (p : ℕ). isSafe (Next x) k (memory p)) top
@@ -126,7 +130,7 @@ module _ (k n : ℕ) (ws : List ℕ) (l : ℕ) (t : Tr l) (pool : PoolForms k n 
 
     -- it goes on to the next child to the right of the top page
     goes-across : atOrAbove x (leafOn x l t) ≡ [] → isSafe (Next x) k (memory (getD path 0 0)) ≡ true
-        → Crossing (Next x) k memory l t path [] (neighbour x (memory (getD path 0 0)))
+        → Crossing k memory l t (wantsNext (down path) (neighbour x (memory (getD path 0 0))))
     goes-across none safe = record {
       asksNext = refl;
       upper = upper;
@@ -158,45 +162,47 @@ module _ (k n : ℕ) (ws : List ℕ) (l : ℕ) (t : Tr l) (pool : PoolForms k n 
         (ap (λ (q : ℕ). isSafe (Next x) k (memory q)) (here (suc i) inside)
         ∙ by-test (ltb (suc (suc i)) (length path))
         (λ y. below-unsafe (Next x) k memory path rightly (suc i) (ltb-true (suc (suc i)) (length path) y))
-        (λ z.
-        let last = ltb-false (suc (suc i)) (length path) z in
+        (λ o.
+        let last = ltb-false (suc (suc i)) (length path) o in
         ap (λ (q : ℕ). isSafe (Next x) k (memory q)) (top-upward path (suc i) (omega arith)) ∙ f))
 
     -- by the top page, where the leaf has no such key
     by-top : (ps : List ℕ) → path ≡ ps → atOrAbove x (leafOn x l t) ≡ []
-        → Does (Next x) k n ws l t path₀ siblings₀ want (crosses (Next x) k memory ps)
+        → Does k n ws l t (withOp (Next x) z₀) (crosses x k memory (down path) ps)
     by-top [] e none = absurd (omega (arith, ap length e, rightly .some))
     by-top (top ∷ below) e none =
         let first : getD path 0 0 ≡ top = ap (λ (ps : List ℕ). getD ps 0 0) e in
-        cond-ind (Does (Next x) k n ws l t path₀ siblings₀ want) (isSafe (Next x) k (memory top))
+        cond-ind (Does k n ws l t (withOp (Next x) z₀)) (isSafe (Next x) k (memory top))
         (λ safe.
-        subst (λ (ps : List ℕ). Does (Next x) k n ws l t path₀ siblings₀ want (goes ps [] (neighbour x (memory top)))) e
-        (on path [] (neighbour x (memory top)) refl
+        on (wantsNext (down path) (neighbour x (memory top))) refl refl
         (inr (inr (inr
-        (subst (λ (p : ℕ). Crossing (Next x) k memory l t path [] (neighbour x (memory p))) first
+        (subst (λ (p : ℕ). Crossing k memory l t (wantsNext (down path) (neighbour x (memory p)))) first
         (goes-across none (ap (λ (p : ℕ). isSafe (Next x) k (memory p)) first ∙ safe))))))
-        takes))
+        (takes (neighbour x (memory top))))
         (λ f.
         done NoLot [] refl
         (answers []
         (ap nextAnswer (sym (nexts .nowhere none (nothing-right (ap (λ (p : ℕ). isSafe (Next x) k (memory p)) first ∙ f)))))))
 
     by-nearest : (found : List Entry) → atOrAbove x (leafOn x l t) ≡ found
-        → Does (Next x) k n ws l t path₀ siblings₀ want (byNearest (crosses (Next x) k memory path) found)
+        → Does k n ws l t (withOp (Next x) z₀) (byNearest (crosses x k memory (down path) path) found)
     by-nearest [] e = by-top path refl e
     by-nearest (first ∷ rest) e =
         done (nextAnswer (first ∷ rest)) [] refl
         (answers (first ∷ rest)
         (ap nextAnswer (sym e) ∙ first-answers (atOrAbove x (leafOn x l t)) (atOrAbove x es) (nexts .here first rest e)))
 
-    pub next-does : Does (Next x) k n ws l t path₀ siblings₀ want (atLeaf (Next x) k memory (freePages k n ws) path leaf fathers)
+    pub next-does : Does k n ws l t (withOp (Next x) z₀) (atLeaf (Next x) k memory (freePages k n ws) (down path) leaf fathers)
     unfolding atLeaf
     next-does = by-nearest (atOrAbove x (memory leaf .entries)) (ap (atOrAbove x) (sym leaf-entries))
 
 -- ---- past its leaf
 
 module _ (x k n : ℕ) (ws : List ℕ) (l : ℕ) (t : Tr l) (pool : PoolForms k n ws l t) (one : 1 ≤ k) (key : x < wordRange)
-    (path second : List ℕ) (want : ℕ) (c : Crossing (Next x) k (pageAt k ws) l t path second want) where
+    (z₀ : Stand) (c : Crossing k (pageAt k ws) l t (withOp (Next x) z₀)) where
+  abbrev z : Stand
+  z = withOp (Next x) z₀
+
   abbrev pages : ℕ → Page
   pages = pageAt k ws
 
@@ -204,25 +210,25 @@ module _ (x k n : ℕ) (ws : List ℕ) (l : ℕ) (t : Tr l) (pool : PoolForms k 
   forms = pool .forms
 
   abbrev ps : List ℕ
-  ps = second ++ want ∷ []
+  ps = z .beside ++ z .want ∷ []
 
-  two-ways : Across pages x l t path second want
-  two-ways = across (Next x) k n pages l t one forms key path second want c
+  two-ways : Across pages l t z
+  two-ways = across k n pages l t one forms z key c
 
   first-way : WayFacts pages x l t
-  first-way = first-facts k n pages l t forms x key path second want two-ways
+  first-way = first-facts k n pages l t forms z key two-ways
 
-  level-at : (j : ℕ) → j ≤ length second → pages (getD ps j 0) .level ≡ (two-ways .index - j) + 1
-  level-at = second-level k n pages l t forms x key path second want two-ways
+  level-at : (j : ℕ) → j ≤ length (z .beside) → pages (getD ps j 0) .level ≡ (two-ways .index - j) + 1
+  level-at = second-level k n pages l t forms z key two-ways
 
-  size : length ps ≡ length second + 1
-  size = length-append second (want ∷ [])
+  size : length ps ≡ length (z .beside) + 1
+  size = length-append (z .beside) (z .want ∷ [])
 
   -- the leaf of its path
-  leaf-at : getD (way x l t) 0 0 ≡ getD (reverse path) 0 0
+  leaf-at : getD (way x l t) 0 0 ≡ getD (reverse (z .path)) 0 0
   leaf-at = sym (two-ways .first 0 (omega arith))
 
-  pub crossing-leaf : StandsAtLeaf pages path
+  pub crossing-leaf : StandsAtLeaf pages (z .path)
   crossing-leaf = (omega (arith, c .fewer), ap (λ (p : ℕ). pages p .level) (sym leaf-at) ∙ first-way .level 0 (omega arith))
 
   leaf-none : atOrAbove x (leafOn x l t) ≡ []
@@ -232,39 +238,39 @@ module _ (x k n : ℕ) (ws : List ℕ) (l : ℕ) (t : Tr l) (pool : PoolForms k 
       ∙ c .none
 
   -- what it holds beside its path and wants is the leftmost way of the next child to the right
-  pub crossing-test : rightlyAcross (Next x) k pages path second want ≡ true
+  pub crossing-test : rightlyAcross k pages z (z .path) ≡ true
   crossing-test =
       let i : ℕ = two-ways .index in
-      let top : pages (getD path 0 0) .level ≡ suc i + 1
+      let top : pages (getD (z .path) 0 0) .level ≡ suc i + 1
       = ap (λ (p : ℕ). pages p .level) (sym (two-ways .top)) ∙ first-way .level (suc i) (two-ways .inside) in
-      across-from x k pages path second want (omega (arith, c .fewer)) (c .none) (c .right)
-      (turns-from pages x (getD path 0 0) ps (omega (arith, size)) (c .turns)
+      across-from x k pages z (z .path) (omega (arith, c .fewer)) (c .none) (c .right)
+      (turns-from pages x (getD (z .path) 0 0) ps (omega (arith, size)) (c .turns)
       (omega (arith, top, level-at 0 (omega arith)))
       (leftmost-from pages ps
       (λ j h.
-      let inside : j < length second = omega (arith, size) in
-      c .leftmost j inside ∙ ap (λ (p : ℕ). pointer 0 (pages p)) (sym (List·getD-append second (want ∷ []) 0 j inside)))
+      let inside : j < length (z .beside) = omega (arith, size) in
+      c .leftmost j inside ∙ ap (λ (p : ℕ). pointer 0 (pages p)) (sym (List·getD-append (z .beside) (z .want ∷ []) 0 j inside)))
       (λ j h.
-      let inside : suc j ≤ length second = omega (arith, size) in
+      let inside : suc j ≤ length (z .beside) = omega (arith, size) in
       omega (arith, level-at j (omega arith), level-at (suc j) inside, two-ways .few))))
 
   -- ---- the granted page
 
-  want-at : getD ps (length second) 0 ≡ want
-  want-at = getD-at second want [] 0 (length second) refl
+  want-at : getD ps (length (z .beside)) 0 ≡ z .want
+  want-at = getD-at (z .beside) (z .want) [] 0 (length (z .beside)) refl
 
-  want-level : pages want .level ≡ (two-ways .index - length second) + 1
-  want-level = ap (λ (p : ℕ). pages p .level) (sym want-at) ∙ level-at (length second) (omega arith)
+  want-level : pages (z .want) .level ≡ (two-ways .index - length (z .beside)) + 1
+  want-level = ap (λ (p : ℕ). pages p .level) (sym want-at) ∙ level-at (length (z .beside)) (omega arith)
 
   -- above the leaves it takes the page beside the others, and wants p0 of it
-  one-more : isLeaf (pages want) ≡ false → Crossing (Next x) k pages l t path ps (pointer 0 (pages want))
+  one-more : isLeaf (pages (z .want)) ≡ false → Crossing k pages l t (wantsNext (wantBeside z) (pointer 0 (pages (z .want))))
   one-more upperPage =
-      let higher = eqb-false (pages want .level) 1 upperPage in
-      let next : ℕ = pointer 0 (pages want) in
-      let deeper : suc (length ps) < length path
-      = by-test (ltb (length second) (two-ways .index))
-      (λ y. let low = ltb-true (length second) (two-ways .index) y in omega (arith, size, two-ways .long))
-      (λ z. let low = ltb-false (length second) (two-ways .index) z in absurd (higher (omega (arith, want-level)))) in
+      let higher = eqb-false (pages (z .want) .level) 1 upperPage in
+      let next : ℕ = pointer 0 (pages (z .want)) in
+      let deeper : suc (length ps) < length (z .path)
+      = by-test (ltb (length (z .beside)) (two-ways .index))
+      (λ y. let low = ltb-true (length (z .beside)) (two-ways .index) y in omega (arith, size, two-ways .long))
+      (λ o. let low = ltb-false (length (z .beside)) (two-ways .index) o in absurd (higher (omega (arith, want-level)))) in
       record {
         asksNext = refl;
         upper = c .upper;
@@ -275,17 +281,17 @@ module _ (x k n : ℕ) (ws : List ℕ) (l : ℕ) (t : Tr l) (pool : PoolForms k 
         fewer = deeper;
         turns = List·getD-append ps (next ∷ []) 0 0 (omega (arith, size)) ∙ c .turns;
         leftmost = λ j h.
-            by-test (ltb j (length second))
+            by-test (ltb j (length (z .beside)))
             (λ y.
-            let inside = ltb-true j (length second) y in
+            let inside = ltb-true j (length (z .beside)) y in
             List·getD-append ps (next ∷ []) 0 (suc j) (omega (arith, size))
             ∙ c .leftmost j inside
-            ∙ ap (λ (p : ℕ). pointer 0 (pages p)) (sym (List·getD-append second (want ∷ []) 0 j inside)))
-            (λ z.
-            let last = ltb-false j (length second) z in
-            let at : length second ≡ j = omega (arith, size) in
+            ∙ ap (λ (p : ℕ). pointer 0 (pages p)) (sym (List·getD-append (z .beside) (z .want ∷ []) 0 j inside)))
+            (λ o.
+            let last = ltb-false j (length (z .beside)) o in
+            let at : length (z .beside) ≡ j = omega (arith, size) in
             getD-at ps next [] 0 (suc j) (omega (arith, size))
-            ∙ ap (λ (p : ℕ). pointer 0 (pages p)) (sym (getD-at second want [] 0 j at)));
+            ∙ ap (λ (p : ℕ). pointer 0 (pages p)) (sym (getD-at (z .beside) (z .want) [] 0 j at)));
       }
 
   -- no page of the path below its top has a child to the right
@@ -294,33 +300,33 @@ module _ (x k n : ℕ) (ws : List ℕ) (l : ℕ) (t : Tr l) (pool : PoolForms k 
       let p : ℕ = getD (way x l t) (suc j) 0 in
       no-right x k (pages p) (ne-eqb (pages p .level) 1 (λ e. absurd (omega (arith, first-way .level (suc j) (omega (arith, two-ways .inside))))))
       (ap (λ (q : ℕ). isSafe (Next x) k (pages q)) (sym (two-ways .first (suc j) (omega arith)))
-      ∙ below-unsafe (Next x) k pages path (c .rightly) (suc j) (omega (arith, two-ways .long)))
+      ∙ below-unsafe (Next x) k pages (z .path) (c .rightly) (suc j) (omega (arith, two-ways .long)))
 
   -- a leaf is the second way's, and its first entry is the tree's first at or above the key
-  second-answers : isLeaf (pages want) ≡ true → nextAnswer (pages want .entries) ≡ nextAnswer (atOrAbove x (entriesOf l t))
+  second-answers : isLeaf (pages (z .want)) ≡ true → nextAnswer (pages (z .want) .entries) ≡ nextAnswer (atOrAbove x (entriesOf l t))
   second-answers leafPage =
-      let level = eqb-true (pages want .level) 1 leafPage in
+      let level = eqb-true (pages (z .want) .level) 1 leafPage in
       let y : ℕ = two-ways .beyond .key in
-      let end : two-ways .index - length second ≡ 0 = omega (arith, want-level) in
-      let lowest : want ≡ getD (way y l t) 0 0
+      let end : two-ways .index - length (z .beside) ≡ 0 = omega (arith, want-level) in
+      let lowest : z .want ≡ getD (way y l t) 0 0
       = sym want-at
-      ∙ two-ways .on (length second) (omega arith)
+      ∙ two-ways .on (length (z .beside)) (omega arith)
       ∙ ap (λ (j : ℕ). getD (way y l t) j 0) end in
       ap (λ (p : ℕ). nextAnswer (pages p .entries)) lowest
-      ∙ ap (λ (P : Page). nextAnswer (P .entries)) (second-facts k n pages l t forms x key path second want two-ways .leaf)
+      ∙ ap (λ (P : Page). nextAnswer (P .entries)) (second-facts k n pages l t forms z key two-ways .leaf)
       ∙ first-answers (leafOn y l t) (atOrAbove x (entriesOf l t)) (two-ways .beyond .nearest leaf-none none-lower)
 
-  left-does : Does (Next x) k n ws l t path second want (goesLeft pages path second want)
+  left-does : Does k n ws l t z (goesLeft pages z)
   unfolding goesLeft
   left-does =
-      cond-ind (Does (Next x) k n ws l t path second want) (isLeaf (pages want))
+      cond-ind (Does k n ws l t z) (isLeaf (pages (z .want)))
       (λ y.
-      done (nextAnswer (pages want .entries)) [] refl
-      (answers k n ws l t pool one path second want x key first-way (pages want .entries) (second-answers y)))
+      done (nextAnswer (pages (z .want) .entries)) [] refl
+      (answers k n ws l t pool one z₀ x key first-way (pages (z .want) .entries) (second-answers y)))
       (λ f.
-      on path ps (pointer 0 (pages want)) refl (inr (inr (inr (one-more f))))
+      on (wantsNext (wantBeside z) (pointer 0 (pages (z .want)))) refl refl (inr (inr (inr (one-more f))))
       (inr (inr (record { beside = refl; atLeaf = crossing-leaf; still = refl; holds = refl }))))
 
-  pub crossing-does : Does (Next x) k n ws l t path second want (besides (Next x) k pages path second want)
+  pub crossing-does : Does k n ws l t z (besides k pages z)
   unfolding besides
   crossing-does = left-does

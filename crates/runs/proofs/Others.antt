@@ -18,7 +18,7 @@ use Rattle.page.specs.Place.{pointer, route, has, atOrAbove}
 use Rattle.page.specs.Short.{neighbour}
 use Rattle.pool.specs.Pool.{Write}
 use Rattle.slots.specs.declared.Op.{Op}
-use Rattle.slots.specs.Parts.{keyOf}
+use Rattle.slots.specs.Parts.{keyOf, Stand, holding}
 use Rattle.footing.specs.Granted.{isSafe}
 use Rattle.tree.specs.Tree.{Tr, way, leafOn, Forms}
 use Rattle.tree.specs.Facts.{WayFacts}
@@ -80,11 +80,11 @@ module _ (k n : ℕ) (memory : ℕ → Page) (l : ℕ) (t : Tr l) (writes : List
 
 -- ---- the pages of a slot
 
-module _ (op : Op) (k n : ℕ) (memory : ℕ → Page) (l : ℕ) (t : Tr l) (writes : List Write) (es : List Entry) (path siblings : List ℕ)
-    (key : keyOf op < wordRange) (forms : Forms k n memory l t) (leads : Leads k n memory l t writes es)
-    (apart : (q : ℕ) → member q (path ++ siblings) ≡ true → member q (writtenPages writes) ≡ false) where
+module _ (k n : ℕ) (memory : ℕ → Page) (l : ℕ) (t : Tr l) (writes : List Write) (es : List Entry) (z : Stand)
+    (key : keyOf (z .op) < wordRange) (forms : Forms k n memory l t) (leads : Leads k n memory l t writes es)
+    (apart : (q : ℕ) → member q (holding z) ≡ true → member q (writtenPages writes) ≡ false) where
   abbrev x : ℕ
-  x = keyOf op
+  x = keyOf (z .op)
 
   abbrev before : WayFacts memory x l t
   before = facts k n memory l t writes es forms leads x key
@@ -96,98 +96,98 @@ module _ (op : Op) (k n : ℕ) (memory : ℕ → Page) (l : ℕ) (t : Tr l) (wri
   onWay = way x (leads .height) (leads .tree)
 
   -- a held page is as it was
-  same : (q : ℕ) → member q (path ++ siblings) ≡ true → memoryAfter memory writes q ≡ memory q
+  same : (q : ℕ) → member q (holding z) ≡ true → memoryAfter memory writes q ≡ memory q
   same q m = unwritten memory writes q (absent-times q (writtenPages writes) (apart q m))
 
-  of-path : (q : ℕ) → member q path ≡ true → member q (path ++ siblings) ≡ true
-  of-path q m = member-append q path siblings ∙ or-first (member q siblings) m
+  of-path : (q : ℕ) → member q (z .path) ≡ true → member q (holding z) ≡ true
+  of-path q m = member-append q (z .path) (z .beside) ∙ or-first (member q (z .beside)) m
 
-  of-upward : (q : ℕ) → member q (reverse path) ≡ true → member q (path ++ siblings) ≡ true
-  of-upward q m = of-path q (sym (member-reverse q path) ∙ m)
+  of-upward : (q : ℕ) → member q (reverse (z .path)) ≡ true → member q (holding z) ≡ true
+  of-upward q m = of-path q (sym (member-reverse q (z .path)) ∙ m)
 
-  path-same : (i : ℕ) → i < length path → memoryAfter memory writes (getD path i 0) ≡ memory (getD path i 0)
-  path-same i h = same (getD path i 0) (of-path (getD path i 0) (member-from (getD path i 0) path i 0 h refl))
+  path-same : (i : ℕ) → i < length (z .path) → memoryAfter memory writes (getD (z .path) i 0) ≡ memory (getD (z .path) i 0)
+  path-same i h = same (getD (z .path) i 0) (of-path (getD (z .path) i 0) (member-from (getD (z .path) i 0) (z .path) i 0 h refl))
 
-  upward-same : (j : ℕ) → j < length path → memoryAfter memory writes (getD (reverse path) j 0) ≡ memory (getD (reverse path) j 0)
+  upward-same : (j : ℕ) → j < length (z .path) → memoryAfter memory writes (getD (reverse (z .path)) j 0) ≡ memory (getD (reverse (z .path)) j 0)
   upward-same j h =
-      let q : ℕ = getD (reverse path) j 0 in
-      same q (of-upward q (member-from q (reverse path) j 0 (omega (arith, length-reverse path)) refl))
+      let q : ℕ = getD (reverse (z .path)) j 0 in
+      same q (of-upward q (member-from q (reverse (z .path)) j 0 (omega (arith, length-reverse (z .path))) refl))
 
-  sibling-same : (j : ℕ) → j < length siblings → memoryAfter memory writes (getD siblings j 0) ≡ memory (getD siblings j 0)
+  sibling-same : (j : ℕ) → j < length (z .beside) → memoryAfter memory writes (getD (z .beside) j 0) ≡ memory (getD (z .beside) j 0)
   sibling-same j h =
-      let q : ℕ = getD siblings j 0 in
-      same q (member-append q path siblings ∙ or-second (member q path) (member-from q siblings j 0 h refl))
+      let q : ℕ = getD (z .beside) j 0 in
+      same q (member-append q (z .path) (z .beside) ∙ or-second (member q (z .path)) (member-from q (z .beside) j 0 h refl))
 
   -- its pages are as safe as they were
-  rightly-keeps : Rightly op k memory path → Rightly op k (memoryAfter memory writes) path
+  rightly-keeps : Rightly (z .op) k memory (z .path) → Rightly (z .op) k (memoryAfter memory writes) (z .path)
   rightly-keeps r = record {
     some = r .some;
     top =
         ⊎-elim inl
-        (λ s. inr (ap (λ (P : Page). isSafe op k P) (path-same 0 (r .some)) ∙ s))
+        (λ s. inr (ap (λ (P : Page). isSafe (z .op) k P) (path-same 0 (r .some)) ∙ s))
         (r .top);
-    unsafe = λ i h. ap (λ (P : Page). isSafe op k P) (path-same (suc i) h) ∙ r .unsafe i h;
+    unsafe = λ i h. ap (λ (P : Page). isSafe (z .op) k P) (path-same (suc i) h) ∙ r .unsafe i h;
   }
 
   -- and its path is a stretch of the way, as far from the leaf as it was
-  module _ (lower upper : List ℕ) (whole : way x l t ≡ lower ++ (reverse path ++ upper)) (i j : ℕ) (at : i ≡ length lower + j) (h : j < length path) where
-    path-was : getD (way x l t) i 0 ≡ getD (reverse path) j 0
+  module _ (lower upper : List ℕ) (whole : way x l t ≡ lower ++ (reverse (z .path) ++ upper)) (i j : ℕ) (at : i ≡ length lower + j) (h : j < length (z .path)) where
+    path-was : getD (way x l t) i 0 ≡ getD (reverse (z .path)) j 0
     path-was =
-        ap (λ (c : ℕ). getD (way x l t) c 0) at ∙ part-at x l t lower (reverse path) upper whole j (omega (arith, length-reverse path))
+        ap (λ (c : ℕ). getD (way x l t) c 0) at ∙ part-at x l t lower (reverse (z .path)) upper whole j (omega (arith, length-reverse (z .path)))
 
-    path-stays : (i ≤ leads .height) × (getD onWay i 0 ≡ getD (reverse path) j 0)
+    path-stays : (i ≤ leads .height) × (getD onWay i 0 ≡ getD (reverse (z .path)) j 0)
     path-stays =
-        subst (λ (c : ℕ). (c ≤ leads .height) × (getD onWay c 0 ≡ getD (reverse path) j 0)) (sym at)
-        (part-stays k n memory l t writes es forms leads x key lower (reverse path) upper whole (λ q m. apart q (of-upward q m)) j
-        (omega (arith, length-reverse path)))
+        subst (λ (c : ℕ). (c ≤ leads .height) × (getD onWay c 0 ≡ getD (reverse (z .path)) j 0)) (sym at)
+        (part-stays k n memory l t writes es forms leads x key lower (reverse (z .path)) upper whole (λ q m. apart q (of-upward q m)) j
+        (omega (arith, length-reverse (z .path))))
 
   -- the page that it wants is again the next one of the way
-  coming-keeps : (want : ℕ) → Coming op k memory l t path siblings want
-      → Coming op k (memoryAfter memory writes) (leads .height) (leads .tree) path siblings want
-  coming-keeps want c =
+  coming-keeps : Coming k memory l t z
+      → Coming k (memoryAfter memory writes) (leads .height) (leads .tree) z
+  coming-keeps c =
       let m : ℕ = length (c .lower) in
       let some = c .rightly .some in
-      let rest : List ℕ = reverse path ++ c .upper in
-      let lower : List ℕ = c .lower ++ want ∷ [] in
-      let size : length lower ≡ m + 1 = length-append (c .lower) (want ∷ []) in
-      let cut : way x l t ≡ lower ++ rest = c .whole ∙ sym (append-snoc (c .lower) want rest) in
+      let rest : List ℕ = reverse (z .path) ++ c .upper in
+      let lower : List ℕ = c .lower ++ z .want ∷ [] in
+      let size : length lower ≡ m + 1 = length-append (c .lower) (z .want ∷ []) in
+      let cut : way x l t ≡ lower ++ rest = c .whole ∙ sym (append-snoc (c .lower) (z .want) rest) in
       let inside : m < l
-      = omega (arith, before .pages, ap length (c .whole), length-append (c .lower) (want ∷ rest), length-append (reverse path) (c .upper), length-reverse path) in
+      = omega (arith, before .pages, ap length (c .whole), length-append (c .lower) (z .want ∷ rest), length-append (reverse (z .path)) (c .upper), length-reverse (z .path)) in
       let first = path-stays lower (c .upper) cut (suc m) 0 (omega arith) some in
-      let last = path-stays lower (c .upper) cut (m + length path) (length path - 1) (omega arith) (omega arith) in
-      let wanted : getD onWay m 0 ≡ want
+      let last = path-stays lower (c .upper) cut (m + length (z .path)) (length (z .path) - 1) (omega arith) (omega arith) in
+      let wanted : getD onWay m 0 ≡ z .want
       = sym (now .leads m (first .0))
       ∙ ap (λ (p : ℕ). route x (memoryAfter memory writes p)) (first .1)
       ∙ ap (route x) (upward-same 0 some)
       ∙ ap (λ (p : ℕ). route x (memory p)) (sym (path-was lower (c .upper) cut (suc m) 0 (omega arith) some))
       ∙ before .leads m inside
       ∙ ap (λ (w : List ℕ). getD w m 0) (c .whole)
-      ∙ getD-append-seam (c .lower) want rest 0 in
+      ∙ getD-append-seam (c .lower) (z .want) rest 0 in
       record {
         lower = take m onWay;
-        upper = drop (m + length (want ∷ reverse path)) onWay;
+        upper = drop (m + length (z .want ∷ reverse (z .path))) onWay;
         whole =
-            stretch onWay (want ∷ reverse path) m
-            (omega (arith, last .0, now .pages, length-reverse path))
-            (first-below (length (reverse path)) (λ (j : ℕ). getD onWay (m + j) 0 ≡ getD (want ∷ reverse path) j 0)
+            stretch onWay (z .want ∷ reverse (z .path)) m
+            (omega (arith, last .0, now .pages, length-reverse (z .path)))
+            (first-below (length (reverse (z .path))) (λ (j : ℕ). getD onWay (m + j) 0 ≡ getD (z .want ∷ reverse (z .path)) j 0)
             (ap (λ (i : ℕ). getD onWay i 0) (add-zero m) ∙ wanted)
-            (λ j h. path-stays lower (c .upper) cut (m + suc j) j (omega arith) (omega (arith, length-reverse path)) .1));
+            (λ j h. path-stays lower (c .upper) cut (m + suc j) j (omega arith) (omega (arith, length-reverse (z .path))) .1));
         rightly = rightly-keeps (c .rightly);
         noSiblings = c .noSiblings;
       }
 
   -- a path down to the leaf is so again
-  leaf-whole : (upper : List ℕ) → 1 ≤ length path → way x l t ≡ reverse path ++ upper → onWay ≡ reverse path ++ drop (0 + length (reverse path)) onWay
+  leaf-whole : (upper : List ℕ) → 1 ≤ length (z .path) → way x l t ≡ reverse (z .path) ++ upper → onWay ≡ reverse (z .path) ++ drop (0 + length (reverse (z .path))) onWay
   leaf-whole upper some whole =
-      let last = path-stays [] upper whole (length path - 1) (length path - 1) (omega arith) (omega arith) in
-      stretch onWay (reverse path) 0
-      (omega (arith, last .0, now .pages, length-reverse path))
-      (λ j h. path-stays [] upper whole (0 + j) j (omega arith) (omega (arith, length-reverse path)) .1)
+      let last = path-stays [] upper whole (length (z .path) - 1) (length (z .path) - 1) (omega arith) (omega arith) in
+      stretch onWay (reverse (z .path)) 0
+      (omega (arith, last .0, now .pages, length-reverse (z .path)))
+      (λ j h. path-stays [] upper whole (0 + j) j (omega arith) (omega (arith, length-reverse (z .path))) .1)
 
   -- it still stands at its leaf, which decides that the key is there
-  beside-keeps : (want : ℕ) → WantsSibling op k memory l t path siblings want
-      → WantsSibling op k (memoryAfter memory writes) (leads .height) (leads .tree) path siblings want
-  beside-keeps want b =
+  beside-keeps : WantsSibling k memory l t z
+      → WantsSibling k (memoryAfter memory writes) (leads .height) (leads .tree) z
+  beside-keeps b =
       let some = b .rightly .some in
       let first = path-stays [] (b .upper) (b .whole) 0 0 (omega arith) some in
       let leaf : leafOn x (leads .height) (leads .tree) ≡ leafOn x l t
@@ -200,7 +200,7 @@ module _ (op : Op) (k n : ℕ) (memory : ℕ → Page) (l : ℕ) (t : Tr l) (wri
       record {
         deletes = b .deletes;
         there = sym (now .decides) ∙ ap (has x) leaf ∙ before .decides ∙ b .there;
-        upper = drop (0 + length (reverse path)) onWay;
+        upper = drop (0 + length (reverse (z .path))) onWay;
         whole = leaf-whole (b .upper) some (b .whole);
         rightly = rightly-keeps (b .rightly);
         fewer = b .fewer;
@@ -208,36 +208,36 @@ module _ (op : Op) (k n : ℕ) (memory : ℕ → Page) (l : ℕ) (t : Tr l) (wri
         notRoot = b .notRoot;
         neighbours = λ j h. b .neighbours j h ∙ ap (neighbour x) (sym (upward-same (suc j) (omega (arith, b .fewer))));
         joining = λ j h. ap μ (sibling-same j h) ∙ b .joining j h;
-        wantsNext = b .wantsNext ∙ ap (neighbour x) (sym (upward-same (suc (length siblings)) (omega (arith, b .fewer))));
+        wantsNext = b .wantsNext ∙ ap (neighbour x) (sym (upward-same (suc (length (z .beside))) (omega (arith, b .fewer))));
       }
 
   -- and so does a Next past its leaf: the second way goes by pages that it holds
-  crossing-keeps : (want : ℕ) → Crossing op k memory l t path siblings want
-      → Crossing op k (memoryAfter memory writes) (leads .height) (leads .tree) path siblings want
-  crossing-keeps want c =
+  crossing-keeps : Crossing k memory l t z
+      → Crossing k (memoryAfter memory writes) (leads .height) (leads .tree) z
+  crossing-keeps c =
       let some = c .rightly .some in
       let top-same = path-same 0 some in
       record {
         asksNext = c .asksNext;
-        upper = drop (0 + length (reverse path)) onWay;
+        upper = drop (0 + length (reverse (z .path))) onWay;
         whole = leaf-whole (c .upper) some (c .whole);
         rightly = rightly-keeps (c .rightly);
         none = ap (λ (P : Page). atOrAbove x (P .entries)) (upward-same 0 some) ∙ c .none;
-        right = ap (λ (P : Page). isSafe op k P) top-same ∙ c .right;
+        right = ap (λ (P : Page). isSafe (z .op) k P) top-same ∙ c .right;
         fewer = c .fewer;
         turns = c .turns ∙ ap (neighbour x) (sym top-same);
         leftmost = λ j h. c .leftmost j h ∙ ap (pointer 0) (sym (sibling-same j h));
       }
 
-pub others-keep : (op : Op) (k n : ℕ) (memory : ℕ → Page) (l : ℕ) (t : Tr l) (writes : List Write) (es : List Entry) (path siblings : List ℕ) (want : ℕ)
-    → 1 ≤ k → keyOf op < wordRange → Forms k n memory l t → (leads : Leads k n memory l t writes es)
-    → ((q : ℕ) → member q (path ++ siblings) ≡ true → member q (writtenPages writes) ≡ false)
-    → Stance op k memory l t path siblings want
-    → Stance op k (memoryAfter memory writes) (leads .height) (leads .tree) path siblings want
-others-keep op k n memory l t writes es path siblings want one key forms leads apart (inl s) = inl s
-others-keep op k n memory l t writes es path siblings want one key forms leads apart (inr (inl c)) =
-    inr (inl (coming-keeps op k n memory l t writes es path siblings key forms leads apart want c))
-others-keep op k n memory l t writes es path siblings want one key forms leads apart (inr (inr (inl b))) =
-    inr (inr (inl (beside-keeps op k n memory l t writes es path siblings key forms leads apart want b)))
-others-keep op k n memory l t writes es path siblings want one key forms leads apart (inr (inr (inr c))) =
-    inr (inr (inr (crossing-keeps op k n memory l t writes es path siblings key forms leads apart want c)))
+pub others-keep : (k n : ℕ) (memory : ℕ → Page) (l : ℕ) (t : Tr l) (writes : List Write) (es : List Entry) (z : Stand)
+    → 1 ≤ k → keyOf (z .op) < wordRange → Forms k n memory l t → (leads : Leads k n memory l t writes es)
+    → ((q : ℕ) → member q (holding z) ≡ true → member q (writtenPages writes) ≡ false)
+    → Stance k memory l t z
+    → Stance k (memoryAfter memory writes) (leads .height) (leads .tree) z
+others-keep k n memory l t writes es z one key forms leads apart (inl s) = inl s
+others-keep k n memory l t writes es z one key forms leads apart (inr (inl c)) =
+    inr (inl (coming-keeps k n memory l t writes es z key forms leads apart c))
+others-keep k n memory l t writes es z one key forms leads apart (inr (inr (inl b))) =
+    inr (inr (inl (beside-keeps k n memory l t writes es z key forms leads apart b)))
+others-keep k n memory l t writes es z one key forms leads apart (inr (inr (inr c))) =
+    inr (inr (inr (crossing-keeps k n memory l t writes es z key forms leads apart c)))

@@ -18,7 +18,7 @@ use Rattle.pool.specs.Pool.{pageAt}
 use Rattle.slots.specs.declared.Op.{Op}
 use Rattle.slots.specs.declared.Op.the-variants.{Search, Insert, Delete, Next, Regrade}
 use Rattle.slots.specs.declared.Task.the-variants.{Open}
-use Rattle.slots.specs.Parts.{keyOf, isNext, goesBeside}
+use Rattle.slots.specs.Parts.{keyOf, isNext, goesBeside, Stand, holding, withOp}
 use Rattle.slots.specs.Sound.{limitsOf, withinLimits}
 use Rattle.footing.specs.Granted.{isSafe}
 use Rattle.tree.specs.Tree.{Tr, pageNumber, once, occurs, way, Forms}
@@ -33,12 +33,12 @@ use Rattle.runs.proofs.Across.{across, second-pages, second-new, second
 use Rattle.runs.proofs.Needing.{leaf-needed, beside-leaf}
 
 -- What an open slot holds and wants: "all pages named are below N; no slot holds a page twice or wants one it holds".
-pub record WellHeld (op : Op) (n l : ℕ) (t : Tr l) (path siblings : List ℕ) (want : ℕ) : Type 0 where
-  pub limits : withinLimits (Open op) (length path) (length siblings) ≡ true
-  pub below : (p : ℕ) → member p (want ∷ (path ++ siblings)) ≡ true → p < n
-  pub different : distinct (want ∷ (path ++ siblings)) ≡ true
+pub record WellHeld (n l : ℕ) (t : Tr l) (z : Stand) : Type 0 where
+  pub limits : withinLimits (Open (z .op)) (length (z .path)) (length (z .beside)) ≡ true
+  pub below : (p : ℕ) → member p (z .want ∷ holding z) ≡ true → p < n
+  pub different : distinct (z .want ∷ holding z) ≡ true
   -- they are pages of the tree
-  pub pages : (p : ℕ) → member p (want ∷ (path ++ siblings)) ≡ true → 1 ≤ occurs p l t
+  pub pages : (p : ℕ) → member p (z .want ∷ holding z) ≡ true → 1 ≤ occurs p l t
 
 -- ---- as many as the rules allow
 
@@ -80,12 +80,12 @@ path-limit (Regrade x v) k memory path rightly deep = one-held (Regrade x v) k m
 -- ---- all of the tree, none twice
 
 -- pages of which each is counted as a page of the tree
-counted : (op : Op) (k n : ℕ) (memory : ℕ → Page) (l : ℕ) (t : Tr l) (path siblings : List ℕ) (want : ℕ) → Forms k n memory l t
-    → withinLimits (Open op) (length path) (length siblings) ≡ true
-    → ((q : ℕ) → times q (want ∷ (path ++ siblings)) ≤ occurs q l t)
-    → WellHeld op n l t path siblings want
-counted op k n memory l t path siblings want forms limits count =
-    let held : List ℕ = want ∷ (path ++ siblings) in
+counted : (k n : ℕ) (memory : ℕ → Page) (l : ℕ) (t : Tr l) (z : Stand) → Forms k n memory l t
+    → withinLimits (Open (z .op)) (length (z .path)) (length (z .beside)) ≡ true
+    → ((q : ℕ) → times q (z .want ∷ holding z) ≤ occurs q l t)
+    → WellHeld n l t z
+counted k n memory l t z forms limits count =
+    let held : List ℕ = z .want ∷ holding z in
     let pages : (p : ℕ) → member p held ≡ true → 1 ≤ occurs p l t = λ p m. let some = member-times p held m in omega (arith, count p) in
     record {
       limits = limits;
@@ -94,90 +94,89 @@ counted op k n memory l t path siblings want forms limits count =
       pages = pages;
     }
 
-module _ (op : Op) (k n : ℕ) (memory : ℕ → Page) (l : ℕ) (t : Tr l) (path siblings : List ℕ) (want : ℕ)
-    (one : 1 ≤ k) (most : n ≤ largestN) (key : keyOf op < wordRange) (forms : Forms k n memory l t) where
+module _ (k n : ℕ) (memory : ℕ → Page) (l : ℕ) (t : Tr l) (z : Stand)
+    (one : 1 ≤ k) (most : n ≤ largestN) (key : keyOf (z .op) < wordRange) (forms : Forms k n memory l t) where
   -- it holds nothing yet
-  well-starting : Starting path siblings want → WellHeld op n l t path siblings want
+  well-starting : Starting z → WellHeld n l t z
   well-starting s =
       let noPath = ap length (s .noPath) in
-      let noSiblings : length siblings ≡ 0 = ap length (s .noSiblings) in
-      counted op k n memory l t path siblings want forms
-      (subst (λ (b : ℕ). withinLimits (Open op) (length path) b ≡ true) (sym noSiblings)
-      (limits-alone op (length path) (omega arith)))
+      let noSiblings : length (z .beside) ≡ 0 = ap length (s .noSiblings) in
+      counted k n memory l t z forms
+      (subst (λ (b : ℕ). withinLimits (Open (z .op)) (length (z .path)) b ≡ true) (sym noSiblings)
+      (limits-alone (z .op) (length (z .path)) (omega arith)))
       (λ q.
       let first = ap (times q) (s .noPath) in
       let second = ap (times q) (s .noSiblings) in
-      let root : once q want ≡ once q (pageNumber l t) = ap (once q) (s .wantsRoot ∙ sym (forms .root)) in
-      omega (arith, times-append q path siblings, root-occurs q l t))
+      let root : once q (z .want) ≡ once q (pageNumber l t) = ap (once q) (s .wantsRoot ∙ sym (forms .root)) in
+      omega (arith, times-append q (z .path) (z .beside), root-occurs q l t))
 
   -- it holds a stretch of its key's way, and wants the next page of it
-  well-coming : Coming op k memory l t path siblings want → WellHeld op n l t path siblings want
+  well-coming : Coming k memory l t z → WellHeld n l t z
   well-coming c =
-      let x : ℕ = keyOf op in
-      let part : List ℕ = want ∷ (reverse path ++ c .upper) in
-      let noSiblings : length siblings ≡ 0 = ap length (c .noSiblings) in
+      let x : ℕ = keyOf (z .op) in
+      let part : List ℕ = z .want ∷ (reverse (z .path) ++ c .upper) in
+      let noSiblings : length (z .beside) ≡ 0 = ap length (c .noSiblings) in
       let size : l + 1 ≡ length (c .lower) + length part
       = sym (way-facts k n memory l t forms x key .pages) ∙ ap length (c .whole) ∙ length-append (c .lower) part in
       let height = height-facts k n memory l t one most forms .height in
-      counted op k n memory l t path siblings want forms
-      (subst (λ (b : ℕ). withinLimits (Open op) (length path) b ≡ true) (sym noSiblings)
-      (limits-alone op (length path)
-      (path-limit op k memory path (c .rightly)
-      (omega (arith, length-append (reverse path) (c .upper), length-reverse path, path-is-way)))))
+      counted k n memory l t z forms
+      (subst (λ (b : ℕ). withinLimits (Open (z .op)) (length (z .path)) b ≡ true) (sym noSiblings)
+      (limits-alone (z .op) (length (z .path))
+      (path-limit (z .op) k memory (z .path) (c .rightly)
+      (omega (arith, length-append (reverse (z .path)) (c .upper), length-reverse (z .path), path-is-way)))))
       (λ q.
       let second = ap (times q) (c .noSiblings) in
       let cut : times q (way x l t) ≡ times q (c .lower) + times q part = ap (times q) (c .whole) ∙ times-append q (c .lower) part in
-      omega (arith, times-append q path siblings, times-append q (reverse path) (c .upper), times-reverse q path, way-occurs q x l t))
+      omega (arith, times-append q (z .path) (z .beside), times-append q (reverse (z .path)) (c .upper), times-reverse q (z .path), way-occurs q x l t))
 
 -- a deletion at its leaf holds the lower part of its way, and siblings beside it
-module _ (x k n : ℕ) (memory : ℕ → Page) (l : ℕ) (t : Tr l) (path siblings : List ℕ) (want : ℕ)
+module _ (x k n : ℕ) (memory : ℕ → Page) (l : ℕ) (t : Tr l) (z : Stand)
     (one : 1 ≤ k) (most : n ≤ largestN) (key : x < wordRange) (forms : Forms k n memory l t) where
-  well-beside : WantsSibling (Delete x) k memory l t path siblings want → WellHeld (Delete x) n l t path siblings want
+  well-beside : WantsSibling k memory l t (withOp (Delete x) z) → WellHeld n l t (withOp (Delete x) z)
   well-beside b =
-      let (leaf, fathers, a, need) = beside-leaf forms one key b in
+      let (leaf, fathers, a, need) = beside-leaf z forms one key b in
       let needed = leaf-needed a in
-      let wanted = needed .wanted want need in
+      let wanted = needed .wanted (z .want) need in
       let height = height-facts k n memory l t one most forms .height in
-      let size : l + 1 ≡ length (reverse path) + length (b .upper)
-      = sym (way-facts k n memory l t forms x key .pages) ∙ ap length (b .whole) ∙ length-append (reverse path) (b .upper) in
-      counted (Delete x) k n memory l t path siblings want forms
-      (limits-beside (Delete x) (length path) (length siblings) refl
-      (omega (arith, length-reverse path, path-is-way))
-      (omega (arith, length-reverse path, siblings-below-top, b .fewer))
+      let size : l + 1 ≡ length (reverse (z .path)) + length (b .upper)
+      = sym (way-facts k n memory l t forms x key .pages) ∙ ap length (b .whole) ∙ length-append (reverse (z .path)) (b .upper) in
+      counted k n memory l t (withOp (Delete x) z) forms
+      (limits-beside (Delete x) (length (z .path)) (length (z .beside)) refl
+      (omega (arith, length-reverse (z .path), path-is-way))
+      (omega (arith, length-reverse (z .path), siblings-below-top, b .fewer))
       (omega (arith, b .fewer)))
       (λ q.
-      let lower : times q (way x l t) ≡ times q (reverse path) + times q (b .upper)
-      = ap (times q) (b .whole) ∙ times-append q (reverse path) (b .upper) in
-      let once-each = distinct-times (way x l t ++ siblings) (needed .different) q in
-      let both = times-append q (way x l t) siblings in
-      let held = times-append q path siblings in
-      let turned = times-reverse q path in
-      by-test (eqb q want)
+      let lower : times q (way x l t) ≡ times q (reverse (z .path)) + times q (b .upper)
+      = ap (times q) (b .whole) ∙ times-append q (reverse (z .path)) (b .upper) in
+      let once-each = distinct-times (way x l t ++ z .beside) (needed .different) q in
+      let both = times-append q (way x l t) (z .beside) in
+      let held = times-append q (z .path) (z .beside) in
+      let turned = times-reverse q (z .path) in
+      by-test (eqb q (z .want))
       (λ y.
-      let same : q ≡ want = eqb-true q want y in
-      let here = once-same q want same in
-      let offWay : times q (way x l t) ≡ 0 = ap (λ (p : ℕ). times p (way x l t)) same ∙ absent-times want (way x l t) (wanted .offWay) in
-      let notHeld : times q siblings ≡ 0 = ap (λ (p : ℕ). times p siblings) same ∙ absent-times want siblings (wanted .notHeld) in
+      let same : q ≡ z .want = eqb-true q (z .want) y in
+      let here = once-same q (z .want) same in
+      let offWay : times q (way x l t) ≡ 0 = ap (λ (p : ℕ). times p (way x l t)) same ∙ absent-times (z .want) (way x l t) (wanted .offWay) in
+      let notHeld : times q (z .beside) ≡ 0 = ap (λ (p : ℕ). times p (z .beside)) same ∙ absent-times (z .want) (z .beside) (wanted .notHeld) in
       let place = wanted .place in
       let page : 1 ≤ occurs q l t
       = subst (λ (p : ℕ). 1 ≤ occurs p l t) (sym same)
-      (stands-occurs l t 0 wordRange want (suc (length siblings)) (place .low) (place .high) (place .stands)) in
+      (stands-occurs l t 0 wordRange (z .want) (suc (length (z .beside))) (place .low) (place .high) (place .stands)) in
       omega arith)
-      (λ z.
-      let other : once q want ≡ 0 = cond-false 1 0 z in
-      by-test (member q siblings)
+      (λ o.
+      let other : once q (z .want) ≡ 0 = cond-false 1 0 o in
+      by-test (member q (z .beside))
       (λ m. omega (arith, needed .pages q m))
-      (λ m. omega (arith, absent-times q siblings m, way-occurs q x l t))))
+      (λ m. omega (arith, absent-times q (z .beside) m, way-occurs q x l t))))
 
 -- only a deletion wants a sibling
-well-beside-any : (op : Op) (k n : ℕ) (memory : ℕ → Page) (l : ℕ) (t : Tr l) (path siblings : List ℕ) (want : ℕ) → 1 ≤ k → n ≤ largestN
-    → keyOf op < wordRange → Forms k n memory l t → WantsSibling op k memory l t path siblings want → WellHeld op n l t path siblings want
-well-beside-any (Search x) k n memory l t path siblings want one most key forms b = absurd (false≢true (b .deletes))
-well-beside-any (Insert x v) k n memory l t path siblings want one most key forms b = absurd (false≢true (b .deletes))
-well-beside-any (Delete x) k n memory l t path siblings want one most key forms b =
-    well-beside x k n memory l t path siblings want one most key forms b
-well-beside-any (Next x) k n memory l t path siblings want one most key forms b = absurd (false≢true (b .deletes))
-well-beside-any (Regrade x v) k n memory l t path siblings want one most key forms b = absurd (false≢true (b .deletes))
+well-beside-any : (op : Op) (k n : ℕ) (memory : ℕ → Page) (l : ℕ) (t : Tr l) (z : Stand) → 1 ≤ k → n ≤ largestN
+    → keyOf op < wordRange → Forms k n memory l t → WantsSibling k memory l t (withOp op z) → WellHeld n l t (withOp op z)
+well-beside-any (Search x) k n memory l t z one most key forms b = absurd (false≢true (b .deletes))
+well-beside-any (Insert x v) k n memory l t z one most key forms b = absurd (false≢true (b .deletes))
+well-beside-any (Delete x) k n memory l t z one most key forms b = well-beside x k n memory l t z one most key forms b
+well-beside-any (Next x) k n memory l t z one most key forms b = absurd (false≢true (b .deletes))
+well-beside-any (Regrade x v) k n memory l t z one most key forms b = absurd (false≢true (b .deletes))
 
 -- a Next may hold pages beside its path
 pub next-beside : (op : Op) → isNext op ≡ true → goesBeside op ≡ true
@@ -188,47 +187,46 @@ next-beside (Next x) asks = refl
 next-beside (Regrade x v) asks = absurd (false≢true asks)
 
 -- past its leaf it holds the lower part of its way, and the upper part of its second way beside it
-well-crossing : (op : Op) (k n : ℕ) (memory : ℕ → Page) (l : ℕ) (t : Tr l) (path second : List ℕ) (want : ℕ) → 1 ≤ k → n ≤ largestN
-    → keyOf op < wordRange → Forms k n memory l t → Crossing op k memory l t path second want → WellHeld op n l t path second want
-well-crossing op k n memory l t path second want one most key forms c =
-    let x : ℕ = keyOf op in
-    let a = across op k n memory l t one forms key path second want c in
+well-crossing : (k n : ℕ) (memory : ℕ → Page) (l : ℕ) (t : Tr l) (z : Stand) → 1 ≤ k → n ≤ largestN
+    → keyOf (z .op) < wordRange → Forms k n memory l t → Crossing k memory l t z → WellHeld n l t z
+well-crossing k n memory l t z one most key forms c =
+    let x : ℕ = keyOf (z .op) in
+    let a = across k n memory l t one forms z key c in
     let height = height-facts k n memory l t one most forms .height in
-    counted op k n memory l t path second want forms
-    (limits-beside op (length path) (length second) (next-beside op (c .asksNext))
+    counted k n memory l t z forms
+    (limits-beside (z .op) (length (z .path)) (length (z .beside)) (next-beside (z .op) (c .asksNext))
     (omega (arith, a .long, a .inside, path-is-way))
     (omega (arith, a .few, a .inside, siblings-below-top))
     (omega (arith, c .fewer)))
     (λ q.
-    let lower : times q (way x l t) ≡ times q (reverse path) + times q (c .upper)
-    = ap (times q) (c .whole) ∙ times-append q (reverse path) (c .upper) in
-    let held = times-append q path second in
-    let beside : times q (second ++ want ∷ []) ≡ times q second + times q (want ∷ []) = times-append q second (want ∷ []) in
-    let turned = times-reverse q path in
-    by-test (member q (second ++ want ∷ []))
+    let lower : times q (way x l t) ≡ times q (reverse (z .path)) + times q (c .upper)
+    = ap (times q) (c .whole) ∙ times-append q (reverse (z .path)) (c .upper) in
+    let held = times-append q (z .path) (z .beside) in
+    let beside : times q (z .beside ++ z .want ∷ []) ≡ times q (z .beside) + times q (z .want ∷ []) = times-append q (z .beside) (z .want ∷ []) in
+    let turned = times-reverse q (z .path) in
+    by-test (member q (z .beside ++ z .want ∷ []))
     (λ m.
-    let offPath = absent-times q path (second-new k n memory l t forms x key path second want a q m) in
-    let once-each = distinct-times (second ++ want ∷ []) (second-different k n memory l t forms x key path second want a) q in
-    let page = second-pages k n memory l t forms x key path second want a q m in
+    let offPath = absent-times q (z .path) (second-new k n memory l t forms z key a q m) in
+    let once-each = distinct-times (z .beside ++ z .want ∷ []) (second-different k n memory l t forms z key a) q in
+    let page = second-pages k n memory l t forms z key a q m in
     omega arith)
-    (λ z.
-    let none = absent-times q (second ++ want ∷ []) z in
+    (λ o.
+    let none = absent-times q (z .beside ++ z .want ∷ []) o in
     omega (arith, way-occurs q x l t)))
 
-pub well-held : (op : Op) (k n : ℕ) (ws : List ℕ) (l : ℕ) (t : Tr l) (path siblings : List ℕ) (want : ℕ)
-    → Scene op k n ws l t path siblings want → WellHeld op n l t path siblings want
-well-held op k n ws l t path siblings want scene =
+pub well-held : (k n : ℕ) (ws : List ℕ) (l : ℕ) (t : Tr l) (z : Stand) → Scene k n ws l t z → WellHeld n l t z
+well-held k n ws l t z scene =
     let memory = pageAt k ws in
     let one = scene .kLeast in
     let most = scene .nMost in
     let key = scene .key in
     let forms = scene .forms .forms in
     ⊎-elim
-    (well-starting op k n memory l t path siblings want one most key forms)
+    (well-starting k n memory l t z one most key forms)
     (λ h. ⊎-elim
-    (well-coming op k n memory l t path siblings want one most key forms)
+    (well-coming k n memory l t z one most key forms)
     (⊎-elim
-    (well-beside-any op k n memory l t path siblings want one most key forms)
-    (well-crossing op k n memory l t path siblings want one most key forms))
+    (well-beside-any (z .op) k n memory l t z one most key forms)
+    (well-crossing k n memory l t z one most key forms))
     h)
     (scene .stance)

@@ -22,7 +22,7 @@ use Rattle.slots.specs.declared.Op.{Op}
 use Rattle.slots.specs.declared.Task.{Task}
 use Rattle.slots.specs.declared.Task.the-variants.{Closed, Open}
 use Rattle.slots.specs.declared.State.{State}
-use Rattle.slots.specs.Parts.{keyOf, isOpen, pathOf, besideOf, slotAt, openAt, wantAt, holdsAt, waitingOrder}
+use Rattle.slots.specs.Parts.{keyOf, isOpen, pathOf, standOf, slotAt, openAt, wantAt, holdsAt, waitingOrder}
 use Rattle.slots.specs.Locks.{lockAt, clash}
 use Rattle.slots.specs.Grant.{olderThan, clashingWant, noClash, noOlder, grants}
 use Rattle.slots.proofs.Clashes.{no-two-locks-clash}
@@ -184,7 +184,7 @@ module _ (st : State) (ws : List ℕ) (inv : Invariant st ws) where
   record OpenStance (s : ℕ) : Type 0 where
     op : Op
     key : keyOf op < wordRange
-    stance : Stance op (st .k) (pageAt (st .k) ws) (inv .height) (inv .tree) (pathOf (slotAt st s)) (besideOf (slotAt st s)) (wantAt st s)
+    stance : Stance (st .k) (pageAt (st .k) ws) (inv .height) (inv .tree) (standOf op (slotAt st s))
 
   standing : (s : ℕ) → s < slotCount → openAt st s ≡ true → OpenStance s
   standing s b o =
@@ -213,8 +213,8 @@ module _ (st : State) (ws : List ℕ) (inv : Invariant st ws) where
       let same = one-father (st .k) (st .n) memory (inv .height) (inv .tree) forms (w .above) (u .above) p (w .father) (u .father) in
       not-both (h .clashes)
       (no-two-locks-clash st (inv .sound) v s (u .above) (h .below) b (h .other) (u .held) (subst (λ (q : ℕ). holdsAt st s q ≡ true) same (w .held))))
-      (wants-under (st .k) (st .n) memory (inv .height) (inv .tree) forms (me .op) (me .key) (pathOf (slotAt st s)) (besideOf (slotAt st s)) p (me .stance)))
-      (held-under (st .k) (st .n) memory (inv .height) (inv .tree) forms (it .op) (it .key) (pathOf (slotAt st v)) (besideOf (slotAt st v)) (wantAt st v) (it .stance) p (h .holds))
+      (wants-under (st .k) (st .n) memory (inv .height) (inv .tree) forms (standOf (me .op) (slotAt st s)) (me .key) (me .stance)))
+      (held-under (st .k) (st .n) memory (inv .height) (inv .tree) forms (standOf (it .op) (slotAt st v)) (it .key) (it .stance) p (h .holds))
 
   -- Whoever is barred is barred by a slot whose own want ranks before.
   better : (s : ℕ) → s < slotCount → openAt st s ≡ true → (w : Placed (inv .height) (inv .tree) 0 wordRange (wantAt st s)) → Holder st s ⊎ Older st s
@@ -222,8 +222,7 @@ module _ (st : State) (ws : List ℕ) (inv : Invariant st ws) where
   better s b o w (inl h) =
       let v : ℕ = h .slot in
       let it = standing v (h .below) (holder-opens s h) in
-      let i = wants-inside (st .k) (st .n) (pageAt (st .k) ws) (inv .height) (inv .tree) (inv .forms .forms) (it .op) (it .key)
-      (pathOf (slotAt st v)) (besideOf (slotAt st v)) (wantAt st v) (it .stance)
+      let i = wants-inside (st .k) (st .n) (pageAt (st .k) ws) (inv .height) (inv .tree) (inv .forms .forms) (standOf (it .op) (slotAt st v)) (it .key) (it .stance)
       (wantAt st s) (w .level) (w .from) (w .to) (holder-at-top s b o h) (w .stands) in
       record {
         slot = v;
@@ -262,6 +261,5 @@ module _ (st : State) (ws : List ℕ) (inv : Invariant st ws) where
   pub some-can-go : (s : ℕ) → s < slotCount → openAt st s ≡ true → CanGo st
   some-can-go s b o =
       let me = standing s b o in
-      let w = wants-placed (st .k) (st .n) (pageAt (st .k) ws) (inv .height) (inv .tree) (inv .forms .forms) (me .op) (me .key)
-      (pathOf (slotAt st s)) (besideOf (slotAt st s)) (wantAt st s) (me .stance) in
+      let w = wants-placed (st .k) (st .n) (pageAt (st .k) ws) (inv .height) (inv .tree) (inv .forms .forms) (standOf (me .op) (slotAt st s)) (me .key) (me .stance) in
       best (suc (rank st (inv .height) s (w .level) (w .from))) (record { slot = s; below = b; runs = o; place = w; less = omega arith })

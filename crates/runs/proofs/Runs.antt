@@ -104,7 +104,7 @@ unfolding goesOn closes
 stepped-numbers st ws inv s (noSlot b e) = subst (λ (r : Left). Numbers st (r .state)) (sym e) (refl, refl)
 stepped-numbers st ws inv s (idle b c e) = subst (λ (r : Left). Numbers st (r .state)) (sym e) (refl, refl)
 stepped-numbers st ws inv s (waits op b runs g e) = subst (λ (r : Left). Numbers st (r .state)) (sym e) (refl, refl)
-stepped-numbers st ws inv s (onward op path siblings want b runs g e stance takes) = subst (λ (r : Left). Numbers st (r .state)) (sym e) (refl, refl)
+stepped-numbers st ws inv s (onward op z b runs g e same stance takes) = subst (λ (r : Left). Numbers st (r .state)) (sym e) (refl, refl)
 stepped-numbers st ws inv s (over op a writes b runs g e ended) = subst (λ (r : Left). Numbers st (r .state)) (sym e) (refl, refl)
 
 pub call-numbers : (st : State) (ws : List ℕ) → Invariant st ws → (c : Call) → Numbers st (called st ws c .state)

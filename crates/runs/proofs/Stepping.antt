@@ -25,7 +25,7 @@ use Rattle.change.specs.Deletion.{Need, sibling, needs}
 use Rattle.slots.specs.declared.Op.{Op}
 use Rattle.slots.specs.declared.Op.the-variants.{Search, Insert, Delete, Next, Regrade}
 use Rattle.slots.specs.declared.Answer.the-variants.{NoSuchKey}
-use Rattle.slots.specs.Parts.{keyOf}
+use Rattle.slots.specs.Parts.{keyOf, Stand, holding, onPages, wantBeside, wantsNext, withOp}
 use Rattle.footing.specs.Granted.{Verdict, broken, goes, ends, isSafe, kept, deletes, atLeaf, fromLeaf, comesDown, besides, atItsLeaf, granted}
 use Rattle.footing.specs.Fitting.{pagesSound, descends, rightlyBeside, rightlyAcross, sameLevels, isSibling, isNone, fitting, nextIsNew, soundForStep, verdict}
 use Rattle.tree.specs.Tree.{Tr, Stands, way, Forms, PoolForms}
@@ -46,13 +46,12 @@ use Rattle.runs.proofs.NextSteps.{next-does, crossing-leaf, crossing-te
 -- ---- pages in lists
 
 -- what is kept was held or wanted
-kept-inside : (op : Op) (k : ℕ) (memory : ℕ → Page) (path siblings : List ℕ) (want q : ℕ) → member q (kept op k memory path want) ≡ true
-    → member q (want ∷ (path ++ siblings)) ≡ true
+kept-inside : (k : ℕ) (memory : ℕ → Page) (z : Stand) (q : ℕ) → member q (kept k memory z) ≡ true → member q (z .want ∷ holding z) ≡ true
 unfolding member
-kept-inside op k memory path siblings want q =
-    cond-ind (λ (ps : List ℕ). member q ps ≡ true → member q (want ∷ (path ++ siblings)) ≡ true) (isSafe op k (memory want))
-    (λ y m. or-first (member q (path ++ siblings)) (sym (or-false (eqb q want)) ∙ m))
-    (λ f m. member-wider q want path siblings (member-first q want path m))
+kept-inside k memory z q =
+    cond-ind (λ (ps : List ℕ). member q ps ≡ true → member q (z .want ∷ holding z) ≡ true) (isSafe (z .op) k (memory (z .want)))
+    (λ y m. or-first (member q (holding z)) (sym (or-false (eqb q (z .want))) ∙ m))
+    (λ f m. member-wider q (z .want) (z .path) (z .beside) (member-first q (z .want) (z .path) m))
 
 -- ---- the levels of siblings
 
@@ -68,8 +67,7 @@ levels-from memory (p ∷ up) (s ∷ ss) h f =
 
 -- ---- sound for the step
 
-module _ (op : Op) (k n : ℕ) (ws : List ℕ) (l : ℕ) (t : Tr l) (path siblings : List ℕ) (want : ℕ)
-    (scene : Scene op k n ws l t path siblings want) where
+module _ (k n : ℕ) (ws : List ℕ) (l : ℕ) (t : Tr l) (z : Stand) (scene : Scene k n ws l t z) where
   abbrev memory : ℕ → Page
   memory = pageAt k ws
 
@@ -77,7 +75,7 @@ module _ (op : Op) (k n : ℕ) (ws : List ℕ) (l : ℕ) (t : Tr l) (path siblin
   free = freePages k n ws
 
   abbrev x : ℕ
-  x = keyOf op
+  x = keyOf (z .op)
 
   abbrev forms : Forms k n memory l t
   forms = scene .forms .forms
@@ -86,36 +84,28 @@ module _ (op : Op) (k n : ℕ) (ws : List ℕ) (l : ℕ) (t : Tr l) (path siblin
   facts = way-facts k n memory l t forms x (scene .key)
 
   -- the pages that it holds and wants are pages of the tree
-  pages-test : pagesSound k n ws (path ++ siblings ++ want ∷ []) ≡ true
+  pages-test : pagesSound k n ws (holding z ++ z .want ∷ []) ≡ true
   unfolding pagesSound
   pages-test =
-      all-from-members (λ (p : ℕ). soundByItself k n p (wordsOf k p ws)) (path ++ siblings ++ want ∷ [])
+      all-from-members (λ (p : ℕ). soundByItself k n p (wordsOf k p ws)) (holding z ++ z .want ∷ [])
       (λ q m.
       pool-sound k n ws l t (scene .kLeast) (scene .nMost) (scene .forms) q
-      (well-held op k n ws l t path siblings want scene .pages q (member-first q want (path ++ siblings) m)))
+      (well-held k n ws l t z scene .pages q (member-first q (z .want) (holding z) m)))
 
   -- a page that it would want next is none that it would then hold
-  new-test : (path′ siblings′ : List ℕ) (want′ : ℕ) → Stance op k memory l t path′ siblings′ want′ → nextIsNew (goes path′ siblings′ want′) ≡ true
+  new-test : (z′ : Stand) → z′ .op ≡ z .op → Stance k memory l t z′ → nextIsNew (goes z′) ≡ true
   unfolding distinct
-  new-test path′ siblings′ want′ stance =
-      let later : Scene op k n ws l t path′ siblings′ want′
-      = record { kLeast = scene .kLeast; kMost = scene .kMost; nMost = scene .nMost; key = scene .key; forms = scene .forms; stance = stance } in
-      and-first (not (member want′ (path′ ++ siblings′))) (distinct (path′ ++ siblings′))
-      (well-held op k n ws l t path′ siblings′ want′ later .different)
+  new-test z′ same stance =
+      let later : Scene k n ws l t z′
+      = record { kLeast = scene .kLeast; kMost = scene .kMost; nMost = scene .nMost; key = subst (λ (o : Op). keyOf o < wordRange) (sym same) (scene .key); forms = scene .forms; stance = stance } in
+      and-first (not (member (z′ .want) (holding z′))) (distinct (holding z′)) (well-held k n ws l t z′ later .different)
 
-  verdict-is : (v : Verdict) → fitting op k memory path siblings want ≡ true → granted op k memory free path siblings want ≡ v
-      → nextIsNew v ≡ true → verdict op k n ws path siblings want ≡ v
+  verdict-is : (v : Verdict) → fitting k memory z ≡ true → granted k memory free z ≡ v → nextIsNew v ≡ true → verdict k n ws z ≡ v
   unfolding verdict soundForStep
-  verdict-is v fits is new =
-      cond-true (granted op k memory free path siblings want) broken (and-both (and-both pages-test fits) (ap nextIsNew is ∙ new)) ∙ is
+  verdict-is v fits is new = cond-true (granted k memory free z) broken (and-both (and-both pages-test fits) (ap nextIsNew is ∙ new)) ∙ is
 
-  does-comes : fitting op k memory path siblings want ≡ true
-      → Does op k n ws l t path siblings want (granted op k memory free path siblings want)
-      → Comes op k n ws l t path siblings want
-  does-comes fits (on path′ siblings′ want′ is stance takes) =
-      moves path′ siblings′ want′
-      (verdict-is (goes path′ siblings′ want′) fits is (new-test path′ siblings′ want′ stance))
-      stance takes
+  does-comes : fitting k memory z ≡ true → Does k n ws l t z (granted k memory free z) → Comes k n ws l t z
+  does-comes fits (on z′ is same stance takes) = moves z′ (verdict-is (goes z′) fits is (new-test z′ same stance)) same stance takes
   does-comes fits (done a writes is ended) = stops a writes (verdict-is (ends a writes) fits is refl) ended
 
 -- ---- at its leaf or not
@@ -139,23 +129,23 @@ test-at-leaf memory path test =
 -- ---- coming down
 
 -- at its leaf, by the operation
-module _ (k n : ℕ) (ws : List ℕ) (l : ℕ) (t : Tr l) (pool : PoolForms k n ws l t) (one : 1 ≤ k) (path₀ siblings₀ : List ℕ) (want : ℕ)
-    (path : List ℕ) (leaf : ℕ) (last : leaf ≡ want) (fathers upper : List ℕ) (upward : reverse path ≡ leaf ∷ fathers)
-    (inside : (q : ℕ) → member q path ≡ true → member q (want ∷ (path₀ ++ siblings₀)) ≡ true) where
+module _ (k n : ℕ) (ws : List ℕ) (l : ℕ) (t : Tr l) (pool : PoolForms k n ws l t) (one : 1 ≤ k) (z₀ : Stand) (path : List ℕ)
+    (leaf : ℕ) (last : leaf ≡ z₀ .want) (fathers upper : List ℕ) (upward : reverse path ≡ leaf ∷ fathers)
+    (inside : (q : ℕ) → member q path ≡ true → member q (z₀ .want ∷ holding z₀) ≡ true) where
   landed-does : (op : Op) → keyOf op < wordRange → WayFacts (pageAt k ws) (keyOf op) l t → way (keyOf op) l t ≡ leaf ∷ (fathers ++ upper)
       → Rightly op k (pageAt k ws) path
-      → Takes op k (pageAt k ws) path₀ siblings₀ want path []
-      → Does op k n ws l t path₀ siblings₀ want (atLeaf op k (pageAt k ws) (freePages k n ws) path leaf fathers)
+      → ((q : ℕ) → Takes k (pageAt k ws) (withOp op z₀) (wantsNext (onPages (withOp op z₀) path []) q))
+      → Does k n ws l t (withOp op z₀) (atLeaf op k (pageAt k ws) (freePages k n ws) (onPages (withOp op z₀) path []) leaf fathers)
   unfolding atLeaf
   landed-does (Search y) key facts whole rightly takes =
-      search-does k n ws l t pool path₀ siblings₀ want y facts leaf (fathers ++ upper) whole path fathers
+      search-does k n ws l t pool z₀ y facts leaf (fathers ++ upper) whole (onPages (withOp (Search y) z₀) path []) fathers
   landed-does (Insert y v) key facts whole rightly takes =
-      insert-does k n ws l t pool path₀ siblings₀ want y facts leaf (fathers ++ upper) whole key v path fathers upper upward
+      insert-does k n ws l t pool z₀ y facts leaf (fathers ++ upper) whole key v (onPages (withOp (Insert y v) z₀) path []) fathers upper upward
       (whole ∙ ap (λ (ps : List ℕ). ps ++ upper) (sym upward)) rightly one inside
   landed-does (Delete y) key facts whole rightly takes =
-      cond-ind (Does (Delete y) k n ws l t path₀ siblings₀ want) (has y (pageAt k ws leaf .entries))
+      cond-ind (Does k n ws l t (withOp (Delete y) z₀)) (has y (pageAt k ws leaf .entries))
       (λ h.
-      delete-does k n ws l t pool path₀ siblings₀ want y facts leaf (fathers ++ upper) whole path fathers []
+      delete-does k n ws l t pool z₀ y facts leaf (fathers ++ upper) whole (onPages z₀ path []) fathers
       (record {
         forms = pool .forms;
         kLeast = one;
@@ -171,90 +161,91 @@ module _ (k n : ℕ) (ws : List ℕ) (l : ℕ) (t : Tr l) (pool : PoolForms k n 
       (λ q m. inside q (sym (member-reverse q path) ∙ ap (member q) (upward ∙ sym (append-nil (leaf ∷ fathers))) ∙ m)))
       (λ f.
       done NoSuchKey [] refl
-      (missing-ends k n ws l t pool path₀ siblings₀ want y facts leaf (fathers ++ upper) whole
+      (missing-ends k n ws l t pool z₀ y facts leaf (fathers ++ upper) whole
       (sym (leaf-has (pageAt k ws) y l t facts leaf (fathers ++ upper) whole) ∙ f)))
   landed-does (Next y) key facts whole rightly takes =
-      next-does k n ws l t pool one path₀ siblings₀ want y key facts path leaf fathers upper upward whole rightly takes
+      next-does k n ws l t pool one z₀ y key facts path leaf fathers upper upward whole rightly takes
   landed-does (Regrade y v) key facts whole rightly takes =
-      regrade-does k n ws l t pool path₀ siblings₀ want y facts leaf (fathers ++ upper) whole key v last path fathers
+      regrade-does k n ws l t pool z₀ y facts leaf (fathers ++ upper) whole key v last (onPages (withOp (Regrade y v) z₀) path []) fathers
 
-module _ (op : Op) (k n : ℕ) (ws : List ℕ) (l : ℕ) (t : Tr l) (path siblings : List ℕ) (want : ℕ)
-    (scene : Scene op k n ws l t path siblings want) (none : siblings ≡ []) (down : Down op k (pageAt k ws) l t path want) where
+module _ (k n : ℕ) (ws : List ℕ) (l : ℕ) (t : Tr l) (z : Stand) (scene : Scene k n ws l t z) (none : z .beside ≡ []) (down : Down k (pageAt k ws) l t z) where
   abbrev path′ : List ℕ
-  path′ = kept op k (pageAt k ws) path want
+  path′ = kept k (pageAt k ws) z
 
   -- it does not stand at its leaf
-  above : StandsAtLeaf (pageAt k ws) path → ⊥
-  above at =
-      true≢false (sym (at-leaf-test (pageAt k ws) path at) ∙ down-above op k (pageAt k ws) l t (facts op k n ws l t path siblings want scene) path want down)
+  above : StandsAtLeaf (pageAt k ws) (z .path) → ⊥
+  above at = true≢false (sym (at-leaf-test (pageAt k ws) (z .path) at) ∙ down-above k (pageAt k ws) l t z (facts k n ws l t z scene) down)
 
   -- "if the page has μ < 2k, all its ancestors are given up", or nothing is
-  down-takes : Takes op k (pageAt k ws) path siblings want path′ []
-  down-takes =
+  down-takes : (q : ℕ) → Takes k (pageAt k ws) z (wantsNext (onPages z path′ []) q)
+  down-takes q =
       ⊎-elim
-      (λ y. inl (record { comesDown = above; safe = y; noSiblings = none; holds = cond-true (want ∷ []) (path ++ want ∷ []) y; still = refl }))
-      (λ f. inr (inl (record { comesDown = above; unsafe = f; noSiblings = none; holds = cond-false (want ∷ []) (path ++ want ∷ []) f; still = refl })))
-      (true-or-false (isSafe op k (pageAt k ws want)))
+      (λ y. inl (record { comesDown = above; safe = y; noSiblings = none; holds = cond-true (z .want ∷ []) (z .path ++ z .want ∷ []) y; still = refl }))
+      (λ f. inr (inl (record { comesDown = above; unsafe = f; noSiblings = none; holds = cond-false (z .want ∷ []) (z .path ++ z .want ∷ []) f; still = refl })))
+      (true-or-false (isSafe (z .op) k (pageAt k ws (z .want))))
 
-  reached : Reached op k (pageAt k ws) l t path′ want
-  reached = down-reached op k (pageAt k ws) l t (facts op k n ws l t path siblings want scene) path want down
+  reached : Reached (z .op) k (pageAt k ws) l t path′ (z .want)
+  reached = down-reached k (pageAt k ws) l t z (facts k n ws l t z scene) down
 
-  comes-down : Does op k n ws l t path siblings want (comesDown op k (pageAt k ws) (freePages k n ws) path want)
+  comes-down : Does k n ws l t z (comesDown k (pageAt k ws) (freePages k n ws) z)
   unfolding comesDown
   comes-down =
-      let way-of = facts op k n ws l t path siblings want scene in
-      cond-ind (Does op k n ws l t path siblings want) (isLeaf (pageAt k ws want))
+      let way-of = facts k n ws l t z scene in
+      cond-ind (Does k n ws l t z) (isLeaf (pageAt k ws (z .want)))
       (λ y.
       subst
       (λ (up : List ℕ).
-      Does op k n ws l t path siblings want
-      (fromLeaf (λ (leaf : ℕ) (fathers : List ℕ). atLeaf op k (pageAt k ws) (freePages k n ws) path′ leaf fathers) up))
+      Does k n ws l t z
+      (fromLeaf (λ (leaf : ℕ) (fathers : List ℕ). atLeaf (z .op) k (pageAt k ws) (freePages k n ws) (onPages z path′ []) leaf fathers) up))
       (sym (reached .upward))
-      (landed-does k n ws l t (scene .forms) (scene .kLeast) path siblings want path′ want refl (reached .fathers) (reached .upper) (reached .upward)
-      (kept-inside op k (pageAt k ws) path siblings want)
-      op (scene .key) way-of (reached-leaf op k (pageAt k ws) l t way-of path′ want reached y) (reached .rightly) down-takes))
+      (landed-does k n ws l t (scene .forms) (scene .kLeast) z path′ (z .want) refl (reached .fathers) (reached .upper) (reached .upward)
+      (kept-inside k (pageAt k ws) z)
+      (z .op) (scene .key) way-of (reached-leaf k (pageAt k ws) l t z way-of path′ reached y) (reached .rightly) down-takes))
       (λ f.
-      on path′ [] (route (keyOf op) (pageAt k ws want)) refl
-      (inr (inl (reached-next op k (pageAt k ws) l t way-of path′ want reached f)))
-      down-takes)
+      on (wantsNext (onPages z path′ []) (route (keyOf (z .op)) (pageAt k ws (z .want)))) refl refl
+      (inr (inl (reached-next k (pageAt k ws) l t z way-of path′ reached f)))
+      (down-takes (route (keyOf (z .op)) (pageAt k ws (z .want)))))
 
-  down-comes : Comes op k n ws l t path siblings want
+  down-comes : Comes k n ws l t z
   unfolding granted
   down-comes =
-      let way-of = facts op k n ws l t path siblings want scene in
-      does-comes op k n ws l t path siblings want scene
-      (down-fitting op k (pageAt k ws) l t way-of path want down siblings none)
-      (subst (Does op k n ws l t path siblings want)
+      let way-of = facts k n ws l t z scene in
+      does-comes k n ws l t z scene
+      (down-fitting k (pageAt k ws) l t z way-of down none)
+      (subst (Does k n ws l t z)
       (sym
       (cond-false
-      (besides op k (pageAt k ws) path siblings want)
-      (comesDown op k (pageAt k ws) (freePages k n ws) path want)
-      (down-above op k (pageAt k ws) l t way-of path want down)))
+      (besides k (pageAt k ws) z)
+      (comesDown k (pageAt k ws) (freePages k n ws) z)
+      (down-above k (pageAt k ws) l t z way-of down)))
       comes-down)
 
 -- ---- at its leaf
 
-module _ (y k n : ℕ) (ws : List ℕ) (l : ℕ) (t : Tr l) (path siblings : List ℕ) (want : ℕ)
-    (scene : Scene (Delete y) k n ws l t path siblings want) (b : WantsSibling (Delete y) k (pageAt k ws) l t path siblings want) where
+module _ (y k n : ℕ) (ws : List ℕ) (l : ℕ) (t : Tr l) (z₀ : Stand)
+    (scene : Scene k n ws l t (withOp (Delete y) z₀)) (b : WantsSibling k (pageAt k ws) l t (withOp (Delete y) z₀)) where
+  abbrev z : Stand
+  z = withOp (Delete y) z₀
+
   beside-facts : WayFacts (pageAt k ws) y l t
-  beside-facts = facts (Delete y) k n ws l t path siblings want scene
+  beside-facts = facts k n ws l t z scene
 
   -- a page of the path and the one of the way
-  on-way : (j : ℕ) → j < length path → getD (way y l t) j 0 ≡ getD (reverse path) j 0
+  on-way : (j : ℕ) → j < length (z .path) → getD (way y l t) j 0 ≡ getD (reverse (z .path)) j 0
   on-way j h =
-      ap (λ (w : List ℕ). getD w j 0) (b .whole) ∙ List·getD-append (reverse path) (b .upper) 0 j (omega (arith, length-reverse path))
+      ap (λ (w : List ℕ). getD w j 0) (b .whole) ∙ List·getD-append (reverse (z .path)) (b .upper) 0 j (omega (arith, length-reverse (z .path)))
 
-  path-short : length path ≤ l + 1
+  path-short : length (z .path) ≤ l + 1
   path-short =
       omega
-      (arith, ap length (b .whole), length-append (reverse path) (b .upper), length-reverse path, beside-facts .pages)
+      (arith, ap length (b .whole), length-append (reverse (z .path)) (b .upper), length-reverse (z .path), beside-facts .pages)
 
   -- the neighbour of a page of the path stands on its level
-  neighbour-level : (j : ℕ) → suc j < length path
-      → pageAt k ws (getD (reverse path) j 0) .level ≡ pageAt k ws (neighbour y (pageAt k ws (getD (reverse path) (suc j) 0))) .level
+  neighbour-level : (j : ℕ) → suc j < length (z .path)
+      → pageAt k ws (getD (reverse (z .path)) j 0) .level ≡ pageAt k ws (neighbour y (pageAt k ws (getD (reverse (z .path)) (suc j) 0))) .level
   neighbour-level j h =
       let places = place-facts k n (pageAt k ws) l t (scene .forms .forms) in
-      let father : ℕ = getD (reverse path) (suc j) 0 in
+      let father : ℕ = getD (reverse (z .path)) (suc j) 0 in
       let spot = places .onWay y (suc j) (scene .key) (omega (arith, path-short)) in
       let e : suc j + 1 ≡ j + 2 = omega arith in
       let stands : Stands l t 0 wordRange father (j + 2) (spot .from) (spot .to)
@@ -266,171 +257,169 @@ module _ (y k n : ℕ) (ws : List ℕ) (l : ℕ) (t : Tr l) (path siblings : Lis
       ∙ sym (places .level (neighbour y (pageAt k ws father)) (j + 1) (next .from) (next .to) (next .stands))
 
   -- each sibling, the wanted one too, is that neighbour
-  each-neighbour : (j : ℕ) → j < length (siblings ++ want ∷ [])
-      → getD (siblings ++ want ∷ []) j 0 ≡ neighbour y (pageAt k ws (getD (reverse path) (suc j) 0))
+  each-neighbour : (j : ℕ) → j < length (z .beside ++ z .want ∷ [])
+      → getD (z .beside ++ z .want ∷ []) j 0 ≡ neighbour y (pageAt k ws (getD (reverse (z .path)) (suc j) 0))
   each-neighbour j h =
-      by-test (ltb j (length siblings))
+      by-test (ltb j (length (z .beside)))
       (λ i.
-      let inside = ltb-true j (length siblings) i in
-      List·getD-append siblings (want ∷ []) 0 j inside ∙ b .neighbours j inside)
+      let inside = ltb-true j (length (z .beside)) i in
+      List·getD-append (z .beside) (z .want ∷ []) 0 j inside ∙ b .neighbours j inside)
       (λ o.
-      let last = ltb-false j (length siblings) o in
-      let at : length siblings ≡ j = omega (arith, length-append siblings (want ∷ [])) in
-      getD-at siblings want [] 0 j at
+      let last = ltb-false j (length (z .beside)) o in
+      let at : length (z .beside) ≡ j = omega (arith, length-append (z .beside) (z .want ∷ [])) in
+      getD-at (z .beside) (z .want) [] 0 j at
       ∙ b .wantsNext
-      ∙ ap (λ (i : ℕ). neighbour y (pageAt k ws (getD (reverse path) (suc i) 0))) at)
+      ∙ ap (λ (i : ℕ). neighbour y (pageAt k ws (getD (reverse (z .path)) (suc i) 0))) at)
 
-  levels-test : sameLevels (pageAt k ws) (reverse path) (siblings ++ want ∷ []) ≡ true
+  levels-test : sameLevels (pageAt k ws) (reverse (z .path)) (z .beside ++ z .want ∷ []) ≡ true
   levels-test =
-      let len : length (siblings ++ want ∷ []) ≡ length siblings + 1 = length-append siblings (want ∷ []) in
-      levels-from (pageAt k ws) (reverse path) (siblings ++ want ∷ [])
-      (omega (arith, length-reverse path, b .fewer))
+      let len : length (z .beside ++ z .want ∷ []) ≡ length (z .beside) + 1 = length-append (z .beside) (z .want ∷ []) in
+      levels-from (pageAt k ws) (reverse (z .path)) (z .beside ++ z .want ∷ [])
+      (omega (arith, length-reverse (z .path), b .fewer))
       (λ j h. neighbour-level j (omega (arith, b .fewer)) ∙ ap (λ (p : ℕ). pageAt k ws p .level) (sym (each-neighbour j h)))
 
-  module _ (leaf : ℕ) (fathers : List ℕ) (at : AtLeaf k n (pageAt k ws) l t y path leaf fathers siblings)
-      (asks : needs k (pageAt k ws) y leaf fathers siblings ≡ sibling want) where
+  module _ (leaf : ℕ) (fathers : List ℕ) (at : AtLeaf k n (pageAt k ws) l t y z leaf fathers)
+      (asks : needs k (pageAt k ws) y leaf fathers (z .beside) ≡ sibling (z .want)) where
     from-leaf : way y l t ≡ leaf ∷ (fathers ++ at .upper)
     from-leaf = at .whole ∙ ap (λ (ps : List ℕ). ps ++ at .upper) (at .upward)
 
-    at-leaf : atItsLeaf (pageAt k ws) (reverse path) ≡ true
+    at-leaf : atItsLeaf (pageAt k ws) (reverse (z .path)) ≡ true
     at-leaf =
         ap (atItsLeaf (pageAt k ws)) (at .upward)
         ∙ leaf-is (pageAt k ws) y l t beside-facts leaf (fathers ++ at .upper) from-leaf
 
-    beside-test : rightlyBeside (Delete y) k (pageAt k ws) (reverse path) siblings want ≡ true
+    beside-test : rightlyBeside k (pageAt k ws) z (reverse (z .path)) ≡ true
     beside-test =
-        ap (λ (up : List ℕ). rightlyBeside (Delete y) k (pageAt k ws) up siblings want) (at .upward)
+        ap (λ (up : List ℕ). rightlyBeside k (pageAt k ws) z up) (at .upward)
         ∙ and-both
         (and-both
         (and-both {a = true} refl
         (leaf-has (pageAt k ws) y l t beside-facts leaf (fathers ++ at .upper) from-leaf ∙ at .there))
-        (ap (λ (d : Need). isSibling d want) asks ∙ eq-eqb want want refl))
-        (subst (λ (up : List ℕ). sameLevels (pageAt k ws) up (siblings ++ want ∷ []) ≡ true) (at .upward) levels-test)
+        (ap (λ (d : Need). isSibling d (z .want)) asks ∙ eq-eqb (z .want) (z .want) refl))
+        (subst (λ (up : List ℕ). sameLevels (pageAt k ws) up (z .beside ++ z .want ∷ []) ≡ true) (at .upward) levels-test)
 
-    beside-fitting : fitting (Delete y) k (pageAt k ws) path siblings want ≡ true
+    beside-fitting : fitting k (pageAt k ws) z ≡ true
     unfolding fitting
     beside-fitting =
         and-both
-        (rightly-test (Delete y) k (pageAt k ws) path want (at .rightly))
+        (rightly-test (Delete y) k (pageAt k ws) (z .path) (z .want) (at .rightly))
         (cond-true
-        (descends (pageAt k ws) y path
-        && (rightlyBeside (Delete y) k (pageAt k ws) (reverse path) siblings want || rightlyAcross (Delete y) k (pageAt k ws) path siblings want))
-        (descends (pageAt k ws) y (path ++ want ∷ []) && isNone siblings)
+        (descends (pageAt k ws) y (z .path)
+        && (rightlyBeside k (pageAt k ws) z (reverse (z .path)) || rightlyAcross k (pageAt k ws) z (z .path)))
+        (descends (pageAt k ws) y (z .path ++ z .want ∷ []) && isNone (z .beside))
         at-leaf
         ∙ and-both
-        (descends-way (pageAt k ws) y l t beside-facts path [] (at .upper) (at .whole))
-        (or-first (rightlyAcross (Delete y) k (pageAt k ws) path siblings want) beside-test))
+        (descends-way (pageAt k ws) y l t beside-facts (z .path) [] (at .upper) (at .whole))
+        (or-first (rightlyAcross k (pageAt k ws) z (z .path)) beside-test))
 
     -- the pages of the change are held, or the granted one
-    beside-inside : (q : ℕ) → member q (leaf ∷ fathers ++ (siblings ++ want ∷ [])) ≡ true → member q (want ∷ (path ++ siblings)) ≡ true
+    beside-inside : (q : ℕ) → member q (leaf ∷ fathers ++ (z .beside ++ z .want ∷ [])) ≡ true → member q (z .want ∷ holding z) ≡ true
     unfolding member
     beside-inside q m =
         ⊎-elim
         (λ h.
-        or-second (eqb q want)
-        (member-append q path siblings
-        ∙ or-first (member q siblings) (sym (member-reverse q path) ∙ ap (member q) (at .upward) ∙ h)))
-        (λ h. member-behind q want path siblings (member-first q want siblings h))
-        (or-cases (member q (leaf ∷ fathers)) (member q (siblings ++ want ∷ []))
-        (sym (member-append q (leaf ∷ fathers) (siblings ++ want ∷ [])) ∙ m))
+        or-second (eqb q (z .want))
+        (member-append q (z .path) (z .beside)
+        ∙ or-first (member q (z .beside)) (sym (member-reverse q (z .path)) ∙ ap (member q) (at .upward) ∙ h)))
+        (λ h. member-behind q (z .want) (z .path) (z .beside) (member-first q (z .want) (z .beside) h))
+        (or-cases (member q (leaf ∷ fathers)) (member q (z .beside ++ z .want ∷ []))
+        (sym (member-append q (leaf ∷ fathers) (z .beside ++ z .want ∷ [])) ∙ m))
 
-    beside-does : Does (Delete y) k n ws l t path siblings want (besides (Delete y) k (pageAt k ws) path siblings want)
+    beside-does : Does k n ws l t z (besides k (pageAt k ws) z)
     unfolding besides
     beside-does =
         subst
         (λ (up : List ℕ).
-        Does (Delete y) k n ws l t path siblings want
-        (fromLeaf (λ (p : ℕ) (ps : List ℕ). deletes k (pageAt k ws) y path p ps (siblings ++ want ∷ [])) up))
+        Does k n ws l t z
+        (fromLeaf (λ (p : ℕ) (ps : List ℕ). deletes k (pageAt k ws) y (wantBeside z) p ps) up))
         (sym (at .upward))
-        (delete-does k n ws l t (scene .forms) path siblings want y beside-facts leaf (fathers ++ at .upper) from-leaf
-        path fathers (siblings ++ want ∷ []) (beside-asked at asks) (inr (inr (record { beside = refl; atLeaf = test-at-leaf (pageAt k ws) path at-leaf; still = refl; holds = refl }))) beside-inside)
+        (delete-does k n ws l t (scene .forms) z y beside-facts leaf (fathers ++ at .upper) from-leaf
+        (wantBeside z) fathers (beside-asked at asks) (λ q. inr (inr (record { beside = refl; atLeaf = test-at-leaf (pageAt k ws) (z .path) at-leaf; still = refl; holds = refl }))) beside-inside)
 
-    beside-comes : Comes (Delete y) k n ws l t path siblings want
+    beside-comes : Comes k n ws l t z
     unfolding granted
     beside-comes =
-        does-comes (Delete y) k n ws l t path siblings want scene beside-fitting
-        (subst (Does (Delete y) k n ws l t path siblings want)
+        does-comes k n ws l t z scene beside-fitting
+        (subst (Does k n ws l t z)
         (sym
         (cond-true
-        (besides (Delete y) k (pageAt k ws) path siblings want)
-        (comesDown (Delete y) k (pageAt k ws) (freePages k n ws) path want)
+        (besides k (pageAt k ws) z)
+        (comesDown k (pageAt k ws) (freePages k n ws) z)
         at-leaf))
         beside-does)
 
-  deletion-comes : Comes (Delete y) k n ws l t path siblings want
+  deletion-comes : Comes k n ws l t z
   deletion-comes =
-      let (leaf, fathers, at, asks) = beside-leaf (scene .forms .forms) (scene .kLeast) (scene .key) b in
+      let (leaf, fathers, at, asks) = beside-leaf z (scene .forms .forms) (scene .kLeast) (scene .key) b in
       beside-comes leaf fathers at asks
 
 -- only a deletion wants siblings
-stays : (op : Op) (k n : ℕ) (ws : List ℕ) (l : ℕ) (t : Tr l) (path siblings : List ℕ) (want : ℕ) → Scene op k n ws l t path siblings want
-    → WantsSibling op k (pageAt k ws) l t path siblings want → Comes op k n ws l t path siblings want
-stays (Search y) k n ws l t path siblings want scene b = absurd (false≢true (b .deletes))
-stays (Insert y v) k n ws l t path siblings want scene b = absurd (false≢true (b .deletes))
-stays (Delete y) k n ws l t path siblings want scene b = deletion-comes y k n ws l t path siblings want scene b
-stays (Next y) k n ws l t path siblings want scene b = absurd (false≢true (b .deletes))
-stays (Regrade y v) k n ws l t path siblings want scene b = absurd (false≢true (b .deletes))
+stays : (op : Op) (k n : ℕ) (ws : List ℕ) (l : ℕ) (t : Tr l) (z : Stand) → Scene k n ws l t (withOp op z)
+    → WantsSibling k (pageAt k ws) l t (withOp op z) → Comes k n ws l t (withOp op z)
+stays (Search y) k n ws l t z scene b = absurd (false≢true (b .deletes))
+stays (Insert y v) k n ws l t z scene b = absurd (false≢true (b .deletes))
+stays (Delete y) k n ws l t z scene b = deletion-comes y k n ws l t z scene b
+stays (Next y) k n ws l t z scene b = absurd (false≢true (b .deletes))
+stays (Regrade y v) k n ws l t z scene b = absurd (false≢true (b .deletes))
 
 -- ---- past its leaf
 
-module _ (y k n : ℕ) (ws : List ℕ) (l : ℕ) (t : Tr l) (path second : List ℕ) (want : ℕ)
-    (scene : Scene (Next y) k n ws l t path second want) (c : Crossing (Next y) k (pageAt k ws) l t path second want) where
-  past-leaf : atItsLeaf (pageAt k ws) (reverse path) ≡ true
-  past-leaf =
-      at-leaf-test (pageAt k ws) path (crossing-leaf y k n ws l t (scene .forms) (scene .kLeast) (scene .key) path second want c)
+module _ (y k n : ℕ) (ws : List ℕ) (l : ℕ) (t : Tr l) (z₀ : Stand)
+    (scene : Scene k n ws l t (withOp (Next y) z₀)) (c : Crossing k (pageAt k ws) l t (withOp (Next y) z₀)) where
+  abbrev past : Stand
+  past = withOp (Next y) z₀
 
-  crossing-fitting : fitting (Next y) k (pageAt k ws) path second want ≡ true
+  past-leaf : atItsLeaf (pageAt k ws) (reverse (past .path)) ≡ true
+  past-leaf =
+      at-leaf-test (pageAt k ws) (past .path) (crossing-leaf y k n ws l t (scene .forms) (scene .kLeast) (scene .key) z₀ c)
+
+  crossing-fitting : fitting k (pageAt k ws) past ≡ true
   unfolding fitting
   crossing-fitting =
       and-both
-      (rightly-test (Next y) k (pageAt k ws) path want (c .rightly))
+      (rightly-test (Next y) k (pageAt k ws) (past .path) (past .want) (c .rightly))
       (cond-true
-      (descends (pageAt k ws) y path
-      && (rightlyBeside (Next y) k (pageAt k ws) (reverse path) second want || rightlyAcross (Next y) k (pageAt k ws) path second want))
-      (descends (pageAt k ws) y (path ++ want ∷ []) && isNone second)
+      (descends (pageAt k ws) y (past .path)
+      && (rightlyBeside k (pageAt k ws) past (reverse (past .path)) || rightlyAcross k (pageAt k ws) past (past .path)))
+      (descends (pageAt k ws) y (past .path ++ past .want ∷ []) && isNone (past .beside))
       past-leaf
       ∙ and-both
-      (descends-way (pageAt k ws) y l t (facts (Next y) k n ws l t path second want scene) path [] (c .upper) (c .whole))
-      (or-second (rightlyBeside (Next y) k (pageAt k ws) (reverse path) second want)
-      (crossing-test y k n ws l t (scene .forms) (scene .kLeast) (scene .key) path second want c)))
+      (descends-way (pageAt k ws) y l t (facts k n ws l t past scene) (past .path) [] (c .upper) (c .whole))
+      (or-second (rightlyBeside k (pageAt k ws) past (reverse (past .path)))
+      (crossing-test y k n ws l t (scene .forms) (scene .kLeast) (scene .key) z₀ c)))
 
-  next-comes : Comes (Next y) k n ws l t path second want
+  next-comes : Comes k n ws l t past
   unfolding granted
   next-comes =
-      does-comes (Next y) k n ws l t path second want scene crossing-fitting
-      (subst (Does (Next y) k n ws l t path second want)
+      does-comes k n ws l t past scene crossing-fitting
+      (subst (Does k n ws l t past)
       (sym
       (cond-true
-      (besides (Next y) k (pageAt k ws) path second want)
-      (comesDown (Next y) k (pageAt k ws) (freePages k n ws) path want)
+      (besides k (pageAt k ws) past)
+      (comesDown k (pageAt k ws) (freePages k n ws) past)
       past-leaf))
-      (crossing-does y k n ws l t (scene .forms) (scene .kLeast) (scene .key) path second want c))
+      (crossing-does y k n ws l t (scene .forms) (scene .kLeast) (scene .key) z₀ c))
 
 -- only a Next goes down a second way
-crosses-over : (op : Op) (k n : ℕ) (ws : List ℕ) (l : ℕ) (t : Tr l) (path second : List ℕ) (want : ℕ) → Scene op k n ws l t path second want
-    → Crossing op k (pageAt k ws) l t path second want → Comes op k n ws l t path second want
-crosses-over (Search y) k n ws l t path second want scene c = absurd (false≢true (c .asksNext))
-crosses-over (Insert y v) k n ws l t path second want scene c = absurd (false≢true (c .asksNext))
-crosses-over (Delete y) k n ws l t path second want scene c = absurd (false≢true (c .asksNext))
-crosses-over (Next y) k n ws l t path second want scene c = next-comes y k n ws l t path second want scene c
-crosses-over (Regrade y v) k n ws l t path second want scene c = absurd (false≢true (c .asksNext))
+crosses-over : (op : Op) (k n : ℕ) (ws : List ℕ) (l : ℕ) (t : Tr l) (z : Stand) → Scene k n ws l t (withOp op z)
+    → Crossing k (pageAt k ws) l t (withOp op z) → Comes k n ws l t (withOp op z)
+crosses-over (Search y) k n ws l t z scene c = absurd (false≢true (c .asksNext))
+crosses-over (Insert y v) k n ws l t z scene c = absurd (false≢true (c .asksNext))
+crosses-over (Delete y) k n ws l t z scene c = absurd (false≢true (c .asksNext))
+crosses-over (Next y) k n ws l t z scene c = next-comes y k n ws l t z scene c
+crosses-over (Regrade y v) k n ws l t z scene c = absurd (false≢true (c .asksNext))
 
 -- A granted step of a slot that stands as it should.
-pub granted-comes : (op : Op) (k n : ℕ) (ws : List ℕ) (l : ℕ) (t : Tr l) (path siblings : List ℕ) (want : ℕ)
-    → Scene op k n ws l t path siblings want → Comes op k n ws l t path siblings want
-granted-comes op k n ws l t path siblings want scene =
-    let way-of = facts op k n ws l t path siblings want scene in
+pub granted-comes : (k n : ℕ) (ws : List ℕ) (l : ℕ) (t : Tr l) (z : Stand) → Scene k n ws l t z → Comes k n ws l t z
+granted-comes k n ws l t z scene =
+    let way-of = facts k n ws l t z scene in
     ⊎-elim
-    (λ s.
-    down-comes op k n ws l t path siblings want scene (s .noSiblings)
-    (starting-down op k (pageAt k ws) l t way-of path siblings want s))
+    (λ s. down-comes k n ws l t z scene (s .noSiblings) (starting-down k (pageAt k ws) l t z way-of s))
     (λ r.
     ⊎-elim
-    (λ c.
-    down-comes op k n ws l t path siblings want scene (c .noSiblings)
-    (coming-down op k (pageAt k ws) l t way-of path siblings want c))
+    (λ c. down-comes k n ws l t z scene (c .noSiblings) (coming-down k (pageAt k ws) l t z way-of c))
     (⊎-elim
-    (λ b. stays op k n ws l t path siblings want scene b)
-    (λ c. crosses-over op k n ws l t path siblings want scene c))
+    (λ b. stays (z .op) k n ws l t z scene b)
+    (λ c. crosses-over (z .op) k n ws l t z scene c))
     r)
     (scene .stance)

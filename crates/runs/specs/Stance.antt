@@ -12,7 +12,7 @@ use Rattle.page.specs.Place.{place, pointer, has, atOrAbove}
 use Rattle.page.specs.Short.{neighbour}
 use Rattle.slots.specs.declared.Op.{Op}
 use Rattle.slots.specs.declared.Op.the-variants.{Search, Insert, Delete, Next, Regrade}
-use Rattle.slots.specs.Parts.{keyOf, isDelete, isNext, goesBeside}
+use Rattle.slots.specs.Parts.{keyOf, isDelete, isNext, goesBeside, Stand}
 use Rattle.footing.specs.Granted.{isSafe}
 use Rattle.tree.specs.Tree.{Tr, entriesOf, way}
 
@@ -34,62 +34,60 @@ pub record Rightly (op : Op) (k : ℕ) (memory : ℕ → Page) (path : List ℕ)
   pub unsafe : (i : ℕ) → suc i < length path → isSafe op k (memory (getD path (suc i) 0)) ≡ false
 
 -- "Beginning an operation makes the slot want page 0." It holds nothing yet.
-pub record Starting (path siblings : List ℕ) (want : ℕ) : Type 0 where
-  pub noPath : path ≡ []
-  pub noSiblings : siblings ≡ []
-  pub wantsRoot : want ≡ 0
+pub record Starting (z : Stand) : Type 0 where
+  pub noPath : z .path ≡ []
+  pub noSiblings : z .beside ≡ []
+  pub wantsRoot : z .want ≡ 0
 
 -- Coming down: it holds a stretch of its key's way and wants the next page of it.
-pub record Coming (op : Op) (k : ℕ) (memory : ℕ → Page) (l : ℕ) (t : Tr l) (path siblings : List ℕ) (want : ℕ) : Type 0 where
+pub record Coming (k : ℕ) (memory : ℕ → Page) (l : ℕ) (t : Tr l) (z : Stand) : Type 0 where
   pub lower : List ℕ
   pub upper : List ℕ
-  pub whole : way (keyOf op) l t ≡ lower ++ want ∷ (reverse path ++ upper)
-  pub rightly : Rightly op k memory path
-  pub noSiblings : siblings ≡ []
+  pub whole : way (keyOf (z .op)) l t ≡ lower ++ z .want ∷ (reverse (z .path) ++ upper)
+  pub rightly : Rightly (z .op) k memory (z .path)
+  pub noSiblings : z .beside ≡ []
 
 -- At its leaf: "Deletion .. If the leaf would be short, and is not page 0, the slot wants its sibling, then, if the two join
 -- and the father would be short too and is not page 0, the father's sibling, and so on up."
-pub record WantsSibling (op : Op) (k : ℕ) (memory : ℕ → Page) (l : ℕ) (t : Tr l) (path siblings : List ℕ) (want : ℕ) : Type 0 where
-  pub deletes : isDelete op ≡ true
-  pub there : has (keyOf op) (entriesOf l t) ≡ true
+pub record WantsSibling (k : ℕ) (memory : ℕ → Page) (l : ℕ) (t : Tr l) (z : Stand) : Type 0 where
+  pub deletes : isDelete (z .op) ≡ true
+  pub there : has (keyOf (z .op)) (entriesOf l t) ≡ true
   pub upper : List ℕ
-  pub whole : way (keyOf op) l t ≡ reverse path ++ upper
-  pub rightly : Rightly op k memory path
+  pub whole : way (keyOf (z .op)) l t ≡ reverse (z .path) ++ upper
+  pub rightly : Rightly (z .op) k memory (z .path)
   -- the father of the page that the wanted sibling is to help is held too
-  pub fewer : suc (length siblings) < length path
+  pub fewer : suc (length (z .beside)) < length (z .path)
   -- the pages of the path that would be short, from the leaf upward: each has k and is not page 0
-  pub short : (j : ℕ) → j ≤ length siblings → μ (memory (getD (reverse path) j 0)) ≡ k
-  pub notRoot : (j : ℕ) → j ≤ length siblings → getD (reverse path) j 0 ≢ 0
+  pub short : (j : ℕ) → j ≤ length (z .beside) → μ (memory (getD (reverse (z .path)) j 0)) ≡ k
+  pub notRoot : (j : ℕ) → j ≤ length (z .beside) → getD (reverse (z .path)) j 0 ≢ 0
   -- "A page left with k-1 uses its right neighbour under the same father; if it has none, the left one.": each sibling is
   -- that neighbour of its page, and has k, so that the two join
-  pub neighbours : (j : ℕ) → j < length siblings → getD siblings j 0 ≡ neighbour (keyOf op) (memory (getD (reverse path) (suc j) 0))
-  pub joining : (j : ℕ) → j < length siblings → μ (memory (getD siblings j 0)) ≡ k
-  pub wantsNext : want ≡ neighbour (keyOf op) (memory (getD (reverse path) (suc (length siblings)) 0))
+  pub neighbours : (j : ℕ) → j < length (z .beside) → getD (z .beside) j 0 ≡ neighbour (keyOf (z .op)) (memory (getD (reverse (z .path)) (suc j) 0))
+  pub joining : (j : ℕ) → j < length (z .beside) → μ (memory (getD (z .beside) j 0)) ≡ k
+  pub wantsNext : z .want ≡ neighbour (keyOf (z .op)) (memory (getD (reverse (z .path)) (suc (length (z .beside))) 0))
 
 -- Past its leaf: Next, "if the leaf has no such key, goes down the leftmost way of the next child to the right, giving nothing up
 -- until its answer". The second way, as far as it is held, stands beside the path, and the want behind it.
-pub record Crossing (op : Op) (k : ℕ) (memory : ℕ → Page) (l : ℕ) (t : Tr l) (path second : List ℕ) (want : ℕ) : Type 0 where
-  pub asksNext : isNext op ≡ true
+pub record Crossing (k : ℕ) (memory : ℕ → Page) (l : ℕ) (t : Tr l) (z : Stand) : Type 0 where
+  pub asksNext : isNext (z .op) ≡ true
   pub upper : List ℕ
-  pub whole : way (keyOf op) l t ≡ reverse path ++ upper
-  pub rightly : Rightly op k memory path
+  pub whole : way (keyOf (z .op)) l t ≡ reverse (z .path) ++ upper
+  pub rightly : Rightly (z .op) k memory (z .path)
   -- the leaf has no key at or above the key
-  pub none : atOrAbove (keyOf op) (memory (getD (reverse path) 0 0) .entries) ≡ []
+  pub none : atOrAbove (keyOf (z .op)) (memory (getD (reverse (z .path)) 0 0) .entries) ≡ []
   -- the top page, the lowest of the way that has one, has a child to the right
-  pub right : isSafe op k (memory (getD path 0 0)) ≡ true
+  pub right : isSafe (z .op) k (memory (getD (z .path) 0 0)) ≡ true
   -- the second way goes down from there, so it is shorter than the first
-  pub fewer : suc (length second) < length path
+  pub fewer : suc (length (z .beside)) < length (z .path)
   -- "the next child to the right", and p0 of each page behind it
-  pub turns : getD (second ++ want ∷ []) 0 0 ≡ neighbour (keyOf op) (memory (getD path 0 0))
-  pub leftmost : (j : ℕ) → j < length second → getD (second ++ want ∷ []) (suc j) 0 ≡ pointer 0 (memory (getD second j 0))
+  pub turns : getD (z .beside ++ z .want ∷ []) 0 0 ≡ neighbour (keyOf (z .op)) (memory (getD (z .path) 0 0))
+  pub leftmost : (j : ℕ) → j < length (z .beside) → getD (z .beside ++ z .want ∷ []) (suc j) 0 ≡ pointer 0 (memory (getD (z .beside) j 0))
 
--- An open slot with this operation, path, siblings and want stands in the tree as the rules would have it.
-abbrev pub Stance : Op → ℕ → (ℕ → Page) → (l : ℕ) → Tr l → List ℕ → List ℕ → ℕ → Type 0
-Stance op k memory l t path siblings want =
-    Starting path siblings want
-    ⊎ (Coming op k memory l t path siblings want ⊎ (WantsSibling op k memory l t path siblings want ⊎ Crossing op k memory l t path siblings want))
+-- An open slot stands in the tree as the rules would have it.
+abbrev pub Stance : ℕ → (ℕ → Page) → (l : ℕ) → Tr l → Stand → Type 0
+Stance k memory l t z = Starting z ⊎ (Coming k memory l t z ⊎ (WantsSibling k memory l t z ⊎ Crossing k memory l t z))
 
--- ---- what a slot that goes on holds afterwards
+-- ---- what a slot that stands at z and goes on holds afterwards, at z′
 
 -- the lowest page of its path is a leaf
 abbrev pub StandsAtLeaf : (ℕ → Page) → List ℕ → Type 0
@@ -98,30 +96,28 @@ StandsAtLeaf memory path = (1 ≤ length path) × (memory (getD (reverse path) 0
 -- "Search gives up the father." "Insertion: if the page has μ < 2k, all its ancestors are given up." "Deletion: the same with
 -- μ > k". Next keeps its locks "from the lowest page on its way that still has a child to the right". Regrading: "every page is safe
 -- for it". Coming down to a page that is safe for the operation, it holds that page alone.
-pub record GivesUp (op : Op) (k : ℕ) (memory : ℕ → Page) (path siblings : List ℕ) (want : ℕ) (path′ siblings′ : List ℕ) : Type 0 where
-  pub comesDown : StandsAtLeaf memory path → ⊥
-  pub safe : isSafe op k (memory want) ≡ true
-  pub noSiblings : siblings ≡ []
-  pub holds : path′ ≡ want ∷ []
-  pub still : siblings′ ≡ []
+pub record GivesUp (k : ℕ) (memory : ℕ → Page) (z z′ : Stand) : Type 0 where
+  pub comesDown : StandsAtLeaf memory (z .path) → ⊥
+  pub safe : isSafe (z .op) k (memory (z .want)) ≡ true
+  pub noSiblings : z .beside ≡ []
+  pub holds : z′ .path ≡ z .want ∷ []
+  pub still : z′ .beside ≡ []
 
 -- coming down to one that is not safe, it gives up nothing
-pub record Keeps (op : Op) (k : ℕ) (memory : ℕ → Page) (path siblings : List ℕ) (want : ℕ) (path′ siblings′ : List ℕ) : Type 0 where
-  pub comesDown : StandsAtLeaf memory path → ⊥
-  pub unsafe : isSafe op k (memory want) ≡ false
-  pub noSiblings : siblings ≡ []
-  pub holds : path′ ≡ path ++ want ∷ []
-  pub still : siblings′ ≡ []
+pub record Keeps (k : ℕ) (memory : ℕ → Page) (z z′ : Stand) : Type 0 where
+  pub comesDown : StandsAtLeaf memory (z .path) → ⊥
+  pub unsafe : isSafe (z .op) k (memory (z .want)) ≡ false
+  pub noSiblings : z .beside ≡ []
+  pub holds : z′ .path ≡ z .path ++ z .want ∷ []
+  pub still : z′ .beside ≡ []
 
 -- a deletion at its leaf takes the sibling, and a Next the page of its second way, beside all that it holds
-pub record TakesBeside (op : Op) (memory : ℕ → Page) (path siblings : List ℕ) (want : ℕ) (path′ siblings′ : List ℕ) : Type 0 where
-  pub beside : goesBeside op ≡ true
-  pub atLeaf : StandsAtLeaf memory path
-  pub still : path′ ≡ path
-  pub holds : siblings′ ≡ siblings ++ want ∷ []
+pub record TakesBeside (memory : ℕ → Page) (z z′ : Stand) : Type 0 where
+  pub beside : goesBeside (z .op) ≡ true
+  pub atLeaf : StandsAtLeaf memory (z .path)
+  pub still : z′ .path ≡ z .path
+  pub holds : z′ .beside ≡ z .beside ++ z .want ∷ []
 
 -- one of the three; of the operation and the pages at most one can be
-abbrev pub Takes : Op → ℕ → (ℕ → Page) → List ℕ → List ℕ → ℕ → List ℕ → List ℕ → Type 0
-Takes op k memory path siblings want path′ siblings′ =
-    GivesUp op k memory path siblings want path′ siblings′
-    ⊎ (Keeps op k memory path siblings want path′ siblings′ ⊎ TakesBeside op memory path siblings want path′ siblings′)
+abbrev pub Takes : ℕ → (ℕ → Page) → Stand → Stand → Type 0
+Takes k memory z z′ = GivesUp k memory z z′ ⊎ (Keeps k memory z z′ ⊎ TakesBeside memory z z′)

@@ -2,7 +2,7 @@
 -- sorted list has it. The theorems over runs rest on it; the demands do not speak of verdicts.
 use Prim.Native.Nat.{ℕ, _≤_, _<_}
 use mathlib.Core.Bool.{true, false}
-use mathlib.Core.List.{List, [], _∷_, _++_}
+use mathlib.Core.List.{List, [], _∷_}
 use mathlib.Core.Logic.{_⊎_}
 use mathlib.Core.Path.{_≡_}
 use lib.ListN.{length}
@@ -15,7 +15,7 @@ use Rattle.slots.specs.declared.Op.{Op}
 use Rattle.slots.specs.declared.Op.the-variants.{Insert}
 use Rattle.slots.specs.declared.Answer.{Answer}
 use Rattle.slots.specs.declared.Answer.the-variants.{NoRoom, Regraded}
-use Rattle.slots.specs.Parts.{keyOf, onlyReads}
+use Rattle.slots.specs.Parts.{keyOf, onlyReads, Stand, holding}
 use Rattle.slots.specs.Heard.{isOneOf}
 use Rattle.footing.specs.Granted.{goes, ends}
 use Rattle.footing.specs.Fitting.{verdict}
@@ -27,13 +27,13 @@ use Rattle.runs.specs.Plain.{plain}
 use Rattle.runs.specs.Done.{writing}
 
 -- What is known of an open slot of a run.
-pub record Scene (op : Op) (k n : ℕ) (ws : List ℕ) (l : ℕ) (t : Tr l) (path siblings : List ℕ) (want : ℕ) : Type 0 where
+pub record Scene (k n : ℕ) (ws : List ℕ) (l : ℕ) (t : Tr l) (z : Stand) : Type 0 where
   pub kLeast : 1 ≤ k
   pub kMost : k ≤ largestK
   pub nMost : n ≤ largestN
-  pub key : keyOf op < wordRange
+  pub key : keyOf (z .op) < wordRange
   pub forms : PoolForms k n ws l t
-  pub stance : Stance op k (pageAt k ws) l t path siblings want
+  pub stance : Stance k (pageAt k ws) l t z
 
 -- How an operation ends: as the plain list has it; or NoRoom, "exactly when a new key needs more pages than are free", and
 -- nothing is written.
@@ -53,26 +53,27 @@ pub record AsPlain (op : Op) (k n : ℕ) (ws : List ℕ) (l : ℕ) (t : Tr l) (a
   pub room : (x v : ℕ) → op ≡ Insert x v → has x (entriesOf l t) ≡ false → treeRoom k x l t ≤ length (freePages k n ws)
 
 -- The operation ends with this answer and these writes, which lead to a tree with the entries es.
-pub record Ended (op : Op) (k n : ℕ) (ws : List ℕ) (l : ℕ) (t : Tr l) (path siblings : List ℕ) (want : ℕ) (a : Answer) (writes : List Write) : Type 0 where
+pub record Ended (k n : ℕ) (ws : List ℕ) (l : ℕ) (t : Tr l) (z : Stand) (a : Answer) (writes : List Write) : Type 0 where
   pub entries : List Entry
   pub leads : Leads k n (pageAt k ws) l t writes entries
-  pub how : AsPlain op k n ws l t a entries ⊎ (NoRoomLeft op k n ws l t a writes × (entries ≡ entriesOf l t))
+  pub how : AsPlain (z .op) k n ws l t a entries ⊎ (NoRoomLeft (z .op) k n ws l t a writes × (entries ≡ entriesOf l t))
   -- it writes no page but those that it held, the one that it wanted, and free ones
-  pub only : (q : ℕ) → member q (writtenPages writes) ≡ true → (member q (want ∷ (path ++ siblings)) ≡ true) ⊎ (occurs q l t ≡ 0)
+  pub only : (q : ℕ) → member q (writtenPages writes) ≡ true → (member q (z .want ∷ holding z) ≡ true) ⊎ (occurs q l t ≡ 0)
   -- a search or a Next writes nothing, and of the answers only Inserted, Deleted and Regraded write
-  pub reads : onlyReads op ≡ true → writes ≡ []
+  pub reads : onlyReads (z .op) ≡ true → writes ≡ []
   pub writers : isOneOf a writing ≡ false → writes ≡ []
   -- a regrading writes the page that it wanted, and no other
-  pub regrades : (old : ℕ) → a ≡ Regraded old → (q : ℕ) → member q (writtenPages writes) ≡ true → q ≡ want
+  pub regrades : (old : ℕ) → a ≡ Regraded old → (q : ℕ) → member q (writtenPages writes) ≡ true → q ≡ z .want
 
--- A granted step: the slot goes on and stands as it should, or its operation ends. It is never broken.
-pub data Comes (op : Op) (k n : ℕ) (ws : List ℕ) (l : ℕ) (t : Tr l) (path siblings : List ℕ) (want : ℕ) : Type 0 where
-  moves : (path′ siblings′ : List ℕ) (want′ : ℕ)
-      → verdict op k n ws path siblings want ≡ goes path′ siblings′ want′
-      → Stance op k (pageAt k ws) l t path′ siblings′ want′
-      → Takes op k (pageAt k ws) path siblings want path′ siblings′
-      → Comes op k n ws l t path siblings want
+-- A granted step: the slot goes on with the same operation and stands as it should, or its operation ends. It is never broken.
+pub data Comes (k n : ℕ) (ws : List ℕ) (l : ℕ) (t : Tr l) (z : Stand) : Type 0 where
+  moves : (z′ : Stand)
+      → verdict k n ws z ≡ goes z′
+      → z′ .op ≡ z .op
+      → Stance k (pageAt k ws) l t z′
+      → Takes k (pageAt k ws) z z′
+      → Comes k n ws l t z
   stops : (a : Answer) (writes : List Write)
-      → verdict op k n ws path siblings want ≡ ends a writes
-      → Ended op k n ws l t path siblings want a writes
-      → Comes op k n ws l t path siblings want
+      → verdict k n ws z ≡ ends a writes
+      → Ended k n ws l t z a writes
+      → Comes k n ws l t z

@@ -17,7 +17,7 @@ use Rattle.slots.specs.declared.Op.the-variants.{Search, Insert, Delete,
 use Rattle.slots.specs.declared.Task.the-variants.{Open}
 use Rattle.slots.specs.declared.Slot.{Slot}
 use Rattle.slots.specs.declared.State.{State}
-use Rattle.slots.specs.Parts.{isOpen, held, pathOf, besideOf, slotAt, openAt, waitingOrder, openSlot, closedSlot, idleState}
+use Rattle.slots.specs.Parts.{isOpen, held, pathOf, besideOf, Stand, stand, holding, onPages, standOf, slotOf, slotAt, openAt, waitingOrder, openSlot, closedSlot, idleState}
 use Rattle.slots.specs.Locks.{lockOf, lockAt, isXi}
 use Rattle.slots.specs.Sound.{withinLimits}
 use Rattle.slots.specs.Book.{rewritten, leaving, begins, goesOn, closes}
@@ -94,16 +94,20 @@ keeps-sound st shaped f s b slot order waiting g =
 
 -- ---- what a new slot holds
 
-pub path-new : (op : Op) (want : ℕ) (path siblings : List ℕ) → pathOf (openSlot op want path siblings) ≡ path
+pub path-new : (z : Stand) → pathOf (slotOf z) ≡ z .path
 unfolding pathOf padded
-path-new op want path siblings = take-append-seam path (replicate (pathHolds - length path) 0)
+path-new z = take-append-seam (z .path) (replicate (pathHolds - length (z .path)) 0)
 
-pub beside-new : (op : Op) (want : ℕ) (path siblings : List ℕ) → besideOf (openSlot op want path siblings) ≡ siblings
+pub beside-new : (z : Stand) → besideOf (slotOf z) ≡ z .beside
 unfolding besideOf padded
-beside-new op want path siblings = take-append-seam siblings (replicate (pathHolds - length siblings) 0)
+beside-new z = take-append-seam (z .beside) (replicate (pathHolds - length (z .beside)) 0)
 
-pub held-new : (op : Op) (want : ℕ) (path siblings : List ℕ) → held (openSlot op want path siblings) ≡ path ++ siblings
-held-new op want path siblings = ap₂ (λ (ps ss : List ℕ). ps ++ ss) (path-new op want path siblings) (beside-new op want path siblings)
+pub held-new : (z : Stand) → held (slotOf z) ≡ holding z
+held-new z = ap₂ (λ (ps ss : List ℕ). ps ++ ss) (path-new z) (beside-new z)
+
+-- where a slot stands that was made to stand there
+pub stand-new : (z : Stand) → standOf (z .op) (slotOf z) ≡ z
+stand-new z = ap₂ (onPages z) (path-new z) (beside-new z)
 
 nothing-apart : (ys : List ℕ) → apart [] ys ≡ true
 nothing-apart ys = apart-from [] ys (λ x m. not-both m (member-none x))
@@ -133,7 +137,7 @@ member-before t s xs n =
 begun-sound : (n : ℕ) (op : Op) → 1 ≤ n → SoundSlot n (openSlot op 0 [] [])
 unfolding distinct member
 begun-sound n op h =
-    let holds : held (openSlot op 0 [] []) ≡ [] = held-new op 0 [] [] in
+    let holds : held (openSlot op 0 [] []) ≡ [] = held-new (stand op [] [] 0) in
     record {
       limits = begun-limits op;
       below = λ _ p m. subst (λ (q : ℕ). q < n) (sym (member-one p 0 (subst (λ (l : List ℕ). member p (0 ∷ l) ≡ true) holds m))) h;
@@ -158,7 +162,7 @@ module _ (st : State) (shaped : Shaped st) (f : SoundState st) (s : ℕ) (b : s 
         others = λ t n. member-before t s (waitingOrder st) n;
         itself = member-inside s (waitingOrder st) [];
         sound = begun-sound (st .n) op (f .nLeast);
-        alone = λ t c n x. subst (λ (l : List ℕ). apart l (held (slotAt st t)) ≡ true) (sym (held-new op 0 [] [])) (nothing-apart (held (slotAt st t)));
+        alone = λ t c n x. subst (λ (l : List ℕ). apart l (held (slotAt st t)) ≡ true) (sym (held-new (stand op [] [] 0))) (nothing-apart (held (slotAt st t)));
       }
 
   pub begins-sound : (op : Op) → openAt st s ≡ false → SoundState (begins st s op)
@@ -205,20 +209,20 @@ module _ (st : State) (shaped : Shaped st) (f : SoundState st) (s : ℕ) (b : s 
         alone = h;
       }
 
-  pub goes-on-sound : (op : Op) (want : ℕ) (path siblings : List ℕ) → openAt st s ≡ true
-      → withinLimits (Open op) (length path) (length siblings) ≡ true
-      → ((p : ℕ) → member p (want ∷ (path ++ siblings)) ≡ true → p < st .n)
-      → distinct (want ∷ (path ++ siblings)) ≡ true
-      → ((t : ℕ) → t < slotCount → t ≢ s → isXi (lockOf (Open op)) || isXi (lockAt st t) ≡ true → apart (path ++ siblings) (held (slotAt st t)) ≡ true)
-      → SoundState (goesOn st s op want path siblings)
+  pub goes-on-sound : (z : Stand) → openAt st s ≡ true
+      → withinLimits (Open (z .op)) (length (z .path)) (length (z .beside)) ≡ true
+      → ((p : ℕ) → member p (z .want ∷ holding z) ≡ true → p < st .n)
+      → distinct (z .want ∷ holding z) ≡ true
+      → ((t : ℕ) → t < slotCount → t ≢ s → isXi (lockOf (Open (z .op))) || isXi (lockAt st t) ≡ true → apart (holding z) (held (slotAt st t)) ≡ true)
+      → SoundState (goesOn st s z)
   unfolding goesOn
-  goes-on-sound op want path siblings opened limits below different alone =
-      let slot = openSlot op want path siblings in
-      let holds : path ++ siblings ≡ held slot = sym (held-new op want path siblings) in
+  goes-on-sound z opened limits below different alone =
+      let slot = slotOf z in
+      let holds : holding z ≡ held slot = sym (held-new z) in
       let g : SoundSlot (st .n) slot = record {
         limits = limits;
-        below = λ _ p m. below p (subst (λ (l : List ℕ). member p (want ∷ l) ≡ true) (sym holds) m);
-        different = λ _. subst (λ (l : List ℕ). distinct (want ∷ l) ≡ true) holds different;
+        below = λ _ p m. below p (subst (λ (l : List ℕ). member p (z .want ∷ l) ≡ true) (sym holds) m);
+        different = λ _. subst (λ (l : List ℕ). distinct (z .want ∷ l) ≡ true) holds different;
       } in
       keeps-sound st shaped f s b slot (leaving s (waitingOrder st) ++ s ∷ drop (st .waiting) (st .order)) (st .waiting)
       (subst (λ (l : List ℕ). Fits st s slot l (st .waiting)) (sym (waiting-requeued st s order-long (f .orderNames s b opened) slot))
@@ -245,10 +249,10 @@ module _ (st : State) (shaped : Shaped st) (f : SoundState st) (s : ℕ) (b : s 
     order = order-same-length opened 0;
   }
 
-  pub goes-on-shaped : (op : Op) (want : ℕ) (path siblings : List ℕ) → openAt st s ≡ true → Shaped (goesOn st s op want path siblings)
+  pub goes-on-shaped : (z : Stand) → openAt st s ≡ true → Shaped (goesOn st s z)
   unfolding goesOn
-  goes-on-shaped op want path siblings opened = record {
-    slots = length-set (st .slots) s (openSlot op want path siblings) ∙ shaped .slots;
+  goes-on-shaped z opened = record {
+    slots = length-set (st .slots) s (slotOf z) ∙ shaped .slots;
     order = order-same-length opened s;
   }
 

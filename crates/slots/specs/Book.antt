@@ -9,7 +9,7 @@ use lib.ListN.{drop, set}
 use Rattle.slots.specs.declared.Op.{Op}
 use Rattle.slots.specs.declared.Slot.{Slot}
 use Rattle.slots.specs.declared.State.{State}
-use Rattle.slots.specs.Parts.{openSlot, closedSlot, waitingOrder}
+use Rattle.slots.specs.Parts.{Stand, slotOf, openSlot, closedSlot, waitingOrder}
 
 -- the state with slot s and the waiting order written anew
 abbrev pub rewritten : State → ℕ → Slot → List ℕ → ℕ → State
@@ -29,8 +29,8 @@ abbrev pub requeued : State → ℕ → Slot → State
 requeued st s slot =
     rewritten st s slot (leaving s (waitingOrder st) ++ s ∷ drop (st .waiting) (st .order)) (st .waiting)
 
-unfoldable pub goesOn : State → ℕ → Op → ℕ → List ℕ → List ℕ → State
-goesOn st s op want path siblings = requeued st s (openSlot op want path siblings)
+unfoldable pub goesOn : State → ℕ → Stand → State
+goesOn st s z = requeued st s (slotOf z)
 
 -- "An answer that ends the operation gives up every lock and closes the slot."
 unfoldable pub closes : State → ℕ → State

@@ -1,7 +1,7 @@
 -- What a slot and a state are made of, read off as lists, and one maker for each. "Slots, locks and steps" of document 01.
 use Prim.Native.Nat.{ℕ}
 use mathlib.Core.Bool.{Bool, true, false}
-use mathlib.Core.List.{List, [], _++_}
+use mathlib.Core.List.{List, [], _∷_, _++_}
 use mathlib.Core.Path.{_≡_}
 use lib.ListN.{length, getD, take, replicate}
 use Rattle.ground.specs.Limits.{pathHolds, slotCount}
@@ -88,6 +88,20 @@ stand op path beside want = record { op = op; path = path; beside = beside; want
 -- all pages that it holds
 abbrev pub holding : Stand → List ℕ
 holding z = z .path ++ z .beside
+
+-- A stand made from another one, here and nowhere else, so that what a stand has besides is carried along: the same slot on these pages,
+-- with the wanted page beside its path, with this page as its next want, and with this operation.
+abbrev pub onPages : Stand → List ℕ → List ℕ → Stand
+onPages z path beside = stand (z .op) path beside (z .want)
+
+abbrev pub wantBeside : Stand → Stand
+wantBeside z = onPages z (z .path) (z .beside ++ z .want ∷ [])
+
+abbrev pub wantsNext : Stand → ℕ → Stand
+wantsNext z want = stand (z .op) (z .path) (z .beside) want
+
+abbrev pub withOp : Op → Stand → Stand
+withOp op z = stand op (z .path) (z .beside) (z .want)
 
 -- where a slot stands that is open with this operation
 abbrev pub standOf : Op → Slot → Stand

@@ -15,7 +15,7 @@ use Rattle.pool.specs.Pool.{pageAt}
 use Rattle.change.proofs.HeldLaws.{Known, held-front}
 use Rattle.slots.specs.declared.Op.{Op}
 use Rattle.slots.specs.declared.Op.the-variants.{Search, Insert, Delete, Next, Regrade}
-use Rattle.slots.specs.Parts.{isNext, pathOf, besideOf}
+use Rattle.slots.specs.Parts.{isNext, pathOf, besideOf, standOf}
 use Rattle.slots.proofs.Op as op
 use Rattle.footing.proofs.KeepLaws.{cell-known, leaf-some, beside-added, beside-held}
 use Rattle.footing.proofs.AcrossLaws.{held-top-with, across-idle, isNothing, across-found, across-ends, across-turns}
@@ -65,7 +65,7 @@ enum-known-op c = search needs
 returns : tie.Need-returns
 returns c =
     let was = c .before .before .args in
-    across-idle (was .op) (was .k) (pageAt (was .k) (was .words .now)) (pathOf (was .slot)) (besideOf (was .slot)) (was .slot .want)
+    across-idle (was .k) (pageAt (was .k) (was .words .now)) (standOf (was .op) (was .slot)) (pathOf (was .slot))
     (no-next (was .op) (c .match .keys2))
 
 sub-at-or-above-of : tie.Need-sub-at-or-above-of

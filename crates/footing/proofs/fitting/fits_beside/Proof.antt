@@ -20,7 +20,7 @@ use Rattle.change.proofs.NeedLaws.{path-known}
 use Rattle.change.proofs.needing.Need as need
 use Rattle.slots.specs.declared.Op.{Op}
 use Rattle.slots.specs.declared.Op.the-variants.{Search, Insert, Delete, Next, Regrade}
-use Rattle.slots.specs.Parts.{keyOf, isDelete, pathOf, besideOf}
+use Rattle.slots.specs.Parts.{keyOf, isDelete, pathOf, besideOf, standOf}
 use Rattle.slots.proofs.Op as op
 use Rattle.footing.specs.Fitting.{isSibling}
 use Rattle.footing.proofs.KeepLaws.{beside-needing, beside-added, beside-held, beside-idle, isThere, beside-missing, beside-other, beside-levels}
@@ -66,7 +66,7 @@ enum-known-op c = search needs
 returns : tie.Need-returns
 returns c =
     let was = c .before .before .args in
-    beside-idle (was .op) (was .k) (pageAt (was .k) (was .words .now)) (reverse (pathOf (was .slot))) (besideOf (was .slot)) (was .slot .want)
+    beside-idle (was .k) (pageAt (was .k) (was .words .now)) (standOf (was .op) (was .slot)) (reverse (pathOf (was .slot)))
     (no-deletion (was .op) (c .match .keys2))
 
 sub-look-of : tie.Need-sub-look-of
