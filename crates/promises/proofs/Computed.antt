@@ -32,6 +32,7 @@ use Rattle.promises.specs.MoreRows.{more}
 use Rattle.promises.specs.LongRun.{again, longRows}
 use Rattle.promises.specs.NextRows.{nextRows}
 use Rattle.promises.specs.RegradeRows.{regradeRows}
+use Rattle.promises.specs.WideRows.{wideRows}
 
 -- Everything that a call unfolds to: who unfolds this unfolds all of it.
 calls : Unit {0}
@@ -103,3 +104,7 @@ next-holds = agree-holds nextRows refl
 pub regrade-holds : RowsHold regradeRows
 unfolding calls same sames agree
 regrade-holds = agree-holds regradeRows refl
+
+pub wide-holds : RowsHold wideRows
+unfolding calls same sames agree
+wide-holds = agree-holds wideRows refl

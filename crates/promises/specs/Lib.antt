@@ -6,4 +6,5 @@ pub mod MoreRows
 pub mod LongRun
 pub mod NextRows
 pub mod RegradeRows
+pub mod WideRows
 pub mod Regrading

@@ -6,12 +6,13 @@ use std::vec::IntoIter;
 use twin::{begin, make, page_words, report, step, Answer, Op, Slot, State};
 
 /// The proved tables; a name may be defined in another one than it is used in.
-const TABLES: [&str; 5] = [
+const TABLES: [&str; 6] = [
     include_str!("../../../crates/promises/specs/Bench.antt"),
     include_str!("../../../crates/promises/specs/MoreRows.antt"),
     include_str!("../../../crates/promises/specs/LongRun.antt"),
     include_str!("../../../crates/promises/specs/NextRows.antt"),
     include_str!("../../../crates/promises/specs/RegradeRows.antt"),
+    include_str!("../../../crates/promises/specs/WideRows.antt"),
 ];
 
 /// What an expression of a table stands for.
@@ -240,6 +241,20 @@ fn place(name: &str, arguments: &[Value]) -> Option<Value> {
             told.answers(calls);
             Value::Told(Box::new(told))
         }
+        ("wide", [n, words]) => {
+            let state = applied("idleState", &[Number(2), n.clone()]);
+            applied("ran", &[List(Vec::new()), state, words.clone()])
+        }
+        ("paged", [Number(page), new, old]) => {
+            let (at, mut all) = (*page as usize * page_words(2), numbers(old));
+            all[at..at + page_words(2)].copy_from_slice(&numbers(new));
+            words(&all)
+        }
+        ("did", [from, List(calls)]) => {
+            let mut told = told(from);
+            let heard = told.answers(calls);
+            List([heard, vec![words(&told.words)]].concat())
+        }
         ("pages", [from]) => List(told(from).words[..3 * 7].chunks(7).map(words).collect()),
         ("row", [List(given), List(said)]) => Value::Row(given.clone(), said.clone()),
         _ => return None,
@@ -290,7 +305,7 @@ fn numbers(value: &Value) -> Vec<u32> {
 
 #[test]
 fn every_row_is_heard() {
-    for (name, length) in [("nextRows", 40), ("regradeRows", 15)] {
+    for (name, length) in [("nextRows", 40), ("regradeRows", 15), ("wideRows", 29)] {
         let rows = list(&defined(name).expect("it is there"));
         assert_eq!(rows.len(), length, "{name}");
         for (at, row) in rows.into_iter().enumerate() {
