@@ -33,6 +33,7 @@ use Rattle.promises.specs.LongRun.{again, longRows}
 use Rattle.promises.specs.NextRows.{nextRows}
 use Rattle.promises.specs.RegradeRows.{regradeRows}
 use Rattle.promises.specs.WideRows.{wideRows}
+use Rattle.promises.specs.DamageRows.{damageRows}
 
 -- Everything that a call unfolds to: who unfolds this unfolds all of it.
 calls : Unit {0}
@@ -108,3 +109,7 @@ regrade-holds = agree-holds regradeRows refl
 pub wide-holds : RowsHold wideRows
 unfolding calls same sames agree
 wide-holds = agree-holds wideRows refl
+
+pub damage-holds : RowsHold damageRows
+unfolding calls same sames agree
+damage-holds = agree-holds damageRows refl

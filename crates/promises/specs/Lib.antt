@@ -7,4 +7,5 @@ pub mod LongRun
 pub mod NextRows
 pub mod RegradeRows
 pub mod WideRows
+pub mod DamageRows
 pub mod Regrading
