@@ -12,6 +12,8 @@ use Rattle.promises.specs.MoreRows.{more}
 use Rattle.promises.specs.LongRun.{again, longRows}
 use Rattle.promises.specs.NextRows.{nextRows}
 use Rattle.promises.specs.RegradeRows.{regradeRows}
+use Rattle.promises.specs.WideRows.{wideRows}
+use Rattle.promises.specs.DamageRows.{damageRows}
 
 -- Everything that a run unfolds to: who unfolds this unfolds all of it.
 calls : Unit {0}
@@ -83,3 +85,11 @@ next-holds = agree-holds nextRows refl
 pub regrade-holds : RowsHold regradeRows
 unfolding calls same sames agree
 regrade-holds = agree-holds regradeRows refl
+
+pub wide-holds : RowsHold wideRows
+unfolding calls same sames agree
+wide-holds = agree-holds wideRows refl
+
+pub damage-holds : RowsHold damageRows
+unfolding calls same sames agree
+damage-holds = agree-holds damageRows refl

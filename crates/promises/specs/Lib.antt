@@ -6,4 +6,6 @@ pub mod MoreRows
 pub mod LongRun
 pub mod NextRows
 pub mod RegradeRows
+pub mod WideRows
+pub mod DamageRows
 pub mod Regrading

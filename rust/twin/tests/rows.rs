@@ -6,12 +6,14 @@ use std::vec::IntoIter;
 use twin::{begin, make, page_words, report, step, Answer, Op, Slot, State};
 
 /// The proved tables; a name may be defined in another one than it is used in.
-const TABLES: [&str; 5] = [
+const TABLES: [&str; 7] = [
     include_str!("../../../crates/promises/specs/Bench.antt"),
     include_str!("../../../crates/promises/specs/MoreRows.antt"),
     include_str!("../../../crates/promises/specs/LongRun.antt"),
     include_str!("../../../crates/promises/specs/NextRows.antt"),
     include_str!("../../../crates/promises/specs/RegradeRows.antt"),
+    include_str!("../../../crates/promises/specs/WideRows.antt"),
+    include_str!("../../../crates/promises/specs/DamageRows.antt"),
 ];
 
 /// What an expression of a table stands for.
@@ -168,6 +170,7 @@ fn answer(name: &str, arguments: &[Value]) -> Option<Value> {
         ("NotFound", []) => Answer::NotFound,
         ("Inserted", []) => Answer::Inserted,
         ("NoSuchKey", []) => Answer::NoSuchKey,
+        ("NoRoom", []) => Answer::NoRoom,
         ("NoLot", []) => Answer::None,
         ("Damaged", []) => Answer::Damaged,
         ("BadState", []) => Answer::BadState,
@@ -226,12 +229,24 @@ fn place(name: &str, arguments: &[Value]) -> Option<Value> {
             told.answers(calls);
             Value::Told(Box::new(told))
         }
-        ("nextSlot", [n, want, path, second]) => {
-            let next = Value::Op(Op::Next(25));
-            let slot = [n, &next, want, path, second].map(Value::clone);
-            let state = applied("slotOpen", &slot);
-            applied("ran", &[List(Vec::new()), state, read("tensWords")])
+        ("nextSlot", [Number(n), want, path, second]) => {
+            let operation = Value::Op(Op::Next(25));
+            open_in(*n, operation, [want, path, second], read("tensWords"))
         }
+        ("inserting", [want, path, beside]) => {
+            let operation = Value::Op(Op::Insert(65, 7));
+            open_in(11, operation, [want, path, beside], read("toSixty"))
+        }
+        ("deleting", [want, path, beside]) => {
+            let operation = Value::Op(Op::Delete(10));
+            open_in(7, operation, [want, path, beside], read("tensWords"))
+        }
+        ("lookedAt", [operation, path, beside]) => {
+            let held = [&Number(19), path, beside];
+            let from = open_in(20, operation.clone(), held, List(Vec::new()));
+            applied("answers", &[from, read("report 18 ∷ []")])
+        }
+        ("once", [from]) => applied("answers", &[from.clone(), read("step 0 ∷ []")]),
         ("damaged", [from, Number(at), Number(word)]) => with_words(from, *at, &[*word]),
         ("withPage", [from, Number(page), words]) => with_words(from, page * 7, &numbers(words)),
         ("answers", [from, List(calls)]) => List(told(from).answers(calls)),
@@ -240,10 +255,37 @@ fn place(name: &str, arguments: &[Value]) -> Option<Value> {
             told.answers(calls);
             Value::Told(Box::new(told))
         }
+        ("wide", [n, words]) => {
+            let state = applied("idleState", &[Number(2), n.clone()]);
+            applied("ran", &[List(Vec::new()), state, words.clone()])
+        }
+        ("paged", [Number(page), new, old]) => {
+            let (at, mut all) = (*page as usize * page_words(2), numbers(old));
+            all[at..at + page_words(2)].copy_from_slice(&numbers(new));
+            words(&all)
+        }
+        ("did", [from, List(calls)]) => {
+            let mut told = told(from);
+            let heard = told.answers(calls);
+            List([heard, vec![words(&told.words)]].concat())
+        }
         ("pages", [from]) => List(told(from).words[..3 * 7].chunks(7).map(words).collect()),
         ("row", [List(given), List(said)]) => Value::Row(given.clone(), said.clone()),
         _ => return None,
     })
+}
+
+/// A pool of n pages in which slot 0 alone is open, with its want, its path and what stands beside it.
+fn open_in(n: u32, operation: Value, [want, path, beside]: [&Value; 3], words: Value) -> Value {
+    let slot = [
+        Number(n),
+        operation,
+        want.clone(),
+        path.clone(),
+        beside.clone(),
+    ];
+    let state = applied("slotOpen", &slot);
+    applied("ran", &[List(Vec::new()), state, words])
 }
 
 /// A state whose slot 0 alone is open. It may be said to hold more than its cells can name.
@@ -290,7 +332,12 @@ fn numbers(value: &Value) -> Vec<u32> {
 
 #[test]
 fn every_row_is_heard() {
-    for (name, length) in [("nextRows", 40), ("regradeRows", 15)] {
+    for (name, length) in [
+        ("nextRows", 40),
+        ("regradeRows", 15),
+        ("wideRows", 29),
+        ("damageRows", 57),
+    ] {
         let rows = list(&defined(name).expect("it is there"));
         assert_eq!(rows.len(), length, "{name}");
         for (at, row) in rows.into_iter().enumerate() {
