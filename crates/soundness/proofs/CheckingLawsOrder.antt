@@ -1,11 +1,11 @@
 -- Laws for the test of the waiting order: the open slots that the order has not named yet are kept as marks. A slot that
 -- has no mark when it is named is closed or was named before. As many slots are open as wait, so in the end no mark is left.
-use Prim.Native.Nat.{ℕ, _+_, _≤_, _<_}
+use Prim.Native.Nat.{ℕ, zero, suc, _+_, _≤_, _<_}
 use mathlib.Core.Bool.{Bool, true, false, not, _&&_, _||_, and-true, or-false}
 use mathlib.Core.List.{List, [], _∷_}
 use mathlib.Core.Logic.{⊎-elim}
 use mathlib.Core.Path.{_≡_, refl, sym, ap, _∙_, subst}
-use native.Mathlib.Nat.{le-antisymm}
+use native.Mathlib.Nat.{le-antisymm, not-suc-le-zero}
 use native.Mathlib.Decide.{ℕ-discrete}
 use native.Mathlib.Omega.{arith}
 use native.Mathlib.Numerals.{add-one}
@@ -15,11 +15,21 @@ use lib.ListN.{length, getD, take, set}
 use lib.Seq.{length-take-le, getD-set-same, getD-set-other}
 use Rattle.ground.specs.Limits.{slotCount}
 use Rattle.ground.specs.Tests.{all, allBelow, member, distinct, countBelow}
-use Rattle.ground.proofs.Bools.{and-both, and-first, and-second, and-first-fails, and-second-fails, and-fails, or-second, not-of-true, not-of-false, false-if-not-true}
-use Rattle.ground.proofs.Tests.{all-none, member-none, member-here, member-more, distinct-none, allBelow-at, allBelow-from, countBelow-same, countBelow-less, countBelow-fails, below-or-at}
+use Rattle.ground.proofs.Bools.{and-both, and-first, and-second, and-first-fails, and-second-fails, and-fails, or-second, not-of-true, not-of-false, false-if-not-true, true-or-false, not-both}
+use Rattle.ground.proofs.Tests.{all-none, member-none, member-here, member-more, distinct-none, allBelow-at, allBelow-from, countBelow-same, countBelow-less, countBelow-fails, countBelow-passes, countBelow-skips, below-or-at}
 use Rattle.soundness.specs.Checking.{namesEach}
-use Rattle.soundness.proofs.ReportLaws.{counted-some}
 use Rattle.soundness.proofs.CheckingLaws.{all-on, all-stop, differ-on, differ-stop}
+
+-- where one passes, the count is not 0
+counted-some : (p : ℕ → Bool) (n i : ℕ) → i < n → p i ≡ true → 0 < countBelow n p
+counted-some p zero i h t = absurd (not-suc-le-zero h)
+counted-some p (suc n) i h t =
+    ⊎-elim
+    (λ q. omega (arith, countBelow-passes p n q))
+    (λ q.
+    let below : i < n = below-or-at (λ (j : ℕ). p j ≡ true → j < n) h (λ l _. l) (λ r. not-both r q) t in
+    omega (arith, countBelow-skips p n q, counted-some p n i below t))
+    (true-or-false (p n))
 
 -- the first i cells of the order name open slots, none twice, and the marks are those of the other open slots
 pub record Naming (busy unnamed : List Bool) (order : List ℕ) (i : ℕ) : Type 0 where
