@@ -13,7 +13,7 @@ ghost use mathlib.Core.Bool.{cond};
 ghost use lib.Dec.{ltb};
 ghost use Rattle.ground.specs.Limits.{slotCount};
 ghost use Rattle.slots.specs.declared.Lock;
-ghost use Rattle.slots.specs.Locks.{lockAt};
+ghost use Rattle.slots.specs.Locks.{lockHeldAt};
 ghost use Rattle.slots.specs.Report.{holdersMask};
 ghost use Rattle.lent.specs.Words.{asRead};
 ghost use Rattle.lent.specs.Holds.{WithinRows};
@@ -35,9 +35,9 @@ pub fn holders(cells: &[u32; STATE], p: u32) -> u16
     mask
 }
 
-// The kind of lock that slot s uses, none behind the last slot.
-pub fn lock_at(cells: &[u32; STATE], s: u32) -> Lock
-    ensures { λ r. ⌜ r ≡ cond (ltb s slotCount) (lockAt (asRead (now (cells .entry))) s) Lock.None ⌝ }
+// The kind of lock under which slot s holds page p, none behind the last slot. Today it is one for all its pages.
+pub fn lock_at(cells: &[u32; STATE], s: u32, p: u32) -> Lock
+    ensures { λ r. ⌜ r ≡ cond (ltb s slotCount) (lockHeldAt (asRead (now (cells .entry))) s p) Lock.None ⌝ }
 {
     let at = s as usize;
     if SLOTS <= at {
@@ -59,5 +59,5 @@ pub fn report(state: &[u32; STATE], p: u32) -> Answer
     let mask = holders(state, p);
     let count = u16::count_ones(mask);
     let lowest = u16::trailing_zeros(mask);
-    Answer::Reported(lock_at(state, lowest), count, lowest)
+    Answer::Reported(lock_at(state, lowest, p), count, lowest)
 }

@@ -19,12 +19,12 @@ use Rattle.slots.specs.declared.Task.the-variants.{Open}
 use Rattle.slots.specs.declared.Lock.{Lock}
 use Rattle.slots.specs.declared.Lock.the-variants.{None, Rho, Xi}
 use Rattle.slots.specs.declared.Slot.{Slot}
-use Rattle.slots.specs.Parts.{isOpen, held, pathOf, besideOf, openAt, wantAt, holdsAt, waitingOrder}
-use Rattle.slots.specs.Locks.{lockOf, lockAt, clash}
+use Rattle.slots.specs.Parts.{isOpen, held, pathOf, besideOf, slotAt, openAt, holdsAt, waitingOrder}
+use Rattle.slots.specs.Locks.{lockOf, lockHeldAt, lockWantedAt, clash, noClashOn}
 use Rattle.slots.specs.Grant.{clashingWant, noClash, noOlder}
 use Rattle.slots.proofs.HoldingLaws.{noOlderFrom, older-end, older-here, older-stops, older-more, order-names}
 use Rattle.lent.specs.Words.{cell, column, highestKind, taskFrom, slotIn, orderIn, asRead, known}
-use Rattle.lent.specs.Holds.{WithinRows, OpenOrder, updatesKind, clashesKind, counts, otherHolds, topHolds, isDeep, deepHolds, othersHold, alsoWants}
+use Rattle.lent.specs.Holds.{WithinRows, OpenOrder, kindLock, lockHeldIn, lockWantedIn, lockNamed, numbersClash, counts, otherHolds, topHolds, isDeep, deepHolds, othersHold, alsoWants}
 use Rattle.lent.proofs.StateLaws.{slot-read, length-column, column-cell, length-order, order-cell}
 
 -- ---- some number below a bound
@@ -103,60 +103,60 @@ joins true false true m f g = refl
 joins true true false m f g = f refl
 joins true false false m f g = f refl
 
-module _ (ws : List ℕ) (s : ℕ) (any : Bool) (p : ℕ) where
-  top-or-deep : (t : ℕ) → topHolds ws s any p t || deepHolds ws s any p t ≡ otherHolds ws s any p t
+module _ (ws : List ℕ) (s : ℕ) (lock : ℕ) (p : ℕ) where
+  top-or-deep : (t : ℕ) → topHolds ws s lock p t || deepHolds ws s lock p t ≡ otherHolds ws s lock p t
   unfolding pathOf besideOf
   top-or-deep t =
       let path : List ℕ = column ws 6 t in
       let siblings : List ℕ = column ws 16 t in
       let first : getD path 0 0 ≡ cell ws 6 t = column-cell ws 6 t 0 (omega arith) in
-      joins (counts ws s any t) (ltb 0 (cell ws 4 t) && eqb p (cell ws 6 t)) (isDeep ws t) (member p (held (slotIn ws t)))
+      joins (counts ws s lock p t) (ltb 0 (cell ws 4 t) && eqb p (cell ws 6 t)) (isDeep ws t) (member p (held (slotIn ws t)))
       (λ e. ap (λ (x : ℕ). ltb 0 (cell ws 4 t) && eqb p x) (sym first)
       ∙ shallow p (cell ws 4 t) (cell ws 5 t) path siblings (length-column ws 6 t) e)
       (λ e. top-held p (cell ws 4 t) path (take (cell ws 5 t) siblings) (length-column ws 6 t)
       (ap (λ (x : ℕ). ltb 0 (cell ws 4 t) && eqb p x) first ∙ e))
 
-  both-ways : anyBelow 16 (topHolds ws s any p) || anyBelow 16 (deepHolds ws s any p) ≡ othersHold ws s any p
+  both-ways : anyBelow 16 (topHolds ws s lock p) || anyBelow 16 (deepHolds ws s lock p) ≡ othersHold ws s lock p
   unfolding othersHold
-  both-ways = any-or (topHolds ws s any p) (deepHolds ws s any p) 16 ∙ anyBelow-same _ _ 16 (λ t _. top-or-deep t)
+  both-ways = any-or (topHolds ws s lock p) (deepHolds ws s lock p) 16 ∙ anyBelow-same _ _ 16 (λ t _. top-or-deep t)
 
-  pub others-top : {r : Bool} → r ≡ anyBelow 16 (topHolds ws s any p) → r ≡ true → true ≡ othersHold ws s any p
-  others-top e t = sym (sym both-ways ∙ or-first (anyBelow 16 (deepHolds ws s any p)) (sym e ∙ t))
+  pub others-top : {r : Bool} → r ≡ anyBelow 16 (topHolds ws s lock p) → r ≡ true → true ≡ othersHold ws s lock p
+  others-top e t = sym (sym both-ways ∙ or-first (anyBelow 16 (deepHolds ws s lock p)) (sym e ∙ t))
 
-  pub others-deep : {r q : Bool} → r ≡ anyBelow 16 (topHolds ws s any p) → r ≡ false → q ≡ anyBelow 16 (deepHolds ws s any p) → q ≡ othersHold ws s any p
-  others-deep e f d = d ∙ sym (ap (λ (b : Bool). b || anyBelow 16 (deepHolds ws s any p)) (sym e ∙ f)) ∙ both-ways
+  pub others-deep : {r q : Bool} → r ≡ anyBelow 16 (topHolds ws s lock p) → r ≡ false → q ≡ anyBelow 16 (deepHolds ws s lock p) → q ≡ othersHold ws s lock p
+  others-deep e f d = d ∙ sym (ap (λ (b : Bool). b || anyBelow 16 (deepHolds ws s lock p)) (sym e ∙ f)) ∙ both-ways
 
   -- where no slot holds more than one page
-  pub others-shallow : {r q : Bool} → r ≡ anyBelow 16 (topHolds ws s any p) → r ≡ false → q ≡ anyBelow 16 (isDeep ws) → q ≡ false → false ≡ othersHold ws s any p
+  pub others-shallow : {r q : Bool} → r ≡ anyBelow 16 (topHolds ws s lock p) → r ≡ false → q ≡ anyBelow 16 (isDeep ws) → q ≡ false → false ≡ othersHold ws s lock p
   others-shallow e f d n =
       others-deep e f
-      (sym (anyBelow-fails (deepHolds ws s any p) 16
-      (λ t b. and-first-fails (member p (held (slotIn ws t))) (and-second-fails (counts ws s any t) (anyBelow-false-at (isDeep ws) 16 (sym d ∙ n) t b)))))
+      (sym (anyBelow-fails (deepHolds ws s lock p) 16
+      (λ t b. and-first-fails (member p (held (slotIn ws t))) (and-second-fails (counts ws s lock p t) (anyBelow-false-at (isDeep ws) 16 (sym d ∙ n) t b)))))
 
   -- a slot that holds more than one page, by its tests
   module _ (t : ℕ) where
-    pub deep-not : isDeep ws t ≡ false → false ≡ deepHolds ws s any p t
-    deep-not e = sym (and-first-fails (member p (held (slotIn ws t))) (and-second-fails (counts ws s any t) e))
+    pub deep-not : isDeep ws t ≡ false → false ≡ deepHolds ws s lock p t
+    deep-not e = sym (and-first-fails (member p (held (slotIn ws t))) (and-second-fails (counts ws s lock p t) e))
 
-    pub deep-own : t ≡ s → false ≡ deepHolds ws s any p t
+    pub deep-own : t ≡ s → false ≡ deepHolds ws s lock p t
     deep-own e =
         sym
         (and-first-fails (member p (held (slotIn ws t)))
-        (and-first-fails (isDeep ws t) (and-first-fails (clashesKind any (cell ws 0 t)) (not-of-true (eq-eqb t s e)))))
+        (and-first-fails (isDeep ws t) (and-first-fails (numbersClash (lockHeldIn ws t p) lock) (not-of-true (eq-eqb t s e)))))
 
-    -- whether its lock counts, as found
-    module _ {found : Bool} (said : found ≡ clashesKind any (cell ws 0 t)) where
-      pub deep-passed : found ≡ false → false ≡ deepHolds ws s any p t
+    -- whether its lock clashes, as found
+    module _ {found : Bool} (said : found ≡ numbersClash (lockHeldIn ws t p) lock) where
+      pub deep-passed : found ≡ false → false ≡ deepHolds ws s lock p t
       deep-passed f =
           sym
           (and-first-fails (member p (held (slotIn ws t)))
           (and-first-fails (isDeep ws t) (and-second-fails (not (eqb t s)) (sym said ∙ f))))
 
-      pub deep-is : {b : Bool} → isDeep ws t ≡ true → eqb t s ≡ false → found ≡ true → b ≡ member p (held (slotIn ws t)) → b ≡ deepHolds ws s any p t
+      pub deep-is : {b : Bool} → isDeep ws t ≡ true → eqb t s ≡ false → found ≡ true → b ≡ member p (held (slotIn ws t)) → b ≡ deepHolds ws s lock p t
       deep-is d n c e =
           e
           ∙ sym
-          (ap (λ (x : Bool). not x && clashesKind any (cell ws 0 t) && isDeep ws t && member p (held (slotIn ws t))) n
+          (ap (λ (x : Bool). not x && numbersClash (lockHeldIn ws t p) lock && isDeep ws t && member p (held (slotIn ws t))) n
           ∙ ap₂ (λ (x y : Bool). x && y && member p (held (slotIn ws t))) (sym said ∙ c) d)
 
 -- ---- locks by kind
@@ -182,24 +182,19 @@ kind-if-open (suc kind) key information e = omega arith
 pub kind-of-open : (kind key information : ℕ) {op : Op} → taskFrom kind key information ≡ Open op → 0 < kind
 kind-of-open kind key information e = kind-if-open kind key information (ap isOpen e)
 
--- the lock of an open slot, and of any
-abbrev openLock : Bool → Lock
-openLock xi = cond xi Xi Rho
+-- the lock of a slot by its kind: none if it is closed
+abbrev kindsLock : ℕ → Lock
+kindsLock kind = cond (eqb kind 0) None (lockNamed (kindLock kind))
 
-abbrev kindLock : ℕ → Lock
-kindLock kind = cond (eqb kind 0) None (openLock (updatesKind kind))
+lock-kind : (key information kind : ℕ) → kind ≤ highestKind → lockOf (taskFrom kind key information) ≡ kindsLock kind
+lock-kind key information = by-kind (λ (k : ℕ). lockOf (taskFrom k key information) ≡ kindsLock k) refl refl refl refl refl refl
 
-lock-kind : (key information kind : ℕ) → kind ≤ highestKind → lockOf (taskFrom kind key information) ≡ kindLock kind
-lock-kind key information = by-kind (λ (k : ℕ). lockOf (taskFrom k key information) ≡ kindLock k) refl refl refl refl refl refl
-
--- it clashes with that of an open slot if one of the two is ξ
-clash-open : (shut a b : Bool) → clash (cond shut None (openLock a)) (openLock b) ≡ not shut && (b || a)
-clash-open true a true = refl
-clash-open true a false = refl
-clash-open false true true = refl
-clash-open false true false = refl
-clash-open false false true = refl
-clash-open false false false = refl
+-- what is not there clashes with nothing
+clash-there : (shut : Bool) (a b : Lock) → clash (cond shut None a) b ≡ not shut && clash a b
+clash-there true a None = refl
+clash-there true a Rho = refl
+clash-there true a Xi = refl
+clash-there false a b = refl
 
 -- a slot that is closed has no lock, and holds nothing
 swap : (own shut c m : Bool) → (shut ≡ true → m ≡ false) → own || not (m && (not shut && c)) ≡ not (not own && c && m)
@@ -213,39 +208,50 @@ swap false false true false none = refl
 swap false false false true none = refl
 swap false false false false none = refl
 
--- so by the kinds of two slots, of which the second is open: what a held lock and an older want are both asked
-module _ (ws : List ℕ) (s : ℕ) (e : known ws ≡ true) (h : s < 16) (opened : 0 < cell ws 0 s) where
-  kind-at : (t : ℕ) → t < 16 → lockAt (asRead ws) t ≡ kindLock (cell ws 0 t)
-  kind-at t b = ap (λ (x : Slot). lockOf (x .task)) (slot-read ws t b) ∙ lock-kind (cell ws 1 t) (cell ws 2 t) (cell ws 0 t) (kind-known ws e t b)
+module _ (ws : List ℕ) (e : known ws ≡ true) (t : ℕ) (b : t < 16) where
+  -- the locks of slot t, by its kind
+  task-lock : lockOf (slotAt (asRead ws) t .task) ≡ kindsLock (cell ws 0 t)
+  task-lock = ap (λ (x : Slot). lockOf (x .task)) (slot-read ws t b) ∙ lock-kind (cell ws 1 t) (cell ws 2 t) (cell ws 0 t) (kind-known ws e t b)
 
-  clash-kinds : (t : ℕ) → t < 16 → clash (lockAt (asRead ws) t) (lockAt (asRead ws) s) ≡ not (eqb (cell ws 0 t) 0) && clashesKind (updatesKind (cell ws 0 s)) (cell ws 0 t)
-  clash-kinds t b =
-      ap₂ clash (kind-at t b) (kind-at s h ∙ cond-false None (openLock (updatesKind (cell ws 0 s))) (ne-eqb (cell ws 0 s) 0 (λ z. omega arith)))
-      ∙ clash-open (eqb (cell ws 0 t) 0) (updatesKind (cell ws 0 t)) (updatesKind (cell ws 0 s))
+  pub held-read : (p : ℕ) → lockHeldAt (asRead ws) t p ≡ cond (eqb (cell ws 0 t) 0) None (lockNamed (lockHeldIn ws t p))
+  held-read p = task-lock
 
--- no other slot holds a clashing lock on the page that an open slot wants
-module _ (ws : List ℕ) (s : ℕ) (e : known ws ≡ true) (h : s < 16) (short : WithinRows ws) (opened : 0 < cell ws 0 s) where
-  shut-holds : (t : ℕ) → t < 16 → eqb (cell ws 0 t) 0 ≡ true → member (cell ws 3 s) (held (slotIn ws t)) ≡ false
+  wanted-read : lockWantedAt (asRead ws) t ≡ cond (eqb (cell ws 0 t) 0) None (lockNamed (lockWantedIn ws t))
+  wanted-read = task-lock
+
+  -- an open slot wants with a lock
+  wanted-open : 0 < cell ws 0 t → lockWantedAt (asRead ws) t ≡ lockNamed (lockWantedIn ws t)
+  wanted-open o = wanted-read ∙ cond-false None (lockNamed (lockWantedIn ws t)) (ne-eqb (cell ws 0 t) 0 (λ z. omega arith))
+
+-- A page held against the locks of the other slots, by the rule and on the words.
+module _ (ws : List ℕ) (e : known ws ≡ true) (short : WithinRows ws) (s p lock : ℕ) where
+  shut-holds : (t : ℕ) → t < 16 → eqb (cell ws 0 t) 0 ≡ true → member p (held (slotIn ws t)) ≡ false
   unfolding pathOf besideOf
   shut-holds t b z =
       let none = short .closed t b (eqb-true (cell ws 0 t) 0 z) in
-      ap₂ (λ (d n : ℕ). member (cell ws 3 s) (take d (column ws 6 t) ++ take n (column ws 16 t))) (none .0) (none .1) ∙ member-none (cell ws 3 s)
+      ap₂ (λ (d n : ℕ). member p (take d (column ws 6 t) ++ take n (column ws 16 t))) (none .0) (none .1) ∙ member-none p
 
-  each : (t : ℕ) → t < 16
-      → not (otherHolds ws s (updatesKind (cell ws 0 s)) (cell ws 3 s) t) ≡ eqb t s || not (holdsAt (asRead ws) t (wantAt (asRead ws) s) && clash (lockAt (asRead ws) t) (lockAt (asRead ws) s))
+  each : (t : ℕ) → t < 16 → eqb t s || not (holdsAt (asRead ws) t p && clash (lockHeldAt (asRead ws) t p) (lockNamed lock)) ≡ not (otherHolds ws s lock p t)
   each t b =
-      let m : Bool = member (cell ws 3 s) (held (slotIn ws t)) in
-      sym
-      (ap₂ (λ (x y : Slot). eqb t s || not (member (y .want) (held x) && clash (lockAt (asRead ws) t) (lockAt (asRead ws) s))) (slot-read ws t b) (slot-read ws s h)
-      ∙ ap (λ (c : Bool). eqb t s || not (m && c)) (clash-kinds ws s e h opened t b)
-      ∙ swap (eqb t s) (eqb (cell ws 0 t) 0) (clashesKind (updatesKind (cell ws 0 s)) (cell ws 0 t)) m (shut-holds t b))
+      let shut : Bool = eqb (cell ws 0 t) 0 in
+      ap₂ (λ (x : Slot) (l : Lock). eqb t s || not (member p (held x) && clash l (lockNamed lock))) (slot-read ws t b) (held-read ws e t b p)
+      ∙ ap (λ (c : Bool). eqb t s || not (member p (held (slotIn ws t)) && c)) (clash-there shut (lockNamed (lockHeldIn ws t p)) (lockNamed lock))
+      ∙ swap (eqb t s) shut (numbersClash (lockHeldIn ws t p) lock) (member p (held (slotIn ws t))) (shut-holds t b)
 
-  pub no-clash-words : {any : Bool} {want : ℕ} {r : Bool} → any ≡ updatesKind (cell ws 0 s) → want ≡ cell ws 3 s → r ≡ othersHold ws s any want → not r ≡ noClash (asRead ws) s
-  unfolding noClash slotCount othersHold
-  no-clash-words {any} {want} {r} a w said =
-      ap not (said ∙ ap₂ (λ (x : Bool) (y : ℕ). othersHold ws s x y) a w)
-      ∙ sym (any-not (otherHolds ws s (updatesKind (cell ws 0 s)) (cell ws 3 s)) 16)
-      ∙ allBelow-same _ _ 16 each
+  pub others-words : noClashOn (asRead ws) s p (lockNamed lock) ≡ not (othersHold ws s lock p)
+  unfolding slotCount othersHold
+  others-words = allBelow-same _ _ 16 each ∙ any-not (otherHolds ws s lock p) 16
+
+-- so of the page that an open slot wants
+pub no-clash-words : (ws : List ℕ) (s : ℕ) → known ws ≡ true → s < 16 → WithinRows ws → 0 < cell ws 0 s
+    → {lock want : ℕ} {r : Bool} → lock ≡ lockWantedIn ws s → want ≡ cell ws 3 s → r ≡ othersHold ws s lock want → not r ≡ noClash (asRead ws) s
+unfolding noClash
+no-clash-words ws s e h short opened {lock} {want} a w said =
+    ap not said
+    ∙ sym (others-words ws e short s want lock)
+    ∙ ap₂ (λ (p : ℕ) (l : Lock). noClashOn (asRead ws) s p l)
+    (w ∙ sym (ap (λ (x : Slot). x .want) (slot-read ws s h)))
+    (ap lockNamed a ∙ sym (wanted-open ws e s h opened))
 
 -- ---- the walk over older wants, on the words
 
@@ -259,13 +265,11 @@ module _ (ws : List ℕ) (s : ℕ) (long : length ws ≡ 435) (inside : s < 16) 
   cells = length-order ws long
 
   -- an open slot wants the page that slot s wants, with a clashing lock
-  want-words : (t : ℕ) → t < 16 → openAt (asRead ws) t ≡ true → clashingWant (asRead ws) s t ≡ alsoWants ws (updatesKind (cell ws 0 s)) (cell ws 3 s) t
+  want-words : (t : ℕ) → t < 16 → openAt (asRead ws) t ≡ true → clashingWant (asRead ws) s t ≡ alsoWants ws (lockWantedIn ws s) (cell ws 3 s) t
   want-words t b o =
       let some : 0 < cell ws 0 t = kind-if-open (cell ws 0 t) (cell ws 1 t) (cell ws 2 t) (ap (λ (x : Slot). isOpen (x .task)) (sym (slot-read ws t b)) ∙ o) in
-      let c : Bool = clashesKind (updatesKind (cell ws 0 s)) (cell ws 0 t) in
-      ap₂ (λ (x y : Slot). eqb (x .want) (y .want) && clash (lockAt (asRead ws) t) (lockAt (asRead ws) s)) (slot-read ws t b) (slot-read ws s inside)
-      ∙ ap (λ (w : Bool). eqb (cell ws 3 t) (cell ws 3 s) && w)
-      (clash-kinds ws s e inside opened t b ∙ ap (λ (z : Bool). not z && c) (ne-eqb (cell ws 0 t) 0 (λ z. omega arith)))
+      ap₂ (λ (x y : Slot). eqb (x .want) (y .want) && clash (lockWantedAt (asRead ws) t) (lockWantedAt (asRead ws) s)) (slot-read ws t b) (slot-read ws s inside)
+      ∙ ap₂ (λ (x y : Lock). eqb (cell ws 3 t) (cell ws 3 s) && clash x y) (wanted-open ws e t b some) (wanted-open ws e s inside opened)
 
   -- behind the last that waits
   pub walk-end : {i : ℕ} → noOlder (asRead ws) s ≡ noOlderFrom (asRead ws) s i → getD ws 2 0 ≤ i → true ≡ noOlder (asRead ws) s
@@ -287,12 +291,12 @@ module _ (ws : List ℕ) (s : ℕ) (long : length ws ≡ 435) (inside : s < 16) 
     walk-own q = sym (so-far ∙ older-here (asRead ws) s i cells few here (place ∙ q))
 
     -- another slot, with what was found of its want
-    module _ (other : t ≡ s → ⊥) {any found : Bool} {want : ℕ} (own : any ≡ updatesKind (cell ws 0 s)) (wanted : want ≡ cell ws 3 s) (said : found ≡ alsoWants ws any want t) where
+    module _ (other : t ≡ s → ⊥) {found : Bool} {lock want : ℕ} (own : lock ≡ lockWantedIn ws s) (wanted : want ≡ cell ws 3 s) (said : found ≡ alsoWants ws lock want t) where
       is-found : clashingWant (asRead ws) s (getD (orderIn ws) i 0) ≡ found
       is-found =
           ap (clashingWant (asRead ws) s) place
           ∙ want-words t walk-slot (waits .opened t named)
-          ∙ ap₂ (λ (a : Bool) (w : ℕ). alsoWants ws a w t) (sym own) (sym wanted)
+          ∙ ap₂ (λ (a w : ℕ). alsoWants ws a w t) (sym own) (sym wanted)
           ∙ sym said
 
       pub walk-older : found ≡ true → false ≡ noOlder (asRead ws) s

@@ -1,13 +1,17 @@
 -- Which other slots hold a page, or want it: what the test of a grant and the test of a sound state look for, on the words.
 use Prim.Native.Nat.{ℕ, _≤_, _<_}
-use mathlib.Core.Bool.{Bool, true, not, _&&_, _||_}
+use mathlib.Core.Bool.{Bool, true, cond, not, _&&_, _||_}
 use mathlib.Core.Path.{_≡_}
 use mathlib.Core.List.{List}
 use lib.Dec.{eqb, ltb}
 use lib.ListN.{getD}
 use Rattle.ground.specs.Limits.{slotCount}
 use Rattle.ground.specs.Tests.{anyBelow, member}
+use Rattle.slots.specs.declared.Lock.{Lock}
+use Rattle.slots.specs.declared.Lock.the-variants.{Rho, Xi}
 use Rattle.slots.specs.Parts.{held, openAt, waitingOrder}
+use Rattle.slots.specs.Locks.{clash}
+use Rattle.slots.specs.Heard.{lockNumber}
 use Rattle.lent.specs.Words.{cell, slotIn, asRead}
 
 -- no path is longer than its rows, nor are the pages beside it, and a closed slot holds nothing
@@ -26,34 +30,47 @@ pub record OpenOrder (ws : List ℕ) : Type 0 where
 abbrev pub updatesKind : ℕ → Bool
 updatesKind kind = eqb kind 2 || eqb kind 3 || eqb kind 5
 
--- "Two ρ on a page go together; ξ goes with nothing.": a lock of this kind clashes with an update's (any lock does), or with a reader's
--- (ξ alone does)
-abbrev pub clashesKind : Bool → ℕ → Bool
-clashesKind any kind = any || updatesKind kind
+-- Locks have the numbers of a report. The lock of an open slot of this kind (a closed one holds nothing):
+abbrev pub kindLock : ℕ → ℕ
+kindLock kind = cond (updatesKind kind) (lockNumber Xi) (lockNumber Rho)
 
--- slot t is another one than s, and its lock counts: any lock, or ξ alone
-abbrev pub counts : List ℕ → ℕ → Bool → ℕ → Bool
-counts ws s any t = not (eqb t s) && clashesKind any (cell ws 0 t)
+-- the lock under which slot t holds page p, and the one that it wants
+abbrev pub lockHeldIn : List ℕ → ℕ → ℕ → ℕ
+lockHeldIn ws t p = kindLock (cell ws 0 t)
+
+abbrev pub lockWantedIn : List ℕ → ℕ → ℕ
+lockWantedIn ws t = kindLock (cell ws 0 t)
+
+-- the lock of a number, and the rule's table of two numbers
+abbrev pub lockNamed : ℕ → Lock
+lockNamed number = cond (eqb number (lockNumber Xi)) Xi Rho
+
+abbrev pub numbersClash : ℕ → ℕ → Bool
+numbersClash held wanted = clash (lockNamed held) (lockNamed wanted)
+
+-- slot t is another one than s, and the lock under which it would hold page p clashes with this one
+abbrev pub counts : List ℕ → ℕ → ℕ → ℕ → ℕ → Bool
+counts ws s lock p t = not (eqb t s) && numbersClash (lockHeldIn ws t p) lock
 
 -- it holds page p
-abbrev pub otherHolds : List ℕ → ℕ → Bool → ℕ → ℕ → Bool
-otherHolds ws s any p t = counts ws s any t && member p (held (slotIn ws t))
+abbrev pub otherHolds : List ℕ → ℕ → ℕ → ℕ → ℕ → Bool
+otherHolds ws s lock p t = counts ws s lock p t && member p (held (slotIn ws t))
 
 -- it holds page p on top of its path
-abbrev pub topHolds : List ℕ → ℕ → Bool → ℕ → ℕ → Bool
-topHolds ws s any p t = counts ws s any t && (ltb 0 (cell ws 4 t) && eqb p (cell ws 6 t))
+abbrev pub topHolds : List ℕ → ℕ → ℕ → ℕ → ℕ → Bool
+topHolds ws s lock p t = counts ws s lock p t && (ltb 0 (cell ws 4 t) && eqb p (cell ws 6 t))
 
 -- it holds more than one page
 abbrev pub isDeep : List ℕ → ℕ → Bool
 isDeep ws t = ltb 1 (cell ws 4 t) || ltb 0 (cell ws 5 t)
 
-abbrev pub deepHolds : List ℕ → ℕ → Bool → ℕ → ℕ → Bool
-deepHolds ws s any p t = counts ws s any t && isDeep ws t && member p (held (slotIn ws t))
+abbrev pub deepHolds : List ℕ → ℕ → ℕ → ℕ → ℕ → Bool
+deepHolds ws s lock p t = counts ws s lock p t && isDeep ws t && member p (held (slotIn ws t))
 
--- some slot other than s holds page p, under any lock or under ξ
-unfoldable pub othersHold : List ℕ → ℕ → Bool → ℕ → Bool
-othersHold ws s any p = anyBelow 16 (otherHolds ws s any p)
+-- some slot other than s holds page p under a lock that clashes with this one
+unfoldable pub othersHold : List ℕ → ℕ → ℕ → ℕ → Bool
+othersHold ws s lock p = anyBelow 16 (otherHolds ws s lock p)
 
--- slot t wants page p, and its lock counts
-abbrev pub alsoWants : List ℕ → Bool → ℕ → ℕ → Bool
-alsoWants ws any p t = eqb (cell ws 3 t) p && clashesKind any (cell ws 0 t)
+-- slot t wants page p, with a lock that clashes with this one
+abbrev pub alsoWants : List ℕ → ℕ → ℕ → ℕ → Bool
+alsoWants ws lock p t = eqb (cell ws 3 t) p && numbersClash (lockWantedIn ws t) lock

@@ -25,7 +25,12 @@ ghost use Rattle.ground.specs.Tests.{anyBelow, member};
 ghost use Rattle.slots.specs.Parts.{held};
 ghost use Rattle.slots.specs.Grant as rule;
 ghost use Rattle.lent.specs.Words.{cell, column, slotIn, asRead, known};
-ghost use Rattle.lent.specs.Holds.{WithinRows, OpenOrder, updatesKind, clashesKind, topHolds, deepHolds, isDeep, othersHold, alsoWants};
+ghost use Rattle.lent.specs.Holds.{WithinRows, OpenOrder, updatesKind, kindLock, numbersClash, topHolds, deepHolds, isDeep, othersHold, alsoWants};
+
+// The numbers of locks, as a report gives them.
+pub const RHO: u32 = 1;
+
+pub const XI: u32 = 2;
 
 // Page p stands in one of the first `count` rows from `row` on, of slot s.
 pub fn column_has(cells: &[u32; STATE], row: usize, count: usize, s: usize, p: u32) -> bool
@@ -62,25 +67,32 @@ pub fn is_update(kind: u32) -> bool
     ((kind / 2 % 2 == 1) | (kind == REGRADES)) & (kind <= HIGHEST_KIND)
 }
 
-// Two ρ on a page go together, ξ goes with nothing: with an update's lock any lock clashes, with a reader's ξ alone. Asked of held
-// locks and of older wants alike.
-pub fn clashes(any: bool, kind: u32) -> bool
-    ensures { λ r. ⌜ r ≡ clashesKind any kind ⌝ }
+// The number of the lock of an open slot of this kind: it holds each of its pages under it, and wants the next with it.
+pub fn kind_lock(kind: u32) -> u32
+    ensures { λ r. ⌜ r ≡ kindLock kind ⌝ }
 {
-    any | is_update(kind)
+    RHO + is_update(kind) as u32
 }
 
-// Slot t is another one than s, its lock counts (any lock, or ξ alone), and page p is the top of its path.
-pub fn is_top(t: u32, s: u32, any: bool, kind: u32, depth: u32, top: u32, p: u32) -> bool
-    ensures { λ r. ⌜ r ≡ (not (eqb t s) && clashesKind any kind) && (ltb 0 depth && eqb p top) ⌝ }
+// The table of two locks. Two ρ on a page go together, ξ goes with nothing. Asked of held locks and of older wants alike, and of every
+// two slots in the test of a sound state.
+pub fn clashes(held: u32, wanted: u32) -> bool
+    ensures { λ r. ⌜ r ≡ numbersClash held wanted ⌝ }
 {
-    (t != s) & clashes(any, kind) & ((0 < depth) & (p == top))
+    (held == XI) | (wanted == XI)
 }
 
-// Another slot than s, whose lock counts, has page p on top of its path.
-pub fn tops_hold(cells: &[u32; STATE], s: usize, any: bool, p: u32) -> bool
+// Slot t is another one than s, the lock under which it holds its pages clashes with this one, and page p is the top of its path.
+pub fn is_top(t: u32, s: u32, lock: u32, kind: u32, depth: u32, top: u32, p: u32) -> bool
+    ensures { λ r. ⌜ r ≡ (not (eqb t s) && numbersClash (kindLock kind) lock) && (ltb 0 depth && eqb p top) ⌝ }
+{
+    (t != s) & clashes(kind_lock(kind), lock) & ((0 < depth) & (p == top))
+}
+
+// Another slot than s has page p on top of its path, under a lock that clashes with this one.
+pub fn tops_hold(cells: &[u32; STATE], s: usize, lock: u32, p: u32) -> bool
     requires { ⌜ s < 16 ⌝ }
-    ensures { λ r. ⌜ r ≡ anyBelow 16 (topHolds (now (cells .entry)) s any p) ⌝ }
+    ensures { λ r. ⌜ r ≡ anyBelow 16 (topHolds (now (cells .entry)) s lock p) ⌝ }
 {
     let mut found = false;
     let mut t = 0;
@@ -89,7 +101,7 @@ pub fn tops_hold(cells: &[u32; STATE], s: usize, any: bool, p: u32) -> bool
             | is_top(
                 t as u32,
                 s as u32,
-                any,
+                lock,
                 kind_at(cells, t),
                 depth_at(cells, t),
                 top_at(cells, t),
@@ -121,10 +133,10 @@ pub fn some_deep(cells: &[u32; STATE]) -> bool
     found
 }
 
-// Slot t is another one than s, its lock counts, it holds more than one page, and page p is among them.
-pub fn deep_holds(cells: &[u32; STATE], s: usize, any: bool, p: u32, t: usize) -> bool
+// Slot t is another one than s, its lock clashes with this one, it holds more than one page, and page p is among them.
+pub fn deep_holds(cells: &[u32; STATE], s: usize, lock: u32, p: u32, t: usize) -> bool
     requires { ⌜ (t < 16) × WithinRows (now cells) ⌝ }
-    ensures { λ r. ⌜ r ≡ deepHolds (now (cells .entry)) s any p t ⌝ }
+    ensures { λ r. ⌜ r ≡ deepHolds (now (cells .entry)) s lock p t ⌝ }
 {
     if !is_deep(cells, t) {
         return false;
@@ -132,20 +144,20 @@ pub fn deep_holds(cells: &[u32; STATE], s: usize, any: bool, p: u32, t: usize) -
     if t == s {
         return false;
     }
-    if !clashes(any, kind_at(cells, t)) {
+    if !clashes(kind_lock(kind_at(cells, t)), lock) {
         return false;
     }
     holds_at(cells, t, p)
 }
 
 // Such a slot is there.
-pub fn some_deep_holds(cells: &[u32; STATE], s: usize, any: bool, p: u32) -> bool
+pub fn some_deep_holds(cells: &[u32; STATE], s: usize, lock: u32, p: u32) -> bool
     requires { ⌜ WithinRows (now cells) ⌝ }
-    ensures { λ r. ⌜ r ≡ anyBelow 16 (deepHolds (now (cells .entry)) s any p) ⌝ }
+    ensures { λ r. ⌜ r ≡ anyBelow 16 (deepHolds (now (cells .entry)) s lock p) ⌝ }
 {
     let mut t = 0;
     while t < SLOTS {
-        if deep_holds(cells, s, any, p, t) {
+        if deep_holds(cells, s, lock, p, t) {
             return true;
         }
         t += 1;
@@ -153,39 +165,38 @@ pub fn some_deep_holds(cells: &[u32; STATE], s: usize, any: bool, p: u32) -> boo
     false
 }
 
-// Another slot than s, whose lock counts, holds page p.
-pub fn others_hold(cells: &[u32; STATE], s: usize, any: bool, p: u32) -> bool
+// Another slot than s holds page p under a lock that clashes with this one.
+pub fn others_hold(cells: &[u32; STATE], s: usize, lock: u32, p: u32) -> bool
     requires { ⌜ (s < 16) × WithinRows (now cells) ⌝ }
-    ensures { λ r. ⌜ r ≡ othersHold (now (cells .entry)) s any p ⌝ }
+    ensures { λ r. ⌜ r ≡ othersHold (now (cells .entry)) s lock p ⌝ }
 {
-    if tops_hold(cells, s, any, p) {
+    if tops_hold(cells, s, lock, p) {
         return true;
     }
     if !some_deep(cells) {
         return false;
     }
-    some_deep_holds(cells, s, any, p)
+    some_deep_holds(cells, s, lock, p)
 }
 
-// No other slot holds a clashing lock on the page that slot s wants. Two ρ on a page go together, ξ goes with nothing: an
-// update asks for any lock, a reader for ξ. A closed slot has no lock, and holds no page either.
+// No other slot holds a clashing lock on the page that slot s wants. A closed slot has no lock, and holds no page either.
 pub fn no_clash(cells: &[u32; STATE], s: usize) -> bool
     requires { ⌜ (s < 16) × (known (now cells) ≡ true) × WithinRows (now cells) × (0 < cell (now cells) 0 s) ⌝ }
     ensures { λ r. ⌜ r ≡ rule.noClash (asRead (now (cells .entry))) s ⌝ }
 {
-    let any = is_update(kind_at(cells, s));
-    !others_hold(cells, s, any, want_at(cells, s))
+    let lock = kind_lock(kind_at(cells, s));
+    !others_hold(cells, s, lock, want_at(cells, s))
 }
 
-// Slot t wants page p, and its lock counts.
-pub fn also_wants(cells: &[u32; STATE], any: bool, p: u32, t: usize) -> bool
+// Slot t wants page p, with a lock that clashes with this one.
+pub fn also_wants(cells: &[u32; STATE], lock: u32, p: u32, t: usize) -> bool
     requires { ⌜ t < 16 ⌝ }
-    ensures { λ r. ⌜ r ≡ alsoWants (now (cells .entry)) any p t ⌝ }
+    ensures { λ r. ⌜ r ≡ alsoWants (now (cells .entry)) lock p t ⌝ }
 {
     if want_at(cells, t) != p {
         return false;
     }
-    clashes(any, kind_at(cells, t))
+    clashes(kind_lock(kind_at(cells, t)), lock)
 }
 
 // No older want clashes with that of slot s.
@@ -194,7 +205,7 @@ pub fn no_older(cells: &[u32; STATE], s: usize) -> bool
     ensures { λ r. ⌜ r ≡ rule.noOlder (asRead (now (cells .entry))) s ⌝ }
 {
     sized(cells);
-    let any = is_update(kind_at(cells, s));
+    let lock = kind_lock(kind_at(cells, s));
     let want = want_at(cells, s);
     let waiting = waiting_of(cells);
     let mut i = 0;
@@ -206,7 +217,7 @@ pub fn no_older(cells: &[u32; STATE], s: usize) -> bool
         if t == s {
             break true;
         }
-        if also_wants(cells, any, want, t) {
+        if also_wants(cells, lock, want, t) {
             break false;
         }
         i += 1;

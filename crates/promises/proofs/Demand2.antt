@@ -30,7 +30,7 @@ use Rattle.slots.specs.declared.Outcome.{Outcome}
 use Rattle.slots.specs.declared.Answer.{Answer}
 use Rattle.slots.specs.declared.Answer.the-variants.{Waiting, Moved, NoRoom, BadSlot, SlotIdle}
 use Rattle.slots.specs.Parts.{isDelete, isNext, goesBeside, isOpen, held, pathOf, besideOf, slotAt, openAt, wantAt, holdsAt, waitingOrder, openSlot, closedSlot, Opened}
-use Rattle.slots.specs.Locks.{lockOf, lockAt, clash}
+use Rattle.slots.specs.Locks.{lockOf, clash}
 use Rattle.slots.specs.Sound.{withinLimits}
 use Rattle.slots.specs.Heard.{numberOf, changesNothing, isOneOf, countedAnswers, ending}
 use Rattle.slots.specs.Report.{reported}
@@ -87,6 +87,12 @@ clashes-so op op′ (excludes e never) (excludes f _) = ((λ c. not-both (ap₂ 
 
 clashes-is : (op op′ : Op) → Exactly (clash (lockOf (Open op)) (lockOf (Open op′)) ≡ false) (Reader op × Reader op′)
 clashes-is op op′ = clashes-so op op′ (lock-says op) (lock-says op′)
+
+-- the same of two tasks that are open with these operations
+tasks-clash : (op op′ : Op) {a b : Task} → a ≡ Open op → b ≡ Open op′ → Exactly (clash (lockOf a) (lockOf b) ≡ false) (Reader op × Reader op′)
+tasks-clash op op′ {b = b} e f =
+    subst (λ (t : Task). Exactly (clash (lockOf t) (lockOf b) ≡ false) (Reader op × Reader op′)) (sym e)
+    (subst (λ (t : Task). Exactly (clash (lockOf (Open op)) (lockOf t) ≡ false) (Reader op × Reader op′)) (sym f) (clashes-is op op′))
 
 -- a task that only reads
 abbrev ReadsTask : Task → Type 0
@@ -209,7 +215,7 @@ module _ (st : State) (ws : List ℕ) (inv : Invariant st ws) where
 
   way-barred : (s : ℕ) → openAt st s ≡ true → InTheWay st s → Barred st s
   way-barred s o w =
-      let clashes : openAt st (w .slot) ≡ true → clash (lockAt st (w .slot)) (lockAt st s) ≡ true
+      let clashes : openAt st (w .slot) ≡ true → clash (lockOf (slotAt st (w .slot) .task)) (lockOf (slotAt st s .task)) ≡ true
       = λ q. update-clashes (slotAt st (w .slot) .task) (slotAt st s .task) q o (w .oneUpdates) in
       ⊎-elim
       (λ h. inl (record {
@@ -448,7 +454,8 @@ words-pinned k = record {
   safe = safe-is k;
   right = λ x F h. cond-true (pointer (suc (place x (F .entries))) F) (pointer (place x (F .entries) - 1) F) (lt-ltb (place x (F .entries)) (μ F) h);
   left = λ x F h. cond-false (pointer (suc (place x (F .entries))) F) (pointer (place x (F .entries) - 1) F) (le-ltb (place x (F .entries)) (μ F) h);
-  clashes = clashes-is;
+  clashes = λ op op′ a b e f p. tasks-clash op op′ e f;
+  wantsClash = λ op op′ a b. tasks-clash op op′;
   older = λ s t order d w. ((λ m. older-before s t order w m), (λ b. before-older s t order d b));
   leaves = leaving-between;
 }

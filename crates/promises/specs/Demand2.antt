@@ -18,11 +18,12 @@ use Rattle.pool.specs.Pool.{wordsOf, pageAt}
 use Rattle.slots.specs.declared.Op.{Op}
 use Rattle.slots.specs.declared.Op.the-variants.{Search, Insert, Delete, Next, Regrade}
 use Rattle.slots.specs.declared.Task.the-variants.{Open}
+use Rattle.slots.specs.declared.Slot.{Slot}
 use Rattle.slots.specs.declared.State.{State}
 use Rattle.slots.specs.declared.Answer.{Answer}
 use Rattle.slots.specs.declared.Answer.the-variants.{Waiting, Moved, Begun, Next as NextLot, Regraded}
 use Rattle.slots.specs.Parts.{keyOf, isDelete, isNext, goesBeside, held, pathOf, besideOf, slotAt, openAt, wantAt, holdsAt, waitingOrder, Opened}
-use Rattle.slots.specs.Locks.{lockOf, clash}
+use Rattle.slots.specs.Locks.{lockHeld, lockWanted, clash}
 use Rattle.slots.specs.Grant.{olderThan}
 use Rattle.slots.specs.Sound.{sound}
 use Rattle.slots.specs.Heard.{changesNothing, isOneOf, ending}
@@ -175,8 +176,13 @@ pub record Words (k : ℕ) : Type 0 where
   -- "its right neighbour under the same father; if it has none, the left one": of the page to which F routes x
   pub right : (x : ℕ) (F : Page) → place x (F .entries) < μ F → neighbour x F ≡ pointer (suc (place x (F .entries))) F
   pub left : (x : ℕ) (F : Page) → μ F ≤ place x (F .entries) → neighbour x F ≡ pointer (place x (F .entries) - 1) F
-  -- "Two ρ on a page go together; ξ goes with nothing.": two open slots' locks go together just if both read only
-  pub clashes : (op op′ : Op) → Exactly (clash (lockOf (Open op)) (lockOf (Open op′)) ≡ false) (Reader op × Reader op′)
+  -- "Two ρ on a page go together; ξ goes with nothing.": of two open slots, the lock under which one holds a page and the lock that the
+  -- other wants go together just if both read only,
+  pub clashes : (op op′ : Op) (a b : Slot) → a .task ≡ Open op → b .task ≡ Open op′ → (p : ℕ)
+      → Exactly (clash (lockHeld a p) (lockWanted b) ≡ false) (Reader op × Reader op′)
+  -- and so do the locks that both want
+  pub wantsClash : (op op′ : Op) (a b : Slot) → a .task ≡ Open op → b .task ≡ Open op′
+      → Exactly (clash (lockWanted a) (lockWanted b) ≡ false) (Reader op × Reader op′)
   -- "Wants stand in a waiting order, oldest first."
   pub older : (s t : ℕ) (order : List ℕ) → distinct order ≡ true → member s order ≡ true → Exactly (member t (olderThan s order) ≡ true) (Before t s order)
   -- a slot taken out of the order: those before it and those behind it stand as they stood

@@ -1,6 +1,6 @@
 -- Every call keeps what holds of a run: begin, step and report, one after the other.
 use Prim.Native.Nat.{ℕ, _≤_, _<_}
-use mathlib.Core.Bool.{true, false, cond, not, _||_, false≢true}
+use mathlib.Core.Bool.{true, false, cond, not, false≢true}
 use mathlib.Core.Logic.{_⊎_, inl, inr, ⊎-elim, _≢_}
 use mathlib.Core.List.{List, [], _∷_, _++_, append-nil}
 use mathlib.Core.Path.{_≡_, refl, sym, ap, ap₂, subst, _∙_}
@@ -9,27 +9,29 @@ use lib.Dec.{ltb}
 use lib.ListN.{length}
 use borrow.Author.Tests.{ltb-true, ltb-false, lt-ltb, eq-eqb}
 use Rattle.ground.specs.Limits.{slotCount, wordRange}
-use Rattle.ground.specs.Tests.{member, apart}
-use Rattle.ground.proofs.Bools.{true-or-false, not-both, false-if-not-true, or-cases, or-first, or-first-fails, or-second, not-of-true, not-of-false}
-use Rattle.ground.proofs.Choice.{cond-true, cond-false}
-use Rattle.ground.proofs.Tests.{member-none, member-there, member-cases, member-append, member-last, apart-member}
+use Rattle.ground.specs.Tests.{member}
+use Rattle.ground.proofs.Bools.{true-or-false, not-both, false-if-not-true, or-cases, or-first, or-second, not-of-true, not-of-false}
+use Rattle.ground.proofs.Choice.{by-test, cond-true, cond-false}
+use Rattle.ground.proofs.Tests.{member-none, member-there, member-cases, member-append, member-last}
 use Rattle.page.specs.Words.{Page}
 use Rattle.pool.specs.Pool.{Write, poolLength, pageAt, applied}
 use Rattle.slots.specs.declared.Op.{Op}
 use Rattle.slots.specs.declared.Op.the-variants.{Search, Insert, Delete, Next, Regrade}
 use Rattle.slots.specs.declared.Task.{Task}
 use Rattle.slots.specs.declared.Task.the-variants.{Closed, Open}
+use Rattle.slots.specs.declared.Lock.the-variants.{Xi}
 use Rattle.slots.specs.declared.Slot.{Slot}
 use Rattle.slots.specs.declared.State.{State}
 use Rattle.slots.specs.declared.Answer.{Answer}
 use Rattle.slots.specs.declared.Answer.the-variants.{Waiting, Moved, BadState, BadPool, BadSlot, SlotIdle}
 use Rattle.slots.specs.Parts.{isOpen, onlyReads, held, keyOf, Stand, stand, holding, standOf, slotOf, slotAt, openAt, wantAt, holdsAt, openSlot, closedSlot, Opened}
-use Rattle.slots.specs.Locks.{lockOf, lockAt, isXi}
+use Rattle.slots.specs.Locks.{lockOf}
 use Rattle.slots.specs.Grant.{grants}
 use Rattle.slots.specs.Book.{rewritten, begins, goesOn, closes}
 use Rattle.slots.proofs.SoundFacts.{SoundState, facts-sound}
 use Rattle.slots.proofs.OrderLaws.{same-or-not}
-use Rattle.slots.proofs.GrantLaws.{taking-alone}
+use Rattle.slots.proofs.Clashes.{update-alone, wanted-alone}
+use Rattle.slots.proofs.GrantLaws.{taking-fits}
 use Rattle.slots.proofs.Keeping.{Shaped, slot-here, slot-other, path-new, beside-new, stand-new, begins-sound, begins-shaped, closes-sound, closes-shaped, goes-on-sound, goes-on-shaped}
 use Rattle.footing.specs.Fitting.{verdict}
 use Rattle.index.specs.Step.{Left, left, acted, steppedTask, stepped}
@@ -58,13 +60,13 @@ same-op {op = op} e = ap (λ (task : Task). opOf task op) e
 pub closed-open : {op : Op} → Closed ≡ Open op → ⊥
 closed-open e = false≢true (ap isOpen e)
 
--- only what reads has no ξ-lock
-reader-task : (op : Op) → isXi (lockOf (Open op)) ≡ false → onlyReads op ≡ true
-reader-task (Search x) e = refl
-reader-task (Insert x v) e = not-both refl e
-reader-task (Delete x) e = not-both refl e
-reader-task (Next x) e = refl
-reader-task (Regrade x v) e = not-both refl e
+-- what does not only read has ξ-locks
+update-xi : (op : Op) → onlyReads op ≡ false → lockOf (Open op) ≡ Xi
+update-xi (Search x) e = not-both refl e
+update-xi (Insert x v) e = refl
+update-xi (Delete x) e = refl
+update-xi (Next x) e = not-both refl e
+update-xi (Regrade x v) e = refl
 
 -- One slot is written anew, the words may change: what has to be shown of that slot, and of the others.
 module _ (st : State) (ws : List ℕ) (inv : Invariant st ws) (s : ℕ) (b : s < slotCount) where
@@ -125,8 +127,7 @@ module _ (st : State) (ws : List ℕ) (inv : Invariant st ws) (s : ℕ) (b : s <
       slot-anew (slotOf z) _ _ ws (inv .height) (inv .tree)
       (goes-on-shaped st (inv .shaped) (inv .sound) s b z opened)
       (goes-on-sound st (inv .shaped) (inv .sound) s b z opened (well .limits) (well .below) (well .different)
-      (λ u c n x. taking-alone st (inv .sound) s b opened granted (holding z) from u c n
-      (subst (λ (task : Task). isXi (lockOf task) || isXi (lockAt st u) ≡ true) (sym runs) x)))
+      (λ u c n p m. taking-fits st (inv .sound) s b granted (slotOf z) (sym runs) p (from p m) u c n))
       (inv .forms)
       (λ op′ e. let same : z .op ≡ op′ = same-op e in
       (subst (λ (o : Op). keyOf o < wordRange) same key, subst (λ (o : Op). StandsIn (st .k) ws (inv .height) (inv .tree) o (slotOf z)) same here))
@@ -145,29 +146,24 @@ module _ (st : State) (ws : List ℕ) (inv : Invariant st ws) (s : ℕ) (b : s <
       here : StandsIn (st .k) ws (inv .height) (inv .tree) (z .op) (slotOf z)
       here = subst (Stance (st .k) (pageAt (st .k) ws) (inv .height) (inv .tree)) (sym (stand-new z)) stance
 
-  -- What an operation writes as it ends no other slot holds: where one of the two updates, they hold apart; where both only read,
-  -- nothing is written.
+  -- What an operation writes as it ends no other slot holds: who only reads writes nothing, and others have ξ-locks on what they write.
   pub others-unwritten : (op : Op) (a : Answer) (writes : List Write) → Opened st s op → grants st s ≡ true
       → Ended (st .k) (st .n) ws (inv .height) (inv .tree) (standOf op (slotAt st s)) a writes
       → (u : ℕ) (op′ : Op) → u < slotCount → u ≢ s → Opened st u op′ → (q : ℕ) → holdsAt st u q ≡ true → member q (writtenPages writes) ≡ false
   others-unwritten op a writes runs granted e u op′ c n rs q m =
-      false-if-not-true (member q (writtenPages writes)) (λ w. ⊎-elim
-      (λ x. ⊎-elim
-      (λ h. not-both m (apart-member (wantAt st s ∷ held (slotAt st s)) (held (slotAt st u)) (alone x) q h))
+      by-test (onlyReads op)
+      (λ r. ap (λ (W : List Write). member q (writtenPages W)) (e .reads r) ∙ member-none q)
+      (λ r. false-if-not-true (member q (writtenPages writes)) (λ w. ⊎-elim
+      (λ h. not-both m (alone r (member-cases q (wantAt st s) (held (slotAt st s)) h)))
       (λ o. let some = well .pages q (member-there (wantAt st u) q (held (slotAt st u)) m) in absurd (omega arith))
-      (e .only q w))
-      (λ x. not-both w (nothing-written (or-first-fails (isXi (lockAt st s)) (isXi (lockAt st u)) x)))
-      (true-or-false (isXi (lockAt st s) || isXi (lockAt st u))))
+      (e .only q w)))
     where
       well : WellHeld (st .n) (inv .height) (inv .tree) (standOf op′ (slotAt st u))
       well = well-held (st .k) (st .n) ws (inv .height) (inv .tree) (standOf op′ (slotAt st u)) (scene st ws inv u op′ c rs)
 
-      alone : isXi (lockAt st s) || isXi (lockAt st u) ≡ true → apart (wantAt st s ∷ held (slotAt st s)) (held (slotAt st u)) ≡ true
-      alone x = taking-alone st (inv .sound) s b (ap isOpen runs) granted (wantAt st s ∷ held (slotAt st s))
-          (λ p h. ⊎-elim inr inl (member-cases p (wantAt st s) (held (slotAt st s)) h)) u c n x
-
-      nothing-written : isXi (lockAt st s) ≡ false → member q (writtenPages writes) ≡ false
-      nothing-written x = ap (λ (W : List Write). member q (writtenPages W)) (e .reads (reader-task op (sym (ap (λ (task : Task). isXi (lockOf task)) runs) ∙ x))) ∙ member-none q
+      alone : onlyReads op ≡ false → (q ≡ wantAt st s) ⊎ (holdsAt st s q ≡ true) → holdsAt st u q ≡ false
+      alone r (inl w) = subst (λ (p : ℕ). holdsAt st u p ≡ false) (sym w) (wanted-alone st (inv .sound) s u c n granted (ap lockOf runs ∙ update-xi op r))
+      alone r (inr h) = update-alone st (inv .sound) s u q b c (λ i. n (sym i)) (ap lockOf runs ∙ update-xi op r) h
 
   -- Ending: the slot closes, and what it wrote no other slot holds.
   pub end-keeps : (op : Op) (a : Answer) (writes : List Write) → Opened st s op → grants st s ≡ true

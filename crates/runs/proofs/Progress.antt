@@ -23,7 +23,7 @@ use Rattle.slots.specs.declared.Task.{Task}
 use Rattle.slots.specs.declared.Task.the-variants.{Closed, Open}
 use Rattle.slots.specs.declared.State.{State}
 use Rattle.slots.specs.Parts.{keyOf, isOpen, pathOf, standOf, slotAt, openAt, wantAt, holdsAt, waitingOrder}
-use Rattle.slots.specs.Locks.{lockAt, clash}
+use Rattle.slots.specs.Locks.{lockHeldAt, lockWantedAt, clash}
 use Rattle.slots.specs.Grant.{olderThan, clashingWant, noClash, noOlder, grants}
 use Rattle.slots.proofs.Clashes.{no-two-locks-clash}
 use Rattle.slots.proofs.GrantLaws.{granted-no-clash, holder-open}
@@ -40,9 +40,9 @@ use Rattle.runs.proofs.Fathers.{Father, Top, one-father, root-fatherles
 clash-found : (st : State) (s : ℕ) → noClash st s ≡ false → Holder st s
 unfolding noClash
 clash-found st s f =
-    let (t, below, fails) = allBelow-false-at (λ (u : ℕ). eqb u s || not (holdsAt st u (wantAt st s) && clash (lockAt st u) (lockAt st s))) slotCount f in
+    let (t, below, fails) = allBelow-false-at (λ (u : ℕ). eqb u s || not (holdsAt st u (wantAt st s) && clash (lockHeldAt st u (wantAt st s)) (lockWantedAt st s))) slotCount f in
     let holds = holdsAt st t (wantAt st s) in
-    let clashes = clash (lockAt st t) (lockAt st s) in
+    let clashes = clash (lockHeldAt st t (wantAt st s)) (lockWantedAt st s) in
     let both = not-false (holds && clashes) (or-second-fails (eqb t s) (not (holds && clashes)) fails) in
     record {
       slot = t;
@@ -57,7 +57,7 @@ unfolding noOlder
 older-found st s f =
     let (t, m, fails) = all-fails-at (λ (u : ℕ). not (clashingWant st s u)) (olderThan s (waitingOrder st)) f in
     let same = eqb (wantAt st t) (wantAt st s) in
-    let clashes = clash (lockAt st t) (lockAt st s) in
+    let clashes = clash (lockWantedAt st t) (lockWantedAt st s) in
     let both = not-false (same && clashes) fails in
     record { slot = t; older = m; same = eqb-true (wantAt st t) (wantAt st s) (and-first same clashes both); clashes = and-second same clashes both }
 
@@ -195,7 +195,7 @@ module _ (st : State) (ws : List ℕ) (inv : Invariant st ws) where
   holder-opens s h = holder-open (st .n) (slotAt st (h .slot)) (wantAt st s) (inv .sound .slot (h .slot) (h .below)) (h .holds)
 
   -- Who holds the wanted page with a clashing lock holds it as the top page of its path: otherwise it held the page's father
-  -- too, and so does the slot that wants the page.
+  -- too, and so does the slot that wants the page. A slot has one kind for all that it holds and wants: so the two clash there too.
   holder-at-top : (s : ℕ) → s < slotCount → openAt st s ≡ true → (h : Holder st s) → Top (pathOf (slotAt st (h .slot))) (wantAt st s)
   holder-at-top s b o h =
       let memory : ℕ → Page = pageAt (st .k) ws in

@@ -9,23 +9,23 @@ use Rattle.ground.specs.Limits.{slotCount}
 use Rattle.ground.specs.Tests.{member}
 use Rattle.slots.specs.declared.State.{State}
 use Rattle.slots.specs.Parts.{wantAt, holdsAt, waitingOrder}
-use Rattle.slots.specs.Locks.{lockAt, clash}
+use Rattle.slots.specs.Locks.{lockHeldAt, lockWantedAt, clash}
 use Rattle.slots.specs.Grant.{olderThan}
 
--- another slot holds the page that slot s wants, with a lock that clashes with its own
+-- another slot holds the page that slot s wants, under a kind that clashes with the one it wants
 pub record Holder (st : State) (s : ℕ) : Type 0 where
   pub slot : ℕ
   pub below : slot < slotCount
   pub other : slot ≢ s
   pub holds : holdsAt st slot (wantAt st s) ≡ true
-  pub clashes : clash (lockAt st slot) (lockAt st s) ≡ true
+  pub clashes : clash (lockHeldAt st slot (wantAt st s)) (lockWantedAt st s) ≡ true
 
--- an older want is for the same page, of a slot whose lock clashes with its own
+-- an older want is for the same page, with a kind that clashes with its own
 pub record Older (st : State) (s : ℕ) : Type 0 where
   pub slot : ℕ
   pub older : member slot (olderThan s (waitingOrder st)) ≡ true
   pub same : wantAt st slot ≡ wantAt st s
-  pub clashes : clash (lockAt st slot) (lockAt st s) ≡ true
+  pub clashes : clash (lockWantedAt st slot) (lockWantedAt st s) ≡ true
 
 abbrev pub Barred : State → ℕ → Type 0
 Barred st s = Holder st s ⊎ Older st s

@@ -9,19 +9,20 @@ use native.Mathlib.Omega.{arith}
 use lib.ListN.{length, getD, take, drop, set, replicate, length-set, length-append, length-drop, length-replicate}
 use lib.Seq.{getD-set-same, getD-set-other, take-append-seam}
 use Rattle.ground.specs.Limits.{largestK, largestN, slotCount, searchHolds, regradeHolds, pathHolds, siblingHolds}
-use Rattle.ground.specs.Tests.{member, distinct, apart, padded}
-use Rattle.ground.proofs.Bools.{false-if-not-true, not-both, and-both, or-first, or-second}
-use Rattle.ground.proofs.Tests.{member-none, member-one, member-append, member-inside, member-last, distinct-none, distinct-snoc, apart-from, apart-swap}
+use Rattle.ground.specs.Tests.{member, distinct, padded}
+use Rattle.ground.proofs.Bools.{false-if-not-true, not-both, and-both}
+use Rattle.ground.proofs.Tests.{member-none, member-one, member-append, member-inside, member-last, distinct-none, distinct-snoc}
 use Rattle.slots.specs.declared.Op.{Op}
 use Rattle.slots.specs.declared.Op.the-variants.{Search, Insert, Delete, Next, Regrade}
 use Rattle.slots.specs.declared.Task.the-variants.{Open}
 use Rattle.slots.specs.declared.Slot.{Slot}
 use Rattle.slots.specs.declared.State.{State}
-use Rattle.slots.specs.Parts.{isOpen, held, pathOf, besideOf, Stand, stand, holding, onPages, standOf, slotOf, slotAt, openAt, waitingOrder, openSlot, closedSlot, idleState}
-use Rattle.slots.specs.Locks.{lockOf, lockAt, isXi}
+use Rattle.slots.specs.Parts.{isOpen, held, pathOf, besideOf, Stand, stand, holding, onPages, standOf, slotOf, slotAt, openAt, holdsAt, waitingOrder, openSlot, closedSlot, idleState}
+use Rattle.slots.specs.Locks.{lockHeld, lockHeldAt, clash}
 use Rattle.slots.specs.Sound.{withinLimits}
 use Rattle.slots.specs.Book.{rewritten, leaving, begins, goesOn, closes}
 use Rattle.slots.proofs.SoundFacts.{SoundSlot, SoundState}
+use Rattle.slots.proofs.LockLaws.{clash-swap}
 use Rattle.slots.proofs.OrderLaws.{same-or-not, length-waiting, length-leaving, member-leaving, leaving-gone, distinct-leaving, leaving-was, order-has-room, waiting-begins, waiting-requeued, waiting-closes}
 
 -- the arrays have the lengths of their types
@@ -56,8 +57,8 @@ pub record Fits (st : State) (s : ℕ) (slot : Slot) (after : List ℕ) (waiting
   -- the slot itself is in the order just if it is open
   pub itself : member s after ≡ isOpen (slot .task)
   pub sound : SoundSlot (st .n) slot
-  -- where it updates, or another does, they hold no page in common
-  pub alone : (t : ℕ) → t < slotCount → t ≢ s → isXi (lockOf (slot .task)) || isXi (lockAt st t) ≡ true → apart (held slot) (held (slotAt st t)) ≡ true
+  -- a page that it holds and another does they hold under kinds that go together
+  pub locks : (t : ℕ) → t < slotCount → t ≢ s → (p : ℕ) → member p (held slot) ≡ true → holdsAt st t p ≡ true → clash (lockHeld slot p) (lockHeldAt st t p) ≡ false
 
 keeps-sound : (st : State) → Shaped st → SoundState st → (s : ℕ) → s < slotCount → (slot : Slot) (order : List ℕ) (waiting : ℕ)
     → Fits st s slot (waitingOrder (rewritten st s slot order waiting)) waiting → SoundState (rewritten st s slot order waiting)
@@ -76,21 +77,22 @@ keeps-sound st shaped f s b slot order waiting g =
       orderNames = λ t c. by-slot st shaped s b slot order waiting (λ (q : ℕ) (sl : Slot). q < slotCount → isOpen (sl .task) ≡ true → member q (take waiting order) ≡ true)
           (λ _ o. g .itself ∙ o) (λ q n d o. g .others q n ∙ f .orderNames q d o) t c;
       slot = λ t. by-slot st shaped s b slot order waiting (λ (q : ℕ) (sl : Slot). q < slotCount → SoundSlot (st .n) sl) (λ _. g .sound) (λ q n d. f .slot q d) t;
-      alone = λ t u c d n. two t u c d n;
+      locks = two;
     }
   where
     next : State
     next = rewritten st s slot order waiting
 
-    two : (t u : ℕ) → t < slotCount → u < slotCount → t ≢ u → isXi (lockAt next t) ≡ true → apart (held (slotAt next t)) (held (slotAt next u)) ≡ true
-    two t u = by-slot st shaped s b slot order waiting
-        (λ (q : ℕ) (sl : Slot). q < slotCount → u < slotCount → q ≢ u → isXi (lockOf (sl .task)) ≡ true → apart (held sl) (held (slotAt next u)) ≡ true)
-        (λ c d n x. subst (λ (o : Slot). apart (held slot) (held o) ≡ true) (sym (slot-other st shaped s b slot order waiting u (λ e. n (sym e)))) (g .alone u d (λ e. n (sym e)) (or-first (isXi (lockAt st u)) x)))
-        (λ q m c d n x. by-slot st shaped s b slot order waiting
-        (λ (r : ℕ) (sl : Slot). r < slotCount → q ≢ r → apart (held (slotAt st q)) (held sl) ≡ true)
-        (λ _ _. apart-swap (held slot) (held (slotAt st q)) (g .alone q c m (or-second (isXi (lockOf (slot .task))) x)))
-        (λ r k e o. f .alone q r c e o x) u d n)
-        t
+    two : (t u : ℕ) → t < slotCount → u < slotCount → t ≢ u → (p : ℕ) → holdsAt next t p ≡ true → holdsAt next u p ≡ true → clash (lockHeldAt next t p) (lockHeldAt next u p) ≡ false
+    two t u c d n p = by-slot st shaped s b slot order waiting
+        (λ (q : ℕ) (sl : Slot). q < slotCount → q ≢ u → member p (held sl) ≡ true → holdsAt next u p ≡ true → clash (lockHeld sl p) (lockHeldAt next u p) ≡ false)
+        (λ _ m h. subst (λ (o : Slot). member p (held o) ≡ true → clash (lockHeld slot p) (lockHeld o p) ≡ false)
+        (sym (slot-other st shaped s b slot order waiting u (λ e. m (sym e)))) (g .locks u d (λ e. m (sym e)) p h))
+        (λ q k e m h. by-slot st shaped s b slot order waiting
+        (λ (r : ℕ) (sl : Slot). r < slotCount → q ≢ r → member p (held sl) ≡ true → clash (lockHeldAt st q p) (lockHeld sl p) ≡ false)
+        (λ _ _ i. clash-swap (lockHeldAt st q p) (lockHeld slot p) ∙ g .locks q e k p i h)
+        (λ r _ a o i. f .locks q r e a o p h i) u d m)
+        t c n
 
 -- ---- what a new slot holds
 
@@ -109,8 +111,9 @@ held-new z = ap₂ (λ (ps ss : List ℕ). ps ++ ss) (path-new z) (beside-new z)
 pub stand-new : (z : Stand) → standOf (z .op) (slotOf z) ≡ z
 stand-new z = ap₂ (onPages z) (path-new z) (beside-new z)
 
-nothing-apart : (ys : List ℕ) → apart [] ys ≡ true
-nothing-apart ys = apart-from [] ys (λ x m. not-both m (member-none x))
+-- a slot that holds nothing clashes with none
+holds-none : (slot : Slot) → held slot ≡ [] → {X : Type 0} (p : ℕ) → member p (held slot) ≡ true → X
+holds-none slot e p m = not-both m (ap (member p) e ∙ member-none p)
 
 closed-holds-nothing : held closedSlot ≡ []
 unfolding pathOf besideOf padded
@@ -162,7 +165,7 @@ module _ (st : State) (shaped : Shaped st) (f : SoundState st) (s : ℕ) (b : s 
         others = λ t n. member-before t s (waitingOrder st) n;
         itself = member-inside s (waitingOrder st) [];
         sound = begun-sound (st .n) op (f .nLeast);
-        alone = λ t c n x. subst (λ (l : List ℕ). apart l (held (slotAt st t)) ≡ true) (sym (held-new (stand op [] [] 0))) (nothing-apart (held (slotAt st t)));
+        locks = λ t c n p m _. holds-none (openSlot op 0 [] []) (held-new (stand op [] [] 0)) p m;
       }
 
   pub begins-sound : (op : Op) → openAt st s ≡ false → SoundState (begins st s op)
@@ -182,7 +185,7 @@ module _ (st : State) (shaped : Shaped st) (f : SoundState st) (s : ℕ) (b : s 
         others = λ t n. member-leaving s t (waitingOrder st) n;
         itself = leaving-gone s (waitingOrder st) (f .orderOnce);
         sound = closed-sound (st .n);
-        alone = λ t c n x. subst (λ (l : List ℕ). apart l (held (slotAt st t)) ≡ true) (sym closed-holds-nothing) (nothing-apart (held (slotAt st t)));
+        locks = λ t c n p m _. holds-none closedSlot closed-holds-nothing p m;
       }
 
   pub closes-sound : openAt st s ≡ true → SoundState (closes st s)
@@ -194,7 +197,7 @@ module _ (st : State) (shaped : Shaped st) (f : SoundState st) (s : ℕ) (b : s 
   -- Going on keeps a sound state sound, with the new want last, if the new holdings are within the limits, are different
   -- pages below N, and clash with no other slot's.
   requeued-fits : (slot : Slot) → openAt st s ≡ true → isOpen (slot .task) ≡ true → SoundSlot (st .n) slot
-      → ((t : ℕ) → t < slotCount → t ≢ s → isXi (lockOf (slot .task)) || isXi (lockAt st t) ≡ true → apart (held slot) (held (slotAt st t)) ≡ true)
+      → ((t : ℕ) → t < slotCount → t ≢ s → (p : ℕ) → member p (held slot) ≡ true → holdsAt st t p ≡ true → clash (lockHeld slot p) (lockHeldAt st t p) ≡ false)
       → Fits st s slot (leaving s (waitingOrder st) ++ s ∷ []) (st .waiting)
   requeued-fits slot opened stays g h =
       let gone = leaving-gone s (waitingOrder st) (f .orderOnce) in
@@ -206,17 +209,18 @@ module _ (st : State) (shaped : Shaped st) (f : SoundState st) (s : ℕ) (b : s 
         others = λ t n. member-before t s (leaving s (waitingOrder st)) n ∙ member-leaving s t (waitingOrder st) n;
         itself = member-inside s (leaving s (waitingOrder st)) [] ∙ sym stays;
         sound = g;
-        alone = h;
+        locks = h;
       }
 
   pub goes-on-sound : (z : Stand) → openAt st s ≡ true
       → withinLimits (Open (z .op)) (length (z .path)) (length (z .beside)) ≡ true
       → ((p : ℕ) → member p (z .want ∷ holding z) ≡ true → p < st .n)
       → distinct (z .want ∷ holding z) ≡ true
-      → ((t : ℕ) → t < slotCount → t ≢ s → isXi (lockOf (Open (z .op))) || isXi (lockAt st t) ≡ true → apart (holding z) (held (slotAt st t)) ≡ true)
+      → ((t : ℕ) → t < slotCount → t ≢ s → (p : ℕ) → member p (holding z) ≡ true → holdsAt st t p ≡ true
+      → clash (lockHeld (slotOf z) p) (lockHeldAt st t p) ≡ false)
       → SoundState (goesOn st s z)
   unfolding goesOn
-  goes-on-sound z opened limits below different alone =
+  goes-on-sound z opened limits below different locks =
       let slot = slotOf z in
       let holds : holding z ≡ held slot = sym (held-new z) in
       let g : SoundSlot (st .n) slot = record {
@@ -226,7 +230,7 @@ module _ (st : State) (shaped : Shaped st) (f : SoundState st) (s : ℕ) (b : s 
       } in
       keeps-sound st shaped f s b slot (leaving s (waitingOrder st) ++ s ∷ drop (st .waiting) (st .order)) (st .waiting)
       (subst (λ (l : List ℕ). Fits st s slot l (st .waiting)) (sym (waiting-requeued st s order-long (f .orderNames s b opened) slot))
-      (requeued-fits slot opened refl g (λ t c n x. subst (λ (l : List ℕ). apart l (held (slotAt st t)) ≡ true) holds (alone t c n x))))
+      (requeued-fits slot opened refl g (λ t c n p m. locks t c n p (subst (λ (l : List ℕ). member p l ≡ true) (sym holds) m))))
 
   -- The arrays keep their lengths.
   pub begins-shaped : (op : Op) → Shaped (begins st s op)
@@ -282,7 +286,7 @@ idle-sound k n kl km nl nm =
       orderOnce = ap distinct (idle-order k n) ∙ distinct-none;
       orderNames = λ s b o. not-both o (shut s);
       slot = λ s b. subst (SoundSlot n) (sym (same-everywhere slotCount s closedSlot)) (closed-sound n);
-      alone = λ s t b c d x. not-both x (ap (λ (sl : Slot). isXi (lockOf (sl .task))) (same-everywhere slotCount s closedSlot));
+      locks = λ s t b c d p m _. holds-none (slotAt (idleState k n) s) (ap held (same-everywhere slotCount s closedSlot) ∙ closed-holds-nothing) p m;
     }
   where
     nobody : (s : ℕ) → member s (waitingOrder (idleState k n)) ≡ false

@@ -2,9 +2,10 @@ pub mod Unique
 pub mod Refusals
 pub mod MakingLaws
 pub mod HoldingLaws
+pub mod LockLaws
 pub mod SoundFacts
 pub mod OrderLaws
+pub mod GrantLaws
 pub mod Clashes
 pub mod Keeping
-pub mod GrantLaws
 pub mod Holders

@@ -3,19 +3,20 @@ use Prim.Native.Nat.{ℕ, _≤_, _<_}
 use mathlib.Core.Bool.{Bool, true, false, not, _&&_, _||_}
 use mathlib.Core.Path.{_≡_, refl}
 use mathlib.Core.List.{_∷_}
-use lib.Dec.{leb, ltb, eqb}
-use borrow.Author.Tests.{leb-true, le-leb, ltb-true, lt-ltb, eq-eqb, ne-eqb}
+use lib.Dec.{leb, ltb}
+use borrow.Author.Tests.{leb-true, le-leb, ltb-true, lt-ltb}
 use Rattle.ground.specs.Limits.{largestK, kInRange, largestN, nInRange, slotCount}
-use Rattle.ground.specs.Tests.{all, allBelow, member, distinct, apart}
+use Rattle.ground.specs.Tests.{all, allBelow, member, distinct}
 use Rattle.ground.proofs.Bools.{not-both, and-first, and-second, and-both}
 use Rattle.ground.proofs.Tests.{all-member, all-from-members, allBelow-at, allBelow-from}
 use Rattle.slots.specs.declared.Task.{Task}
 use Rattle.slots.specs.declared.Task.the-variants.{Closed, Open}
 use Rattle.slots.specs.declared.Slot.{Slot}
 use Rattle.slots.specs.declared.State.{State}
-use Rattle.slots.specs.Parts.{isOpen, held, slotAt, openAt, waitingOrder, idleState}
-use Rattle.slots.specs.Locks.{lockAt, isXi}
+use Rattle.slots.specs.Parts.{isOpen, held, slotAt, openAt, holdsAt, waitingOrder, idleState}
+use Rattle.slots.specs.Locks.{lockHeldAt, clash, noClashOn}
 use Rattle.slots.specs.Sound.{namesEach, orderSound, withinLimits, belowAndOnce, ifOpen, slotSound, noClashingHolds, sound}
+use Rattle.slots.proofs.LockLaws.{others-go, others-go-from}
 
 -- one slot, in a pool of n pages
 pub record SoundSlot (n : ℕ) (s : Slot) : Type 0 where
@@ -37,8 +38,8 @@ pub record SoundState (st : State) : Type 0 where
   pub orderOnce : distinct (waitingOrder st) ≡ true
   pub orderNames : (s : ℕ) → s < slotCount → openAt st s ≡ true → member s (waitingOrder st) ≡ true
   pub slot : (s : ℕ) → s < slotCount → SoundSlot (st .n) (slotAt st s)
-  -- "no ξ-held page is held by another slot"
-  pub alone : (s t : ℕ) → s < slotCount → t < slotCount → (s ≡ t → ⊥) → isXi (lockAt st s) ≡ true → apart (held (slotAt st s)) (held (slotAt st t)) ≡ true
+  -- "no ξ-held page is held by another slot": two slots that hold one page hold it under kinds that go together
+  pub locks : (s t : ℕ) → s < slotCount → t < slotCount → (s ≡ t → ⊥) → (p : ℕ) → holdsAt st s p ≡ true → holdsAt st t p ≡ true → clash (lockHeldAt st s p) (lockHeldAt st t p) ≡ false
 
 -- a test of an open slot, by its task
 if-open : (task : Task) (test : Bool) → ifOpen task test ≡ true → isOpen task ≡ true → test ≡ true
@@ -68,15 +69,18 @@ slot-sound n s h =
     (if-open-from (s .task) (belowAndOnce n s)
     (λ o. and-both (all-from-members (λ (q : ℕ). ltb q n) (s .want ∷ held s) (λ p m. lt-ltb p n (h .below o p m))) (h .different o)))
 
--- the test of k and N, and the two that go through the slots, by name
+-- the test of k and N, and those that go through the slots, by name
 abbrev numbersTest : State → Bool
 numbersTest st = kInRange (st .k) && nInRange (st .n)
 
 abbrev slotsTest : State → Bool
 slotsTest st = allBelow slotCount (λ (s : ℕ). slotSound (st .n) (slotAt st s))
 
-abbrev apartTest : State → ℕ → ℕ → Bool
-apartTest st s t = eqb s t || not (isXi (lockAt st s)) || apart (held (slotAt st s)) (held (slotAt st t))
+abbrev pageTest : State → ℕ → ℕ → Bool
+pageTest st s p = noClashOn st s p (lockHeldAt st s p)
+
+abbrev pagesTest : State → ℕ → Bool
+pagesTest st s = all (pageTest st s) (held (slotAt st s))
 
 module _ (st : State) (h : sound st ≡ true) where
   numbers-told : numbersTest st ≡ true
@@ -91,9 +95,9 @@ module _ (st : State) (h : sound st ≡ true) where
   unfolding sound
   slots-told = and-second (numbersTest st && orderSound st) (slotsTest st) (and-first (numbersTest st && orderSound st && slotsTest st) (noClashingHolds st) h)
 
-  apart-told : noClashingHolds st ≡ true
+  locks-told : noClashingHolds st ≡ true
   unfolding sound
-  apart-told = and-second (numbersTest st && orderSound st && slotsTest st) (noClashingHolds st) h
+  locks-told = and-second (numbersTest st && orderSound st && slotsTest st) (noClashingHolds st) h
 
 -- the four numbers
 numbers-facts : (st : State) → numbersTest st ≡ true → (1 ≤ st .k) × (st .k ≤ largestK) × (1 ≤ st .n) × (st .n ≤ largestN)
@@ -137,11 +141,6 @@ named-open : (up named : Bool) → not up || named ≡ true → up ≡ true → 
 named-open true named h e = h
 named-open false named h e = not-both e refl
 
-apart-by : (same xi : Bool) {apart : Bool} → same || not xi || apart ≡ true → same ≡ false → xi ≡ true → apart ≡ true
-apart-by true xi h e x = not-both refl e
-apart-by false true h e x = h
-apart-by false false h e x = not-both x refl
-
 -- A sound state is what the record says.
 pub sound-facts : (st : State) → sound st ≡ true → SoundState st
 unfolding noClashingHolds
@@ -159,22 +158,14 @@ sound-facts st h =
       orderOnce = o .different;
       orderNames = λ s b e. named-open (openAt st s) (member s (waitingOrder st)) (o .names s b) e;
       slot = λ s b. sound-slot (st .n) (slotAt st s) (allBelow-at (λ (t : ℕ). slotSound (st .n) (slotAt st t)) slotCount (slots-told st h) s b);
-      alone = λ s t b c n x. apart-by (eqb s t) (isXi (lockAt st s))
-          (allBelow-at (apartTest st s) slotCount (allBelow-at (λ (u : ℕ). allBelow slotCount (apartTest st u)) slotCount (apart-told st h) s b) t c)
-          (ne-eqb s t n) x;
+      locks = λ s t b c n p hs ht. others-go st t p (lockHeldAt st t p)
+          (all-member (pageTest st t) (held (slotAt st t)) (allBelow-at (pagesTest st) slotCount (locks-told st h) t c) p ht)
+          s b n hs;
     }
 
 names-from : (up named : Bool) → (up ≡ true → named ≡ true) → not up || named ≡ true
 names-from true named h = h refl
 names-from false named h = refl
-
-apart-from-facts : (st : State) (s t : ℕ) → ((s ≡ t → ⊥) → isXi (lockAt st s) ≡ true → apart (held (slotAt st s)) (held (slotAt st t)) ≡ true) → apartTest st s t ≡ true
-apart-from-facts st s t h = by-both (eqb s t) (isXi (lockAt st s)) (λ e. h (λ q. not-both (eq-eqb s t q) e))
-  where
-    by-both : (same xi : Bool) → (same ≡ false → xi ≡ true → apart (held (slotAt st s)) (held (slotAt st t)) ≡ true) → same || not xi || apart (held (slotAt st s)) (held (slotAt st t)) ≡ true
-    by-both true xi f = refl
-    by-both false true f = f refl refl
-    by-both false false f = refl
 
 -- And the record gives the test.
 pub facts-sound : (st : State) → SoundState st → sound st ≡ true
@@ -190,8 +181,8 @@ facts-sound st f =
     (f .orderOnce))
     (allBelow-from (namesTest st) slotCount (λ s b. names-from (openAt st s) (member s (waitingOrder st)) (f .orderNames s b)))))
     (allBelow-from (λ (t : ℕ). slotSound (st .n) (slotAt st t)) slotCount (λ s b. slot-sound (st .n) (slotAt st s) (f .slot s b))))
-    (allBelow-from (λ (u : ℕ). allBelow slotCount (apartTest st u)) slotCount
-    (λ s b. allBelow-from (apartTest st s) slotCount (λ t c. apart-from-facts st s t (λ n x. f .alone s t b c n x))))
+    (allBelow-from (pagesTest st) slotCount
+    (λ s b. all-from-members (pageTest st s) (held (slotAt st s)) (λ p m. others-go-from st s p (lockHeldAt st s p) (λ t c n h. f .locks t s c b n p h m))))
 
 -- the empty state, k and N 0, "which is itself BadState"
 pub empty-unsound : sound (idleState 0 0) ≡ false

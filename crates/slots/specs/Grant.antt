@@ -1,13 +1,12 @@
 -- When a step grants a want. "Slots, locks and steps" of document 01, as 02 (iii) corrects it.
 use Prim.Native.Nat.{ℕ}
-use mathlib.Core.Bool.{Bool, cond, not, _&&_, _||_}
+use mathlib.Core.Bool.{Bool, cond, not, _&&_}
 use mathlib.Core.List.{List, [], _∷_}
 use lib.Dec.{eqb}
-use Rattle.ground.specs.Limits.{slotCount}
-use Rattle.ground.specs.Tests.{all, allBelow}
+use Rattle.ground.specs.Tests.{all}
 use Rattle.slots.specs.declared.State.{State}
-use Rattle.slots.specs.Parts.{wantAt, holdsAt, waitingOrder}
-use Rattle.slots.specs.Locks.{lockAt, clash}
+use Rattle.slots.specs.Parts.{wantAt, waitingOrder}
+use Rattle.slots.specs.Locks.{lockWantedAt, clash, noClashOn}
 
 -- the slots whose wants are older than slot s's
 unfoldable pub olderThan : ℕ → List ℕ → List ℕ
@@ -16,11 +15,11 @@ olderThan s (t ∷ ts) = cond (eqb t s) [] (t ∷ olderThan s ts)
 
 -- "no other slot holds a clashing lock on that page"
 unfoldable pub noClash : State → ℕ → Bool
-noClash st s = allBelow slotCount (λ (t : ℕ). eqb t s || not (holdsAt st t (wantAt st s) && clash (lockAt st t) (lockAt st s)))
+noClash st s = noClashOn st s (wantAt st s) (lockWantedAt st s)
 
--- slot t wants the page that slot s wants, and their locks clash
+-- slot t wants the page that slot s wants, and the kinds they want clash
 abbrev pub clashingWant : State → ℕ → ℕ → Bool
-clashingWant st s t = eqb (wantAt st t) (wantAt st s) && clash (lockAt st t) (lockAt st s)
+clashingWant st s t = eqb (wantAt st t) (wantAt st s) && clash (lockWantedAt st t) (lockWantedAt st s)
 
 -- 01: "no older want is for the same page". 02 (iii): "The paper makes a want wait behind every older want on its page. .. Correct
 -- it: a want waits only for held locks and older wants that clash with it."

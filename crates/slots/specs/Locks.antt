@@ -1,13 +1,17 @@
--- Kinds of lock and which clash. "Slots, locks and steps" of document 01.
+-- Kinds of lock: under which a slot holds a page, which it wants, and which clash. "Slots, locks and steps" of document 01.
 use Prim.Native.Nat.{ℕ}
-use mathlib.Core.Bool.{Bool, true, false}
+use mathlib.Core.Bool.{Bool, true, false, not, _&&_, _||_}
+use lib.Dec.{eqb}
+use Rattle.ground.specs.Limits.{slotCount}
+use Rattle.ground.specs.Tests.{allBelow}
 use Rattle.slots.specs.declared.Op.the-variants.{Search, Insert, Delete, Next, Regrade}
 use Rattle.slots.specs.declared.Task.{Task}
 use Rattle.slots.specs.declared.Task.the-variants.{Closed, Open}
 use Rattle.slots.specs.declared.Lock.{Lock}
 use Rattle.slots.specs.declared.Lock.the-variants.{None, Rho, Xi}
+use Rattle.slots.specs.declared.Slot.{Slot}
 use Rattle.slots.specs.declared.State.{State}
-use Rattle.slots.specs.Parts.{slotAt}
+use Rattle.slots.specs.Parts.{slotAt, holdsAt}
 
 -- "Searches use ρ-locks, insertions and deletions ξ-locks." Next: "It uses ρ-locks".
 -- Regrading: "It takes ξ-locks".
@@ -19,10 +23,22 @@ lockOf (Open (Delete x)) = Xi
 lockOf (Open (Next x)) = Rho
 lockOf (Open (Regrade x v)) = Xi
 
-abbrev pub lockAt : State → ℕ → Lock
-lockAt st i = lockOf (slotAt st i .task)
+-- the kind under which a slot holds page p, and the kind that it wants. Whatever asks for a lock asks one of these two.
+abbrev pub lockHeld : Slot → ℕ → Lock
+lockHeld s p = lockOf (s .task)
 
--- "Two ρ on a page go together; ξ goes with nothing."
+abbrev pub lockWanted : Slot → Lock
+lockWanted s = lockOf (s .task)
+
+-- the same of slot t of a state
+abbrev pub lockHeldAt : State → ℕ → ℕ → Lock
+lockHeldAt st t p = lockHeld (slotAt st t) p
+
+abbrev pub lockWantedAt : State → ℕ → Lock
+lockWantedAt st t = lockWanted (slotAt st t)
+
+-- "Two ρ on a page go together; ξ goes with nothing." The one table of kinds, the first held (or wanted earlier), the second wanted:
+-- held locks, older wants and the sound state all ask it.
 abbrev pub clash : Lock → Lock → Bool
 clash None None = false
 clash None Rho = false
@@ -34,7 +50,6 @@ clash Xi None = false
 clash Xi Rho = true
 clash Xi Xi = true
 
-abbrev pub isXi : Lock → Bool
-isXi None = false
-isXi Rho = false
-isXi Xi = true
+-- no other slot than s holds page p under a kind that clashes with this one
+abbrev pub noClashOn : State → ℕ → ℕ → Lock → Bool
+noClashOn st s p lock = allBelow slotCount (λ (t : ℕ). eqb t s || not (holdsAt st t p && clash (lockHeldAt st t p) lock))

@@ -10,7 +10,8 @@ use Rattle.slots.specs.declared.Lock.the-variants.{None, Rho, Xi}
 use Rattle.slots.specs.declared.Answer.{Answer}
 use Rattle.slots.specs.declared.Answer.the-variants.{Reported, BadState, BadPage}
 use Rattle.slots.specs.Parts.{holdsAt}
-use Rattle.slots.specs.Locks.{lockAt, isXi}
+use Rattle.slots.specs.Locks.{lockHeldAt}
+use Rattle.slots.specs.Heard.{lockNumber}
 use Rattle.slots.specs.Sound.{sound}
 
 -- "how many slots hold the page"
@@ -30,10 +31,16 @@ maskBelow (suc n) p = cond (p n) (2 ^ n + maskBelow n p) (maskBelow n p)
 abbrev pub holdersMask : State → ℕ → ℕ
 holdersMask st p = maskBelow slotCount (λ (s : ℕ). holdsAt st s p)
 
--- "the lock kind .. with no holder: none"
+-- some slot holds page p under this kind
+abbrev pub heldUnder : State → ℕ → Lock → Bool
+heldUnder st p lock = anyBelow slotCount (λ (s : ℕ). holdsAt st s p && eqb (lockNumber (lockHeldAt st s p)) (lockNumber lock))
+
+-- "the lock kind .. with no holder: none": the first that is there, the strongest kind before the others
 abbrev pub lockKind : State → ℕ → Lock
 lockKind st p =
-    cond (eqb (holders st p) 0) None (cond (anyBelow slotCount (λ (s : ℕ). holdsAt st s p && isXi (lockAt st s))) Xi Rho)
+    cond (heldUnder st p Xi) Xi
+    (cond (heldUnder st p Rho) Rho
+    None)
 
 -- "Report: 1, 7."
 unfoldable pub reported : State → ℕ → Answer

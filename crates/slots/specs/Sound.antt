@@ -5,14 +5,14 @@ use mathlib.Core.List.{List, _∷_}
 use lib.Dec.{leb, ltb, eqb}
 use lib.ListN.{take}
 use Rattle.ground.specs.Limits.{kInRange, nInRange, slotCount, searchHolds, regradeHolds, pathHolds, siblingHolds}
-use Rattle.ground.specs.Tests.{all, allBelow, member, distinct, apart}
+use Rattle.ground.specs.Tests.{all, allBelow, member, distinct}
 use Rattle.slots.specs.declared.Op.the-variants.{Search, Insert, Delete, Next, Regrade}
 use Rattle.slots.specs.declared.Task.{Task}
 use Rattle.slots.specs.declared.Task.the-variants.{Closed, Open}
 use Rattle.slots.specs.declared.Slot.{Slot}
 use Rattle.slots.specs.declared.State.{State}
 use Rattle.slots.specs.Parts.{held, slotAt, openAt}
-use Rattle.slots.specs.Locks.{lockAt, isXi}
+use Rattle.slots.specs.Locks.{lockHeldAt, noClashOn}
 
 -- the first so many cells of an order name each open slot once and no other
 unfoldable pub namesEach : (ℕ → Bool) → ℕ → List ℕ → Bool
@@ -61,10 +61,10 @@ ifOpen (Open op) test = test
 unfoldable pub slotSound : ℕ → Slot → Bool
 slotSound n s = withinLimits (s .task) (s .depth) (s .breadth) && ifOpen (s .task) (belowAndOnce n s)
 
--- "no ξ-held page is held by another slot"
+-- "no ξ-held page is held by another slot": page by page, no two slots hold one under kinds that clash
 unfoldable pub noClashingHolds : State → Bool
 noClashingHolds st =
-    allBelow slotCount (λ (s : ℕ). allBelow slotCount (λ (t : ℕ). eqb s t || not (isXi (lockAt st s)) || apart (held (slotAt st s)) (held (slotAt st t))))
+    allBelow slotCount (λ (s : ℕ). all (λ (p : ℕ). noClashOn st s p (lockHeldAt st s p)) (held (slotAt st s)))
 
 -- "A state is sound if k and N are in range; the waiting order .."
 unfoldable pub sound : State → Bool

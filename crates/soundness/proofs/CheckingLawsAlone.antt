@@ -1,94 +1,118 @@
--- No page held under ξ is held by another slot: pages looked for in the other slots one by one, and the rule of every two slots.
-use Prim.Native.Nat.{ℕ, _≤_, _<_}
-use mathlib.Core.Bool.{Bool, true, false, not, _&&_, _||_}
+-- No two slots hold one page under locks that clash: the rule goes over all slots, the words over those that hold under ξ, of which one
+-- is in every clash.
+use Prim.Native.Nat.{ℕ, zero, suc, _<_}
+use mathlib.Core.Bool.{Bool, true, false, cond, not, _&&_, _||_}
 use mathlib.Core.List.{List}
-use mathlib.Core.Logic.{⊎-elim}
-use mathlib.Core.Path.{_≡_, refl, sym, ap, ap₂, _∙_}
+use mathlib.Core.Logic.{_≢_}
+use mathlib.Core.Path.{_≡_, refl, sym, ap, ap₂, subst, _∙_}
+use native.Mathlib.Omega.{arith}
+use borrow.Author.Tests.{ne-eqb}
 use lib.Dec.{eqb}
 use lib.ListN.{take}
-use borrow.Author.Tests.{eq-eqb, ne-eqb, not-true}
 use Rattle.ground.specs.Limits.{slotCount}
-use Rattle.ground.specs.Tests.{all, allBelow, member, apart}
-use Rattle.ground.proofs.Bools.{and-first-fails, and-second-fails, or-first, or-second, or-cases, not-both, not-of-false, false-if-not-true, same-if-true-together}
-use Rattle.ground.proofs.Tests.{all-append, all-member, all-from-members, apart-member, apart-from, allBelow-at, allBelow-from, allBelow-same, anyBelow-fails, anyBelow-false-at}
+use Rattle.ground.specs.Tests.{all, allBelow, member}
+use Rattle.ground.proofs.Bools.{not-both, or-first, or-second, not-of-false, same-if-true-together}
+use Rattle.ground.proofs.Choice.{by-test}
+use Rattle.ground.proofs.Tests.{all-append, all-member, all-from-members, allBelow-at, allBelow-from}
+use Rattle.slots.specs.declared.Lock.{Lock}
+use Rattle.slots.specs.declared.Lock.the-variants.{None, Rho, Xi}
 use Rattle.slots.specs.declared.Slot.{Slot}
-use Rattle.slots.specs.Parts.{held, pathOf, besideOf, slotAt}
-use Rattle.slots.specs.Locks.{lockOf, isXi}
+use Rattle.slots.specs.Parts.{held, pathOf, besideOf, slotAt, holdsAt}
+use Rattle.slots.specs.Locks.{lockHeldAt, clash, noClashOn}
+use Rattle.slots.specs.Heard.{lockNumber}
 use Rattle.slots.specs.Sound.{noClashingHolds}
-use Rattle.slots.proofs.OrderLaws.{same-or-not}
-use Rattle.lent.specs.Words.{cell, column, highestKind, taskFrom, slotIn, asRead, known}
-use Rattle.lent.specs.Holds.{updatesKind, otherHolds, othersHold}
+use Rattle.slots.proofs.LockLaws.{clash-swap, others-go, others-go-from}
+use Rattle.lent.specs.Words.{cell, column, slotIn, asRead, known}
+use Rattle.lent.specs.Holds.{WithinRows, updatesKind, lockNamed, othersHold}
 use Rattle.lent.proofs.StateLaws.{slot-read}
-use Rattle.lent.proofs.HoldLaws.{by-kind, kind-known}
-use Rattle.soundness.specs.Checking.{aloneIn, xiAlone}
+use Rattle.lent.proofs.HoldLaws.{held-read, others-words}
+use Rattle.soundness.specs.Checking.{updates, aloneIn, xiAlone}
 
 -- path and siblings one behind the other
 pub alone-parts : (ws : List ℕ) (s : ℕ)
     → aloneIn ws s
-    ≡ all (λ (p : ℕ). not (othersHold ws s true p)) (take (cell ws 4 s) (column ws 6 s)) && all (λ (p : ℕ). not (othersHold ws s true p)) (take (cell ws 5 s) (column ws 16 s))
+    ≡ all (λ (p : ℕ). not (othersHold ws s (lockNumber Xi) p)) (take (cell ws 4 s) (column ws 6 s)) && all (λ (p : ℕ). not (othersHold ws s (lockNumber Xi) p)) (take (cell ws 5 s) (column ws 16 s))
 unfolding aloneIn pathOf besideOf
-alone-parts ws s = all-append (λ (p : ℕ). not (othersHold ws s true p)) (take (cell ws 4 s) (column ws 6 s)) (take (cell ws 5 s) (column ws 16 s))
+alone-parts ws s = all-append (λ (p : ℕ). not (othersHold ws s (lockNumber Xi) p)) (take (cell ws 4 s) (column ws 6 s)) (take (cell ws 5 s) (column ws 16 s))
 
-module _ (ws : List ℕ) (s : ℕ) where
-  -- of two slots
-  abbrev pair : Bool → ℕ → Bool
-  pair xi t = eqb s t || not xi || apart (held (slotIn ws s)) (held (slotIn ws t))
+-- the lock of a slot by two tests: it is closed, it updates
+abbrev lockBy : Bool → Bool → Lock
+lockBy shut xi = cond shut None (cond xi Xi Rho)
 
-  abbrev alone : ℕ → Bool
-  alone p = not (othersHold ws s true p)
+-- of two that do not update none clashes
+none-clash : (shut shut′ : Bool) → clash (lockBy shut false) (lockBy shut′ false) ≡ false
+none-clash true true = refl
+none-clash true false = refl
+none-clash false true = refl
+none-clash false false = refl
 
-  pairs-alone : allBelow 16 (pair true) ≡ true → aloneIn ws s ≡ true
-  unfolding aloneIn othersHold
-  pairs-alone e =
-      all-from-members alone (held (slotIn ws s))
-      (λ p m. not-of-false
-      (anyBelow-fails (otherHolds ws s true p) 16
-      (λ t h.
-      ⊎-elim
-      (λ q. and-first-fails (member p (held (slotIn ws t))) (and-first-fails true (ap not (eq-eqb t s q))))
-      (λ n. and-second-fails (not (eqb t s) && true) (apart-member (held (slotIn ws s)) (held (slotIn ws t)) (two t h n) p m))
-      (same-or-not t s))))
-    where
-      two : (t : ℕ) → t < 16 → (t ≡ s → ⊥) → apart (held (slotIn ws s)) (held (slotIn ws t)) ≡ true
-      two t h n =
-          ⊎-elim
-          (λ x. ⊎-elim (λ y. not-both y (ne-eqb s t (λ q. n (sym q)))) (λ y. not-both y refl) (or-cases (eqb s t) (not true) x))
-          (λ x. x)
-          (or-cases (eqb s t || not true) (apart (held (slotIn ws s)) (held (slotIn ws t))) (allBelow-at (pair true) 16 e t h))
+-- a closed slot does not update
+open-updates : (kind : ℕ) → updatesKind kind ≡ true → eqb kind 0 ≡ false
+open-updates zero x = not-both x refl
+open-updates (suc kind) x = ne-eqb (suc kind) 0 (λ z. absurd (omega arith))
 
-  alone-pairs : aloneIn ws s ≡ true → allBelow 16 (pair true) ≡ true
-  unfolding aloneIn othersHold
-  alone-pairs e =
-      allBelow-from (pair true) 16
-      (λ t h.
-      ⊎-elim
-      (λ q. or-first (apart (held (slotIn ws s)) (held (slotIn ws t))) (or-first (not true) (eq-eqb s t (sym q))))
-      (λ n. or-second (eqb s t || not true) (apart-from (held (slotIn ws s)) (held (slotIn ws t)) (λ p m. not-there t h n p m)))
-      (same-or-not t s))
-    where
-      not-there : (t : ℕ) → t < 16 → (t ≡ s → ⊥) → (p : ℕ) → member p (held (slotIn ws s)) ≡ true → member p (held (slotIn ws t)) ≡ false
-      not-there t h n p m =
-          let none = anyBelow-false-at (otherHolds ws s true p) 16 (not-true (othersHold ws s true p) (all-member alone (held (slotIn ws s)) e p m)) t h in
-          false-if-not-true (member p (held (slotIn ws t)))
-          (λ y. not-both
-          (ap₂ (λ (a b : Bool). not a && true && b) (ne-eqb t s n) y)
-          none)
+-- the lock of that number
+named : (xi : Bool) → lockNamed (cond xi (lockNumber Xi) (lockNumber Rho)) ≡ cond xi Xi Rho
+named true = refl
+named false = refl
 
-  -- under ξ
-  xi-pairs : (xi : Bool) → allBelow 16 (pair xi) ≡ not xi || aloneIn ws s
-  xi-pairs true = same-if-true-together (allBelow 16 (pair true)) (aloneIn ws s) pairs-alone alone-pairs
-  xi-pairs false = allBelow-from (pair false) 16 (λ t h. or-first (apart (held (slotIn ws s)) (held (slotIn ws t))) (or-second (eqb s t) refl))
+module _ (ws : List ℕ) (e : known ws ≡ true) (short : WithinRows ws) where
+  lock-by : (s p : ℕ) → s < 16 → lockHeldAt (asRead ws) s p ≡ lockBy (eqb (cell ws 0 s) 0) (updates ws s)
+  lock-by s p h = held-read ws e s h p ∙ ap (cond (eqb (cell ws 0 s) 0) None) (named (updates ws s))
 
-xi-kind : (key information kind : ℕ) → kind ≤ highestKind → isXi (lockOf (taskFrom kind key information)) ≡ updatesKind kind
-xi-kind key information = by-kind (λ (k : ℕ). isXi (lockOf (taskFrom k key information)) ≡ updatesKind k) refl refl refl refl refl refl
+  lock-xi : (s p : ℕ) → s < 16 → updates ws s ≡ true → lockHeldAt (asRead ws) s p ≡ Xi
+  lock-xi s p h x = lock-by s p h ∙ ap₂ lockBy (open-updates (cell ws 0 s) x) x
 
-pub no-clashes : (ws : List ℕ) → known ws ≡ true → noClashingHolds (asRead ws) ≡ allBelow 16 (xiAlone ws)
-unfolding noClashingHolds slotCount
-no-clashes ws e =
-    allBelow-same _ _ 16
-    (λ s h.
-    let here : slotAt (asRead ws) s ≡ slotIn ws s = slot-read ws s h in
-    allBelow-same _ (pair ws s (isXi (lockOf (slotIn ws s .task)))) 16
-    (λ t b. ap₂ (λ (x y : Slot). eqb s t || not (isXi (lockOf (x .task))) || apart (held x) (held y)) here (slot-read ws t b))
-    ∙ xi-pairs ws s (isXi (lockOf (slotIn ws s .task)))
-    ∙ ap (λ (b : Bool). not b || aloneIn ws s) (xi-kind (cell ws 1 s) (cell ws 2 s) (cell ws 0 s) (kind-known ws e s h)))
+  -- the page of a slot that holds under ξ, held against the others
+  page-alone : (s p : ℕ) → noClashOn (asRead ws) s p Xi ≡ not (othersHold ws s (lockNumber Xi) p)
+  page-alone s p = others-words ws e short s p (lockNumber Xi)
+
+  rule-alone : noClashingHolds (asRead ws) ≡ true → allBelow 16 (xiAlone ws) ≡ true
+  unfolding noClashingHolds slotCount aloneIn
+  rule-alone told =
+      allBelow-from (xiAlone ws) 16
+      (λ s h. by-test (updates ws s)
+      (λ x. or-second (not (updates ws s))
+      (all-from-members (λ (p : ℕ). not (othersHold ws s (lockNumber Xi) p)) (held (slotIn ws s))
+      (λ p m. sym (page-alone s p)
+      ∙ ap (noClashOn (asRead ws) s p) (sym (lock-xi s p h x))
+      ∙ all-member (λ (q : ℕ). noClashOn (asRead ws) s q (lockHeldAt (asRead ws) s q)) (held (slotAt (asRead ws) s))
+      (allBelow-at (λ (t : ℕ). all (λ (q : ℕ). noClashOn (asRead ws) t q (lockHeldAt (asRead ws) t q)) (held (slotAt (asRead ws) t))) 16 told s h)
+      p (subst (λ (x : Slot). member p (held x) ≡ true) (sym (slot-read ws s h)) m))))
+      (λ f. or-first (aloneIn ws s) (not-of-false f)))
+
+  module _ (told : allBelow 16 (xiAlone ws) ≡ true) where
+    -- what a slot holds under ξ goes with no other lock
+    xi-goes : (s t p : ℕ) → s < 16 → t < 16 → t ≢ s → updates ws s ≡ true → holdsAt (asRead ws) s p ≡ true → holdsAt (asRead ws) t p ≡ true
+        → clash (lockHeldAt (asRead ws) t p) (lockHeldAt (asRead ws) s p) ≡ false
+    unfolding aloneIn slotCount
+    xi-goes s t p h b n x ms mt =
+        ap (clash (lockHeldAt (asRead ws) t p)) (lock-xi s p h x)
+        ∙ others-go (asRead ws) s p Xi
+        (page-alone s p
+        ∙ all-member (λ (q : ℕ). not (othersHold ws s (lockNumber Xi) q)) (held (slotIn ws s))
+        (sym (ap (λ (b : Bool). not b || aloneIn ws s) x) ∙ allBelow-at (xiAlone ws) 16 told s h)
+        p (subst (λ (x : Slot). member p (held x) ≡ true) (slot-read ws s h) ms))
+        t b n mt
+
+    two-go : (s t p : ℕ) → s < 16 → t < 16 → t ≢ s → holdsAt (asRead ws) s p ≡ true → holdsAt (asRead ws) t p ≡ true
+        → clash (lockHeldAt (asRead ws) t p) (lockHeldAt (asRead ws) s p) ≡ false
+    two-go s t p h b n ms mt =
+        by-test (updates ws s)
+        (λ x. xi-goes s t p h b n x ms mt)
+        (λ f. by-test (updates ws t)
+        (λ x. clash-swap (lockHeldAt (asRead ws) t p) (lockHeldAt (asRead ws) s p) ∙ xi-goes t s p b h (λ q. n (sym q)) x mt ms)
+        (λ g. ap₂ clash
+        (lock-by t p b ∙ ap (lockBy (eqb (cell ws 0 t) 0)) g)
+        (lock-by s p h ∙ ap (lockBy (eqb (cell ws 0 s) 0)) f)
+        ∙ none-clash (eqb (cell ws 0 t) 0) (eqb (cell ws 0 s) 0)))
+
+    alone-rule : noClashingHolds (asRead ws) ≡ true
+    unfolding noClashingHolds slotCount
+    alone-rule =
+        allBelow-from (λ (s : ℕ). all (λ (q : ℕ). noClashOn (asRead ws) s q (lockHeldAt (asRead ws) s q)) (held (slotAt (asRead ws) s))) 16
+        (λ s h. all-from-members (λ (q : ℕ). noClashOn (asRead ws) s q (lockHeldAt (asRead ws) s q)) (held (slotAt (asRead ws) s))
+        (λ p m. others-go-from (asRead ws) s p (lockHeldAt (asRead ws) s p) (λ t b n mt. two-go s t p h b n m mt)))
+
+  pub no-clashes : noClashingHolds (asRead ws) ≡ allBelow 16 (xiAlone ws)
+  no-clashes = same-if-true-together (noClashingHolds (asRead ws)) (allBelow 16 (xiAlone ws)) rule-alone alone-rule

@@ -10,7 +10,7 @@ use lib.ListN.{getD, take}
 use Rattle.ground.specs.Limits.{kInRange, nInRange, slotCount}
 use Rattle.ground.specs.Tests.{all, allBelow, member, distinct}
 use Rattle.ground.proofs.Bools.{and-first, and-second, and-both, not-of-false, and-first-fails, and-second-fails, not-both, false-if-not-true, true-or-false}
-use Rattle.ground.proofs.Choice.{cond-false}
+use Rattle.ground.proofs.Choice.{by-test, cond-false}
 use Rattle.ground.proofs.Tests.{allBelow-same, allBelow-from}
 use Rattle.slots.specs.declared.Slot.{Slot}
 use Rattle.slots.specs.Parts.{idleState, slotAt, openAt, isOpen}
@@ -86,6 +86,12 @@ reorder true true false d a = refl
 reorder true false true d a = refl
 reorder true false false d a = refl
 
+-- where the rows fail, what is asked last does not matter
+last-any : (n r w d a b : Bool) → r ≡ false → n && r && w && d && a ≡ n && r && w && d && b
+last-any false r w d a b f = refl
+last-any true true w d a b f = not-both refl f
+last-any true false w d a b f = refl
+
 module _ (ws : List ℕ) where
   abbrev numbers : Bool
   numbers = kInRange (getD ws 0 0) && nInRange (getD ws 1 0)
@@ -102,12 +108,18 @@ module _ (ws : List ℕ) where
   abbrev alones : Bool
   alones = allBelow 16 (xiAlone ws)
 
+  abbrev clashless : Bool
+  clashless = noClashingHolds (asRead ws)
+
   known-sound : known ws ≡ true → sound (asRead ws) ≡ numbers && rows && names && deeps && alones
   unfolding sound
   known-sound e =
-      ap (λ (w : Bool). numbers && w && allBelow slotCount (λ (s : ℕ). slotSound (getD ws 1 0) (slotAt (asRead ws) s)) && noClashingHolds (asRead ws)) (order-words ws e)
-      ∙ ap₂ (λ (x a : Bool). numbers && names && x && a) (sym (slots-words ws e)) (no-clashes ws e)
-      ∙ reorder numbers names rows deeps alones
+      ap (λ (w : Bool). numbers && w && allBelow slotCount (λ (s : ℕ). slotSound (getD ws 1 0) (slotAt (asRead ws) s)) && clashless) (order-words ws e)
+      ∙ ap (λ (x : Bool). numbers && names && x && clashless) (sym (slots-words ws e))
+      ∙ reorder numbers names rows deeps clashless
+      ∙ by-test rows
+      (λ t. ap (λ (a : Bool). numbers && rows && names && deeps && a) (no-clashes ws e (rows-short ws (getD ws 1 0) t)))
+      (last-any numbers rows names deeps clashless alones)
 
   unknown-state : known ws ≡ false → sound (stateOf ws) ≡ false
   unfolding stateOf

@@ -1,10 +1,12 @@
 -- What the parts of the test of a state test, where the rule of a sound state has no name for it.
 use Prim.Native.Nat.{ℕ}
-use mathlib.Core.Bool.{Bool, true, not, _&&_, _||_}
+use mathlib.Core.Bool.{Bool, not, _&&_, _||_}
 use mathlib.Core.List.{List}
 use lib.Dec.{leb, ltb, eqb}
 use Rattle.ground.specs.Tests.{all, member, distinct}
+use Rattle.slots.specs.declared.Lock.the-variants.{Xi}
 use Rattle.slots.specs.Parts.{held}
+use Rattle.slots.specs.Heard.{lockNumber}
 use Rattle.slots.specs.Sound.{belowAndOnce}
 use Rattle.lent.specs.Words.{cell, highestKind, slotIn}
 use Rattle.lent.specs.Holds.{updatesKind, isDeep, othersHold}
@@ -48,9 +50,9 @@ deepFine ws n s = not (isDeep ws s) || moreFine ws n s
 abbrev pub openKind : ℕ → Bool
 openKind kind = not (eqb kind 0) && leb kind highestKind
 
--- no other slot holds a page that slot s holds
+-- no other slot holds a page that slot s holds, under a lock that clashes with ξ
 unfoldable pub aloneIn : List ℕ → ℕ → Bool
-aloneIn ws s = all (λ (p : ℕ). not (othersHold ws s true p)) (held (slotIn ws s))
+aloneIn ws s = all (λ (p : ℕ). not (othersHold ws s (lockNumber Xi) p)) (held (slotIn ws s))
 
 -- slot s holds its pages under ξ
 abbrev pub updates : List ℕ → ℕ → Bool

@@ -24,17 +24,20 @@ use lent::cells::waiting_of;
 use lent::cells::want_at;
 use lent::cells::wide;
 use lent::cells::word_at;
+use lent::granting::XI;
 use lent::granting::column_has;
 use lent::granting::is_deep;
 use lent::granting::is_update;
 use lent::granting::others_hold;
 use lent::granting::some_deep;
 ghost use Prim.Native.Nat.{ℕ, _≤_, _<_};
-ghost use mathlib.Core.Bool.{true, false, not, _&&_};
+ghost use mathlib.Core.Bool.{false, not, _&&_};
 ghost use mathlib.Core.Path.{_≡_};
 ghost use lib.ListN.{length, getD, take};
 ghost use Rattle.ground.specs.Limits.{kInRange, nInRange, slotCount};
 ghost use Rattle.ground.specs.Tests.{all, allBelow, countBelow};
+ghost use Rattle.slots.specs.declared.Lock.the-variants.{Xi};
+ghost use Rattle.slots.specs.Heard.{lockNumber};
 ghost use Rattle.slots.specs.Report.{maskBelow};
 ghost use Rattle.slots.specs.Sound.{namesEach, belowAndOnce, sound};
 ghost use Rattle.lent.specs.Words.{cell, column, slotIn, orderIn, stateOf};
@@ -234,14 +237,14 @@ fn order_sound(cells: &[u32; STATE], waiting: usize, busy: [bool; SLOTS]) -> boo
     true
 }
 
-// No other slot holds one of the first `count` pages from `row` on, of slot s.
+// No other slot holds one of the first `count` pages from `row` on, of slot s, under a lock that clashes with ξ.
 fn column_alone(cells: &[u32; STATE], s: usize, row: usize, count: usize) -> bool
     requires { ⌜ (s < 16) × (row ≤ 16) × (count ≤ 10) × WithinRows (now cells) ⌝ }
-    ensures { λ r. ⌜ r ≡ all (λ (p : ℕ). not (othersHold (now (cells .entry)) s true p)) (take count (column (now (cells .entry)) row s)) ⌝ }
+    ensures { λ r. ⌜ r ≡ all (λ (p : ℕ). not (othersHold (now (cells .entry)) s (lockNumber Xi) p)) (take count (column (now (cells .entry)) row s)) ⌝ }
 {
     let mut i = 0;
     while i < count {
-        if others_hold(cells, s, true, word_at(cells, row + i, s)) {
+        if others_hold(cells, s, XI, word_at(cells, row + i, s)) {
             return false;
         }
         i += 1;
@@ -249,7 +252,7 @@ fn column_alone(cells: &[u32; STATE], s: usize, row: usize, count: usize) -> boo
     true
 }
 
-// No other slot holds a page that slot s holds.
+// No other slot holds a page that slot s holds, under a lock that clashes with ξ.
 fn is_alone(cells: &[u32; STATE], s: usize) -> bool
     requires { ⌜ (s < 16) × WithinRows (now cells) ⌝ }
     ensures { λ r. ⌜ r ≡ aloneIn (now (cells .entry)) s ⌝ }
@@ -275,7 +278,8 @@ fn updating(cells: &[u32; STATE]) -> u16
     mask
 }
 
-// No page held under ξ is held by another slot. The slots are taken off the mask from the lowest on.
+// No page is held under locks that clash. One of two such locks is ξ, so the slots that hold under ξ are looked at; they are taken
+// off the mask from the lowest on.
 fn no_clashes(cells: &[u32; STATE]) -> bool
     requires { ⌜ WithinRows (now cells) ⌝ }
     ensures { λ r. ⌜ r ≡ allBelow 16 (xiAlone (now (cells .entry))) ⌝ }

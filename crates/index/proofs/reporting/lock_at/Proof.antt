@@ -1,7 +1,7 @@
 -- Below the last slot it is the kind of its task, behind it none.
 use Rattle.lent.proofs.StateLaws.{slot-read}
 use Rattle.lent.specs.Words.{asRead}
-use Rattle.slots.specs.Locks.{lockOf, lockAt}
+use Rattle.slots.specs.Locks.{lockOf, lockHeldAt}
 use Rattle.slots.specs.declared.Lock.the-variants.{None}
 use Rattle.slots.specs.declared.Slot.{Slot}
 use Rattle.ground.proofs.Choice.{cond-true, cond-false}
@@ -14,7 +14,7 @@ use Rattle.index.proofs.reporting.lock_at.Tie as tie
 
 returns : tie.Need-returns
 unfolding slotCount
-returns c = sym (cond-false (lockAt (asRead (c .before .args .cells .now)) (c .before .args .s)) None (le-ltb (c .before .args .s) slotCount (c .if1 .taken)))
+returns c = sym (cond-false (lockHeldAt (asRead (c .before .args .cells .now)) (c .before .args .s) (c .before .args .p)) None (le-ltb (c .before .args .s) slotCount (c .if1 .taken)))
 
 task-at-requires : tie.Need-task-at-requires
 task-at-requires c κs = search needs
@@ -30,7 +30,7 @@ returns-2 c =
     c .lock-of .ensures
     ∙ ap lockOf (c .before .task-at .ensures)
     ∙ ap (λ (x : Slot). lockOf (x .task)) (sym (slot-read ws s (c .before .before .if1 .left)))
-    ∙ sym (cond-true (lockAt (asRead ws) s) None (lt-ltb s slotCount (c .before .before .if1 .left)))
+    ∙ sym (cond-true (lockHeldAt (asRead ws) s (c .before .before .before .args .p)) None (lt-ltb s slotCount (c .before .before .if1 .left)))
 
 pub lock-at-spec : {M : Type 1} → statement M
 lock-at-spec = tie.close (tie.spec returns task-at-requires lock-of-requires returns-2)

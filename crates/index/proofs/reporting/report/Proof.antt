@@ -6,7 +6,7 @@ use Rattle.soundness.proofs.MaskLaws.{mask-ones, mask-lowest}
 use Rattle.lent.specs.Words.{asRead, stateOf}
 use Rattle.slots.specs.Report.{holders, lowestHolder, lockKind}
 use Rattle.slots.specs.Sound.{sound}
-use Rattle.slots.specs.Locks.{lockAt}
+use Rattle.slots.specs.Locks.{lockHeldAt}
 use Rattle.slots.specs.Parts.{holdsAt}
 use Rattle.slots.specs.declared.Answer.the-variants.{Reported}
 use Rattle.slots.specs.declared.Lock.the-variants.{None}
@@ -61,7 +61,7 @@ returns-3 c =
     let many : ones (c .before .holders .result) ≡ holders st p = ap ones mask ∙ mask-ones test slotCount in
     let lowest : trailingZeros slotCount (c .before .holders .result) ≡ lowestHolder st p = ap (trailingZeros slotCount) mask ∙ mask-lowest test slotCount in
     let kind : c .lock-at .result ≡ lockKind st p =
-    c .lock-at .ensures ∙ ap (λ (s : ℕ). cond (ltb s slotCount) (lockAt st s) None) lowest ∙ kind-of-lowest st (known .facts) p in
+    c .lock-at .ensures ∙ ap (λ (s : ℕ). cond (ltb s slotCount) (lockHeldAt st s p) None) lowest ∙ kind-of-lowest st (known .facts) p in
     report-done ws p (kept (c .before .before .before .before)) (known .exist) (subst (λ (n : ℕ). p < n) (c .before .before .before .n-of .ensures) (c .before .before .if2 .left)) (λ i. Reported (kind i) (many i) (lowest i))
 
 pub report-spec : {M : Type 1} → statement M

@@ -1,15 +1,20 @@
--- The code is the rule's expression, with its test of ξ called.
-use mathlib.Core.Path.{ap}
-use mathlib.Core.Bool.{Bool, _||_}
-use borrow.Author.Needs.{needs}
+-- The code is the table of two numbers, row by row.
+use lib.Dec.{eqb}
+use mathlib.Core.Bool.{Bool, true, false, cond, _||_}
+use mathlib.Core.Path.{_≡_, refl}
+use Rattle.slots.specs.declared.Lock.the-variants.{Rho, Xi}
+use Rattle.slots.specs.Locks.{clash}
 use Rattle.lent.proofs.granting.clashes.Statement.{statement}
 use Rattle.lent.proofs.granting.clashes.Tie as tie
 
-is-update-requires : tie.Need-is-update-requires
-is-update-requires c κs = search needs
+table : (a b : Bool) → a || b ≡ clash (cond a Xi Rho) (cond b Xi Rho)
+table true true = refl
+table true false = refl
+table false true = refl
+table false false = refl
 
 returns : tie.Need-returns
-returns c = ap (λ (xi : Bool). c .before .args .any || xi) (c .is-update .ensures)
+returns c = table (eqb (c .args .held) 2) (eqb (c .args .wanted) 2)
 
 pub clashes-spec : {M : Type 1} → statement M
-clashes-spec = tie.close (tie.spec is-update-requires returns)
+clashes-spec = tie.close (tie.spec returns)

@@ -2,7 +2,7 @@
 use Rattle.lent.proofs.HoldLaws.{walk-end, walk-slot, walk-own, walk-older, walk-on}
 use denote.Ref.{now}
 use Rattle.lent.specs.Words.{asRead}
-use Rattle.lent.specs.Holds.{updatesKind}
+use Rattle.lent.specs.Holds.{kindLock}
 use Rattle.slots.proofs.HoldingLaws.{noOlderFrom, older-none}
 use Rattle.slots.specs.Grant.{noOlder}
 use lib.ListN.{getD}
@@ -14,10 +14,10 @@ use Rattle.lent.proofs.granting.no_older.Statement.{statement}
 use Rattle.lent.proofs.granting.no_older.Tie as tie
 
 abbrev Inv-loop : tie.InvT-loop
-Inv-loop cells s any want waiting i₀ i = (i ≤ waiting) × (noOlder (asRead cells) s ≡ noOlderFrom (asRead cells) s i)
+Inv-loop cells s lock want waiting i₀ i = (i ≤ waiting) × (noOlder (asRead cells) s ≡ noOlderFrom (asRead cells) s i)
 
 abbrev μ-loop : tie.MeasureT-loop
-μ-loop cells s any want waiting i₀ i = waiting - i
+μ-loop cells s lock want waiting i₀ i = waiting - i
 
 sized-requires : tie.Need-sized-requires Inv-loop μ-loop
 sized-requires c κs = search needs
@@ -25,8 +25,8 @@ sized-requires c κs = search needs
 kind-at-requires : tie.Need-kind-at-requires Inv-loop μ-loop
 kind-at-requires c κs = search needs
 
-is-update-requires : tie.Need-is-update-requires Inv-loop μ-loop
-is-update-requires c κs = search needs
+kind-lock-requires : tie.Need-kind-lock-requires Inv-loop μ-loop
+kind-lock-requires c κs = search needs
 
 want-at-requires : tie.Need-want-at-requires Inv-loop μ-loop
 want-at-requires c κs = search needs
@@ -58,7 +58,7 @@ loop-again c =
     let w : c .before .before .before .before .before .before .waiting-of .result ≡ getD (was .args .cells .now) 2 0 = c .before .before .before .before .before .before .waiting-of .ensures in (
       omega arith,
       walk-on (was .args .cells .now) (was .args .s) (c .before .before .before .before .before .before .before .before .before .before .sized .ensures) (was .pre .0) (was .pre .1) (was .pre .2) (was .pre .3) (c .before .before .before .before .before .loop .inv .1) (omega arith) (c .before .before .before .order-at .ensures)
-          (c .before .before .if2 .left) (c .before .before .before .before .before .before .before .before .is-update .ensures ∙ ap updatesKind (c .before .before .before .before .before .before .before .before .before .kind-at .ensures)) (c .before .before .before .before .before .before .before .want-at .ensures) (c .before .also-wants .ensures) (c .if3 .left),
+          (c .before .before .if2 .left) (c .before .before .before .before .before .before .before .before .kind-lock .ensures ∙ ap kindLock (c .before .before .before .before .before .before .before .before .before .kind-at .ensures)) (c .before .before .before .before .before .before .before .want-at .ensures) (c .before .also-wants .ensures) (c .if3 .left),
     )
 
 returns : tie.Need-returns Inv-loop μ-loop
@@ -78,7 +78,7 @@ returns-3 c =
     let was = c .before .before .before .before .before .before .before .before .before .before .before .before in
     let w : c .before .before .before .before .before .before .waiting-of .result ≡ getD (was .args .cells .now) 2 0 = c .before .before .before .before .before .before .waiting-of .ensures in
     walk-older (was .args .cells .now) (was .args .s) (c .before .before .before .before .before .before .before .before .before .before .sized .ensures) (was .pre .0) (was .pre .1) (was .pre .2) (was .pre .3) (c .before .before .before .before .before .loop .inv .1) (omega arith) (c .before .before .before .order-at .ensures)
-    (c .before .before .if2 .left) (c .before .before .before .before .before .before .before .before .is-update .ensures ∙ ap updatesKind (c .before .before .before .before .before .before .before .before .before .kind-at .ensures)) (c .before .before .before .before .before .before .before .want-at .ensures) (c .before .also-wants .ensures) (c .if3 .taken)
+    (c .before .before .if2 .left) (c .before .before .before .before .before .before .before .before .kind-lock .ensures ∙ ap kindLock (c .before .before .before .before .before .before .before .before .before .kind-at .ensures)) (c .before .before .before .before .before .before .before .want-at .ensures) (c .before .also-wants .ensures) (c .if3 .taken)
 
 pub no-older-spec : {M : Type 1} → statement M
 no-older-spec =
@@ -88,7 +88,7 @@ no-older-spec =
     μ-loop
     sized-requires
     kind-at-requires
-    is-update-requires
+    kind-lock-requires
     want-at-requires
     waiting-of-requires
     loop-holds

@@ -11,7 +11,7 @@ tops-hold-requires c κs = search needs
 returns : tie.Need-returns
 returns c =
     let was = c .before .before .args in
-    others-top (was .cells .now) (was .s) (was .any) (was .p) (c .before .tops-hold .ensures) (c .if1 .taken)
+    others-top (was .cells .now) (was .s) (was .lock) (was .p) (c .before .tops-hold .ensures) (c .if1 .taken)
 
 some-deep-requires : tie.Need-some-deep-requires
 some-deep-requires c κs = search needs
@@ -19,7 +19,7 @@ some-deep-requires c κs = search needs
 returns-2 : tie.Need-returns-2
 returns-2 c =
     let was = c .before .before .before .before .args in
-    others-shallow (was .cells .now) (was .s) (was .any) (was .p) (c .before .before .before .tops-hold .ensures) (c .before .before .if1 .left) (c .before .some-deep .ensures) (not-true (c .before .some-deep .result) (c .if2 .taken))
+    others-shallow (was .cells .now) (was .s) (was .lock) (was .p) (c .before .before .before .tops-hold .ensures) (c .before .before .if1 .left) (c .before .some-deep .ensures) (not-true (c .before .some-deep .result) (c .if2 .taken))
 
 some-deep-holds-requires : tie.Need-some-deep-holds-requires
 some-deep-holds-requires c κs = search needs
@@ -27,7 +27,7 @@ some-deep-holds-requires c κs = search needs
 returns-3 : tie.Need-returns-3
 returns-3 c =
     let was = c .before .before .before .before .before .args in
-    others-deep (was .cells .now) (was .s) (was .any) (was .p) (c .before .before .before .before .tops-hold .ensures) (c .before .before .before .if1 .left) (c .some-deep-holds .ensures)
+    others-deep (was .cells .now) (was .s) (was .lock) (was .p) (c .before .before .before .before .tops-hold .ensures) (c .before .before .before .if1 .left) (c .some-deep-holds .ensures)
 
 pub others-hold-spec : {M : Type 1} → statement M
 others-hold-spec =

@@ -7,7 +7,7 @@ use lib.Dec.{eqb, ltb}
 use mathlib.Core.Path.{sym, ap, ap₂, _∙_}
 use mathlib.Core.Bool.{Bool, not, _&&_, _||_}
 use Prim.Native.Nat.{ℕ}
-use Rattle.lent.specs.Holds.{clashesKind, topHolds}
+use Rattle.lent.specs.Holds.{kindLock, numbersClash, topHolds}
 use Rattle.ground.specs.Tests.{anyBelow}
 use native.Mathlib.Omega.{arith}
 use mathlib.Core.Path.{_≡_}
@@ -17,13 +17,13 @@ use Rattle.lent.proofs.granting.tops_hold.Statement.{statement}
 use Rattle.lent.proofs.granting.tops_hold.Tie as tie
 
 abbrev Inv-loop : tie.InvT-loop
-Inv-loop cells s any p found₀ t₀ found t = (t ≤ 16) × (found ≡ anyBelow t (topHolds cells s any p))
+Inv-loop cells s lock p found₀ t₀ found t = (t ≤ 16) × (found ≡ anyBelow t (topHolds cells s lock p))
 
 abbrev μ-loop : tie.MeasureT-loop
-μ-loop cells s any p found₀ t₀ found t = 16 - t
+μ-loop cells s lock p found₀ t₀ found t = 16 - t
 
 loop-holds : tie.Need-loop-holds Inv-loop μ-loop
-loop-holds c = (omega arith, sym (anyBelow-none (topHolds (c .args .cells .now) (c .args .s) (c .args .any) (c .args .p))))
+loop-holds c = (omega arith, sym (anyBelow-none (topHolds (c .args .cells .now) (c .args .s) (c .args .lock) (c .args .p))))
 
 cast-is-top : tie.Need-cast-is-top Inv-loop μ-loop
 cast-is-top c = search needs
@@ -53,20 +53,20 @@ loop-again : tie.Need-loop-again Inv-loop μ-loop
 loop-again c =
     let was = c .before .before .before .before .before .before .args in
     let t : ℕ = c .before .before .before .before .before .loop .t in
-    let this : c .is-top .result ≡ topHolds (was .cells .now) (was .s) (was .any) (was .p) t =
+    let this : c .is-top .result ≡ topHolds (was .cells .now) (was .s) (was .lock) (was .p) t =
     c .is-top .ensures
-    ∙ ap (λ (k : ℕ). (not (eqb t (was .s)) && clashesKind (was .any) k) && (ltb 0 (c .before .before .depth-at .result) && eqb (was .p) (c .before .top-at .result))) (c .before .before .before .kind-at .ensures)
-    ∙ ap₂ (λ (d x : ℕ). (not (eqb t (was .s)) && clashesKind (was .any) (cell (was .cells .now) 0 t)) && (ltb 0 d && eqb (was .p) x)) (c .before .before .depth-at .ensures) (c .before .top-at .ensures) in (
+    ∙ ap (λ (k : ℕ). (not (eqb t (was .s)) && numbersClash (kindLock k) (was .lock)) && (ltb 0 (c .before .before .depth-at .result) && eqb (was .p) (c .before .top-at .result))) (c .before .before .before .kind-at .ensures)
+    ∙ ap₂ (λ (d x : ℕ). (not (eqb t (was .s)) && numbersClash (kindLock (cell (was .cells .now) 0 t)) (was .lock)) && (ltb 0 d && eqb (was .p) x)) (c .before .before .depth-at .ensures) (c .before .top-at .ensures) in (
       omega arith,
       ap₂ (λ (a b : Bool). a || b) (c .before .before .before .before .before .loop .inv .1) this
-          ∙ sym (any-on (topHolds (was .cells .now) (was .s) (was .any) (was .p)) t),
+          ∙ sym (any-on (topHolds (was .cells .now) (was .s) (was .lock) (was .p)) t),
     )
 
 returns : tie.Need-returns Inv-loop μ-loop
 returns c =
     let was = c .before .before .args in
     let end : c .before .loop .t ≡ 16 = omega arith in
-    c .before .loop .inv .1 ∙ ap (λ (n : ℕ). anyBelow n (topHolds (was .cells .now) (was .s) (was .any) (was .p))) end
+    c .before .loop .inv .1 ∙ ap (λ (n : ℕ). anyBelow n (topHolds (was .cells .now) (was .s) (was .lock) (was .p))) end
 
 pub tops-hold-spec : {M : Type 1} → statement M
 tops-hold-spec =
