@@ -161,7 +161,7 @@ after-call st ws inv = record {
       (holder-open (st .n) (slotAt st u) p (inv .sound .slot u c) hu)
       (no-two-locks-clash st (inv .sound) s u p b c n hs hu);
   stands = inv .stands;
-  closed = λ s b c. closed-empty (slotAt st s .task) (slotAt st s .depth) (slotAt st s .beside) (slotAt st s .path) (slotAt st s .siblings) (inv .sound .slot s b .limits) c;
+  closed = λ s b c. closed-empty (slotAt st s .task) (slotAt st s .depth) (slotAt st s .breadth) (slotAt st s .path) (slotAt st s .beside) (inv .sound .slot s b .limits) c;
   oneHeld = λ s x v b runs.
       regrade-one x v (st .k) (pageAt (st .k) ws) (inv .height) (inv .tree) (pathOf (slotAt st s)) (besideOf (slotAt st s)) (wantAt st s)
       (inv .stands s (Regrade x v) b runs);
