@@ -88,16 +88,6 @@ pub fn key_of(words: &[u32], k: usize, n: usize, p: u32, i: usize) -> u32
     reading::key_at(page_words(words, k, n, p), i)
 }
 
-// What stands behind the key of pair i.
-pub fn value_of(words: &[u32], k: usize, n: usize, p: u32, i: usize) -> u32
-    requires { ⌜ InPool k n p (now words) ⌝ }
-    requires { ⌜ Readable (wordsOf k p (now words)) ⌝ }
-    requires { ⌜ i < μ (pageAt k (now words) p) ⌝ }
-    ensures { λ r. ⌜ r ≡ entryAt i (pageAt k (now (words .entry)) p .entries) .value ⌝ }
-{
-    reading::value_at(page_words(words, k, n, p), i)
-}
-
 // How many keys are at most x.
 pub fn place_of(words: &[u32], k: usize, n: usize, p: u32, x: u32) -> usize
     requires { ⌜ InPool k n p (now words) ⌝ }
