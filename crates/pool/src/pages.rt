@@ -103,6 +103,7 @@ pub fn place_of(words: &[u32], k: usize, n: usize, p: u32, x: u32) -> usize
 pub fn at_or_above_of(words: &[u32], k: usize, n: usize, p: u32, x: u32) -> Nearest
     requires { ⌜ InPool k n p (now words) ⌝ }
     requires { ⌜ Readable (wordsOf k p (now words)) ⌝ }
+    requires { ⌜ rises (pageAt k (now words) p .entries) ≡ true ⌝ }
     ensures { λ r. ⌜ r ≡ nearest (atOrAbove x (pageAt k (now (words .entry)) p .entries)) ⌝ }
 {
     reading::at_or_above(page_words(words, k, n, p), x)
