@@ -16,7 +16,9 @@ use slots::Op;
 use slots::Slot;
 use slots::holding::holds;
 ghost use mathlib.Core.Path.{_≡_};
+ghost use mathlib.Core.Bool.{true};
 ghost use Rattle.page.specs.Reading.{Readable};
+ghost use Rattle.page.specs.Sound.{rises};
 ghost use Rattle.pool.specs.Pool.{wordsOf, pageAt, freePages};
 ghost use Rattle.pool.specs.Wrapped.{InPool};
 ghost use Rattle.slots.specs.declared.Op.the-variants.{Delete, Next};
@@ -122,6 +124,7 @@ pub fn nexts_first(words: &[u32], k: usize, n: usize, x: u32, stand: Slot) -> Co
 pub fn nexts_left(words: &[u32], k: usize, n: usize, p: u32, stand: Slot) -> Course
     requires { ⌜ InPool k n p (now words) ⌝ }
     requires { ⌜ Readable (wordsOf k p (now words)) ⌝ }
+    requires { ⌜ rises (pageAt k (now words) p .entries) ≡ true ⌝ }
     ensures { λ r. ⌜ r ≡ leftCourse (pageAt k (now (words .entry))) stand p ⌝ }
 {
     if !is_leaf_of(words, k, n, p) {

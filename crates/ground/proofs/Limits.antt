@@ -1,4 +1,5 @@
--- The facts about document 01's fixed numbers on which what is proved rests, each once. Nothing else unfolds the names.
+-- The facts about document 01's fixed numbers on which the theory of trees and runs rests, each once. Proofs of code open the names
+-- too: the length of an array, and what a sum may come to, are numbers there.
 use Prim.Native.Nat.{_+_, _-_, _*_, _^_, _<_}
 use mathlib.Core.Path.{_≡_, refl}
 use lib.Dec.{lit<}

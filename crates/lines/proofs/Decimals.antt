@@ -2,13 +2,13 @@
 use Prim.Native.Nat.{ℕ, zero, suc, _+_, _/_, _^_, _≤_, _<_}
 use mathlib.Core.Bool.{true, cond}
 use mathlib.Core.List.{List, [], _∷_, _++_}
-use mathlib.Core.Logic.{⊎-elim, _≢_}
-use mathlib.Core.Path.{_≡_, refl, sym, ap, _∙_}
+use mathlib.Core.Logic.{⊎-elim}
+use mathlib.Core.Path.{_≡_, refl, ap, _∙_}
 use native.Mathlib.Nat.{not-suc-le-zero, pow-suc}
 use native.Mathlib.Omega.{arith}
 use borrow.Author.Tests.{lt-ltb, le-ltb, ltb-true, ltb-false}
 use lib.Dec.{ltb}
-use lib.ListN.{length, getD, length-append, List·getD-append}
+use lib.ListN.{length, length-append}
 use Rattle.ground.specs.Tests.{all}
 use Rattle.ground.proofs.Bools.{true-or-false, and-both}
 use Rattle.ground.proofs.Tests.{all-append}
@@ -84,14 +84,6 @@ value-decimal =
     by-digits (λ (n : ℕ). value (decimal n) ≡ n)
     (λ n h. ap value (decimal-one n h) ∙ value-snoc [] (48 + n) ∙ omega arith)
     (λ n h b. ap value (decimal-more n h) ∙ value-snoc (decimal (n / 10)) (lastDigit n) ∙ omega (arith, b))
-
--- it has no leading zero
-pub decimal-leads : (n : ℕ) → 0 < n → getD (decimal n) 0 0 ≢ 48
-decimal-leads =
-    by-digits (λ (n : ℕ). 0 < n → getD (decimal n) 0 0 ≢ 48)
-    (λ n h p e. omega (arith, ap (λ (l : List ℕ). getD l 0 0) (decimal-one n h)))
-    (λ n h b p e. b (omega arith)
-    (sym (ap (λ (l : List ℕ). getD l 0 0) (decimal-more n h) ∙ List·getD-append (decimal (n / 10)) (lastDigit n ∷ []) 0 0 (decimal-some (n / 10))) ∙ e))
 
 -- its digits are digits
 pub decimal-digital : (n : ℕ) → all isDigit (decimal n) ≡ true

@@ -2,24 +2,26 @@
 use Prim.Native.Nat.{ℕ, zero, suc, _+_, _-_, _*_, _/_, _≤_, _<_}
 use mathlib.Core.Bool.{true, false}
 use mathlib.Core.List.{List, [], _∷_}
-use mathlib.Core.Path.{_≡_, refl, sym, ap, _∙_}
+use mathlib.Core.Logic.{_≢_, ⊎-elim}
+use mathlib.Core.Path.{_≡_, refl, sym, ap, _∙_, subst}
 use native.Mathlib.Nat.{not-suc-le-zero}
 use native.Mathlib.Omega.{arith}
 use native.Mathlib.Numerals.{add-one}
-use borrow.Author.Tests.{lt-ltb, le-ltb}
+use borrow.Author.Tests.{lt-ltb, le-ltb, eqb-true, eqb-false}
+use lib.Dec.{eqb}
 use lib.ListN.{length, getD, drop, length-drop, length-map, List·getD-map, drop-of-length-le}
 use lib.Seq.{getD-drop, drop-cons}
-use Rattle.ground.proofs.Bools.{false-if-not-true}
+use Rattle.ground.proofs.Bools.{false-if-not-true, true-or-false}
 use Rattle.ground.proofs.Choice.{cond-true, cond-false}
 use Rattle.page.specs.Words.{Entry, Page, entry, keyOf, valueOf, μ, isLeaf, pointers, pairs, pairsFrom, view, size}
 use Rattle.page.specs.Place.{place, pointer, has, information, atOrAbove}
 use Rattle.page.specs.Splits.{entryAt}
 use Rattle.page.specs.Sound.{rises, soundByItself}
-use Rattle.page.specs.Reading.{Readable, looked}
+use Rattle.page.specs.Reading.{Readable, FirstFrom, looked}
 use Rattle.page.specs.Short.{hasRight, betweenAt, neighbour}
 use Rattle.page.specs.declared.reading.Lot.the-variants.{There, Missing}
-use Rattle.page.proofs.RiseLaws.{keyAt}
-use Rattle.page.proofs.PlaceLaws.{place-most, has-from, has-place, information-at, above-first, above-later}
+use Rattle.page.proofs.RiseLaws.{keyAt, rises-at}
+use Rattle.page.proofs.PlaceLaws.{place-most, place-before, place-behind, has-from, has-place, information-at, above-first, above-later}
 use Rattle.page.proofs.HalvingLaws.{Passes, Untold, half-told}
 use Rattle.page.proofs.WordLaws.{length-pairs, pairsFrom-most}
 use Rattle.page.proofs.SoundPage.{sound-μ, sound-facts}
@@ -140,30 +142,66 @@ module _ (x i : ℕ) (es : List Entry) (e : i ≡ place x es) (t : rises es ≡ 
       ap There (sym (information-at x es t (i - 1) within same))
       ∙ sym (cond-true (There (information x es)) Missing (has-from x es (i - 1) within same))
 
--- ---- a walk to the first entry at or above x
+-- ---- the first entry at or above x
 
-module _ (x : ℕ) (es : List Entry) (i : ℕ) where
-  abbrev from-here : List Entry
-  from-here = atOrAbove x (drop i es)
+-- those before it are below x
+above-behind-all : (x : ℕ) (es : List Entry) (i : ℕ) → i ≤ length es → ((j : ℕ) → j < i → keyAt j es < x) → atOrAbove x es ≡ atOrAbove x (drop i es)
+above-behind-all x es zero h low = refl
+above-behind-all x [] (suc i) h low = absurd (not-suc-le-zero h)
+above-behind-all x (e ∷ es) (suc i) h low =
+    above-later x e es (low 0 (omega arith)) ∙ above-behind-all x es i (omega arith) (λ j l. low (suc j) (omega arith))
 
-  next-entry : i < length es → drop i es ≡ entryAt i es ∷ drop (suc i) es
-  next-entry h = drop-cons es i (entry 0 0) h
+module _ (x : ℕ) (es : List Entry) (i : ℕ) (first : FirstFrom x es i) where
+  -- there is one
+  pub above-found : i < length es → atOrAbove x es ≡ entryAt i es ∷ drop (suc i) es
+  above-found h =
+      above-behind-all x es i (first .within) (first .before)
+      ∙ ap (atOrAbove x) (drop-cons es i (entry 0 0) h)
+      ∙ above-first x (entryAt i es) (drop (suc i) es) (first .here h)
 
-  -- the entry at index i is at or above x
-  pub above-found : i < length es → x ≤ keyAt i es → from-here ≡ entryAt i es ∷ drop (suc i) es
-  above-found h above = ap (atOrAbove x) (next-entry h) ∙ above-first x (entryAt i es) (drop (suc i) es) above
-
-  -- it is below
-  pub above-more : i < length es → keyAt i es < x → from-here ≡ atOrAbove x (drop (i + 1) es)
-  above-more h below =
-      ap (atOrAbove x) (next-entry h)
-      ∙ above-later x (entryAt i es) (drop (suc i) es) below
-      ∙ ap (λ (j : ℕ). atOrAbove x (drop j es)) (sym (add-one i))
-
-  -- there is none left
-  pub above-none : length es ≤ i → from-here ≡ []
+  -- there is none
+  pub above-none : length es ≤ i → atOrAbove x es ≡ []
   unfolding atOrAbove
-  above-none h = ap (atOrAbove x) (drop-of-length-le es h)
+  above-none h = above-behind-all x es i (first .within) (first .before) ∙ ap (atOrAbove x) (drop-of-length-le es h)
+
+-- Rising keys, and the place of x among them.
+module _ (x : ℕ) (es : List Entry) (rise : rises es ≡ true) (i : ℕ) (e : i ≡ place x es) where
+  -- no key is at most x
+  pub first-of-all : i ≡ 0 → FirstFrom x es 0
+  first-of-all none = record {
+    within = omega arith;
+    before = λ j l. absurd (not-suc-le-zero l);
+    here = λ h. let high = place-behind x es rise 0 (omega arith) h in omega arith;
+  }
+
+  -- x stands just before its place
+  pub first-itself : i ≢ 0 → keyAt (i - 1) es ≡ x → FirstFrom x es (i - 1)
+  first-itself some is = record {
+    within = omega (arith, place-most x es);
+    before = λ j l. let less = rises-at es rise j (i - 1) l (omega (arith, place-most x es)) in omega (arith, less, is);
+    here = λ h. omega (arith, is);
+  }
+
+  -- another key does
+  pub first-behind : i ≢ 0 → keyAt (i - 1) es ≢ x → FirstFrom x es i
+  first-behind some other = record {
+    within = omega (arith, place-most x es);
+    before = λ j l. below-last j l;
+    here = λ h. let high = place-behind x es rise i (omega arith) h in omega arith;
+  }
+    where
+      last-below : keyAt (i - 1) es < x
+      last-below = let low = place-before x es rise (i - 1) (omega arith) in omega (arith, other)
+
+      below-last : (j : ℕ) → j < i → keyAt j es < x
+      below-last j l =
+          ⊎-elim
+          (λ y. subst (λ (m : ℕ). keyAt m es < x) (sym (eqb-true j (i - 1) y)) last-below)
+          (λ f.
+          let other-one = eqb-false j (i - 1) f in
+          let rising = rises-at es rise j (i - 1) (omega arith) (omega (arith, place-most x es)) in
+          omega (arith, last-below))
+          (true-or-false (eqb j (i - 1)))
 
 -- every key is at or above 0
 pub above-all : (es : List Entry) → atOrAbove 0 es ≡ es

@@ -1,11 +1,11 @@
 // Reading a page's words: its level, its number of pairs, where a key stands in it, what is at or above it and where it leads.
-// Each function asks only that the words it reads are there, and `place` that the keys rise.
+// Each function asks only that the words it reads are there, and those that look for a key that the keys rise.
 ghost use Prim.Native.Nat.{_<_, _≤_};
 ghost use lib.ListN.{length, getD};
 ghost use mathlib.Core.Bool.{true, false};
 ghost use mathlib.Core.Path.{_≡_};
 ghost use Rattle.page.specs.Place.{place as placeOf, pointer as pointerOf, route as routeOf, atOrAbove};
-ghost use Rattle.page.specs.Reading.{Readable, looked, nearest};
+ghost use Rattle.page.specs.Reading.{Readable, FirstFrom, looked, nearest};
 ghost use Rattle.page.specs.Short.{neighbour as neighbourOf, hasRight, betweenAt};
 ghost use Rattle.page.specs.Sound.{rises};
 ghost use Rattle.page.specs.Splits.{entryAt};
@@ -118,21 +118,33 @@ pub fn look(w: &[u32], x: u32) -> Lot
     Lot::There(value_at(w, i - 1))
 }
 
+// How many keys are below x. A key x stands just before its place.
+fn keys_below(w: &[u32], x: u32) -> usize
+    requires { ⌜ Readable (now w) ⌝ }
+    requires { ⌜ rises (view (now w) .entries) ≡ true ⌝ }
+    ensures { λ r. ⌜ FirstFrom x (view (now (w .entry)) .entries) r ⌝ }
+{
+    let i = place(w, x);
+    if i == 0 {
+        return 0;
+    }
+    if key_at(w, i - 1) == x {
+        return i - 1;
+    }
+    i
+}
+
 // The first entry whose key is at or above x.
 pub fn at_or_above(w: &[u32], x: u32) -> Nearest
     requires { ⌜ Readable (now w) ⌝ }
+    requires { ⌜ rises (view (now w) .entries) ≡ true ⌝ }
     ensures { λ r. ⌜ r ≡ nearest (atOrAbove x (view (now (w .entry)) .entries)) ⌝ }
 {
-    let m = count(w);
-    let mut i = 0;
-    while i < m {
-        let key = key_at(w, i);
-        if x <= key {
-            return Nearest::Lot(key, value_at(w, i));
-        }
-        i += 1;
+    let i = keys_below(w, x);
+    if count(w) <= i {
+        return Nearest::Nothing;
     }
-    Nearest::Nothing
+    Nearest::Lot(key_at(w, i), value_at(w, i))
 }
 
 // pi, above the leaves.

@@ -88,16 +88,6 @@ pub fn key_of(words: &[u32], k: usize, n: usize, p: u32, i: usize) -> u32
     reading::key_at(page_words(words, k, n, p), i)
 }
 
-// What stands behind the key of pair i.
-pub fn value_of(words: &[u32], k: usize, n: usize, p: u32, i: usize) -> u32
-    requires { ⌜ InPool k n p (now words) ⌝ }
-    requires { ⌜ Readable (wordsOf k p (now words)) ⌝ }
-    requires { ⌜ i < μ (pageAt k (now words) p) ⌝ }
-    ensures { λ r. ⌜ r ≡ entryAt i (pageAt k (now (words .entry)) p .entries) .value ⌝ }
-{
-    reading::value_at(page_words(words, k, n, p), i)
-}
-
 // How many keys are at most x.
 pub fn place_of(words: &[u32], k: usize, n: usize, p: u32, x: u32) -> usize
     requires { ⌜ InPool k n p (now words) ⌝ }
@@ -113,6 +103,7 @@ pub fn place_of(words: &[u32], k: usize, n: usize, p: u32, x: u32) -> usize
 pub fn at_or_above_of(words: &[u32], k: usize, n: usize, p: u32, x: u32) -> Nearest
     requires { ⌜ InPool k n p (now words) ⌝ }
     requires { ⌜ Readable (wordsOf k p (now words)) ⌝ }
+    requires { ⌜ rises (pageAt k (now words) p .entries) ≡ true ⌝ }
     ensures { λ r. ⌜ r ≡ nearest (atOrAbove x (pageAt k (now (words .entry)) p .entries)) ⌝ }
 {
     reading::at_or_above(page_words(words, k, n, p), x)

@@ -37,7 +37,7 @@ unfolding pathHolds
 array-read-nexts-left c = let f = standing-needing (c .before .before .before .pre) in omega (arith, f .few)
 
 nexts-left-requires : tie.Need-nexts-left-requires
-nexts-left-requires c κs = let last = second-known (c .before .before .before .pre) (c .before .if1 .left) in (last .inPool, last .readable)
+nexts-left-requires c κs = let last = second-known (c .before .before .before .pre) (c .before .if1 .left) in (last .inPool, (last .readable, last .facts .rising))
 
 returns-2 : tie.Need-returns-2
 returns-2 c =

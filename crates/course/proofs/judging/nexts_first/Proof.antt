@@ -21,7 +21,7 @@ unfolding pathHolds
 array-read-at-or-above-of c = let f = standing-needing (c .before .before .before .pre) in omega (arith, f .deep, f .some)
 
 at-or-above-of-requires : tie.Need-at-or-above-of-requires
-at-or-above-of-requires c κs = let leaf = stand-known (c .before .before .before .pre) in (leaf .inPool, leaf .readable)
+at-or-above-of-requires c κs = let leaf = stand-known (c .before .before .before .pre) in (leaf .inPool, (leaf .readable, leaf .facts .rising))
 
 enum-known-y : tie.Need-enum-known-y
 enum-known-y c = search needs

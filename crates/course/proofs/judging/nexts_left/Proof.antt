@@ -21,7 +21,7 @@ is-leaf-of-requires c κs = c .before .pre .0
 pointer-of-requires : tie.Need-pointer-of-requires
 pointer-of-requires c κs =
     let start = c .before .before .before in
-    (start .pre .0, (start .pre .1, (told-false (c .before .is-leaf-of .ensures) (c .if1 .taken), zero-le)))
+    (start .pre .0, (start .pre .1 .0, (told-false (c .before .is-leaf-of .ensures) (c .if1 .taken), zero-le)))
 
 goes-requires : tie.Need-goes-requires
 goes-requires c κs = search needs

@@ -82,7 +82,7 @@ array-read-at-or-above-of c = omega (arith, some (c .before .before .before .bef
 at-or-above-of-requires : tie.Need-at-or-above-of-requires
 at-or-above-of-requires c κs =
     let known = on (c .before .before .before .before .before .before) (c .before .before .before .before .before .before .args .slot .depth - 1) (omega (arith, some (c .before .before .before .before .before .before))) in
-    (known .inPool, known .readable)
+    (known .inPool, (known .readable, known .facts .rising))
 
 enum-told : tie.Need-enum-told
 enum-told c = search needs
