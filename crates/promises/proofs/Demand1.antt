@@ -20,7 +20,7 @@ use Rattle.slots.specs.declared.State.{State}
 use Rattle.slots.specs.declared.Answer.{Answer}
 use Rattle.slots.specs.declared.Answer.the-variants.{Waiting, Begun, Made, BadState, BadPool, BadSlot, SlotBusy, SlotIdle, Damaged, BadPage}
 use Rattle.slots.specs.Heard.{numberOf, refuses, changesNothing}
-use Rattle.slots.specs.Parts.{isOpen, slotAt, openAt, pathOf, besideOf}
+use Rattle.slots.specs.Parts.{isOpen, slotAt, openAt, holding, standOf}
 use Rattle.slots.specs.Sound.{sound}
 use Rattle.slots.specs.Grant.{grants}
 use Rattle.slots.specs.Begin.{begun}
@@ -123,23 +123,23 @@ abbrev StepTells : State → List ℕ → ℕ → Slot → Task → Answer → T
 StepTells st ws s slot task = Tells (stepRows st ws s slot task) (Goes st ws s slot task)
 
 -- a verdict that is not broken answers as a granted step does
-acted-answers : (st : State) (ws : List ℕ) (s : ℕ) (op : Op) (v : Verdict) → nextIsNew v ≡ true → Answers v → ofGranted (acted st ws s op v .answer) ≡ true
+acted-answers : (st : State) (ws : List ℕ) (s : ℕ) (v : Verdict) → nextIsNew v ≡ true → Answers v → ofGranted (acted st ws s v .answer) ≡ true
 unfolding member
-acted-answers st ws s op broken new h = absurd (false≢true new)
-acted-answers st ws s op (goes path siblings want) new h = refl
-acted-answers st ws s op (ends answer writes) new h = h
+acted-answers st ws s broken new h = absurd (false≢true new)
+acted-answers st ws s (goes z) new h = refl
+acted-answers st ws s (ends answer writes) new h = h
 
 -- what a granted step comes to where the pages are sound for it
 abbrev comes : State → List ℕ → Slot → Op → Verdict
-comes st ws slot op = granted op (st .k) (pageAt (st .k) ws) (freePages (st .k) (st .n) ws) (pathOf slot) (besideOf slot) (slot .want)
+comes st ws slot op = granted (st .k) (pageAt (st .k) ws) (freePages (st .k) (st .n) ws) (standOf op slot)
 
 -- it is not broken there
-sound-answers : (st : State) (ws : List ℕ) (s : ℕ) (slot : Slot) (op : Op) → soundForTask st ws slot (Open op) ≡ true → ofGranted (acted st ws s op (comes st ws slot op) .answer) ≡ true
+sound-answers : (st : State) (ws : List ℕ) (s : ℕ) (slot : Slot) (op : Op) → soundForTask st ws slot (Open op) ≡ true → ofGranted (acted st ws s (comes st ws slot op) .answer) ≡ true
 unfolding soundForStep
 sound-answers st ws s slot op h =
-    acted-answers st ws s op (comes st ws slot op)
-    (and-second (pagesSound (st .k) (st .n) ws (pathOf slot ++ besideOf slot ++ slot .want ∷ []) && fitting op (st .k) (pageAt (st .k) ws) (pathOf slot) (besideOf slot) (slot .want)) (nextIsNew (comes st ws slot op)) h)
-    (granted-answers op (st .k) (pageAt (st .k) ws) (freePages (st .k) (st .n) ws) (pathOf slot) (besideOf slot) (slot .want))
+    acted-answers st ws s (comes st ws slot op)
+    (and-second (pagesSound (st .k) (st .n) ws (holding (standOf op slot) ++ slot .want ∷ []) && fitting (st .k) (pageAt (st .k) ws) (standOf op slot)) (nextIsNew (comes st ws slot op)) h)
+    (granted-answers (st .k) (pageAt (st .k) ws) (freePages (st .k) (st .n) ws) (standOf op slot))
 
 -- where each condition leads, once the state is sound, the words fit and there is such a slot
 task-idle : (st : State) (ws : List ℕ) (s : ℕ) (slot : Slot) (task : Task) → isOpen task ≡ false → steppedTask st ws s slot task .answer ≡ SlotIdle

@@ -29,7 +29,7 @@ use Rattle.slots.specs.declared.Lock.the-variants.{Rho, Xi}
 use Rattle.slots.specs.declared.Outcome.{Outcome}
 use Rattle.slots.specs.declared.Answer.{Answer}
 use Rattle.slots.specs.declared.Answer.the-variants.{Waiting, Moved, NoRoom, BadSlot, SlotIdle}
-use Rattle.slots.specs.Parts.{isDelete, isNext, goesBeside, isOpen, held, pathOf, besideOf, slotAt, openAt, wantAt, holdsAt, waitingOrder, openSlot, closedSlot, Opened}
+use Rattle.slots.specs.Parts.{isDelete, isNext, goesBeside, isOpen, held, pathOf, besideOf, Stand, stand, holding, withOp, standOf, slotOf, slotAt, openAt, wantAt, holdsAt, waitingOrder, openSlot, closedSlot, Opened}
 use Rattle.slots.specs.Locks.{lockOf, clash}
 use Rattle.slots.specs.Sound.{withinLimits}
 use Rattle.slots.specs.Heard.{numberOf, changesNothing, isOneOf, countedAnswers, ending}
@@ -41,7 +41,7 @@ use Rattle.slots.proofs.SoundFacts.{facts-sound}
 use Rattle.slots.proofs.Clashes.{no-two-locks-clash}
 use Rattle.slots.proofs.GrantLaws.{holder-open}
 use Rattle.slots.proofs.OrderLaws.{order-has-room, leaving-between, waiting-begins, waiting-requeued, waiting-closes}
-use Rattle.slots.proofs.Keeping.{slot-here, slot-other, path-new, beside-new, held-new}
+use Rattle.slots.proofs.Keeping.{slot-here, slot-other, held-new, stand-new}
 use Rattle.footing.specs.Granted.{isSafe}
 use Rattle.index.specs.Step.{Left, left, stepped}
 use Rattle.tree.specs.Tree.{Tr, entriesOf}
@@ -143,15 +143,14 @@ closed-empty Closed depth beside path siblings h c =
 closed-empty (Open op) depth beside path siblings h c = not-both refl c
 
 -- a regrading holds one page, and nothing beside it
-regrade-one : (x v k : ℕ) (memory : ℕ → Page) (l : ℕ) (t : Tr l) (path siblings : List ℕ) (want : ℕ)
-    → Stance (Regrade x v) k memory l t path siblings want → length (path ++ siblings) ≤ 1
-regrade-one x v k memory l t path siblings want (inl s) =
-    omega (arith, length-append path siblings, ap length (s .noPath), ap length (s .noSiblings))
-regrade-one x v k memory l t path siblings want (inr (inl c)) =
-    let few = one-held (Regrade x v) k memory path (λ P. refl) (c .rightly) in
-    omega (arith, length-append path siblings, ap length (c .noSiblings))
-regrade-one x v k memory l t path siblings want (inr (inr (inl b))) = absurd (false≢true (b .deletes))
-regrade-one x v k memory l t path siblings want (inr (inr (inr c))) = absurd (false≢true (c .asksNext))
+regrade-one : (x v k : ℕ) (memory : ℕ → Page) (l : ℕ) (t : Tr l) (z : Stand) → Stance k memory l t (withOp (Regrade x v) z) → length (holding z) ≤ 1
+regrade-one x v k memory l t z (inl s) =
+    omega (arith, length-append (z .path) (z .beside), ap length (s .noPath), ap length (s .noSiblings))
+regrade-one x v k memory l t z (inr (inl c)) =
+    let few = one-held (Regrade x v) k memory (z .path) (λ P. refl) (c .rightly) in
+    omega (arith, length-append (z .path) (z .beside), ap length (c .noSiblings))
+regrade-one x v k memory l t z (inr (inr (inl b))) = absurd (false≢true (b .deletes))
+regrade-one x v k memory l t z (inr (inr (inr c))) = absurd (false≢true (c .asksNext))
 
 after-call : (st : State) (ws : List ℕ) → Invariant st ws → AfterEveryCall (st .k) (st .n) st ws
 unfolding pathOf besideOf
@@ -170,21 +169,23 @@ after-call st ws inv = record {
   stands = inv .stands;
   closed = λ s b c. closed-empty (slotAt st s .task) (slotAt st s .depth) (slotAt st s .breadth) (slotAt st s .path) (slotAt st s .beside) (inv .sound .slot s b .limits) c;
   oneHeld = λ s x v b runs.
-      regrade-one x v (st .k) (pageAt (st .k) ws) (inv .height) (inv .tree) (pathOf (slotAt st s)) (besideOf (slotAt st s)) (wantAt st s)
+      regrade-one x v (st .k) (pageAt (st .k) ws) (inv .height) (inv .tree) (standOf (Regrade x v) (slotAt st s))
       (inv .stands s (Regrade x v) b runs);
 }
 
 -- ---- what one call takes and gives up
 
 -- the page that was wanted is held afterwards
-takes-wanted : (op : Op) (k : ℕ) (memory : ℕ → Page) (path siblings : List ℕ) (want : ℕ) (path′ siblings′ : List ℕ)
-    → Takes op k memory path siblings want path′ siblings′ → member want (path′ ++ siblings′) ≡ true
-takes-wanted op k memory path siblings want path′ siblings′ (inl g) =
-    member-append want path′ siblings′ ∙ or-first (member want siblings′) (ap (member want) (g .holds) ∙ member-here want [])
-takes-wanted op k memory path siblings want path′ siblings′ (inr (inl g)) =
-    member-append want path′ siblings′ ∙ or-first (member want siblings′) (ap (member want) (g .holds) ∙ member-inside want path [])
-takes-wanted op k memory path siblings want path′ siblings′ (inr (inr g)) =
-    member-append want path′ siblings′ ∙ or-second (member want path′) (ap (member want) (g .holds) ∙ member-inside want siblings [])
+takes-wanted : (k : ℕ) (memory : ℕ → Page) (z z′ : Stand) → Takes k memory z z′ → member (z .want) (holding z′) ≡ true
+takes-wanted k memory z z′ (inl g) =
+    member-append (z .want) (z′ .path) (z′ .beside)
+    ∙ or-first (member (z .want) (z′ .beside)) (ap (member (z .want)) (g .holds) ∙ member-here (z .want) [])
+takes-wanted k memory z z′ (inr (inl g)) =
+    member-append (z .want) (z′ .path) (z′ .beside)
+    ∙ or-first (member (z .want) (z′ .beside)) (ap (member (z .want)) (g .holds) ∙ member-inside (z .want) (z .path) [])
+takes-wanted k memory z z′ (inr (inr g)) =
+    member-append (z .want) (z′ .path) (z′ .beside)
+    ∙ or-second (member (z .want) (z′ .path)) (ap (member (z .want)) (g .holds) ∙ member-inside (z .want) (z .beside) [])
 
 module _ (st : State) (ws : List ℕ) (inv : Invariant st ws) where
   order-long : st .waiting ≤ length (st .order)
@@ -247,41 +248,37 @@ module _ (st : State) (ws : List ℕ) (inv : Invariant st ws) where
   unchanged : (s : ℕ) (a : Answer) → changesNothing a ≡ true → Waits s (left a st ws) → stepped st ws s ≡ left a st ws → StepLocks st ws s (stepped st ws s)
   unchanged s a same w e = subst (StepLocks st ws s) (sym e) (record { itself = inl (record { answer = same; state = refl; words = refl }); others = λ u n. refl; waits = w; waitsFor = waits-for s (left a st ws) w })
 
-  moved : (s : ℕ) (b : s < slotCount) (op : Op) (path siblings : List ℕ) (want : ℕ) → Opened st s op
-      → Takes op (st .k) (pageAt (st .k) ws) (pathOf (slotAt st s)) (besideOf (slotAt st s)) (wantAt st s) path siblings
-      → grants st s ≡ true → StepLocks st ws s (left Moved (goesOn st s op want path siblings) ws)
+  moved : (s : ℕ) (b : s < slotCount) (op : Op) (z : Stand) → Opened st s op → z .op ≡ op
+      → Takes (st .k) (pageAt (st .k) ws) (standOf op (slotAt st s)) z
+      → grants st s ≡ true → StepLocks st ws s (left Moved (goesOn st s z) ws)
   unfolding goesOn member
-  moved s b op path siblings want runs takes g = record {
+  moved s b op z runs same takes g = record {
     itself = inr (inl (record {
       op = op;
       opened = runs;
       answer = refl;
       words = refl;
-      still = ap (λ (sl : Slot). sl .task) here;
-      taken = ap (λ (sl : Slot). member (wantAt st s) (held sl)) here ∙ ap (member (wantAt st s)) (held-new op want path siblings)
-          ∙ takes-wanted op (st .k) (pageAt (st .k) ws) (pathOf (slotAt st s)) (besideOf (slotAt st s)) (wantAt st s) path siblings takes;
-      takes = subst (λ (sl : Slot). Takes op (st .k) (pageAt (st .k) ws) (pathOf (slotAt st s)) (besideOf (slotAt st s)) (wantAt st s) (pathOf sl) (besideOf sl)) (sym here)
-          (subst (λ (ps : List ℕ). Takes op (st .k) (pageAt (st .k) ws) (pathOf (slotAt st s)) (besideOf (slotAt st s)) (wantAt st s) ps (besideOf slot)) (sym (path-new op want path siblings))
-          (subst (Takes op (st .k) (pageAt (st .k) ws) (pathOf (slotAt st s)) (besideOf (slotAt st s)) (wantAt st s) path) (sym (beside-new op want path siblings)) takes));
-      order = waiting-requeued st s order-long (inv .sound .orderNames s b (ap isOpen runs)) slot;
+      still = ap (λ (sl : Slot). sl .task) here ∙ ap Open same;
+      taken = ap (λ (sl : Slot). member (wantAt st s) (held sl)) here ∙ ap (member (wantAt st s)) (held-new z)
+          ∙ takes-wanted (st .k) (pageAt (st .k) ws) (standOf op (slotAt st s)) z takes;
+      takes = subst (Takes (st .k) (pageAt (st .k) ws) (standOf op (slotAt st s)))
+          (sym (ap (standOf op) here ∙ ap (λ (o : Op). standOf o (slotOf z)) (sym same) ∙ stand-new z)) takes;
+      order = waiting-requeued st s order-long (inv .sound .orderNames s b (ap isOpen runs)) (slotOf z);
     }));
-    others = λ u n. slot-other st (inv .shaped) s b slot [] 0 u n;
+    others = λ u n. slot-other st (inv .shaped) s b (slotOf z) [] 0 u n;
     waits = waits;
-    waitsFor = waits-for s (left Moved (goesOn st s op want path siblings) ws) waits;
+    waitsFor = waits-for s (left Moved (goesOn st s z) ws) waits;
   }
     where
-      waits : Waits s (left Moved (goesOn st s op want path siblings) ws)
-      waits = not-waiting s Moved (goesOn st s op want path siblings) ws refl (λ w. not-both g (barred-waits st s (w .2)))
+      waits : Waits s (left Moved (goesOn st s z) ws)
+      waits = not-waiting s Moved (goesOn st s z) ws refl (λ w. not-both g (barred-waits st s (w .2)))
 
-      slot : Slot
-      slot = openSlot op want path siblings
-
-      here : slotAt (goesOn st s op want path siblings) s ≡ slot
-      here = slot-here st (inv .shaped) s b slot [] 0
+      here : slotAt (goesOn st s z) s ≡ slotOf z
+      here = slot-here st (inv .shaped) s b (slotOf z) [] 0
 
   -- a page that an ended operation did not write has its words as before
   unwritten : (s : ℕ) (op : Op) (a : Answer) (writes : List Write)
-      → Ended op (st .k) (st .n) ws (inv .height) (inv .tree) (pathOf (slotAt st s)) (besideOf (slotAt st s)) (wantAt st s) a writes
+      → Ended (st .k) (st .n) ws (inv .height) (inv .tree) (standOf op (slotAt st s)) a writes
       → (q : ℕ) → (member q (writtenPages writes) ≡ true → ⊥) → wordsOf (st .k) q (applied (st .k) writes ws) ≡ wordsOf (st .k) q ws
   unwritten s op a writes e q never =
       wordsOf-applied-other (st .k) (st .n) q writes ws (fit-writes (st .k) (st .n) writes (e .leads .fitting) (e .leads .inside))
@@ -289,7 +286,7 @@ module _ (st : State) (ws : List ℕ) (inv : Invariant st ws) where
 
   -- so one that it did not hold, and that was not free
   untouched : (s : ℕ) (op : Op) (a : Answer) (writes : List Write)
-      → Ended op (st .k) (st .n) ws (inv .height) (inv .tree) (pathOf (slotAt st s)) (besideOf (slotAt st s)) (wantAt st s) a writes
+      → Ended (st .k) (st .n) ws (inv .height) (inv .tree) (standOf op (slotAt st s)) a writes
       → (q : ℕ) → q < st .n → holdsAt st s q ≡ false → q ≢ wantAt st s → pageAt (st .k) ws q .level ≢ 0 → wordsOf (st .k) q (applied (st .k) writes ws) ≡ wordsOf (st .k) q ws
   untouched s op a writes e q b h n level =
       unwritten s op a writes e q (λ w. ⊎-elim
@@ -299,7 +296,7 @@ module _ (st : State) (ws : List ℕ) (inv : Invariant st ws) where
 
   -- an operation ends with an answer that ends
   ends-so : (op : Op) (s : ℕ) (a : Answer) (writes : List Write)
-      → Ended op (st .k) (st .n) ws (inv .height) (inv .tree) (pathOf (slotAt st s)) (besideOf (slotAt st s)) (wantAt st s) a writes → isOneOf a ending ≡ true
+      → Ended (st .k) (st .n) ws (inv .height) (inv .tree) (standOf op (slotAt st s)) a writes → isOneOf a ending ≡ true
   unfolding member
   ends-so op s a writes e =
       ⊎-elim
@@ -309,7 +306,7 @@ module _ (st : State) (ws : List ℕ) (inv : Invariant st ws) where
 
   -- which is not Waiting
   ends-waiting : (op : Op) (s : ℕ) (a : Answer) (writes : List Write)
-      → Ended op (st .k) (st .n) ws (inv .height) (inv .tree) (pathOf (slotAt st s)) (besideOf (slotAt st s)) (wantAt st s) a writes → isOneOf a (Waiting ∷ []) ≡ false
+      → Ended (st .k) (st .n) ws (inv .height) (inv .tree) (standOf op (slotAt st s)) a writes → isOneOf a (Waiting ∷ []) ≡ false
   unfolding member
   ends-waiting op s a writes e =
       false-if-not-true (isOneOf a (Waiting ∷ [])) (λ w.
@@ -317,7 +314,7 @@ module _ (st : State) (ws : List ℕ) (inv : Invariant st ws) where
       not-both (ends-so op s a writes e) (ap (λ (m : ℕ). member m (map numberOf ending)) same))
 
   ended : (s : ℕ) (b : s < slotCount) (op : Op) (a : Answer) (writes : List Write) → Opened st s op → grants st s ≡ true
-      → Ended op (st .k) (st .n) ws (inv .height) (inv .tree) (pathOf (slotAt st s)) (besideOf (slotAt st s)) (wantAt st s) a writes
+      → Ended (st .k) (st .n) ws (inv .height) (inv .tree) (standOf op (slotAt st s)) a writes
       → stepped st ws s ≡ left a (closes st s) (applied (st .k) writes ws)
       → StepLocks st ws s (left a (closes st s) (applied (st .k) writes ws))
   unfolding closes pathOf besideOf padded applied
@@ -350,7 +347,7 @@ module _ (st : State) (ws : List ℕ) (inv : Invariant st ws) where
   step-locks s (noSlot b e) = unchanged s BadSlot refl (not-waiting s BadSlot st ws refl (λ w. let inside = w .0 in absurd (omega arith))) e
   step-locks s (idle b c e) = unchanged s SlotIdle refl (not-waiting s SlotIdle st ws refl (λ w. not-both (w .1) c)) e
   step-locks s (waits op b runs g e) = unchanged s Waiting refl (λ _. (b, ap isOpen runs, barred st s g), λ _. refl) e
-  step-locks s (onward op path siblings want b runs g e stance takes) = subst (StepLocks st ws s) (sym e) (moved s b op path siblings want runs takes g)
+  step-locks s (onward op z b runs g e same stance takes) = subst (StepLocks st ws s) (sym e) (moved s b op z runs same takes g)
   step-locks s (over op a writes b runs g e ends) = subst (StepLocks st ws s) (sym e) (ended s b op a writes runs g ends e)
 
   begin-locks : (s : ℕ) (op : Op) → BeginOf st s op → CallLocks st ws (begin s op) (called st ws (begin s op))
@@ -364,7 +361,7 @@ module _ (st : State) (ws : List ℕ) (inv : Invariant st ws) where
         answer = refl;
         words = refl;
         opened = ap (λ (sl : Slot). sl .task) here;
-        nothing = ap held here ∙ held-new op 0 [] [];
+        nothing = ap held here ∙ held-new (stand op [] [] 0);
         root = ap (λ (sl : Slot). sl .want) here;
         order = waiting-begins st s op (subst (λ (m : ℕ). st .waiting < m) (sym (inv .shaped .order)) (order-has-room st (inv .shaped .order) (inv .sound) s b c));
         others = λ u n. slot-other st (inv .shaped) s b (openSlot op 0 [] []) [] 0 u n;
@@ -389,7 +386,7 @@ module _ (st : State) (ws : List ℕ) (inv : Invariant st ws) where
   step-heard s (noSlot b e) = ap (λ (r : Left). isOneOf (r .answer) (answersOf (step s))) e
   step-heard s (idle b c e) = ap (λ (r : Left). isOneOf (r .answer) (answersOf (step s))) e
   step-heard s (waits op b runs g e) = ap (λ (r : Left). isOneOf (r .answer) (answersOf (step s))) e
-  step-heard s (onward op path siblings want b runs g e stance takes) = ap (λ (r : Left). isOneOf (r .answer) (answersOf (step s))) e
+  step-heard s (onward op z b runs g e same stance takes) = ap (λ (r : Left). isOneOf (r .answer) (answersOf (step s))) e
   step-heard s (over op a writes b runs g e ends) =
       ap (λ (r : Left). isOneOf (r .answer) (answersOf (step s))) e
       ∙ or-second (eqb (numberOf a) (numberOf Waiting)) (or-second (eqb (numberOf a) (numberOf Moved))

@@ -32,7 +32,7 @@ use Rattle.slots.specs.declared.Slot.{Slot}
 use Rattle.slots.specs.declared.State.{State}
 use Rattle.slots.specs.declared.Answer.{Answer}
 use Rattle.slots.specs.declared.Answer.the-variants.{Waiting, Moved, Deleted, NoSuchKey, BadState, BadPool, BadSlot, Damaged, Regraded}
-use Rattle.slots.specs.Parts.{isOpen, held, pathOf, besideOf, slotAt}
+use Rattle.slots.specs.Parts.{isOpen, held, Stand, holding, onPages, wantBeside, withOp, standOf, slotAt}
 use Rattle.slots.specs.Heard.{heard, numberOf}
 use Rattle.slots.specs.Grant.{grants}
 use Rattle.slots.specs.Sound.{sound}
@@ -102,14 +102,17 @@ page-writes {k} {n} {p} {ws} x new known there =
 -- a verdict that answers Regraded writes one word
 abbrev Writes : ℕ → List ℕ → ℕ → ℕ → ℕ → Verdict → Type 0
 Writes k ws x new old broken = Unit {0}
-Writes k ws x new old (goes path siblings want) = Unit {0}
+Writes k ws x new old (goes z) = Unit {0}
 Writes k ws x new old (ends answer writes) = answer ≡ Regraded old → OneWord ws (applied k writes ws) x old new
 
 -- another answer is not Regraded
 another : {A : Type 0} {old : ℕ} (a : Answer) → eqb (numberOf a) (numberOf (Regraded 0)) ≡ false → a ≡ Regraded old → A
 another a other e = clashes e (eqb-false (numberOf a) (numberOf (Regraded 0)) other)
 
-module _ (k n : ℕ) (ws : List ℕ) (x new old : ℕ) (path siblings : List ℕ) (want : ℕ) where
+module _ (k n : ℕ) (ws : List ℕ) (x new old : ℕ) (z₀ : Stand) where
+  abbrev z : Stand
+  z = withOp (Regrade x new) z₀
+
   abbrev memory : ℕ → Page
   memory = pageAt k ws
 
@@ -117,54 +120,54 @@ module _ (k n : ℕ) (ws : List ℕ) (x new old : ℕ) (path siblings : List ℕ
   Wrote = Writes k ws x new old
 
   -- a deletion's verdict answers otherwise
-  need-writes : (beside : List ℕ) (whole : Verdict) → Wrote whole → (need : Need) → Wrote (byNeed path beside whole need)
-  need-writes beside whole h nothing = h
-  need-writes beside whole h (sibling s) = tt
-  need-writes beside whole h astray = tt
+  need-writes : (y : Stand) (whole : Verdict) → Wrote whole → (need : Need) → Wrote (byNeed y whole need)
+  need-writes y whole h nothing = h
+  need-writes y whole h (sibling s) = tt
+  need-writes y whole h astray = tt
 
   beside-writes : (up : List ℕ)
-      → Wrote (fromLeaf (λ (leaf : ℕ) (fathers : List ℕ). deletes k memory x path leaf fathers (siblings ++ want ∷ [])) up)
+      → Wrote (fromLeaf (λ (leaf : ℕ) (fathers : List ℕ). deletes k memory x (wantBeside z) leaf fathers) up)
   unfolding deletes
   beside-writes [] = tt
   beside-writes (leaf ∷ fathers) =
-      need-writes (siblings ++ want ∷ []) _ (another (Deleted (information x (memory leaf .entries))) refl) (needs k memory x leaf fathers (siblings ++ want ∷ []))
+      need-writes (wantBeside z) _ (another (Deleted (information x (memory leaf .entries))) refl) (needs k memory x leaf fathers (z .beside ++ z .want ∷ []))
 
-  leaf-writes : Known k n ws want → Wrote (atLeaf (Regrade x new) k memory (freePages k n ws) (want ∷ []) want [])
+  leaf-writes : Known k n ws (z .want) → Wrote (atLeaf (Regrade x new) k memory (freePages k n ws) (onPages z (z .want ∷ []) []) (z .want) [])
   unfolding atLeaf
   leaf-writes known =
-      cond-ind Wrote (has x (memory want .entries))
+      cond-ind Wrote (has x (memory (z .want) .entries))
       (λ there e.
-      subst (λ (v : ℕ). OneWord ws (applied k (regrading memory x new want) ws) x v new) (ap (λ (a : Answer). getD (heard a) 1 0) e) (page-writes x new known there))
+      subst (λ (v : ℕ). OneWord ws (applied k (regrading memory x new (z .want)) ws) x v new) (ap (λ (a : Answer). getD (heard a) 1 0) e) (page-writes x new known there))
       (λ _. another NoSuchKey refl)
 
-  granted-writes : Known k n ws want → Wrote (granted (Regrade x new) k memory (freePages k n ws) path siblings want)
+  granted-writes : Known k n ws (z .want) → Wrote (granted k memory (freePages k n ws) z)
   unfolding granted besides comesDown
   granted-writes known =
-      cond-ind Wrote (atItsLeaf memory (reverse path))
-      (λ _. beside-writes (reverse path))
-      (λ _. cond-ind Wrote (isLeaf (memory want)) (λ _. leaf-writes known) (λ _. tt))
+      cond-ind Wrote (atItsLeaf memory (reverse (z .path)))
+      (λ _. beside-writes (reverse (z .path)))
+      (λ _. cond-ind Wrote (isLeaf (memory (z .want))) (λ _. leaf-writes known) (λ _. tt))
 
-  verdict-writes : (soundForStep (Regrade x new) k n ws path siblings want ≡ true → Known k n ws want)
-      → Wrote (verdict (Regrade x new) k n ws path siblings want)
+  verdict-writes : (soundForStep k n ws z ≡ true → Known k n ws (z .want))
+      → Wrote (verdict k n ws z)
   unfolding verdict
-  verdict-writes known = cond-ind Wrote (soundForStep (Regrade x new) k n ws path siblings want) (λ sure. granted-writes (known sure)) (λ _. tt)
+  verdict-writes known = cond-ind Wrote (soundForStep k n ws z) (λ sure. granted-writes (known sure)) (λ _. tt)
 
   -- the wanted page is among those that are tested
-  want-sound : soundForStep (Regrade x new) k n ws path siblings want ≡ true
-      → soundByItself k n want (wordsOf k want ws) ≡ true
+  want-sound : soundForStep k n ws z ≡ true
+      → soundByItself k n (z .want) (wordsOf k (z .want) ws) ≡ true
   unfolding soundForStep pagesSound
   want-sound sure =
-      let pages : Bool = pagesSound k n ws (path ++ siblings ++ want ∷ []) in
-      let fits : Bool = fitting (Regrade x new) k memory path siblings want in
-      all-member (λ (p : ℕ). soundByItself k n p (wordsOf k p ws)) (path ++ siblings ++ want ∷ [])
-      (and-first pages fits (and-first (pages && fits) (nextIsNew (granted (Regrade x new) k memory (freePages k n ws) path siblings want)) sure))
-      want
-      (member-append want (path ++ siblings) (want ∷ []) ∙ or-second (member want (path ++ siblings)) (member-here want []))
+      let pages : Bool = pagesSound k n ws (holding z ++ z .want ∷ []) in
+      let fits : Bool = fitting k memory z in
+      all-member (λ (p : ℕ). soundByItself k n p (wordsOf k p ws)) (holding z ++ z .want ∷ [])
+      (and-first pages fits (and-first (pages && fits) (nextIsNew (granted k memory (freePages k n ws) z)) sure))
+      (z .want)
+      (member-append (z .want) (holding z) (z .want ∷ []) ∙ or-second (member (z .want) (holding z)) (member-here (z .want) []))
 
 acted-writes : (st : State) (ws : List ℕ) (s x new old : ℕ) (v : Verdict) → Writes (st .k) ws x new old v
-    → acted st ws s (Regrade x new) v .answer ≡ Regraded old → OneWord ws (acted st ws s (Regrade x new) v .words) x old new
+    → acted st ws s v .answer ≡ Regraded old → OneWord ws (acted st ws s v .words) x old new
 acted-writes st ws s x new old broken h = another Damaged refl
-acted-writes st ws s x new old (goes path siblings want) h = another Moved refl
+acted-writes st ws s x new old (goes z) h = another Moved refl
 acted-writes st ws s x new old (ends answer writes) h = h
 
 pub regrading-writes : RegradingWrites
@@ -175,8 +178,8 @@ regrading-writes st ws s x new old opened =
     (λ whole. cond-ind Told (not (ltb s slotCount)) (λ _. another BadSlot refl)
     (λ inside. subst (λ (task : Task). Told (steppedTask st ws s slot task)) (sym opened)
     (cond-ind Told (grants st s)
-    (λ _. acted-writes st ws s x new old (verdict (Regrade x new) (st .k) (st .n) ws (pathOf slot) (besideOf slot) (slot .want))
-    (verdict-writes (st .k) (st .n) ws x new old (pathOf slot) (besideOf slot) (slot .want)
+    (λ _. acted-writes st ws s x new old (verdict (st .k) (st .n) ws (standOf (Regrade x new) slot))
+    (verdict-writes (st .k) (st .n) ws x new old (standOf (Regrade x new) slot)
     (known (not-false (sound st) ok) (eqb-true (length ws) (poolLength (st .k) (st .n)) (not-false (eqb (length ws) (poolLength (st .k) (st .n))) whole))
     (ltb-true s slotCount (not-false (ltb s slotCount) inside)))))
     (λ _. another Waiting refl)))))
@@ -189,9 +192,9 @@ regrading-writes st ws s x new old opened =
 
     -- the step has tested the page that it is granted
     known : sound st ≡ true → length ws ≡ poolLength (st .k) (st .n) → s < slotCount
-        → soundForStep (Regrade x new) (st .k) (st .n) ws (pathOf slot) (besideOf slot) (slot .want) ≡ true → Known (st .k) (st .n) ws (slot .want)
+        → soundForStep (st .k) (st .n) ws (standOf (Regrade x new) slot) ≡ true → Known (st .k) (st .n) ws (slot .want)
     known ok whole inside sure =
         let facts : SoundState st = sound-facts st ok in
         let below : slot .want < st .n = facts .slot s inside .below (ap isOpen opened) (slot .want) (member-here (slot .want) (held slot)) in
         held-page (facts .kMost) (facts .nMost) whole
-        (record { inside = below; sound = want-sound (st .k) (st .n) ws x new old (pathOf slot) (besideOf slot) (slot .want) sure })
+        (record { inside = below; sound = want-sound (st .k) (st .n) ws x new old (standOf (Regrade x new) slot) sure })

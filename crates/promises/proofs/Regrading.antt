@@ -18,7 +18,7 @@ use Rattle.slots.specs.declared.Op.the-variants.{Search, Insert, Delete, Next, 
 use Rattle.slots.specs.declared.State.{State}
 use Rattle.slots.specs.declared.Answer.{Answer}
 use Rattle.slots.specs.declared.Answer.the-variants.{Waiting, Moved, Found, NotFound, Deleted, NoSuchKey, BadSlot, SlotIdle, Next as NextLot, Regraded}
-use Rattle.slots.specs.Parts.{keyOf, onlyReads, slotAt, pathOf, besideOf, wantAt, Opened}
+use Rattle.slots.specs.Parts.{keyOf, onlyReads, standOf, slotAt, Opened}
 use Rattle.slots.specs.Heard.{isOneOf, ending}
 use Rattle.slots.specs.Book.{closes}
 use Rattle.footing.specs.Granted.{nextAnswer}
@@ -105,11 +105,11 @@ module _ (st : State) (ws : List ℕ) (inv : Invariant st ws) where
       same-entries (st .k) (st .n) ws l t (inv .height) (inv .tree) (subst (λ (r : Left). PoolForms (st .k) (st .n) (r .words) l t) e f) (inv .forms)
 
   module _ (s : ℕ) (op : Op) (a : Answer) (writes : List Write) (e : stepped st ws s ≡ left a (closes st s) (applied (st .k) writes ws))
-      (ended : Ended op (st .k) (st .n) ws (inv .height) (inv .tree) (pathOf (slotAt st s)) (besideOf (slotAt st s)) (wantAt st s) a writes) where
+      (ended : Ended (st .k) (st .n) ws (inv .height) (inv .tree) (standOf op (slotAt st s)) a writes) where
     -- the entries behind a step that ends an operation
     entries-after : (l : ℕ) (t : Tr l) → PoolForms (st .k) (st .n) (stepped st ws s .words) l t → entriesOf l t ≡ ended .entries
     entries-after l t f =
-        ended-entries st ws inv op (pathOf (slotAt st s)) (besideOf (slotAt st s)) (wantAt st s) a writes ended l t
+        ended-entries st ws inv (standOf op (slotAt st s)) a writes ended l t
         (subst (λ (r : Left). PoolForms (st .k) (st .n) (r .words) l t) e f)
 
     answer-after : stepped st ws s .answer ≡ a
@@ -120,7 +120,7 @@ module _ (st : State) (ws : List ℕ) (inv : Invariant st ws) where
   step-does s (noSlot b e) l t f = keeps (same-words (stepped st ws s) BadSlot st e l t f)
   step-does s (idle b c e) l t f = keeps (same-words (stepped st ws s) SlotIdle st e l t f)
   step-does s (waits op b runs g e) l t f = keeps (same-words (stepped st ws s) Waiting st e l t f)
-  step-does s (onward op path siblings want b runs g e stance takes) l t f = keeps (same-words (stepped st ws s) Moved _ e l t f)
+  step-does s (onward op z b runs g e same stance takes) l t f = keeps (same-words (stepped st ws s) Moved _ e l t f)
   step-does s (over op a writes b runs g e ended) l t f =
       ⊎-elim
       (λ p. ends s op refl runs (answer-after s op a writes e ended ∙ p .answer) (entries-after s op a writes e ended l t f ∙ p .entries))
@@ -154,7 +154,7 @@ module _ (st : State) (ws : List ℕ) (inv : Invariant st ws) where
     by-step (noSlot b e) = other-answer BadSlot st refl e
     by-step (idle b c e) = other-answer SlotIdle st refl e
     by-step (waits op′ b rs g e) = other-answer Waiting st refl e
-    by-step (onward op′ path siblings want b rs g e stance takes) = other-answer Moved _ refl e
+    by-step (onward op′ z b rs g e same stance takes) = other-answer Moved _ refl e
     by-step (over op′ a writes b rs g e ended) =
         let same : op′ ≡ op = same-op (sym rs ∙ runs) in
         ⊎-elim

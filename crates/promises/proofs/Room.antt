@@ -7,7 +7,7 @@ use mathlib.Core.Path.{_≡_, refl, sym, ap, subst, _∙_}
 use native.Mathlib.Omega.{arith}
 use lib.ListN.{length, getD, length-append}
 use borrow.Author.Tests.{eqb-true}
-use Rattle.ground.specs.Limits.{slotCount}
+use Rattle.ground.specs.Limits.{slotCount, wordRange}
 use Rattle.ground.specs.Tests.{member}
 use Rattle.ground.proofs.Bools.{not-both}
 use Rattle.ground.proofs.Choice.{cond-true, cond-false}
@@ -20,7 +20,7 @@ use Rattle.slots.specs.declared.Task.the-variants.{Open}
 use Rattle.slots.specs.declared.State.{State}
 use Rattle.slots.specs.declared.Answer.{Answer}
 use Rattle.slots.specs.declared.Answer.the-variants.{Moved, Inserted, AlreadyThere, NoRoom}
-use Rattle.slots.specs.Parts.{isOpen, keyOf, slotAt, wantAt, pathOf, besideOf, Opened}
+use Rattle.slots.specs.Parts.{isOpen, keyOf, goesBeside, slotAt, wantAt, pathOf, Stand, standOf, Opened}
 use Rattle.slots.specs.Heard.{isOneOf, countedAnswers}
 use Rattle.slots.specs.Grant.{grants}
 use Rattle.slots.specs.Book.{goesOn, closes}
@@ -45,20 +45,18 @@ use Rattle.runs.proofs.Agreement.{plain-counted}
 use Rattle.promises.specs.Demand3.{RoomExact, NoRoomSays, Room}
 
 -- A page that a slot took coming down, and from which it goes on, is no leaf. (An insertion takes no sibling.)
-lowest-taken : (op : Op) (k : ℕ) (memory : ℕ → Page) (path siblings : List ℕ) (want : ℕ) (path′ siblings′ : List ℕ)
-    → siblings′ ≡ [] → Takes op k memory path siblings want path′ siblings′ → lowestOf path′ ≡ want
-lowest-taken op k memory path siblings want path′ siblings′ none (inl g) = ap lowestOf (g .holds)
-lowest-taken op k memory path siblings want path′ siblings′ none (inr (inl g)) =
-    ap lowestOf (g .holds) ∙ ap (λ (ps : List ℕ). getD ps 0 0) (reverse-append path (want ∷ []))
-lowest-taken op k memory path siblings want path′ siblings′ none (inr (inr g)) =
-    absurd (omega (arith, ap length (sym none ∙ g .holds), length-append siblings (want ∷ [])))
+lowest-taken : (k : ℕ) (memory : ℕ → Page) (z z′ : Stand) → z′ .beside ≡ [] → Takes k memory z z′ → lowestOf (z′ .path) ≡ z .want
+lowest-taken k memory z z′ none (inl g) = ap lowestOf (g .holds)
+lowest-taken k memory z z′ none (inr (inl g)) =
+    ap lowestOf (g .holds) ∙ ap (λ (ps : List ℕ). getD ps 0 0) (reverse-append (z .path) (z .want ∷ []))
+lowest-taken k memory z z′ none (inr (inr g)) =
+    absurd (omega (arith, ap length (sym none ∙ g .holds), length-append (z .beside) (z .want ∷ [])))
 
-some-taken : (op : Op) (k : ℕ) (memory : ℕ → Page) (path siblings : List ℕ) (want : ℕ) (path′ siblings′ : List ℕ)
-    → siblings′ ≡ [] → Takes op k memory path siblings want path′ siblings′ → 1 ≤ length path′
-some-taken op k memory path siblings want path′ siblings′ none (inl g) = omega (arith, ap length (g .holds))
-some-taken op k memory path siblings want path′ siblings′ none (inr (inl g)) = omega (arith, ap length (g .holds), length-append path (want ∷ []))
-some-taken op k memory path siblings want path′ siblings′ none (inr (inr g)) =
-    absurd (omega (arith, ap length (sym none ∙ g .holds), length-append siblings (want ∷ [])))
+some-taken : (k : ℕ) (memory : ℕ → Page) (z z′ : Stand) → z′ .beside ≡ [] → Takes k memory z z′ → 1 ≤ length (z′ .path)
+some-taken k memory z z′ none (inl g) = omega (arith, ap length (g .holds))
+some-taken k memory z z′ none (inr (inl g)) = omega (arith, ap length (g .holds), length-append (z .path) (z .want ∷ []))
+some-taken k memory z z′ none (inr (inr g)) =
+    absurd (omega (arith, ap length (sym none ∙ g .holds), length-append (z .beside) (z .want ∷ [])))
 
 module _ (st : State) (ws : List ℕ) (inv : Invariant st ws) (s x v : ℕ) (b : s < slotCount) (runs : Opened st s (Insert x v)) where
   abbrev memory : ℕ → Page
@@ -71,21 +69,22 @@ module _ (st : State) (ws : List ℕ) (inv : Invariant st ws) (s x v : ℕ) (b :
   Here r = RoomExact (st .k) (st .n) ws (inv .height) (inv .tree) x r
 
   -- an insertion that is granted its leaf does not go on
-  not-onward : (path siblings : List ℕ) (want : ℕ) → isLeaf (memory (wantAt st s)) ≡ true
-      → Stance (Insert x v) (st .k) memory (inv .height) (inv .tree) path siblings want
-      → Takes (Insert x v) (st .k) memory (pathOf (slotAt st s)) (besideOf (slotAt st s)) (wantAt st s) path siblings → ⊥
-  not-onward path siblings want leaf stance takes =
-      by-place (where-it-stands (Insert x v) (st .k) (st .n) memory (inv .height) (inv .tree) (inv .forms .forms) (inv .keys s (Insert x v) b runs) path siblings want stance)
+  not-onward : (op : Op) (z : Stand) → isLeaf (memory (wantAt st s)) ≡ true → z .op ≡ Insert x v
+      → Stance (st .k) memory (inv .height) (inv .tree) z
+      → Takes (st .k) memory (standOf op (slotAt st s)) z → ⊥
+  not-onward op z leaf same stance takes =
+      by-place (where-it-stands (st .k) (st .n) memory (inv .height) (inv .tree) z (inv .forms .forms)
+      (subst (λ (o : Op). keyOf o < wordRange) (sym same) (inv .keys s (Insert x v) b runs)) stance)
     where
-      by-place : Where (Insert x v) memory (inv .height) (inv .tree) path siblings want → ⊥
+      by-place : Where memory (inv .height) (inv .tree) z → ⊥
       by-place (atStart none alone _) =
-          let some = some-taken (Insert x v) (st .k) memory (pathOf (slotAt st s)) (besideOf (slotAt st s)) (wantAt st s) path siblings alone takes in
+          let some = some-taken (st .k) memory (standOf op (slotAt st s)) z alone takes in
           omega (arith, ap length none)
       by-place (onTheWay low stands alone _) =
-          let taken = lowest-taken (Insert x v) (st .k) memory (pathOf (slotAt st s)) (besideOf (slotAt st s)) (wantAt st s) path siblings alone takes in
-          let level : memory (lowestOf path) .level ≡ 1 = ap (λ (p : ℕ). memory p .level) taken ∙ eqb-true (memory (wantAt st s) .level) 1 leaf in
+          let taken = lowest-taken (st .k) memory (standOf op (slotAt st s)) z alone takes in
+          let level : memory (lowestOf (z .path)) .level ≡ 1 = ap (λ (p : ℕ). memory p .level) taken ∙ eqb-true (memory (wantAt st s) .level) 1 leaf in
           omega (arith, stands .level)
-      by-place (atTheLeaf _ _ deletes) = false≢true deletes
+      by-place (atTheLeaf _ _ deletes) = not-both deletes (ap goesBeside same)
 
   plain-room : (a : Answer) (next : State) (words : List ℕ) → a ≡ plain (Insert x v) es .answer
       → (has x es ≡ false → treeRoom (st .k) x (inv .height) (inv .tree) ≤ length (freePages (st .k) (st .n) ws)) → Here (left a next words)
@@ -97,7 +96,7 @@ module _ (st : State) (ws : List ℕ) (inv : Invariant st ws) (s x v : ℕ) (b :
   }
 
   ended-room : (a : Answer) (writes : List Write) (next : State) (words : List ℕ)
-      → Ended (Insert x v) (st .k) (st .n) ws (inv .height) (inv .tree) (pathOf (slotAt st s)) (besideOf (slotAt st s)) (wantAt st s) a writes → Here (left a next words)
+      → Ended (st .k) (st .n) ws (inv .height) (inv .tree) (standOf (Insert x v) (slotAt st s)) a writes → Here (left a next words)
   ended-room a writes next words e =
       ⊎-elim (λ p. plain-room a next words (p .answer) (p .room x v refl)) (λ r. roomless (r .0)) (e .how)
     where
@@ -116,15 +115,11 @@ module _ (st : State) (ws : List ℕ) (inv : Invariant st ws) (s x v : ℕ) (b :
   exact-here g leaf (noSlot c e) = absurd (omega arith)
   exact-here g leaf (idle c d e) = not-both (ap isOpen runs) d
   exact-here g leaf (waits op c rs h e) = not-both g h
-  exact-here g leaf (onward op path siblings want c rs h e stance takes) =
-      let same : op ≡ Insert x v = same-op (sym rs ∙ runs) in
-      absurd (not-onward path siblings want leaf
-      (subst (λ (o : Op). Stance o (st .k) memory (inv .height) (inv .tree) path siblings want) same stance)
-      (subst (λ (o : Op). Takes o (st .k) memory (pathOf (slotAt st s)) (besideOf (slotAt st s)) (wantAt st s) path siblings) same takes))
+  exact-here g leaf (onward op z c rs h e same stance takes) = absurd (not-onward op z leaf (same ∙ same-op (sym rs ∙ runs)) stance takes)
   exact-here g leaf (over op a writes c rs h e ends) =
       subst Here (sym e)
       (ended-room a writes (closes st s) (applied (st .k) writes ws)
-      (subst (λ (o : Op). Ended o (st .k) (st .n) ws (inv .height) (inv .tree) (pathOf (slotAt st s)) (besideOf (slotAt st s)) (wantAt st s) a writes) (same-op (sym rs ∙ runs)) ends))
+      (subst (λ (o : Op). Ended (st .k) (st .n) ws (inv .height) (inv .tree) (standOf o (slotAt st s)) a writes) (same-op (sym rs ∙ runs)) ends))
 
 -- ---- a step answered NoRoom
 
@@ -144,30 +139,24 @@ module _ (st : State) (ws : List ℕ) (inv : Invariant st ws) (s : ℕ) where
   abbrev path : List ℕ
   path = pathOf (slotAt st s)
 
-  abbrev siblings : List ℕ
-  siblings = besideOf (slotAt st s)
-
-  abbrev want : ℕ
-  want = wantAt st s
-
   abbrev pages : ℕ → Page
   pages = pageAt (st .k) ws
 
   -- an insertion does not end above the leaves
   leaf-reached : (x v : ℕ) → s < slotCount → Opened st s (Insert x v) → grants st s ≡ true → stepped st ws s .answer ≡ NoRoom → isLeaf (pageAt (st .k) ws (wantAt st s)) ≡ true
-  leaf-reached x v b runs g none = by-comes (granted-comes (Insert x v) (st .k) (st .n) ws (inv .height) (inv .tree) path siblings want (scene st ws inv s (Insert x v) b runs))
+  leaf-reached x v b runs g none = by-comes (granted-comes (st .k) (st .n) ws (inv .height) (inv .tree) (standOf (Insert x v) (slotAt st s)) (scene st ws inv s (Insert x v) b runs))
     where
-      above : Where (Insert x v) pages (inv .height) (inv .tree) path siblings want → atItsLeaf pages (reverse path) ≡ false
+      above : Where pages (inv .height) (inv .tree) (standOf (Insert x v) (slotAt st s)) → atItsLeaf pages (reverse path) ≡ false
       above (atStart e _ _) = start-above pages (inv .height) (inv .tree) path e
       above (onTheWay low w _ _) = low-above pages (inv .height) (inv .tree) path low w
       above (atTheLeaf _ _ deletes) = absurd (false≢true deletes)
 
-      by-comes : Comes (Insert x v) (st .k) (st .n) ws (inv .height) (inv .tree) path siblings want → isLeaf (pages want) ≡ true
-      by-comes (moves path′ siblings′ want′ e stance takes) =
-          absurd (says-not Moved (goesOn st s (Insert x v) want′ path′ siblings′) ws moved-not (granted-does st ws inv s (Insert x v) b runs g ∙ ap (acted st ws s (Insert x v)) e) none)
+      by-comes : Comes (st .k) (st .n) ws (inv .height) (inv .tree) (standOf (Insert x v) (slotAt st s)) → isLeaf (pages (wantAt st s)) ≡ true
+      by-comes (moves z′ e same stance takes) =
+          absurd (says-not Moved (goesOn st s z′) ws moved-not (granted-does st ws inv s (Insert x v) b runs g ∙ ap (acted st ws s) e) none)
       by-comes (stops a writes e ended) =
-          coming-ends (Insert x v) (st .k) (st .n) ws path siblings want
-          (above (where-it-stands (Insert x v) (st .k) (st .n) pages (inv .height) (inv .tree) (inv .forms .forms) (inv .keys s (Insert x v) b runs) path siblings want (inv .stands s (Insert x v) b runs)))
+          coming-ends (st .k) (st .n) ws (standOf (Insert x v) (slotAt st s))
+          (above (where-it-stands (st .k) (st .n) pages (inv .height) (inv .tree) (standOf (Insert x v) (slotAt st s)) (inv .forms .forms) (inv .keys s (Insert x v) b runs) (inv .stands s (Insert x v) b runs)))
           a writes e
 
   says-here : stepped st ws s .answer ≡ NoRoom → StepOf st ws inv s → Says (stepped st ws s)
@@ -175,7 +164,7 @@ module _ (st : State) (ws : List ℕ) (inv : Invariant st ws) (s : ℕ) where
   says-here none (noSlot c e) = absurd (says-not _ _ _ refl e none)
   says-here none (idle c d e) = absurd (says-not _ _ _ refl e none)
   says-here none (waits op c rs h e) = absurd (says-not _ _ _ refl e none)
-  says-here none (onward op path siblings want c rs h e stance takes) = absurd (says-not _ _ _ refl e none)
+  says-here none (onward op z c rs h e same stance takes) = absurd (says-not _ _ _ refl e none)
   says-here none (over op a writes c rs h e ends) =
       let here : a ≡ NoRoom = sym (ap (λ (r : Left). r .answer) e) ∙ none in
       ⊎-elim

@@ -18,7 +18,7 @@ use Rattle.slots.specs.declared.Op.the-variants.{Search, Insert, Delete, Next, 
 use Rattle.slots.specs.declared.State.{State}
 use Rattle.slots.specs.declared.Answer.{Answer}
 use Rattle.slots.specs.declared.Answer.the-variants.{Moved, Found, NotFound, Inserted, AlreadyThere, Deleted, NoSuchKey, NoRoom, Damaged, None as NoLot, Regraded}
-use Rattle.slots.specs.Parts.{keyOf, isNext, pathOf, besideOf, slotAt, wantAt, Opened}
+use Rattle.slots.specs.Parts.{keyOf, isNext, Stand, onPages, wantBeside, standOf, slotAt, wantAt, Opened}
 use Rattle.slots.specs.Heard.{heard, numberOf}
 use Rattle.slots.specs.Grant.{grants}
 use Rattle.footing.specs.Granted.{Verdict, broken, goes, ends, isSafe, kept, byNeed, deletes, nextAnswer, crosses, byNearest, atLeaf, fromLeaf, comesDown, goesLeft, besides, atItsLeaf, granted}
@@ -57,114 +57,112 @@ above-among x (e ∷ es) y v a =
 -- a lot that is told at the end stands on this leaf
 abbrev SeenBy : Page → Verdict → Type 0
 SeenBy P broken = Unit {0}
-SeenBy P (goes path siblings want) = Unit {0}
+SeenBy P (goes z) = Unit {0}
 SeenBy P (ends answer writes) = Seen P answer
 
 -- ---- at the leaf
 
-crosses-seen : (P : Page) (op : Op) (k : ℕ) (memory : ℕ → Page) (path : List ℕ) → SeenBy P (crosses op k memory path)
-crosses-seen P op k memory [] = tt
-crosses-seen P op k memory (top ∷ below) = cond-ind (SeenBy P) (isSafe op k (memory top)) (λ _. tt) (λ _. no-next P NoLot refl)
+crosses-seen : (P : Page) (x k : ℕ) (memory : ℕ → Page) (z : Stand) (path : List ℕ) → SeenBy P (crosses x k memory z path)
+crosses-seen P x k memory z [] = tt
+crosses-seen P x k memory z (top ∷ below) = cond-ind (SeenBy P) (isSafe (Next x) k (memory top)) (λ _. tt) (λ _. no-next P NoLot refl)
 
 nearest-seen : (P : Page) → isLeaf P ≡ true → (further : Verdict) → SeenBy P further → (es : List Entry)
     → ((y v : ℕ) → Among y v es → Among y v (P .entries)) → SeenBy P (byNearest further es)
 nearest-seen P leaf further h [] inside = h
 nearest-seen P leaf further h (e ∷ es) inside = first-seen P leaf (e ∷ es) inside
 
-need-seen : (P : Page) (path siblings : List ℕ) (whole : Verdict) → SeenBy P whole → (n : Need) → SeenBy P (byNeed path siblings whole n)
-need-seen P path siblings whole h nothing = h
-need-seen P path siblings whole h (sibling s) = tt
-need-seen P path siblings whole h astray = tt
+need-seen : (P : Page) (z : Stand) (whole : Verdict) → SeenBy P whole → (n : Need) → SeenBy P (byNeed z whole n)
+need-seen P z whole h nothing = h
+need-seen P z whole h (sibling s) = tt
+need-seen P z whole h astray = tt
 
-deletes-seen : (P : Page) (k : ℕ) (memory : ℕ → Page) (x : ℕ) (path : List ℕ) (leaf : ℕ) (fathers siblings : List ℕ)
-    → SeenBy P (deletes k memory x path leaf fathers siblings)
+deletes-seen : (P : Page) (k : ℕ) (memory : ℕ → Page) (x : ℕ) (z : Stand) (leaf : ℕ) (fathers : List ℕ) → SeenBy P (deletes k memory x z leaf fathers)
 unfolding deletes
-deletes-seen P k memory x path leaf fathers siblings =
-    need-seen P path siblings _ (no-next P (Deleted (information x (memory leaf .entries))) refl) (needs k memory x leaf fathers siblings)
+deletes-seen P k memory x z leaf fathers =
+    need-seen P z _ (no-next P (Deleted (information x (memory leaf .entries))) refl) (needs k memory x leaf fathers (z .beside))
 
-leaf-seen : (op : Op) (k : ℕ) (memory : ℕ → Page) (free path : List ℕ) (leaf : ℕ) (fathers : List ℕ) → isLeaf (memory leaf) ≡ true
-    → SeenBy (memory leaf) (atLeaf op k memory free path leaf fathers)
+leaf-seen : (op : Op) (k : ℕ) (memory : ℕ → Page) (free : List ℕ) (z : Stand) (leaf : ℕ) (fathers : List ℕ) → isLeaf (memory leaf) ≡ true
+    → SeenBy (memory leaf) (atLeaf op k memory free z leaf fathers)
 unfolding atLeaf
-leaf-seen (Search x) k memory free path leaf fathers h =
+leaf-seen (Search x) k memory free z leaf fathers h =
     cond-ind (Seen (memory leaf)) (has x (memory leaf .entries))
     (λ _. no-next (memory leaf) (Found (information x (memory leaf .entries))) refl)
     (λ _. no-next (memory leaf) NotFound refl)
-leaf-seen (Insert x v) k memory free path leaf fathers h =
+leaf-seen (Insert x v) k memory free z leaf fathers h =
     cond-ind (SeenBy (memory leaf)) (has x (memory leaf .entries))
     (λ _. no-next (memory leaf) (AlreadyThere (information x (memory leaf .entries))) refl)
     (λ _.
-    cond-ind (SeenBy (memory leaf)) (ltb (length free) (room k memory leaf path))
+    cond-ind (SeenBy (memory leaf)) (ltb (length free) (room k memory leaf (z .path)))
     (λ _. no-next (memory leaf) NoRoom refl)
     (λ _. no-next (memory leaf) Inserted refl))
-leaf-seen (Delete x) k memory free path leaf fathers h =
+leaf-seen (Delete x) k memory free z leaf fathers h =
     cond-ind (SeenBy (memory leaf)) (has x (memory leaf .entries))
-    (λ _. deletes-seen (memory leaf) k memory x path leaf fathers [])
+    (λ _. deletes-seen (memory leaf) k memory x z leaf fathers)
     (λ _. no-next (memory leaf) NoSuchKey refl)
-leaf-seen (Next x) k memory free path leaf fathers h =
-    nearest-seen (memory leaf) h (crosses (Next x) k memory path) (crosses-seen (memory leaf) (Next x) k memory path)
+leaf-seen (Next x) k memory free z leaf fathers h =
+    nearest-seen (memory leaf) h (crosses x k memory z (z .path)) (crosses-seen (memory leaf) x k memory z (z .path))
     (atOrAbove x (memory leaf .entries)) (above-among x (memory leaf .entries))
-leaf-seen (Regrade x v) k memory free path leaf fathers h =
+leaf-seen (Regrade x v) k memory free z leaf fathers h =
     cond-ind (SeenBy (memory leaf)) (has x (memory leaf .entries))
     (λ _. no-next (memory leaf) (Regraded (information x (memory leaf .entries))) refl)
     (λ _. no-next (memory leaf) NoSuchKey refl)
 
 -- ---- a granted step
 
-module _ (op : Op) (k : ℕ) (memory : ℕ → Page) (free path siblings : List ℕ) (want : ℕ) where
+module _ (k : ℕ) (memory : ℕ → Page) (free : List ℕ) (z : Stand) where
   abbrev P : Page
-  P = memory want
+  P = memory (z .want)
 
   -- the lowest page that it holds, coming down, is the granted one
-  lowest-seen : (path′ : List ℕ) → isLeaf P ≡ true
-      → SeenBy P (fromLeaf (λ (leaf : ℕ) (fathers : List ℕ). atLeaf op k memory free path′ leaf fathers) (reverse (kept op k memory path want)))
-  lowest-seen path′ leaf =
+  lowest-seen : (down : Stand) → isLeaf P ≡ true
+      → SeenBy P (fromLeaf (λ (leaf : ℕ) (fathers : List ℕ). atLeaf (z .op) k memory free down leaf fathers) (reverse (kept k memory z)))
+  lowest-seen down leaf =
       cond-ind
-      (λ (ps : List ℕ). SeenBy P (fromLeaf (λ (leaf : ℕ) (fathers : List ℕ). atLeaf op k memory free path′ leaf fathers) (reverse ps)))
-      (isSafe op k P)
-      (λ _. leaf-seen op k memory free path′ want [] leaf)
+      (λ (ps : List ℕ). SeenBy P (fromLeaf (λ (leaf : ℕ) (fathers : List ℕ). atLeaf (z .op) k memory free down leaf fathers) (reverse ps)))
+      (isSafe (z .op) k P)
+      (λ _. leaf-seen (z .op) k memory free down (z .want) [] leaf)
       (λ _.
-      subst (λ (up : List ℕ). SeenBy P (fromLeaf (λ (leaf : ℕ) (fathers : List ℕ). atLeaf op k memory free path′ leaf fathers) up))
-      (sym (reverse-append path (want ∷ [])))
-      (leaf-seen op k memory free path′ want (reverse path) leaf))
+      subst (λ (up : List ℕ). SeenBy P (fromLeaf (λ (leaf : ℕ) (fathers : List ℕ). atLeaf (z .op) k memory free down leaf fathers) up))
+      (sym (reverse-append (z .path) (z .want ∷ [])))
+      (leaf-seen (z .op) k memory free down (z .want) (reverse (z .path)) leaf))
 
-  coming-seen : SeenBy P (comesDown op k memory free path want)
+  coming-seen : SeenBy P (comesDown k memory free z)
   unfolding comesDown
-  coming-seen = cond-ind (SeenBy P) (isLeaf P) (λ leaf. lowest-seen (kept op k memory path want) leaf) (λ _. tt)
+  coming-seen = cond-ind (SeenBy P) (isLeaf P) (λ leaf. lowest-seen (onPages z (kept k memory z) []) leaf) (λ _. tt)
 
-  left-seen : SeenBy P (goesLeft memory path siblings want)
+  left-seen : SeenBy P (goesLeft memory z)
   unfolding goesLeft
   left-seen = cond-ind (SeenBy P) (isLeaf P) (λ leaf. first-seen P leaf (P .entries) (λ y v a. a)) (λ _. tt)
 
-  deletion-seen : (up : List ℕ)
-      → SeenBy P (fromLeaf (λ (leaf : ℕ) (fathers : List ℕ). deletes k memory (keyOf op) path leaf fathers (siblings ++ want ∷ [])) up)
+  deletion-seen : (up : List ℕ) → SeenBy P (fromLeaf (λ (leaf : ℕ) (fathers : List ℕ). deletes k memory (keyOf (z .op)) (wantBeside z) leaf fathers) up)
   deletion-seen [] = tt
-  deletion-seen (leaf ∷ fathers) = deletes-seen P k memory (keyOf op) path leaf fathers (siblings ++ want ∷ [])
+  deletion-seen (leaf ∷ fathers) = deletes-seen P k memory (keyOf (z .op)) (wantBeside z) leaf fathers
 
-  beside-seen : SeenBy P (besides op k memory path siblings want)
+  beside-seen : SeenBy P (besides k memory z)
   unfolding besides
-  beside-seen = cond-ind (SeenBy P) (isNext op) (λ _. left-seen) (λ _. deletion-seen (reverse path))
+  beside-seen = cond-ind (SeenBy P) (isNext (z .op)) (λ _. left-seen) (λ _. deletion-seen (reverse (z .path)))
 
-  granted-seen : SeenBy P (granted op k memory free path siblings want)
+  granted-seen : SeenBy P (granted k memory free z)
   unfolding granted
-  granted-seen = cond-ind (SeenBy P) (atItsLeaf memory (reverse path)) (λ _. beside-seen) (λ _. coming-seen)
+  granted-seen = cond-ind (SeenBy P) (atItsLeaf memory (reverse (z .path))) (λ _. beside-seen) (λ _. coming-seen)
 
-verdict-seen : (op : Op) (k n : ℕ) (ws path siblings : List ℕ) (want : ℕ) → SeenBy (pageAt k ws want) (verdict op k n ws path siblings want)
+verdict-seen : (k n : ℕ) (ws : List ℕ) (z : Stand) → SeenBy (pageAt k ws (z .want)) (verdict k n ws z)
 unfolding verdict
-verdict-seen op k n ws path siblings want =
-    cond-ind (SeenBy (pageAt k ws want)) (soundForStep op k n ws path siblings want)
-    (λ _. granted-seen op k (pageAt k ws) (freePages k n ws) path siblings want)
+verdict-seen k n ws z =
+    cond-ind (SeenBy (pageAt k ws (z .want))) (soundForStep k n ws z)
+    (λ _. granted-seen k (pageAt k ws) (freePages k n ws) z)
     (λ _. tt)
 
-acted-seen : (P : Page) (st : State) (ws : List ℕ) (s : ℕ) (op : Op) (v : Verdict) → SeenBy P v → Seen P (acted st ws s op v .answer)
-acted-seen P st ws s op broken h = no-next P Damaged refl
-acted-seen P st ws s op (goes path siblings want) h = no-next P Moved refl
-acted-seen P st ws s op (ends answer writes) h = h
+acted-seen : (P : Page) (st : State) (ws : List ℕ) (s : ℕ) (v : Verdict) → SeenBy P v → Seen P (acted st ws s v .answer)
+acted-seen P st ws s broken h = no-next P Damaged refl
+acted-seen P st ws s (goes z) h = no-next P Moved refl
+acted-seen P st ws s (ends answer writes) h = h
 
 -- what a granted step of a run tells stands on the page that it was granted
 pub step-seen : (st : State) (ws : List ℕ) (inv : Invariant st ws) (s : ℕ) (op : Op) → s < slotCount → Opened st s op → grants st s ≡ true
     → Seen (pageAt (st .k) ws (wantAt st s)) (stepped st ws s .answer)
 step-seen st ws inv s op b runs g =
     let P : Page = pageAt (st .k) ws (wantAt st s) in
-    let v : Verdict = verdict op (st .k) (st .n) ws (pathOf (slotAt st s)) (besideOf (slotAt st s)) (wantAt st s) in
+    let z : Stand = standOf op (slotAt st s) in
     subst (λ (r : Left). Seen P (r .answer)) (sym (granted-does st ws inv s op b runs g))
-    (acted-seen P st ws s op v (verdict-seen op (st .k) (st .n) ws (pathOf (slotAt st s)) (besideOf (slotAt st s)) (wantAt st s)))
+    (acted-seen P st ws s (verdict (st .k) (st .n) ws z) (verdict-seen (st .k) (st .n) ws z))

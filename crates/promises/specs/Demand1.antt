@@ -20,7 +20,7 @@ use Rattle.slots.specs.declared.Slot.{Slot}
 use Rattle.slots.specs.declared.State.{State}
 use Rattle.slots.specs.declared.Answer.the-variants.{Waiting, Begun, Made, Reported, BadState, BadPool, BadSlot, SlotBusy, SlotIdle, Damaged, BadPage}
 use Rattle.slots.specs.Heard.{refuses, changesNothing}
-use Rattle.slots.specs.Parts.{slotAt, openAt, pathOf, besideOf, idleState}
+use Rattle.slots.specs.Parts.{slotAt, openAt, standOf, idleState}
 use Rattle.slots.specs.Sound.{sound}
 use Rattle.slots.specs.Grant.{grants}
 use Rattle.slots.specs.Begin.{begun}
@@ -54,7 +54,7 @@ WordsFit st ws = length ws ≡ poolLength (st .k) (st .n)
 -- "Pages are sound for a step if": of the step of a slot with this task. A closed slot meets no pages.
 abbrev pub soundForTask : State → List ℕ → Slot → Task → Bool
 soundForTask st ws slot Closed = true
-soundForTask st ws slot (Open op) = soundForStep op (st .k) (st .n) ws (pathOf slot) (besideOf slot) (slot .want)
+soundForTask st ws slot (Open op) = soundForStep (st .k) (st .n) ws (standOf op slot)
 
 abbrev pub pagesSoundAt : State → List ℕ → ℕ → Bool
 pagesSoundAt st ws s = soundForTask st ws (slotAt st s) (slotAt st s .task)

@@ -22,7 +22,7 @@ use Rattle.slots.specs.declared.Slot.{Slot}
 use Rattle.slots.specs.declared.State.{State}
 use Rattle.slots.specs.declared.Answer.{Answer}
 use Rattle.slots.specs.declared.Answer.the-variants.{Waiting, Moved, Begun, Next as NextLot, Regraded}
-use Rattle.slots.specs.Parts.{keyOf, isDelete, isNext, goesBeside, held, pathOf, besideOf, slotAt, openAt, wantAt, holdsAt, waitingOrder, Opened}
+use Rattle.slots.specs.Parts.{keyOf, isDelete, isNext, goesBeside, held, standOf, slotAt, openAt, wantAt, holdsAt, waitingOrder, Opened}
 use Rattle.slots.specs.Locks.{lockHeld, lockWanted, clash}
 use Rattle.slots.specs.Grant.{olderThan}
 use Rattle.slots.specs.Sound.{sound}
@@ -72,7 +72,7 @@ pub record AfterEveryCall (k n : ℕ) (st : State) (ws : List ℕ) : Type 0 wher
   -- "no two locks clash": two different slots that hold one page both read only
   pub locks : (s u p : ℕ) → s < slotCount → u < slotCount → s ≢ u → holdsAt st s p ≡ true → holdsAt st u p ≡ true → Reads st s × Reads st u
   -- "just the locks the rules name", where everybody stands: an open slot as `Stance` says; a closed one holds nothing
-  pub stands : (s : ℕ) (op : Op) → s < slotCount → Opened st s op → Stance op k (pageAt k ws) height tree (pathOf (slotAt st s)) (besideOf (slotAt st s)) (wantAt st s)
+  pub stands : (s : ℕ) (op : Op) → s < slotCount → Opened st s op → Stance k (pageAt k ws) height tree (standOf op (slotAt st s))
   pub closed : (s : ℕ) → s < slotCount → openAt st s ≡ false → held (slotAt st s) ≡ []
   -- Regrading: "every page is safe for it, so it holds at most 1"
   pub oneHeld : (s x v : ℕ) → s < slotCount → Opened st s (Regrade x v) → length (held (slotAt st s)) ≤ 1
@@ -95,7 +95,7 @@ pub record MovesOn (st : State) (ws : List ℕ) (s : ℕ) (after : Left) : Type 
   -- the page that it wanted is now held,
   pub taken : holdsAt (after .state) s (wantAt st s) ≡ true
   -- given up are all ancestors or none, by the operation and the page granted, and nothing else
-  pub takes : Takes op (st .k) (pageAt (st .k) ws) (pathOf (slotAt st s)) (besideOf (slotAt st s)) (wantAt st s) (pathOf (slotAt (after .state) s)) (besideOf (slotAt (after .state) s))
+  pub takes : Takes (st .k) (pageAt (st .k) ws) (standOf op (slotAt st s)) (standOf op (slotAt (after .state) s))
   -- "A new want goes to the end of the waiting order.": the others stand in the order they had
   pub order : waitingOrder (after .state) ≡ leaving s (waitingOrder st) ++ s ∷ []
 
