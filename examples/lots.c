@@ -1,5 +1,5 @@
-/* Two buyers on one list: the house enters a lot while a buyer looks for it, and then downgrades it while one does. Writes each
- * answer by its number. */
+/* Two buyers on one list: the house enters a lot while a buyer looks for it, and then downgrades it while one does. At the end all lots
+ * are listed, each by a question of its own. Writes each answer by its number. */
 #include <stdio.h>
 
 #include "ghazfulit.h"
@@ -49,8 +49,36 @@ static void step(uint32_t slot) {
     say(slot == 0 ? "the house" : "the buyer", answer);
 }
 
+/* Steps a slot until its operation has ended; no other slot is open, so it never waits. */
+static void finish(uint32_t slot, uint32_t *answer) {
+    do {
+        ghazfulit_step(state, words, GHAZFULIT_WORDS(K, N), slot, answer);
+    } while (!GHAZFULIT_ENDS(answer[0]) && !GHAZFULIT_REFUSES(answer[0]));
+}
+
+/* Lists the lots from a key on, by asking for the next one behind the last. */
+static void list(uint32_t key) {
+    uint32_t answer[GHAZFULIT_ANSWER];
+    for (;;) {
+        ghazfulit_begin(state, 2, GHAZFULIT_NEXT, key, 0, answer);
+        finish(2, answer);
+        if (answer[0] != GHAZFULIT_NEXT_LOT) {
+            return;
+        }
+        printf("lot %u: grade %u\n", (unsigned)answer[1], (unsigned)answer[2]);
+        if (answer[1] == UINT32_MAX) {
+            return;
+        }
+        key = answer[1] + 1;
+    }
+}
+
 int main(void) {
     uint32_t answer[GHAZFULIT_ANSWER];
+    if (ghazfulit_version() != GHAZFULIT_VERSION) {
+        printf("the archive is of version %u\n", (unsigned)ghazfulit_version());
+        return 1;
+    }
     ghazfulit_make(K, N, state, words, GHAZFULIT_WORDS(K, N), answer);
     if (answer[0] != GHAZFULIT_MADE) {
         printf("no pool: answer %u\n", (unsigned)answer[0]);
@@ -72,5 +100,10 @@ int main(void) {
     say("page 0", answer);
     step(1);
     begin(2, 9, 12, 0);
+    for (uint32_t i = 1; i <= 6; i++) {
+        ghazfulit_begin(state, 0, GHAZFULIT_INSERT, 10 * i, i, answer);
+        finish(0, answer);
+    }
+    list(11);
     return 0;
 }

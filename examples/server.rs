@@ -3,7 +3,7 @@
 
 use std::collections::VecDeque;
 
-use ghazfulit::{Index, Op, Refusal, SLOTS};
+use ghazfulit::{Index, Op, Refusal, Stop, SLOTS};
 
 /// Who asks, and what for.
 struct Request {
@@ -68,8 +68,9 @@ impl Server {
 }
 
 /// The house enters fourteen lots; then it enters one more while buyers look for the last of them, and one for what follows. At
-/// last it downgrades that lot while two look for it: one finds it as it was, one as it is, and nobody misses it.
-fn main() -> Result<(), Refusal> {
+/// last it downgrades that lot while two look for it: one finds it as it was, one as it is, and nobody misses it. Then all lots from 120 on
+/// are listed.
+fn main() -> Result<(), Stop> {
     let house = |op| Request { who: "house", op };
     let enter = |key, information| house(Op::Insert { key, information });
     let regrade = |key, information| house(Op::Regrade { key, information });
@@ -100,6 +101,10 @@ fn main() -> Result<(), Refusal> {
     server.run(3)?;
     if let Err(refusal) = server.index.step(0) {
         println!("slot 0 again: {refusal}");
+    }
+    for lot in server.index.lots(0, 120) {
+        let lot = lot?;
+        println!("lot {}: grade {}", lot.key, lot.information);
     }
     Ok(())
 }

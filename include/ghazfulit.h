@@ -3,8 +3,11 @@
  * The caller lends two stretches of 32-bit words, and keeps them between calls: GHAZFULIT_STATE words for the state and
  * GHAZFULIT_WORDS(k, n) for the pool. A call writes its answer into GHAZFULIT_ANSWER words: its number, and behind it its
  * values, or 0. Whatever the words hold, every call ends, stays within them and answers; a refused call leaves them as they
- * were (but for a refused making, which clears the state). What the caller owes is only that each pointer leads to as many
- * words as are named here, and that they do not overlap.
+ * were (but for a refused making, which clears the state). docs/CALLS.md has each call with all its answers.
+ *
+ * What the caller owes is only this: each pointer leads to as many words as are named here; they do not overlap; and while a call
+ * runs nobody else writes them. A call tests pages first and then reads them again, so what another thread writes meanwhile is
+ * outside what is proved. Calls that are lent different words may run at the same time: the library keeps nothing of its own.
  */
 #ifndef GHAZFULIT_H
 #define GHAZFULIT_H
@@ -16,7 +19,9 @@
 extern "C" {
 #endif
 
-#define GHAZFULIT_VERSION 1
+/* Raised with every change of a number, of an answer's values or of what the words of the state mean. 2: AlreadyThere has a value,
+ * and Next never tells a key below the one asked for. ghazfulit_version() gives the archive's own. */
+#define GHAZFULIT_VERSION 2
 
 /* Words of a state, words of an answer, slots, and the largest k and n. */
 #define GHAZFULIT_STATE 435
@@ -64,6 +69,13 @@ enum {
     GHAZFULIT_REGRADED = 46       /* with the old information */
 };
 
+/* Whether an answer, by its number, is a refusal; whether a step's answer ends the operation, so that its slot is closed. The number
+ * is read more than once. */
+#define GHAZFULIT_REFUSES(number) ((number) < GHAZFULIT_WAITING)
+#define GHAZFULIT_ENDS(number) \
+    (((number) >= GHAZFULIT_FOUND && (number) <= GHAZFULIT_NO_ROOM) || \
+     ((number) >= GHAZFULIT_NEXT_LOT && (number) <= GHAZFULIT_REGRADED))
+
 /* Kinds of lock, as a report has them. */
 enum {
     GHAZFULIT_LOCK_NONE = 0,
@@ -79,11 +91,15 @@ void ghazfulit_make(uint32_t k, uint32_t n, uint32_t *state, uint32_t *words, si
 void ghazfulit_begin(uint32_t *state, uint32_t slot, uint32_t kind, uint32_t key, uint32_t information, uint32_t *answer);
 
 /* Takes one lock more, if it is to be had, and does what follows: the answers 32 to 40 and 44 to 46, or BadState, BadPool,
- * BadSlot, SlotIdle, Damaged. An answer from Found to NoRoom, Next, None and Regraded close the slot. */
+ * BadSlot, SlotIdle, Damaged in this order, but that Waiting comes before Damaged. GHAZFULIT_ENDS says which of them close the
+ * slot. */
 void ghazfulit_step(uint32_t *state, uint32_t *words, size_t length, uint32_t slot, uint32_t *answer);
 
 /* Says who holds a page: Reported, or BadState, BadPage. */
 void ghazfulit_report(const uint32_t *state, uint32_t page, uint32_t *answer);
+
+/* The version of the archive, to be compared with GHAZFULIT_VERSION. */
+uint32_t ghazfulit_version(void);
 
 #ifdef __cplusplus
 }

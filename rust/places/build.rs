@@ -4,7 +4,10 @@ use std::env;
 
 fn main() {
     println!("cargo:rerun-if-env-changed=GHAZFULIT_WAYS");
-    let folder = env::var("GHAZFULIT_WAYS").expect("GHAZFULIT_WAYS names a folder");
+    // without it the crate can be checked, and not linked
+    let Ok(folder) = env::var("GHAZFULIT_WAYS") else {
+        return;
+    };
     println!("cargo:rerun-if-changed={folder}");
     println!("cargo:rustc-link-search=native={folder}");
     for name in ["scan_page", "scan_embed", "halving_page", "halving_embed"] {

@@ -8,7 +8,12 @@ use index::calls::make;
 use index::calls::report;
 use index::calls::step;
 use lent::STATE;
+ghost use mathlib.Core.Path.{_≡_};
 ghost use Rattle.embed.specs.Statements.{MakeTells, BeginTells, StepTells, ReportTells};
+ghost use Rattle.embed.specs.Version.{libraryVersion};
+
+// The version of these calls.
+const VERSION: u32 = 2;
 
 // Makes a fresh pool of n pages of width k in the lent words, and an idle state beside it.
 #[no_mangle]
@@ -67,4 +72,12 @@ pub extern "C" fn ghazfulit_report(state: &[u32; STATE], page: u32, answer: &mut
 {
     let heard = report(state, page);
     tell(heard, answer);
+}
+
+// Says of which version the library is, so that a caller can hold it to the header that he was compiled with.
+#[no_mangle]
+pub extern "C" fn ghazfulit_version() -> u32
+    ensures { λ r. ⌜ r ≡ libraryVersion ⌝ }
+{
+    VERSION
 }

@@ -6,8 +6,6 @@ use twin::{begin_lent, make_lent, report_lent, step_lent, Answer, Op, STATE};
 pub const ROOM: usize = 70_000;
 /// The most numbers in a line: a place, and a row of 16.
 const MOST: usize = 17;
-/// The refusal of a kind that does not exist.
-pub const BAD_KIND: u32 = 31;
 /// The line that answers what is no line.
 const BAD_LINE: &[u8] = b"BadLine\n";
 
@@ -91,21 +89,24 @@ impl<C: Calls> Drive<C> {
         match (letter, &numbers[..]) {
             (b'm', &[k, n]) => {
                 let answer = self.calls.make(k, n, &mut self.state, &mut self.words);
-                self.outcome(&answer.heard(), out);
+                self.outcome(answer, out);
             }
             (b'b', &[slot, kind, key, information]) => {
-                let heard = self.begin(slot as usize, kind, key, information);
-                self.outcome(&heard, out);
+                let answer = match Op::of(kind, key, information) {
+                    Some(op) => self.calls.begin(&mut self.state, slot as usize, op),
+                    None => Answer::BadKind,
+                };
+                self.outcome(answer, out);
             }
             (b't', &[slot]) => {
                 let answer = self
                     .calls
                     .step(&mut self.state, &mut self.words, slot as usize);
-                self.outcome(&answer.heard(), out);
+                self.outcome(answer, out);
             }
             (b'r', &[page]) => {
                 let answer = self.calls.report(&self.state, page);
-                self.outcome(&answer.heard(), out);
+                self.outcome(answer, out);
             }
             (b's', [at, words @ ..]) => lay(&mut self.state, *at as usize, words)?,
             (b'w', [at, words @ ..]) => lay(&mut self.words, *at as usize, words)?,
@@ -120,22 +121,9 @@ impl<C: Calls> Drive<C> {
         Some(())
     }
 
-    /// Begins an operation that numbers name.
-    fn begin(&mut self, slot: usize, kind: u32, key: u32, information: u32) -> Vec<u32> {
-        let op = match kind {
-            1 => Op::Search(key),
-            2 => Op::Insert(key, information),
-            3 => Op::Delete(key),
-            4 => Op::Next(key),
-            5 => Op::Regrade(key, information),
-            _ => return vec![BAD_KIND],
-        };
-        self.calls.begin(&mut self.state, slot, op).heard()
-    }
-
     /// Writes an outcome.
-    fn outcome(&self, heard: &[u32], out: &mut Vec<u8>) {
-        let four: [u32; 4] = std::array::from_fn(|i| heard.get(i).copied().unwrap_or(0));
+    fn outcome(&self, answer: Answer, out: &mut Vec<u8>) {
+        let four = answer.told();
         number(four[0], out);
         let mut behind = |word: u32| {
             out.push(b' ');

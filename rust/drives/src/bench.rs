@@ -1,14 +1,17 @@
 //! The lots on the bench and the shortcuts that lose a lot, each as document 01 says it; and the next lot, who waits behind
 //! whom, and regrading, as 02 does.
 
+use twin::{kind, Answer, Op};
+
 use crate::program::Program;
+use crate::scene::begin_line;
 
 /// Information throughout, but where a lot is regraded.
 const INFORMATION: u32 = 7;
 
 /// What a call must be answered, and now and then the pool's words behind it.
 struct Expected {
-    answer: [u32; 4],
+    answer: Answer,
     pool: Option<Vec<u32>>,
 }
 
@@ -19,26 +22,22 @@ pub struct Case {
     expected: Vec<Expected>,
 }
 
-const BEGUN: [u32; 4] = [41, 0, 0, 0];
-const MADE: [u32; 4] = [42, 0, 0, 0];
-const MOVED: [u32; 4] = [33, 0, 0, 0];
-const WAITING: [u32; 4] = [32, 0, 0, 0];
-const FOUND: [u32; 4] = [34, INFORMATION, 0, 0];
-const NOT_FOUND: [u32; 4] = [35, 0, 0, 0];
-const INSERTED: [u32; 4] = [36, 0, 0, 0];
-const ALREADY_THERE: [u32; 4] = [37, INFORMATION, 0, 0];
-const DELETED: [u32; 4] = [38, INFORMATION, 0, 0];
-const NO_SUCH_KEY: [u32; 4] = [39, 0, 0, 0];
-const NO_ROOM: [u32; 4] = [40, 0, 0, 0];
-const NONE: [u32; 4] = [45, 0, 0, 0];
-const REGRADED: [u32; 4] = [46, INFORMATION, 0, 0];
-const BAD_POOL: [u32; 4] = [2, 0, 0, 0];
-const BAD_SLOT: [u32; 4] = [3, 0, 0, 0];
-const BAD_KIND: [u32; 4] = [31, 0, 0, 0];
+/// Operations on one key, for cases of who waits.
+const SEARCH: Op = Op::Search(5);
+const INSERT: Op = Op::Insert(5, INFORMATION);
+const DELETE: Op = Op::Delete(5);
+const NEXT: Op = Op::Next(5);
+const REGRADE: Op = Op::Regrade(5, INFORMATION);
+
+/// Answers that carry the information.
+const FOUND: Answer = Answer::Found(INFORMATION);
+const ALREADY_THERE: Answer = Answer::AlreadyThere(INFORMATION);
+const DELETED: Answer = Answer::Deleted(INFORMATION);
+const REGRADED: Answer = Answer::Regraded(INFORMATION);
 
 impl Case {
     /// A case that starts with a making.
-    fn made(name: &'static str, k: u32, n: u32, answer: [u32; 4]) -> Case {
+    fn made(name: &'static str, k: u32, n: u32, answer: Answer) -> Case {
         let mut case = Case {
             name,
             lines: vec![format!("p {} 9", n * (4 * k + 3))],
@@ -50,20 +49,20 @@ impl Case {
 
     /// A case with k = 1 from a fresh pool.
     fn fresh(name: &'static str, n: u32) -> Case {
-        Case::made(name, 1, n, MADE)
+        Case::made(name, 1, n, Answer::Made)
     }
 
     /// Case E: 10, 20 and 30 in three pages.
     fn from_e(name: &'static str) -> Case {
         let mut case = Case::fresh(name, 3);
         for key in [10, 20, 30] {
-            case.insert(key, 1, INSERTED);
+            case.insert(key, 1, Answer::Inserted);
         }
         case
     }
 
     /// A call, and its answer.
-    fn call(&mut self, line: &str, answer: [u32; 4]) {
+    fn call(&mut self, line: &str, answer: Answer) {
         self.lines.push(line.to_string());
         self.expected.push(Expected { answer, pool: None });
     }
@@ -79,38 +78,38 @@ impl Case {
             .extend(["q 2".to_string(), call, "q 0".to_string()]);
     }
 
-    /// An operation alone in slot 0, to its end after so many grants.
-    fn alone(&mut self, kind: u32, key: u32, grants: usize, answer: [u32; 4]) {
-        self.alone_with(kind, key, INFORMATION, grants, answer);
+    /// A beginning, and its answer.
+    fn begin(&mut self, slot: usize, op: Op, answer: Answer) {
+        self.call(&begin_line(slot, op.numbers()), answer);
     }
 
-    /// The same with other information.
-    fn alone_with(&mut self, kind: u32, key: u32, with: u32, grants: usize, answer: [u32; 4]) {
-        self.call(&format!("b 0 {kind} {key} {with}"), BEGUN);
+    /// An operation alone in slot 0, to its end after so many grants.
+    fn alone(&mut self, op: Op, grants: usize, answer: Answer) {
+        self.begin(0, op, Answer::Begun);
         for _ in 1..grants {
-            self.call("t 0", MOVED);
+            self.call("t 0", Answer::Moved);
         }
         self.call("t 0", answer);
     }
 
-    fn search(&mut self, key: u32, grants: usize, answer: [u32; 4]) {
-        self.alone(1, key, grants, answer);
+    fn search(&mut self, key: u32, grants: usize, answer: Answer) {
+        self.alone(Op::Search(key), grants, answer);
     }
 
-    fn insert(&mut self, key: u32, grants: usize, answer: [u32; 4]) {
-        self.alone(2, key, grants, answer);
+    fn insert(&mut self, key: u32, grants: usize, answer: Answer) {
+        self.alone(Op::Insert(key, INFORMATION), grants, answer);
     }
 
-    fn delete(&mut self, key: u32, grants: usize, answer: [u32; 4]) {
-        self.alone(3, key, grants, answer);
+    fn delete(&mut self, key: u32, grants: usize, answer: Answer) {
+        self.alone(Op::Delete(key), grants, answer);
     }
 
-    fn next(&mut self, key: u32, grants: usize, answer: [u32; 4]) {
-        self.alone(4, key, grants, answer);
+    fn next(&mut self, key: u32, grants: usize, answer: Answer) {
+        self.alone(Op::Next(key), grants, answer);
     }
 
-    fn regrade(&mut self, key: u32, with: u32, grants: usize, answer: [u32; 4]) {
-        self.alone_with(5, key, with, grants, answer);
+    fn regrade(&mut self, key: u32, with: u32, grants: usize, answer: Answer) {
+        self.alone(Op::Regrade(key, with), grants, answer);
     }
 
     /// What the program says otherwise, if anything.
@@ -127,7 +126,7 @@ impl Case {
                 let start = 4 + twin::STATE;
                 numbers.get(start..start + pool.len()) == Some(&pool[..])
             };
-            numbers.get(..4) == Some(&expected.answer[..])
+            numbers.get(..4) == Some(&expected.answer.told()[..])
                 && expected.pool.as_ref().is_none_or(is_pool)
         };
         let same =
@@ -158,17 +157,17 @@ fn bench() -> Vec<Case> {
     a.words(&[[1, 0, 0, 0, 0, 0, 0]]);
 
     let mut b = Case::fresh("B", 1);
-    b.search(5, 1, NOT_FOUND);
+    b.search(5, 1, Answer::NotFound);
 
     let mut c = Case::fresh("C", 1);
-    c.insert(10, 1, INSERTED);
-    c.insert(20, 1, INSERTED);
+    c.insert(10, 1, Answer::Inserted);
+    c.insert(20, 1, Answer::Inserted);
     c.words(&[[1, 2, 10, 7, 20, 7, 0]]);
 
     let mut d = Case::fresh("D", 2);
-    d.insert(10, 1, INSERTED);
-    d.insert(20, 1, INSERTED);
-    d.insert(30, 1, NO_ROOM);
+    d.insert(10, 1, Answer::Inserted);
+    d.insert(20, 1, Answer::Inserted);
+    d.insert(30, 1, Answer::NoRoom);
     d.words(&[[1, 2, 10, 7, 20, 7, 0]]);
 
     let mut e = Case::from_e("E");
@@ -208,39 +207,51 @@ const E: [[u32; 7]; 3] = [
 /// J and K, and older wants that clash: two slots at once.
 fn together() -> Vec<Case> {
     let mut j = Case::from_e("J");
-    j.call("b 0 1 10 0", BEGUN);
-    j.call("t 0", MOVED);
-    j.call("b 1 3 20 0", BEGUN);
-    j.call("t 1", WAITING);
+    j.begin(0, Op::Search(10), Answer::Begun);
+    j.call("t 0", Answer::Moved);
+    j.begin(1, Op::Delete(20), Answer::Begun);
+    j.call("t 1", Answer::Waiting);
     j.call("t 0", FOUND);
-    j.call("t 1", MOVED);
+    j.call("t 1", Answer::Moved);
 
     // "Case K becomes NotFound in an empty pool."
     let mut k = Case::fresh("K", 1);
-    k.call("b 0 1 10 0", BEGUN);
-    k.call("b 1 1 20 0", BEGUN);
-    k.call("t 1", NOT_FOUND);
+    k.begin(0, Op::Search(10), Answer::Begun);
+    k.begin(1, Op::Search(20), Answer::Begun);
+    k.call("t 1", Answer::NotFound);
 
     vec![
         j,
         k,
-        waits("a search behind an insertion", (2, INSERTED), (1, FOUND)),
+        waits(
+            "a search behind an insertion",
+            (INSERT, Answer::Inserted),
+            (SEARCH, FOUND),
+        ),
         waits(
             "an insertion behind a search",
-            (1, NOT_FOUND),
-            (2, INSERTED),
+            (SEARCH, Answer::NotFound),
+            (INSERT, Answer::Inserted),
         ),
-        waits("a deletion behind a next", (4, NONE), (3, NO_SUCH_KEY)),
-        waits("two insertions", (2, INSERTED), (2, ALREADY_THERE)),
+        waits(
+            "a deletion behind a next",
+            (NEXT, Answer::None),
+            (DELETE, Answer::NoSuchKey),
+        ),
+        waits(
+            "two insertions",
+            (INSERT, Answer::Inserted),
+            (INSERT, ALREADY_THERE),
+        ),
     ]
 }
 
-/// "older wants that clash with it": in an empty pool the younger of two operations, each with its kind and answer, waits.
-fn waits(name: &'static str, older: (u32, [u32; 4]), younger: (u32, [u32; 4])) -> Case {
+/// "older wants that clash with it": in an empty pool the younger of two operations, each with its answer, waits.
+fn waits(name: &'static str, older: (Op, Answer), younger: (Op, Answer)) -> Case {
     let mut case = Case::fresh(name, 1);
-    case.call(&format!("b 0 {} 5 {INFORMATION}", older.0), BEGUN);
-    case.call(&format!("b 1 {} 5 {INFORMATION}", younger.0), BEGUN);
-    case.call("t 1", WAITING);
+    case.begin(0, older.0, Answer::Begun);
+    case.begin(1, younger.0, Answer::Begun);
+    case.call("t 1", Answer::Waiting);
     case.call("t 0", older.1);
     case.call("t 1", younger.1);
     case
@@ -249,22 +260,22 @@ fn waits(name: &'static str, older: (u32, [u32; 4]), younger: (u32, [u32; 4])) -
 /// L, and a kind of operation that does not exist.
 fn limits() -> Vec<Case> {
     let mut slots = Case::fresh("L, slots", 1);
-    slots.call("b 15 1 5 0", BEGUN);
-    slots.call("b 16 1 5 0", BAD_SLOT);
+    slots.begin(15, Op::Search(5), Answer::Begun);
+    slots.begin(16, Op::Search(5), Answer::BadSlot);
 
     let mut kinds = Case::fresh("kinds", 1);
-    kinds.call("b 0 0 5 0", BAD_KIND);
-    kinds.call("b 0 6 5 0", BAD_KIND);
-    kinds.call("b 16 4294967295 5 0", BAD_KIND);
+    kinds.call(&begin_line(0, (kind::CLOSED, 5, 0)), Answer::BadKind);
+    kinds.call(&begin_line(0, (kind::REGRADE + 1, 5, 0)), Answer::BadKind);
+    kinds.call(&begin_line(16, (u32::MAX, 5, 0)), Answer::BadKind);
 
     vec![
         slots,
         kinds,
-        Case::made("L, k 16", 16, 1, MADE),
-        Case::made("L, k 0", 0, 1, BAD_POOL),
-        Case::made("L, k 17", 17, 1, BAD_POOL),
-        Case::made("L, 1,024 pages", 1, 1024, MADE),
-        Case::made("L, 1,025 pages", 1, 1025, BAD_POOL),
+        Case::made("L, k 16", 16, 1, Answer::Made),
+        Case::made("L, k 0", 0, 1, Answer::BadPool),
+        Case::made("L, k 17", 17, 1, Answer::BadPool),
+        Case::made("L, 1,024 pages", 1, 1024, Answer::Made),
+        Case::made("L, 1,025 pages", 1, 1025, Answer::BadPool),
     ]
 }
 
@@ -272,7 +283,7 @@ fn limits() -> Vec<Case> {
 fn three_levels(name: &'static str) -> Case {
     let mut case = Case::fresh(name, 8);
     for (key, grants) in [(10, 1), (20, 1), (30, 1), (40, 2), (50, 2)] {
-        case.insert(key, grants, INSERTED);
+        case.insert(key, grants, Answer::Inserted);
     }
     case
 }
@@ -281,9 +292,9 @@ fn three_levels(name: &'static str) -> Case {
 fn shortcuts() -> Vec<Case> {
     // "after one grant of a search in slot 0, the report for page 0 is ρ, 1, 0; the shortcut gives none, 0, 16"
     let mut father = Case::from_e("giving up the father before the child is granted");
-    father.call("b 0 1 20 0", BEGUN);
-    father.call("t 0", MOVED);
-    father.call("r 0", [43, 1, 1, 0]);
+    father.begin(0, Op::Search(20), Answer::Begun);
+    father.call("t 0", Answer::Moved);
+    father.call("r 0", Answer::Reported(1, 1, 0));
 
     // "F fails"
     let mut left = Case::from_e("sending an equal key left");
@@ -291,23 +302,23 @@ fn shortcuts() -> Vec<Case> {
 
     // "the father is given up though it must change"
     let mut safe = Case::from_e("testing μ < 2k on a deletion");
-    safe.call("b 0 3 10 0", BEGUN);
-    safe.call("t 0", MOVED);
-    safe.call("t 0", MOVED);
-    safe.call("r 0", [43, 2, 1, 0]);
+    safe.begin(0, Op::Delete(10), Answer::Begun);
+    safe.call("t 0", Answer::Moved);
+    safe.call("t 0", Answer::Moved);
+    safe.call("r 0", Answer::Reported(2, 1, 0));
     safe.call("t 0", DELETED);
 
     // "a search resting there holds a page that no longer leads where it wants to go, or a freed one"
     let mut sibling = three_levels("taking words from a sibling without its lock");
-    sibling.call("b 0 1 40 0", BEGUN);
-    sibling.call("t 0", MOVED);
-    sibling.call("t 0", MOVED);
-    sibling.call("r 6", [43, 1, 1, 0]);
-    sibling.call("b 1 3 10 0", BEGUN);
+    sibling.begin(0, Op::Search(40), Answer::Begun);
+    sibling.call("t 0", Answer::Moved);
+    sibling.call("t 0", Answer::Moved);
+    sibling.call("r 6", Answer::Reported(1, 1, 0));
+    sibling.begin(1, Op::Delete(10), Answer::Begun);
     for _ in 0..4 {
-        sibling.call("t 1", MOVED);
+        sibling.call("t 1", Answer::Moved);
     }
-    sibling.call("t 1", WAITING);
+    sibling.call("t 1", Answer::Waiting);
     sibling.call("t 0", FOUND);
     sibling.call("t 1", DELETED);
 
@@ -316,8 +327,8 @@ fn shortcuts() -> Vec<Case> {
     freed.delete(10, 3, DELETED);
     freed.delete(20, 3, DELETED);
     freed.words(&[[1, 1, 30, 7, 0, 0, 0], [0; 7], [0; 7]]);
-    freed.insert(40, 1, INSERTED);
-    freed.insert(50, 1, INSERTED);
+    freed.insert(40, 1, Answer::Inserted);
+    freed.insert(50, 1, Answer::Inserted);
     freed.words(&[
         [2, 1, 1, 40, 2, 0, 0],
         [1, 1, 30, 7, 0, 0, 0],
@@ -328,21 +339,21 @@ fn shortcuts() -> Vec<Case> {
 }
 
 /// The answer Next with this key.
-fn next_is(key: u32) -> [u32; 4] {
-    [44, key, INFORMATION, 0]
+fn next_is(key: u32) -> Answer {
+    Answer::Next(key, INFORMATION)
 }
 
 /// The next lot at or above.
 fn nexts() -> Vec<Case> {
     // "the first entry whose key is at or above a given one, or None"
     let mut leaf = Case::fresh("next in a root leaf", 1);
-    leaf.next(0, 1, NONE);
-    leaf.insert(10, 1, INSERTED);
-    leaf.insert(20, 1, INSERTED);
+    leaf.next(0, 1, Answer::None);
+    leaf.insert(10, 1, Answer::Inserted);
+    leaf.insert(20, 1, Answer::Inserted);
     for (key, answer) in [(9, 10), (10, 10), (11, 20), (20, 20)] {
         leaf.next(key, 1, next_is(answer));
     }
-    leaf.next(21, 1, NONE);
+    leaf.next(21, 1, Answer::None);
 
     // "if the leaf has no such key, goes down the leftmost way of the next child to the right"
     let mut second = Case::from_e("next in the second leaf");
@@ -355,7 +366,7 @@ fn nexts() -> Vec<Case> {
     ] {
         second.next(key, grants, next_is(answer));
     }
-    second.next(31, 2, NONE);
+    second.next(31, 2, Answer::None);
 
     vec![
         leaf,
@@ -371,7 +382,7 @@ fn nexts() -> Vec<Case> {
 fn next_child() -> Case {
     let mut case = Case::fresh("next in the next child of three", 4);
     for (key, grants) in [(10, 1), (20, 1), (30, 1), (40, 2)] {
-        case.insert(key, grants, INSERTED);
+        case.insert(key, grants, Answer::Inserted);
     }
     case.next(15, 3, next_is(20));
     case.next(25, 3, next_is(30));
@@ -381,54 +392,54 @@ fn next_child() -> Case {
 /// "giving nothing up until its answer"
 fn next_keeps() -> Case {
     let mut case = three_levels("next over three levels keeps both ways");
-    case.call("b 0 4 25 0", BEGUN);
-    case.call("b 1 2 26 7", BEGUN);
+    case.begin(0, Op::Next(25), Answer::Begun);
+    case.begin(1, Op::Insert(26, 7), Answer::Begun);
     for page in [0, 5, 2, 6] {
-        case.call("t 0", MOVED);
-        case.call("t 1", WAITING);
-        case.call(&format!("r {page}"), [43, 1, 1, 0]);
+        case.call("t 0", Answer::Moved);
+        case.call("t 1", Answer::Waiting);
+        case.call(&format!("r {page}"), Answer::Reported(1, 1, 0));
     }
-    case.call("r 5", [43, 1, 1, 0]);
+    case.call("r 5", Answer::Reported(1, 1, 0));
     case.call("t 0", next_is(30));
-    case.call("r 6", [43, 0, 0, 16]);
-    case.call("t 1", MOVED);
+    case.call("r 6", Answer::Reported(0, 0, 16));
+    case.call("t 1", Answer::Moved);
     case
 }
 
 /// "from the lowest page on its way that still has a child to the right of the route"
 fn next_gives_up() -> Case {
     let mut case = three_levels("next gives up what is above a page with a child to the right");
-    case.call("b 0 4 15 0", BEGUN);
-    case.call("t 0", MOVED);
-    case.call("r 0", [43, 1, 1, 0]);
-    case.call("t 0", MOVED);
-    case.call("r 0", [43, 0, 0, 16]);
-    case.call("t 0", MOVED);
-    case.call("r 5", [43, 1, 1, 0]);
-    case.call("r 1", [43, 1, 1, 0]);
+    case.begin(0, Op::Next(15), Answer::Begun);
+    case.call("t 0", Answer::Moved);
+    case.call("r 0", Answer::Reported(1, 1, 0));
+    case.call("t 0", Answer::Moved);
+    case.call("r 0", Answer::Reported(0, 0, 16));
+    case.call("t 0", Answer::Moved);
+    case.call("r 5", Answer::Reported(1, 1, 0));
+    case.call("r 1", Answer::Reported(1, 1, 0));
     case.call("t 0", next_is(20));
     // "from page 0 if none has"
-    case.call("b 0 4 51 0", BEGUN);
-    case.call("t 0", MOVED);
-    case.call("t 0", MOVED);
-    case.call("r 0", [43, 1, 1, 0]);
-    case.call("t 0", NONE);
+    case.begin(0, Op::Next(51), Answer::Begun);
+    case.call("t 0", Answer::Moved);
+    case.call("t 0", Answer::Moved);
+    case.call("r 0", Answer::Reported(1, 1, 0));
+    case.call("t 0", Answer::None);
     case
 }
 
 /// "It uses ρ-locks"
 fn next_shares() -> Case {
     let mut case = three_levels("next goes together with a search");
-    case.call("b 3 4 25 0", BEGUN);
+    case.begin(3, Op::Next(25), Answer::Begun);
     for _ in 0..3 {
-        case.call("t 3", MOVED);
+        case.call("t 3", Answer::Moved);
     }
-    case.call("b 1 1 20 0", BEGUN);
-    case.call("t 1", MOVED);
-    case.call("r 0", [43, 1, 2, 1]);
-    case.call("t 1", MOVED);
+    case.begin(1, Op::Search(20), Answer::Begun);
+    case.call("t 1", Answer::Moved);
+    case.call("r 0", Answer::Reported(1, 2, 1));
+    case.call("t 1", Answer::Moved);
     case.call("t 1", FOUND);
-    case.call("t 3", MOVED);
+    case.call("t 3", Answer::Moved);
     case.call("t 3", next_is(30));
     case
 }
@@ -437,16 +448,16 @@ fn next_shares() -> Case {
 fn regraded() -> Vec<Case> {
     // "AlreadyThere shall now carry the information there", and not what was to be entered
     let mut there = Case::from_e("AlreadyThere with what is there");
-    there.alone_with(2, 20, 9, 2, ALREADY_THERE);
+    there.alone(Op::Insert(20, 9), 2, ALREADY_THERE);
     there.words(&E);
 
     // "puts new information under a key that is there and answers Regraded with the old information"
     let mut regraded = Case::from_e("a lot is regraded");
     regraded.regrade(20, 9, 2, REGRADED);
     regraded.words(&[E[0], E[1], [1, 2, 20, 9, 30, 7, 0]]);
-    regraded.search(20, 2, [34, 9, 0, 0]);
-    regraded.regrade(20, 8, 2, [46, 9, 0, 0]);
-    regraded.next(11, 3, [44, 20, 8, 0]);
+    regraded.search(20, 2, Answer::Found(9));
+    regraded.regrade(20, 8, 2, Answer::Regraded(9));
+    regraded.next(11, 3, Answer::Next(20, 8));
 
     // its leaf has k entries, and stays as it is otherwise
     let mut least = Case::from_e("the only lot of a leaf is regraded");
@@ -455,16 +466,16 @@ fn regraded() -> Vec<Case> {
 
     // "or NoSuchKey"
     let mut missing = Case::from_e("a lot that is not there is regraded");
-    missing.regrade(15, 9, 2, NO_SUCH_KEY);
+    missing.regrade(15, 9, 2, Answer::NoSuchKey);
     missing.words(&E);
 
     // no page is free, and none is needed
     let mut full = Case::fresh("a lot of a full root leaf is regraded", 1);
-    full.insert(10, 1, INSERTED);
-    full.insert(20, 1, INSERTED);
+    full.insert(10, 1, Answer::Inserted);
+    full.insert(20, 1, Answer::Inserted);
     full.regrade(20, 9, 1, REGRADED);
     full.words(&[[1, 2, 10, 7, 20, 9, 0]]);
-    full.regrade(30, 9, 1, NO_SUCH_KEY);
+    full.regrade(30, 9, 1, Answer::NoSuchKey);
 
     vec![there, regraded, least, missing, full]
 }
@@ -476,18 +487,18 @@ fn regrade_locks() -> Vec<Case> {
         regrade_waits(),
         waits(
             "a regrading behind an insertion",
-            (2, INSERTED),
-            (5, REGRADED),
+            (INSERT, Answer::Inserted),
+            (REGRADE, REGRADED),
         ),
         waits(
             "a regrading behind a search",
-            (1, NOT_FOUND),
-            (5, NO_SUCH_KEY),
+            (SEARCH, Answer::NotFound),
+            (REGRADE, Answer::NoSuchKey),
         ),
         waits(
             "a search behind a regrading",
-            (5, NO_SUCH_KEY),
-            (1, NOT_FOUND),
+            (REGRADE, Answer::NoSuchKey),
+            (SEARCH, Answer::NotFound),
         ),
     ]
 }
@@ -495,36 +506,36 @@ fn regrade_locks() -> Vec<Case> {
 /// "It takes ξ-locks; every page is safe for it, so it holds at most 1"
 fn regrade_holds() -> Case {
     let mut case = three_levels("regrading holds one page, alone");
-    case.call("b 0 5 20 9", BEGUN);
-    case.call("t 0", MOVED);
-    case.call("r 0", [43, 2, 1, 0]);
-    case.call("t 0", MOVED);
-    case.call("r 0", [43, 0, 0, 16]);
-    case.call("r 5", [43, 2, 1, 0]);
+    case.begin(0, Op::Regrade(20, 9), Answer::Begun);
+    case.call("t 0", Answer::Moved);
+    case.call("r 0", Answer::Reported(2, 1, 0));
+    case.call("t 0", Answer::Moved);
+    case.call("r 0", Answer::Reported(0, 0, 16));
+    case.call("r 5", Answer::Reported(2, 1, 0));
     case.call("t 0", REGRADED);
-    case.call("r 5", [43, 0, 0, 16]);
-    case.call("r 2", [43, 0, 0, 16]);
+    case.call("r 5", Answer::Reported(0, 0, 16));
+    case.call("r 2", Answer::Reported(0, 0, 16));
     case
 }
 
 /// "During a downgrade the lot is for a moment nowhere": one search comes before it and one behind it, and both find the lot.
 fn regrade_waits() -> Case {
     let mut case = three_levels("a lot is searched for while it is regraded");
-    case.call("b 0 1 20 0", BEGUN);
-    case.call("t 0", MOVED);
-    case.call("b 1 5 20 9", BEGUN);
-    case.call("b 2 1 20 0", BEGUN);
-    case.call("t 1", WAITING);
-    case.call("t 0", MOVED);
-    case.call("t 1", MOVED);
-    case.call("t 2", WAITING);
-    case.call("t 1", WAITING);
+    case.begin(0, Op::Search(20), Answer::Begun);
+    case.call("t 0", Answer::Moved);
+    case.begin(1, Op::Regrade(20, 9), Answer::Begun);
+    case.begin(2, Op::Search(20), Answer::Begun);
+    case.call("t 1", Answer::Waiting);
+    case.call("t 0", Answer::Moved);
+    case.call("t 1", Answer::Moved);
+    case.call("t 2", Answer::Waiting);
+    case.call("t 1", Answer::Waiting);
     case.call("t 0", FOUND);
-    case.call("t 1", MOVED);
-    case.call("t 2", MOVED);
-    case.call("t 2", WAITING);
+    case.call("t 1", Answer::Moved);
+    case.call("t 2", Answer::Moved);
+    case.call("t 2", Answer::Waiting);
     case.call("t 1", REGRADED);
-    case.call("t 2", MOVED);
-    case.call("t 2", [34, 9, 0, 0]);
+    case.call("t 2", Answer::Moved);
+    case.call("t 2", Answer::Found(9));
     case
 }

@@ -3,6 +3,7 @@
 use std::collections::BTreeMap;
 
 use drive_twin::{Drive, Twin};
+use twin::Answer;
 use versus::{first_difference, line_at};
 
 use crate::program::Program;
@@ -39,9 +40,10 @@ impl Tally {
 
     /// All of it in one line.
     pub fn text(&self) -> String {
-        let name = |number: &String| match NAMES.iter().find(|(own, _)| own == number) {
-            Some((_, name)) => name.to_string(),
-            None => number.clone(),
+        // what is no number is `BadLine`
+        let name = |number: &String| {
+            let named = number.parse().ok().and_then(Answer::name_of);
+            named.map_or(number.clone(), str::to_string)
         };
         let each: Vec<String> = self
             .0
@@ -51,33 +53,6 @@ impl Tally {
         each.join(", ")
     }
 }
-
-/// The answers by number.
-const NAMES: [(&str, &str); 23] = [
-    ("1", "BadState"),
-    ("2", "BadPool"),
-    ("3", "BadSlot"),
-    ("4", "SlotBusy"),
-    ("5", "SlotIdle"),
-    ("6", "Damaged"),
-    ("7", "BadPage"),
-    ("31", "BadKind"),
-    ("32", "Waiting"),
-    ("33", "Moved"),
-    ("34", "Found"),
-    ("35", "NotFound"),
-    ("36", "Inserted"),
-    ("37", "AlreadyThere"),
-    ("38", "Deleted"),
-    ("39", "NoSuchKey"),
-    ("40", "NoRoom"),
-    ("41", "Begun"),
-    ("42", "Made"),
-    ("43", "Reported"),
-    ("44", "Next"),
-    ("45", "None"),
-    ("46", "Regraded"),
-];
 
 /// The first of some scenes that the program writes otherwise, all given in one run.
 pub fn compare(program: &impl Program, scenes: &[Scene]) -> Option<usize> {

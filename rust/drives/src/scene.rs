@@ -2,7 +2,7 @@
 
 use drive_twin::{Drive, Twin};
 use moments::Call;
-use twin::{words_of, Op, State};
+use twin::{words_of, State};
 
 /// Words in one line.
 const ROW: usize = 16;
@@ -86,16 +86,13 @@ pub fn joined(lines: &[Vec<u8>]) -> Vec<u8> {
 /// The line of a call.
 pub fn call_line(call: Call) -> String {
     match call {
-        Call::Begin(slot, Op::Search(key)) => format!("b {slot} 1 {key} 0"),
-        Call::Begin(slot, Op::Insert(key, information)) => {
-            format!("b {slot} 2 {key} {information}")
-        }
-        Call::Begin(slot, Op::Delete(key)) => format!("b {slot} 3 {key} 0"),
-        Call::Begin(slot, Op::Next(key)) => format!("b {slot} 4 {key} 0"),
-        Call::Begin(slot, Op::Regrade(key, information)) => {
-            format!("b {slot} 5 {key} {information}")
-        }
+        Call::Begin(slot, op) => begin_line(slot, op.numbers()),
         Call::Step(slot) => format!("t {slot}"),
         Call::Report(page) => format!("r {page}"),
     }
+}
+
+/// The line that begins what three numbers name: kind, key and information.
+pub fn begin_line(slot: usize, (kind, key, information): (u32, u32, u32)) -> String {
+    format!("b {slot} {kind} {key} {information}")
 }

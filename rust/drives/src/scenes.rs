@@ -3,7 +3,7 @@
 
 use draw::Random;
 use moments::{built, draw, limits, next_call, operation, Call, Draw, Moment};
-use twin::{is_sound, page_words, state_of, State, STATE};
+use twin::{is_sound, kind, page_words, state_of, State, STATE};
 use versus::spoiled;
 
 use crate::scene::{call_line, Scene};
@@ -258,7 +258,7 @@ fn pool_place(random: &mut Random, draw: &Draw, scene: &mut Scene) -> usize {
 /// A word of the state, best one of an open slot.
 fn state_place(random: &mut Random, scene: &Scene) -> usize {
     let open: Vec<usize> = (0..16)
-        .filter(|slot| scene.drive.state[19 + slot] != 0)
+        .filter(|slot| scene.drive.state[19 + slot] != kind::CLOSED)
         .collect();
     let slot = if open.is_empty() || random.percent(20) {
         random.below(16) as usize
@@ -336,7 +336,8 @@ fn raw_scene(random: &mut Random, scene: &mut Scene) {
             for row in 0..26 {
                 state[19 + 16 * row + slot] = random.below(most) as u32;
             }
-            state[19 + slot] = random.from(1, 5) as u32;
+            state[19 + slot] =
+                random.from(u64::from(kind::SEARCH), u64::from(kind::REGRADE)) as u32;
         } else if random.percent(20) {
             // a closed slot's key and information are not looked at
             state[19 + 16 * random.from(1, 3) as usize + slot] = 7;

@@ -4,8 +4,8 @@ use draw::Random;
 use drive_twin::{Calls, Twin};
 use drives::{cases, compare, draw_scene, smallest, Scene, KINDS};
 use twin::{
-    begin_lent, free_pages, make_lent, page_words, report_lent, step_lent, words_of, Answer, Op,
-    State, STATE,
+    begin_lent, free_pages, kind, make_lent, page_words, report_lent, step_lent, words_of, Answer,
+    Op, State, STATE,
 };
 
 /// A call that something is wrong with.
@@ -165,31 +165,31 @@ impl Calls for Bug {
         if self.goes(&before, slot, answer) {
             return unbarred(state, words, slot);
         }
-        let kind = before[at(KIND, slot)];
-        if kind == 4 {
+        let its = before[at(KIND, slot)];
+        if its == kind::NEXT {
             return self.next(&before, state, words, slot, answer);
         }
-        if kind == 5 {
+        if its == kind::REGRADE {
             return self.regrade(&before, &pages, state, words, slot, answer);
         }
         match (self, answer) {
-            (Bug::FatherGivenUp, Answer::Moved) if kind == 1 => {
+            (Bug::FatherGivenUp, Answer::Moved) if its == kind::SEARCH => {
                 state[at(DEPTH, slot)] = 0;
                 answer
             }
-            (Bug::EqualKeyLeft, Answer::Found(_) | Answer::Moved) if kind == 1 => {
+            (Bug::EqualKeyLeft, Answer::Found(_) | Answer::Moved) if its == kind::SEARCH => {
                 *state = before;
                 state[at(KEY, slot)] = before[at(KEY, slot)].saturating_sub(1);
                 let answer = step_lent(state, words, slot);
                 state[at(KEY, slot)] = before[at(KEY, slot)];
                 answer
             }
-            (Bug::DeletionTestsFull, Answer::Moved) if kind == 3 => {
+            (Bug::DeletionTestsFull, Answer::Moved) if its == kind::DELETE => {
                 let (mut other, mut copy) = (before, pages);
-                other[at(KIND, slot)] = 2;
+                other[at(KIND, slot)] = kind::INSERT;
                 if step_lent(&mut other, &mut copy, slot) == Answer::Moved {
                     *state = other;
-                    state[at(KIND, slot)] = 3;
+                    state[at(KIND, slot)] = kind::DELETE;
                 }
                 answer
             }
@@ -217,7 +217,9 @@ impl Calls for Bug {
             (Bug::ThereTellsNew, Answer::AlreadyThere(_)) => {
                 Answer::AlreadyThere(before[at(INFORMATION, slot)])
             }
-            (Bug::ClosedKeepsKey, _) if state[at(KIND, slot)] == 0 && kind != 0 => {
+            (Bug::ClosedKeepsKey, _)
+                if state[at(KIND, slot)] == kind::CLOSED && its != kind::CLOSED =>
+            {
                 state[at(KEY, slot)] = before[at(KEY, slot)];
                 answer
             }
@@ -227,11 +229,11 @@ impl Calls for Bug {
 
     fn report(&self, state: &[u32; STATE], page: u32) -> Answer {
         let answer = self.disguised(&mut state.clone(), |state| report_lent(state, page));
-        let wanting =
-            (0..16).find(|&slot| state[at(KIND, slot)] != 0 && state[at(WANT, slot)] == page);
+        let wanting = (0..16)
+            .find(|&slot| state[at(KIND, slot)] != kind::CLOSED && state[at(WANT, slot)] == page);
         match (self, answer, wanting) {
             (Bug::NextHoldsAlone, Answer::Reported(1, holders, lowest), _)
-                if state[at(KIND, lowest as usize)] == 4 =>
+                if state[at(KIND, lowest as usize)] == kind::NEXT =>
             {
                 Answer::Reported(2, holders, lowest)
             }
@@ -343,23 +345,23 @@ impl Bug {
         state: &mut [u32; STATE],
         call: impl FnOnce(&mut [u32; STATE]) -> Answer,
     ) -> Answer {
-        let (kind, depths) = match self {
-            Bug::RegradeReads => (1, 0..2),
-            Bug::RegradeHoldsTwo => (2, 2..3),
+        let (disguise, depths) = match self {
+            Bug::RegradeReads => (kind::SEARCH, 0..2),
+            Bug::RegradeHoldsTwo => (kind::INSERT, 2..3),
             _ => return call(state),
         };
         let before = *state;
         let is_meant = |slot: &usize| {
-            before[at(KIND, *slot)] == 5 && depths.contains(&before[at(DEPTH, *slot)])
+            before[at(KIND, *slot)] == kind::REGRADE && depths.contains(&before[at(DEPTH, *slot)])
         };
         let meant: Vec<usize> = (0..16).filter(is_meant).collect();
         for &slot in &meant {
-            state[at(KIND, slot)] = kind;
+            state[at(KIND, slot)] = disguise;
         }
         let answer = call(state);
         for slot in meant {
-            if state[at(KIND, slot)] == kind {
-                state[at(KIND, slot)] = 5;
+            if state[at(KIND, slot)] == disguise {
+                state[at(KIND, slot)] = kind::REGRADE;
                 state[at(INFORMATION, slot)] = before[at(INFORMATION, slot)];
             }
         }
@@ -372,8 +374,8 @@ impl Bug {
             Bug::LongOrderCut => state[2] = state[2].min(16),
             Bug::UnknownKindClosed => state[at(KIND, 0)..at(KEY, 0)]
                 .iter_mut()
-                .filter(|kind| **kind > 5)
-                .for_each(|kind| *kind = 0),
+                .filter(|its| **its > kind::REGRADE)
+                .for_each(|its| *its = kind::CLOSED),
             _ => {}
         }
     }
@@ -381,7 +383,7 @@ impl Bug {
 
 /// Whether a slot of a sound state only reads.
 fn reads(state: &[u32; STATE], slot: usize) -> bool {
-    matches!(state[at(KIND, slot)], 1 | 4)
+    matches!(state[at(KIND, slot)], kind::SEARCH | kind::NEXT)
 }
 
 /// The slots of a sound state that have wanted a slot's page for longer.

@@ -3,39 +3,60 @@
 use std::error::Error;
 use std::fmt::{self, Display, Formatter};
 
-use crate::header;
+use crate::numbers;
 use crate::raw::Answer;
 
 /// What a buyer asks for.
 #[derive(Clone, Copy, Debug, PartialEq, Eq, Hash)]
+#[non_exhaustive]
 pub enum Op {
-    /// The information of a key.
-    Search { key: u32 },
-    /// A new key, with its information.
-    Insert { key: u32, information: u32 },
-    /// A key to be taken out.
-    Delete { key: u32 },
-    /// The first lot whose key is at or above this one.
-    Next { key: u32 },
-    /// New information under a key that is there.
-    Regrade { key: u32, information: u32 },
+    /// The information of a lot.
+    Search {
+        /// The lot's key.
+        key: u32,
+    },
+    /// A new lot.
+    Insert {
+        /// Its key.
+        key: u32,
+        /// What stands with it.
+        information: u32,
+    },
+    /// A lot to be taken out.
+    Delete {
+        /// Its key.
+        key: u32,
+    },
+    /// The first lot at or above a key.
+    Next {
+        /// The key, which need not be there.
+        key: u32,
+    },
+    /// New information for a lot that is there.
+    Regrade {
+        /// The lot's key.
+        key: u32,
+        /// What is to stand with it from now on.
+        information: u32,
+    },
 }
 
 impl Op {
-    /// Kind, key and information, as the library takes them.
-    pub(crate) fn numbers(self) -> (u32, u32, u32) {
+    /// Kind, key and information, as the library takes them; 0 where there is no information.
+    pub fn numbers(self) -> (u32, u32, u32) {
         match self {
-            Op::Search { key } => (header::SEARCH, key, 0),
-            Op::Insert { key, information } => (header::INSERT, key, information),
-            Op::Delete { key } => (header::DELETE, key, 0),
-            Op::Next { key } => (header::NEXT, key, 0),
-            Op::Regrade { key, information } => (header::REGRADE, key, information),
+            Op::Search { key } => (numbers::SEARCH, key, 0),
+            Op::Insert { key, information } => (numbers::INSERT, key, information),
+            Op::Delete { key } => (numbers::DELETE, key, 0),
+            Op::Next { key } => (numbers::NEXT, key, 0),
+            Op::Regrade { key, information } => (numbers::REGRADE, key, information),
         }
     }
 }
 
 /// What a step is answered.
 #[derive(Clone, Copy, Debug, PartialEq, Eq, Hash)]
+#[non_exhaustive]
 pub enum Step {
     /// The lock is not to be had yet; nothing has changed.
     Waiting,
@@ -56,7 +77,12 @@ pub enum Step {
     /// More pages would be needed than are free; nothing has changed.
     NoRoom,
     /// The first lot whose key is at or above the one asked for.
-    Next { key: u32, information: u32 },
+    Next {
+        /// The lot's key.
+        key: u32,
+        /// What stands with it.
+        information: u32,
+    },
     /// No lot has a key at or above it.
     None,
     /// The lot has its new information; it had this one.
@@ -66,7 +92,25 @@ pub enum Step {
 impl Step {
     /// Whether the operation has ended, and its slot is closed.
     pub fn is_end(self) -> bool {
-        !matches!(self, Step::Waiting | Step::Moved)
+        numbers::ends(self.told()[0])
+    }
+
+    /// The answer as the library tells it: its number and its values, 0 behind them.
+    pub fn told(self) -> Answer {
+        match self {
+            Step::Waiting => [numbers::WAITING, 0, 0, 0],
+            Step::Moved => [numbers::MOVED, 0, 0, 0],
+            Step::Found(information) => [numbers::FOUND, information, 0, 0],
+            Step::NotFound => [numbers::NOT_FOUND, 0, 0, 0],
+            Step::Inserted => [numbers::INSERTED, 0, 0, 0],
+            Step::AlreadyThere(information) => [numbers::ALREADY_THERE, information, 0, 0],
+            Step::Deleted(information) => [numbers::DELETED, information, 0, 0],
+            Step::NoSuchKey => [numbers::NO_SUCH_KEY, 0, 0, 0],
+            Step::NoRoom => [numbers::NO_ROOM, 0, 0, 0],
+            Step::Next { key, information } => [numbers::NEXT_LOT, key, information, 0],
+            Step::None => [numbers::NO_LOT, 0, 0, 0],
+            Step::Regraded(information) => [numbers::REGRADED, information, 0, 0],
+        }
     }
 }
 
@@ -91,14 +135,48 @@ impl Display for Step {
 
 /// Why a call was refused. Everything is as it was.
 #[derive(Clone, Copy, Debug, PartialEq, Eq, Hash)]
+#[non_exhaustive]
 pub enum Refusal {
+    /// The words of the state are none that the calls leave: not sound.
     BadState,
+    /// k or n is out of range, or the pool has another number of words than they ask for.
     BadPool,
+    /// There is no such slot: they go from 0 to 15.
     BadSlot,
+    /// An operation was begun in a slot that is open.
     SlotBusy,
+    /// A slot was stepped that is closed.
     SlotIdle,
+    /// The pages that the step would meet are not sound. The slot stays open.
     Damaged,
+    /// A report was asked for a page that the pool does not have.
     BadPage,
+}
+
+impl Refusal {
+    /// Each of them once.
+    const EACH: [Refusal; 7] = [
+        Refusal::BadState,
+        Refusal::BadPool,
+        Refusal::BadSlot,
+        Refusal::SlotBusy,
+        Refusal::SlotIdle,
+        Refusal::Damaged,
+        Refusal::BadPage,
+    ];
+
+    /// The refusal's number.
+    pub fn number(self) -> u32 {
+        match self {
+            Refusal::BadState => numbers::BAD_STATE,
+            Refusal::BadPool => numbers::BAD_POOL,
+            Refusal::BadSlot => numbers::BAD_SLOT,
+            Refusal::SlotBusy => numbers::SLOT_BUSY,
+            Refusal::SlotIdle => numbers::SLOT_IDLE,
+            Refusal::Damaged => numbers::DAMAGED,
+            Refusal::BadPage => numbers::BAD_PAGE,
+        }
+    }
 }
 
 impl Display for Refusal {
@@ -119,6 +197,7 @@ impl Error for Refusal {}
 
 /// A kind of lock.
 #[derive(Clone, Copy, Debug, PartialEq, Eq, Hash)]
+#[non_exhaustive]
 pub enum Lock {
     /// Of a search or a next: others may read there too.
     Rho,
@@ -146,16 +225,8 @@ pub struct Report {
 
 /// The refusal of a number, if it is one.
 fn refusal(number: u32) -> Option<Refusal> {
-    Some(match number {
-        header::BAD_STATE => Refusal::BadState,
-        header::BAD_POOL => Refusal::BadPool,
-        header::BAD_SLOT => Refusal::BadSlot,
-        header::SLOT_BUSY => Refusal::SlotBusy,
-        header::SLOT_IDLE => Refusal::SlotIdle,
-        header::DAMAGED => Refusal::Damaged,
-        header::BAD_PAGE => Refusal::BadPage,
-        _ => return None,
-    })
+    let mut each = Refusal::EACH.into_iter();
+    each.find(|refusal| refusal.number() == number)
 }
 
 /// An answer that a call does not give.
@@ -166,7 +237,7 @@ fn unheard(answer: Answer) -> ! {
 /// Reads the answer of a making or a beginning.
 pub(crate) fn done(answer: Answer) -> Result<(), Refusal> {
     match answer[0] {
-        header::MADE | header::BEGUN => Ok(()),
+        numbers::MADE | numbers::BEGUN => Ok(()),
         number => Err(refusal(number).unwrap_or_else(|| unheard(answer))),
     }
 }
@@ -174,21 +245,21 @@ pub(crate) fn done(answer: Answer) -> Result<(), Refusal> {
 /// Reads the answer of a step.
 pub(crate) fn stepped(answer: Answer) -> Result<Step, Refusal> {
     Ok(match answer[0] {
-        header::WAITING => Step::Waiting,
-        header::MOVED => Step::Moved,
-        header::FOUND => Step::Found(answer[1]),
-        header::NOT_FOUND => Step::NotFound,
-        header::INSERTED => Step::Inserted,
-        header::ALREADY_THERE => Step::AlreadyThere(answer[1]),
-        header::DELETED => Step::Deleted(answer[1]),
-        header::NO_SUCH_KEY => Step::NoSuchKey,
-        header::NO_ROOM => Step::NoRoom,
-        header::NEXT_LOT => Step::Next {
+        numbers::WAITING => Step::Waiting,
+        numbers::MOVED => Step::Moved,
+        numbers::FOUND => Step::Found(answer[1]),
+        numbers::NOT_FOUND => Step::NotFound,
+        numbers::INSERTED => Step::Inserted,
+        numbers::ALREADY_THERE => Step::AlreadyThere(answer[1]),
+        numbers::DELETED => Step::Deleted(answer[1]),
+        numbers::NO_SUCH_KEY => Step::NoSuchKey,
+        numbers::NO_ROOM => Step::NoRoom,
+        numbers::NEXT_LOT => Step::Next {
             key: answer[1],
             information: answer[2],
         },
-        header::NO_LOT => Step::None,
-        header::REGRADED => Step::Regraded(answer[1]),
+        numbers::NO_LOT => Step::None,
+        numbers::REGRADED => Step::Regraded(answer[1]),
         number => return Err(refusal(number).unwrap_or_else(|| unheard(answer))),
     })
 }
@@ -196,12 +267,12 @@ pub(crate) fn stepped(answer: Answer) -> Result<Step, Refusal> {
 /// Reads the answer of a report.
 pub(crate) fn reported(answer: Answer) -> Result<Report, Refusal> {
     let [number, kind, holders, lowest] = answer;
-    if number != header::REPORTED {
+    if number != numbers::REPORTED {
         return Err(refusal(number).unwrap_or_else(|| unheard(answer)));
     }
     let held = match kind {
-        header::LOCK_RHO => Some((Lock::Rho, lowest)),
-        header::LOCK_XI => Some((Lock::Xi, lowest)),
+        numbers::LOCK_RHO => Some((Lock::Rho, lowest)),
+        numbers::LOCK_XI => Some((Lock::Xi, lowest)),
         _ => None,
     };
     Ok(Report { held, holders })

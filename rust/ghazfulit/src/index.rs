@@ -1,6 +1,10 @@
 //! An index: its state, and the words of its pool, owned or lent.
 
+use std::fmt::{self, Debug, Formatter};
+
 use crate::answer::{done, reported, stepped, Op, Refusal, Report, Step};
+use crate::lots::Lots;
+use crate::numbers::{LARGEST_K, LARGEST_N, VERSION};
 use crate::pool_words;
 use crate::raw::{self, STATE};
 
@@ -27,9 +31,25 @@ impl Words<'_> {
 }
 
 /// An index of lots.
+///
+/// Every way to have one panics where the archive that is linked is of another version than this crate
+/// ([`numbers::VERSION`](crate::numbers::VERSION)): the numbers would not mean the same to both. That is an error of the build.
 pub struct Index<'w> {
     state: [u32; STATE],
     words: Words<'w>,
+}
+
+/// Its sizes and how many slots are open; not its words, which may be some 70,000.
+impl Debug for Index<'_> {
+    fn fmt(&self, f: &mut Formatter) -> fmt::Result {
+        let [k, n, open, ..] = &self.state;
+        f.debug_struct("Index")
+            .field("k", k)
+            .field("n", n)
+            .field("open", open)
+            .field("words", &self.words.get().len())
+            .finish_non_exhaustive()
+    }
 }
 
 impl Index<'static> {
@@ -42,9 +62,25 @@ impl Index<'static> {
     /// ```
     pub fn new(k: u32, n: u32) -> Result<Index<'static>, Refusal> {
         // out of range there is nothing to make room for: the call refuses
-        let is_in_range = k <= 16 && n <= 1024;
+        let is_in_range = k <= LARGEST_K && n <= LARGEST_N;
         let length = if is_in_range { pool_words(k, n) } else { 0 };
         make(k, n, Words::Owned(vec![0; length]))
+    }
+
+    /// Any state with any words of its own: what is not sound is refused call by call.
+    ///
+    /// ```
+    /// # use ghazfulit::{Index, Op, Refusal, Step};
+    /// let mut index = Index::new(1, 3)?;
+    /// index.begin(0, Op::Insert { key: 10, information: 7 })?;
+    /// let (state, words) = index.into_parts();
+    /// // kept somewhere, and taken up again
+    /// let mut index = Index::from_parts(state, words);
+    /// assert_eq!(index.step(0)?, Step::Inserted);
+    /// # Ok::<(), Refusal>(())
+    /// ```
+    pub fn from_parts(state: [u32; STATE], words: Vec<u32>) -> Index<'static> {
+        Index::held(state, Words::Owned(words))
     }
 }
 
@@ -64,9 +100,23 @@ impl<'w> Index<'w> {
         make(k, n, Words::Lent(words))
     }
 
-    /// Any state with any words: what is not sound is refused call by call.
+    /// Any state with any lent words: what is not sound is refused call by call.
     pub fn from_words(state: [u32; STATE], words: &'w mut [u32]) -> Index<'w> {
-        let words = Words::Lent(words);
+        Index::held(state, Words::Lent(words))
+    }
+
+    /// The words of the state and of the pool. Those of a pool that was lent are copied: its lender has them too.
+    pub fn into_parts(self) -> ([u32; STATE], Vec<u32>) {
+        let words = match self.words {
+            Words::Owned(words) => words,
+            Words::Lent(words) => words.to_vec(),
+        };
+        (self.state, words)
+    }
+
+    /// A state with words, held to the archive.
+    fn held(state: [u32; STATE], words: Words<'w>) -> Index<'w> {
+        hold_version(raw::version());
         Index { state, words }
     }
 
@@ -79,6 +129,50 @@ impl<'w> Index<'w> {
     /// Takes one lock more, if it is to be had, and does what follows.
     pub fn step(&mut self, slot: u32) -> Result<Step, Refusal> {
         stepped(raw::step(&mut self.state, self.words.get_mut(), slot))
+    }
+
+    /// Steps a slot until its operation is answered, or has to wait for another slot: then `Waiting` is told, and the slot stays
+    /// open. It ends: no operation takes more than 19 locks.
+    ///
+    /// ```
+    /// # use ghazfulit::{Index, Op, Refusal, Step};
+    /// let mut index = Index::new(1, 3)?;
+    /// for key in [10, 20, 30] {
+    ///     index.begin(0, Op::Insert { key, information: 7 })?;
+    ///     assert_eq!(index.finish(0)?, Step::Inserted);
+    /// }
+    /// index.begin(0, Op::Search { key: 20 })?;
+    /// assert_eq!(index.finish(0)?, Step::Found(7));
+    /// # Ok::<(), Refusal>(())
+    /// ```
+    pub fn finish(&mut self, slot: u32) -> Result<Step, Refusal> {
+        loop {
+            let step = self.step(slot)?;
+            if step != Step::Moved {
+                return Ok(step);
+            }
+        }
+    }
+
+    /// The lots from a key on, in the order of their keys, asked for in a closed slot. Each lot is a question of its own
+    /// ([`Lots`]): what changes between two of them shows in those that follow.
+    ///
+    /// ```
+    /// # use ghazfulit::{Index, Op, Stop};
+    /// let mut index = Index::new(1, 3)?;
+    /// for key in [30, 10, 20] {
+    ///     index.begin(0, Op::Insert { key, information: key + 1 })?;
+    ///     index.finish(0)?;
+    /// }
+    /// let mut keys = Vec::new();
+    /// for lot in index.lots(0, 11) {
+    ///     keys.push(lot?.key);
+    /// }
+    /// assert_eq!(keys, [20, 30]);
+    /// # Ok::<(), Stop>(())
+    /// ```
+    pub fn lots(&mut self, slot: u32, key: u32) -> Lots<'_, 'w> {
+        Lots::from(self, slot, key)
     }
 
     /// Who holds a page.
@@ -106,8 +200,32 @@ impl<'w> Index<'w> {
 }
 
 /// Makes a fresh pool in these words.
-fn make(k: u32, n: u32, mut words: Words) -> Result<Index, Refusal> {
-    let mut state = [0; STATE];
-    done(raw::make(k, n, &mut state, words.get_mut()))?;
-    Ok(Index { state, words })
+fn make(k: u32, n: u32, words: Words) -> Result<Index, Refusal> {
+    let mut index = Index::held([0; STATE], words);
+    done(raw::make(k, n, &mut index.state, index.words.get_mut()))?;
+    Ok(index)
+}
+
+/// Refuses an archive of another version than the header that this crate was built with.
+fn hold_version(archive: u32) {
+    assert!(
+        archive == VERSION,
+        "the archive is of version {archive}, and this crate of version {VERSION}"
+    );
+}
+
+#[cfg(test)]
+mod tests {
+    use super::*;
+
+    #[test]
+    fn the_archive_is_of_this_version() {
+        assert_eq!(raw::version(), VERSION);
+    }
+
+    #[test]
+    #[should_panic = "the archive is of version 1, and this crate of version 2"]
+    fn another_version_is_refused() {
+        hold_version(1);
+    }
 }

@@ -2,21 +2,37 @@
 //!
 //! Lots have a key and information. Up to 16 operations go on at once, each in a slot, and each advances by one lock
 //! whenever its slot is stepped. What every call answers, and every word that it leaves, is fixed by definitions and
-//! proved; this crate only hands the words over.
+//! proved; this crate only hands the words over. `docs/CALLS.md` has every call with all its answers.
+//!
+//! ```
+//! use ghazfulit::{Index, Op, Step, Stop};
+//!
+//! fn main() -> Result<(), Stop> {
+//!     let mut index = Index::new(16, 1024)?; // 1,024 pages, up to 32 lots in each
+//!     index.begin(0, Op::Insert { key: 12, information: 3 })?;
+//!     index.begin(1, Op::Search { key: 12 })?;
+//!     assert_eq!(index.step(1)?, Step::Waiting); // slot 0 asked first, and is to change the page
+//!     assert_eq!(index.step(0)?, Step::Inserted);
+//!     assert_eq!(index.finish(1)?, Step::Found(3)); // steps it to its end
+//!     index.lots(1, 10).for_each(|lot| println!("{lot:?}")); // the lots from 10 on
+//!     Ok(())
+//! }
+//! ```
+//!
+//! The other questions, each in a slot of its own or one after the other in the same:
 //!
 //! ```
 //! use ghazfulit::{Index, Op, Step};
 //!
 //! let mut index = Index::new(2, 64)?;
 //! index.begin(0, Op::Insert { key: 12, information: 3 })?;
-//! index.begin(1, Op::Search { key: 12 })?;
-//! assert_eq!(index.step(1)?, Step::Waiting);
 //! assert_eq!(index.step(0)?, Step::Inserted);
-//! assert_eq!(index.step(1)?, Step::Found(3));
 //! index.begin(1, Op::Next { key: 10 })?;
 //! assert_eq!(index.step(1)?, Step::Next { key: 12, information: 3 });
 //! index.begin(0, Op::Regrade { key: 12, information: 4 })?;
 //! assert_eq!(index.step(0)?, Step::Regraded(3));
+//! index.begin(0, Op::Delete { key: 12 })?;
+//! assert_eq!(index.step(0)?, Step::Deleted(4));
 //! # Ok::<(), ghazfulit::Refusal>(())
 //! ```
 //!
@@ -32,19 +48,30 @@
 //! # Ok::<(), Refusal>(())
 //! ```
 
+#![deny(missing_docs)]
+
 mod answer;
-mod header;
 mod index;
+mod lots;
+pub mod numbers;
 mod raw;
 
 pub use answer::{Lock, Op, Refusal, Report, Step};
 pub use index::Index;
-pub use raw::STATE;
+pub use lots::{Lot, Lots, Stop};
+pub use raw::{ANSWER, STATE};
 
 /// How many slots there are.
-pub const SLOTS: u32 = header::SLOTS;
+pub const SLOTS: u32 = numbers::SLOTS;
 
 /// How many words a pool of `n` pages of width `k` has; as many as fit into a `usize`.
+///
+/// ```
+/// # use ghazfulit::pool_words;
+/// assert_eq!(pool_words(2, 64), 704);
+/// assert!(pool_words(u32::MAX, u32::MAX) >= u32::MAX as usize);
+/// ```
 pub fn pool_words(k: u32, n: u32) -> usize {
-    (n as usize).saturating_mul(4 * k as usize + 3)
+    let page = (k as usize).saturating_mul(4).saturating_add(3);
+    page.saturating_mul(n as usize)
 }

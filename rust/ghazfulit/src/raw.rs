@@ -1,5 +1,5 @@
-//! The four functions of the archive. This is the only place where Rust has to be believed: that the words handed over
-//! are as many as the functions ask for, which the types of the parameters say.
+//! The functions of the archive. This is the only place where Rust has to be believed: that the words handed over are as many as
+//! the functions ask for, and nobody else's while a call runs, which the types of the parameters say.
 
 /// Words of a state.
 pub const STATE: usize = 435;
@@ -35,13 +35,14 @@ mod archive {
             answer: *mut u32,
         );
         pub fn ghazfulit_report(state: *const u32, page: u32, answer: *mut u32);
+        pub fn ghazfulit_version() -> u32;
     }
 }
 
 /// Makes a fresh pool.
 pub fn make(k: u32, n: u32, state: &mut [u32; STATE], words: &mut [u32]) -> Answer {
     let mut answer = [0; ANSWER];
-    // SAFETY: each pointer leads to as many words as the function asks for, and no two of them overlap.
+    // SAFETY: each pointer leads to as many words as the function asks for, no two of them overlap, and nobody else has them.
     unsafe {
         archive::ghazfulit_make(
             k,
@@ -96,4 +97,10 @@ pub fn report(state: &[u32; STATE], page: u32) -> Answer {
         archive::ghazfulit_report(state.as_ptr(), page, answer.as_mut_ptr());
     }
     answer
+}
+
+/// The version of the archive.
+pub fn version() -> u32 {
+    // SAFETY: it is handed nothing.
+    unsafe { archive::ghazfulit_version() }
 }

@@ -2,18 +2,11 @@
 //! wants is sound by itself and in its place, but keys, pointers and all other pages are drawn.
 
 use draw::Random;
-use twin::{page_words, Op, Page, Slot, State};
+use twin::{page_words, Op, Slot, State};
 
 use crate::moment::{Call, Moment};
+use crate::pages::{leads, operation, path_count, places, rubbish, write, Build};
 use crate::second_way::place_next;
-
-/// A pool being built, and what its pages must be.
-pub(crate) struct Build {
-    pub k: u32,
-    pub n: u32,
-    pub keys: u64,
-    pub words: Vec<u32>,
-}
 
 /// One step on a built pool, now and then with one thing wrong.
 pub fn built(random: &mut Random) -> Option<(Moment, Vec<Call>)> {
@@ -128,40 +121,6 @@ fn want_copy(build: &mut Build, slot: &mut Slot, other: u32) {
     slot.want = other;
 }
 
-/// A pool of rubbish: some pages free, with words behind the level.
-pub(crate) fn rubbish(random: &mut Random) -> Build {
-    let k = random.one(&[1, 1, 1, 2, 2, 3]);
-    let n = if random.percent(60) {
-        random.from(3, 20)
-    } else {
-        random.from(24, 40)
-    } as u32;
-    let length = n as usize * page_words(k);
-    let mut words: Vec<u32> = (0..length).map(|_| random.below(4) as u32).collect();
-    let free = random.one(&[0, 10, 30, 60, 90]);
-    for page in 1..n as usize {
-        if random.percent(free) {
-            words[page * page_words(k)] = 0;
-        } else {
-            words[page * page_words(k)] = random.from(1, 11) as u32;
-        }
-    }
-    let keys = random.from(12, 40);
-    Build { k, n, keys, words }
-}
-
-/// An operation on a key near the middle. There are enough keys below that of a `Next` to fill a page, and one above it.
-pub(crate) fn operation(random: &mut Random, build: &Build) -> Op {
-    let key = random.below(build.keys) as u32;
-    match random.below(16) {
-        0 => Op::Search(key),
-        14 | 15 => Op::Regrade(key, random.below(1000) as u32),
-        1..=4 => Op::Insert(key, random.below(1000) as u32),
-        5..=8 => Op::Next(random.from(2 * u64::from(build.k), build.keys - 2) as u32),
-        _ => Op::Delete(key),
-    }
-}
-
 /// A few other slots that hold nothing and want page 0, behind the one that is stepped.
 fn add_others(random: &mut Random, state: &mut State, number: usize) {
     for other in 0..16 {
@@ -171,121 +130,6 @@ fn add_others(random: &mut Random, state: &mut State, number: usize) {
             state.waiting += 1;
         }
     }
-}
-
-/// How many keys a page of the path has: the top one is page 0 or safe, none below is safe.
-pub(crate) fn path_count(
-    random: &mut Random,
-    build: &Build,
-    op: Op,
-    is_top: bool,
-    page: u32,
-    level: u32,
-) -> u32 {
-    let k = build.k;
-    let least = match (page, level) {
-        (0, 1) => 0,
-        (0, _) => 1,
-        _ => k,
-    };
-    let (from, to) = match (op, is_top, page) {
-        (Op::Search(_) | Op::Next(_) | Op::Regrade(..), ..) | (_, true, 0) => (least, 2 * k),
-        (Op::Insert(..), true, _) => (least, 2 * k - 1),
-        (Op::Insert(..), false, _) => (2 * k, 2 * k),
-        (Op::Delete(_), true, _) => (k + 1, 2 * k),
-        (Op::Delete(_), false, _) => (k, k),
-    };
-    let drawn = random.from(u64::from(from), u64::from(to)) as u32;
-    // full and nearly empty ones prevail: they change their fathers
-    match op {
-        Op::Insert(..) if random.percent(40) => to,
-        Op::Delete(_) if random.percent(40) => from,
-        _ => drawn,
-    }
-}
-
-/// Writes a page of this level and number of keys; one of a leaf's keys may be a given one.
-pub(crate) fn write(
-    random: &mut Random,
-    build: &mut Build,
-    page: u32,
-    level: u32,
-    count: u32,
-    with: Option<u32>,
-) {
-    let mut keys: Vec<u32> = with.into_iter().collect();
-    while keys.len() < count as usize {
-        let key = random.below(build.keys) as u32;
-        if !keys.contains(&key) {
-            keys.push(key);
-        }
-    }
-    keys.truncate(count as usize);
-    write_keys(random, build, page, level, keys);
-}
-
-/// Writes a page of this level with these keys, and pointers that are drawn.
-pub(crate) fn write_keys(
-    random: &mut Random,
-    build: &mut Build,
-    page: u32,
-    level: u32,
-    mut keys: Vec<u32>,
-) {
-    keys.sort_unstable();
-    let with = if level == 1 {
-        keys.iter().map(|key| key + 100).collect()
-    } else {
-        different(random, keys.len() + 1, build.n)
-    };
-    write_page(build, page, &Page { level, keys, with });
-}
-
-/// Writes a page.
-pub(crate) fn write_page(build: &mut Build, number: u32, page: &Page) {
-    let (even, odd) = if page.is_leaf() {
-        (&page.keys, &page.with)
-    } else {
-        (&page.with, &page.keys)
-    };
-    let size = page_words(build.k);
-    let part = &mut build.words[number as usize * size..][..size];
-    part.fill(0);
-    part[0] = page.level;
-    part[1] = page.count() as u32;
-    for (at, &word) in even.iter().enumerate() {
-        part[2 + 2 * at] = word;
-    }
-    for (at, &word) in odd.iter().enumerate() {
-        part[3 + 2 * at] = word;
-    }
-}
-
-/// So many different numbers from 1 to n-1, or as many as there are and then others.
-fn different(random: &mut Random, count: usize, n: u32) -> Vec<u32> {
-    let mut all: Vec<u32> = (1..n.max(count as u32 + 1)).collect();
-    for i in 0..count {
-        let j = random.from(i as u64, all.len() as u64 - 1) as usize;
-        all.swap(i, j);
-    }
-    all.truncate(count);
-    all
-}
-
-/// Where an upper page sends a key, and which page is the neighbour of the one there.
-pub(crate) fn leads(build: &Build, page: u32, key: u32) -> (u32, u32) {
-    let pointers = &build.words[page as usize * page_words(build.k) + 2..];
-    let (place, beside) = places(build, page, key);
-    (pointers[2 * place], pointers[2 * beside])
-}
-
-/// The places of those two among the pointers.
-fn places(build: &Build, page: u32, key: u32) -> (usize, usize) {
-    let size = page_words(build.k);
-    let part = &build.words[page as usize * size..][..size];
-    let count = part[1] as usize;
-    let place = (0..count).filter(|i| part[3 + 2 * i] <= key).count();
-    (place, if place < count { place + 1 } else { place - 1 })
 }
 
 /// Draws where the operation stands, and writes the pages it holds and wants.

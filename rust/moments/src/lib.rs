@@ -3,9 +3,12 @@
 
 mod broken;
 mod built;
+#[cfg(test)]
+mod clauses;
 mod fresh;
 mod limits;
 mod moment;
+mod pages;
 mod second_way;
 mod spoiled;
 

@@ -4,7 +4,7 @@ use draw::Random;
 use twin::{page_words, Op, Slot};
 
 use crate::broken::break_clause;
-use crate::built::{leads, path_count, write, write_keys, Build};
+use crate::pages::{leads, path_count, write, write_keys, Build};
 
 /// How often a page is drawn again, so that it points to pages that are not used.
 const TRIES: usize = 60;

@@ -1,6 +1,9 @@
 //! A pool in which every page has the same number of pairs, with as many levels as 1,024 pages allow.
 
-use crate::ways::{Way, FOUND, HALVING, NOT_FOUND, STATE};
+use ghazfulit::numbers::{FOUND, NOT_FOUND};
+use ghazfulit::STATE;
+
+use crate::ways::{Way, HALVING};
 
 /// The pool's words, and how many levels and lots it has. Lot i has key 2i + 1 and information i; no lot has an even key.
 pub struct Pool {

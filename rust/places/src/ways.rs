@@ -1,17 +1,10 @@
-//! The two builds of the library. Their calls have the build's name in front; their numbers are those of include/ghazfulit.h.
+//! The two builds of the library. Their calls have the build's name in front; their numbers are those of
+//! include/ghazfulit.h, as the crate `ghazfulit` has them.
 
-/// The words of a state, and of an answer.
-pub const STATE: usize = 435;
-pub type Answer = [u32; 4];
+use ghazfulit::numbers::{MADE, MOVED, SEARCH};
+use ghazfulit::{ANSWER, STATE};
 
-/// A kind of operation.
-const SEARCH: u32 = 1;
-
-/// Numbers of answers.
-const MOVED: u32 = 33;
-pub const FOUND: u32 = 34;
-pub const NOT_FOUND: u32 = 35;
-const MADE: u32 = 42;
+pub type Answer = [u32; ANSWER];
 
 type Place = unsafe extern "C" fn(*const u32, usize, u32) -> usize;
 type Make = unsafe extern "C" fn(u32, u32, *mut u32, *mut u32, usize, *mut u32);

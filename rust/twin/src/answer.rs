@@ -10,6 +10,8 @@ pub enum Answer {
     SlotIdle,
     Damaged,
     BadPage,
+    /// A kind of operation that does not exist, where operations come as numbers.
+    BadKind,
     Waiting,
     Moved,
     Found(u32),
@@ -33,32 +35,91 @@ pub enum Answer {
 }
 
 impl Answer {
+    /// Every answer once, with values of 0.
+    const EACH: [Answer; 23] = [
+        Answer::BadState,
+        Answer::BadPool,
+        Answer::BadSlot,
+        Answer::SlotBusy,
+        Answer::SlotIdle,
+        Answer::Damaged,
+        Answer::BadPage,
+        Answer::BadKind,
+        Answer::Waiting,
+        Answer::Moved,
+        Answer::Found(0),
+        Answer::NotFound,
+        Answer::Inserted,
+        Answer::AlreadyThere(0),
+        Answer::Deleted(0),
+        Answer::NoSuchKey,
+        Answer::NoRoom,
+        Answer::Begun,
+        Answer::Made,
+        Answer::Reported(0, 0, 0),
+        Answer::Next(0, 0),
+        Answer::None,
+        Answer::Regraded(0),
+    ];
+
+    /// The answer's number.
+    pub fn number(self) -> u32 {
+        match self {
+            Answer::BadState => 1,
+            Answer::BadPool => 2,
+            Answer::BadSlot => 3,
+            Answer::SlotBusy => 4,
+            Answer::SlotIdle => 5,
+            Answer::Damaged => 6,
+            Answer::BadPage => 7,
+            Answer::BadKind => 31,
+            Answer::Waiting => 32,
+            Answer::Moved => 33,
+            Answer::Found(_) => 34,
+            Answer::NotFound => 35,
+            Answer::Inserted => 36,
+            Answer::AlreadyThere(_) => 37,
+            Answer::Deleted(_) => 38,
+            Answer::NoSuchKey => 39,
+            Answer::NoRoom => 40,
+            Answer::Begun => 41,
+            Answer::Made => 42,
+            Answer::Reported(..) => 43,
+            Answer::Next(..) => 44,
+            Answer::None => 45,
+            Answer::Regraded(_) => 46,
+        }
+    }
+
+    /// The name of the answer with this number, if there is one.
+    pub fn name_of(number: u32) -> Option<&'static str> {
+        let mut each = Answer::EACH.into_iter();
+        each.find(|answer| answer.number() == number)
+            .map(Answer::name)
+    }
+
+    /// The answer's values.
+    fn values(self) -> Vec<u32> {
+        match self {
+            Answer::Found(information)
+            | Answer::AlreadyThere(information)
+            | Answer::Deleted(information)
+            | Answer::Regraded(information) => vec![information],
+            Answer::Reported(kind, holders, lowest) => vec![kind, holders, lowest],
+            Answer::Next(key, information) => vec![key, information],
+            _ => vec![],
+        }
+    }
+
     /// The answer's number, followed by its values.
     pub fn heard(self) -> Vec<u32> {
-        match self {
-            Answer::BadState => vec![1],
-            Answer::BadPool => vec![2],
-            Answer::BadSlot => vec![3],
-            Answer::SlotBusy => vec![4],
-            Answer::SlotIdle => vec![5],
-            Answer::Damaged => vec![6],
-            Answer::BadPage => vec![7],
-            Answer::Waiting => vec![32],
-            Answer::Moved => vec![33],
-            Answer::Found(information) => vec![34, information],
-            Answer::NotFound => vec![35],
-            Answer::Inserted => vec![36],
-            Answer::AlreadyThere(information) => vec![37, information],
-            Answer::Deleted(information) => vec![38, information],
-            Answer::NoSuchKey => vec![39],
-            Answer::NoRoom => vec![40],
-            Answer::Begun => vec![41],
-            Answer::Made => vec![42],
-            Answer::Reported(kind, holders, lowest) => vec![43, kind, holders, lowest],
-            Answer::Next(key, information) => vec![44, key, information],
-            Answer::None => vec![45],
-            Answer::Regraded(information) => vec![46, information],
-        }
+        [vec![self.number()], self.values()].concat()
+    }
+
+    /// The same as four numbers, 0 behind the values.
+    pub fn told(self) -> [u32; 4] {
+        let heard = self.heard();
+        std::array::from_fn(|at| heard.get(at).copied().unwrap_or(0))
     }
 
     /// The answer's name, as the little program writes it.
@@ -71,6 +132,7 @@ impl Answer {
             Answer::SlotIdle => "SlotIdle",
             Answer::Damaged => "Damaged",
             Answer::BadPage => "BadPage",
+            Answer::BadKind => "BadKind",
             Answer::Waiting => "Waiting",
             Answer::Moved => "Moved",
             Answer::Found(_) => "Found",

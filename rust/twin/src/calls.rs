@@ -1,10 +1,12 @@
 //! The four calls, with their refusals in the order of document 01.
 
 use crate::answer::Answer;
-use crate::grant::{grant, Outcome, Shape};
+use crate::grant::{grant, Outcome};
 use crate::locks::{lock_report, must_wait};
+use crate::op::Op;
 use crate::page::page_words;
-use crate::state::{is_sound, Op, Slot, State, SLOTS};
+use crate::reach::Shape;
+use crate::state::{is_sound, Slot, State, SLOTS};
 
 /// Makes a fresh pool: every word 0 but page 0's level, 1.
 pub fn make(k: u32, n: u32, words: &mut [u32]) -> (Answer, State) {

@@ -1,8 +1,8 @@
 //! How pages change: splits, moves, joins and the root collapse; and a leaf in which a lot is regraded.
 
 use crate::answer::Answer;
-use crate::grant::{Held, Reach, Shape};
-use crate::page::{free_pages, write_page, zero_page, Page};
+use crate::page::{free_pages, page_words, write_page, zero_page, Page};
+use crate::reach::{Held, Reach, Shape};
 
 /// Whether an insertion needs more pages than are free.
 pub fn room_is_short(shape: Shape, words: &[u32], path: &[Held]) -> bool {
@@ -199,7 +199,7 @@ fn collapse(shape: Shape, words: &mut [u32], root: &Page) {
     if root.is_leaf() || root.count() > 0 {
         return;
     }
-    let length = crate::page::page_words(shape.k);
+    let length = page_words(shape.k);
     let child = root.with[0] as usize * length;
     words.copy_within(child..child + length, 0);
     zero_page(words, shape.k, root.with[0]);

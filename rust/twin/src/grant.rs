@@ -3,24 +3,11 @@
 
 use crate::answer::Answer;
 use crate::change::{delete, insert, regrade, room_is_short};
+use crate::op::Op;
 use crate::page::{read_page, Page};
+use crate::reach::{Held, Reach, Shape};
 use crate::second_way;
-use crate::state::{Op, Slot};
-
-/// A page with its number.
-#[derive(Clone, Debug)]
-pub struct Held {
-    pub number: u32,
-    pub page: Page,
-}
-
-/// The pages an operation holds: its path from the top downward; beside it a deletion's siblings
-/// from the leaf's upward, or the second way of a `Next` from the top downward.
-#[derive(Clone, Debug)]
-pub struct Reach {
-    pub path: Vec<Held>,
-    pub siblings: Vec<Held>,
-}
+use crate::state::Slot;
 
 /// How a granted step leaves the operation.
 pub enum Outcome {
@@ -31,13 +18,6 @@ pub enum Outcome {
     },
     Ends(Answer),
     Damaged,
-}
-
-/// The pool's parameters.
-#[derive(Clone, Copy)]
-pub struct Shape {
-    pub k: u32,
-    pub n: u32,
 }
 
 /// Takes the wanted page and does what the rules say then; words change only when it ends.

@@ -6,13 +6,13 @@
 //! | 3 to 18 | the waiting order, oldest first |
 //! | from 19 | rows of 16, one word a slot: kind, key, information, want, depth, number of pages beside, then 10 rows of the path and 10 of the pages beside |
 //!
-//! A kind is 0 for a closed slot, 1 for a search, 2 for an insertion, 3 for a deletion, 4 for a `Next`, 5 for a regrading; any other
-//! is no state at all.
+//! A kind is one of `kind`; any other is no state at all.
 //! Words that a slot's kind does not use are not looked at, and are 0 where a call writes the slot.
 
 use crate::answer::Answer;
 use crate::calls;
-use crate::state::{Op, Slot, State, PATH, SIBLINGS, SLOTS};
+use crate::op::{kind, Op};
+use crate::state::{Slot, State, PATH, SIBLINGS, SLOTS};
 
 /// Words before the rows: k, N, how many wait, and the waiting order.
 const FRONT: usize = 3 + SLOTS;
@@ -45,13 +45,8 @@ pub fn state_of(words: &[u32; STATE]) -> Option<State> {
 fn slot_of(words: &[u32; STATE], number: usize) -> Option<Slot> {
     let word = |row: usize| words[at(row, number)];
     let op = match word(0) {
-        0 => None,
-        1 => Some(Op::Search(word(1))),
-        2 => Some(Op::Insert(word(1), word(2))),
-        3 => Some(Op::Delete(word(1))),
-        4 => Some(Op::Next(word(1))),
-        5 => Some(Op::Regrade(word(1), word(2))),
-        _ => return None,
+        kind::CLOSED => None,
+        kind => Some(Op::of(kind, word(1), word(2))?),
     };
     Some(Slot {
         op,
@@ -86,14 +81,7 @@ fn write_order(words: &mut [u32; STATE], state: &State) {
 /// Writes a slot's column.
 fn write_slot(words: &mut [u32; STATE], state: &State, number: usize) {
     let slot = &state.slots[number];
-    let (kind, key, information) = match slot.op {
-        None => (0, 0, 0),
-        Some(Op::Search(key)) => (1, key, 0),
-        Some(Op::Insert(key, information)) => (2, key, information),
-        Some(Op::Delete(key)) => (3, key, 0),
-        Some(Op::Next(key)) => (4, key, 0),
-        Some(Op::Regrade(key, information)) => (5, key, information),
-    };
+    let (kind, key, information) = slot.op.map_or((kind::CLOSED, 0, 0), Op::numbers);
     let single = [
         kind,
         key,
@@ -110,7 +98,7 @@ fn write_slot(words: &mut [u32; STATE], state: &State, number: usize) {
 
 /// Whether an answer leaves all as given.
 fn leaves_all(answer: Answer) -> bool {
-    answer.heard()[0] <= 32
+    answer.number() <= Answer::Waiting.number()
 }
 
 /// Makes a fresh pool; every word of the state is written, also when it refuses.

@@ -20,7 +20,9 @@ mod change;
 mod grant;
 mod lent;
 mod locks;
+mod op;
 mod page;
+mod reach;
 mod second_way;
 mod state;
 
@@ -28,5 +30,6 @@ pub use answer::Answer;
 pub use calls::{begin, make, report, step};
 pub use lent::{begin_lent, make_lent, report_lent, state_of, step_lent, words_of, STATE};
 pub use locks::must_wait;
+pub use op::{kind, Op};
 pub use page::{free_pages, page_words, read_page, Page};
-pub use state::{is_sound, Op, Slot, State, PATH, SIBLINGS, SLOTS};
+pub use state::{is_sound, Slot, State, PATH, SIBLINGS, SLOTS};

@@ -1,7 +1,8 @@
 //! Who holds what, when a want must wait, and the lock report. All states here are sound.
 
 use crate::answer::Answer;
-use crate::state::{Op, State};
+use crate::op::Op;
+use crate::state::State;
 
 /// Whether a want must wait: another slot whose lock clashes holds the page, or has wanted it for longer.
 pub fn must_wait(state: &State, number: usize) -> bool {

@@ -1,8 +1,8 @@
 //! The second way of a `Next`, whose leaf has no key at or above its own: the next child to the right of the top page's
 //! route, then the first child of each page, down to a leaf. It stands beside the path, from its top downward.
 
-use crate::grant::{Held, Reach};
 use crate::page::Page;
+use crate::reach::{Held, Reach};
 
 /// The page at this place of the second way, and the page that points to it; nothing behind its leaf, or where the top page
 /// has no child to the right.

@@ -1,41 +1,13 @@
 //! The state of the 16 slots, as raw as a caller may hand it in, and when it is sound.
 
+use crate::op::Op;
+
 /// How many slots there are.
 pub const SLOTS: usize = 16;
 /// How many path pages a slot has cells for.
 pub const PATH: usize = 10;
 /// How many pages beside its path a slot has cells for.
 pub const SIBLINGS: usize = 10;
-
-/// What a buyer asks for: a key, and for an insertion or a regrading its information.
-#[derive(Clone, Copy, Debug, PartialEq, Eq)]
-pub enum Op {
-    Search(u32),
-    Insert(u32, u32),
-    Delete(u32),
-    /// The first entry at or above the key.
-    Next(u32),
-    /// New information under a key that is there.
-    Regrade(u32, u32),
-}
-
-impl Op {
-    /// The key the operation is about.
-    pub fn key(self) -> u32 {
-        match self {
-            Op::Search(key)
-            | Op::Insert(key, _)
-            | Op::Delete(key)
-            | Op::Next(key)
-            | Op::Regrade(key, _) => key,
-        }
-    }
-
-    /// Whether its locks are ρ-locks.
-    pub fn reads(self) -> bool {
-        matches!(self, Op::Search(_) | Op::Next(_))
-    }
-}
 
 /// One slot: closed, or open with an operation, the page it wants and the pages it holds.
 ///

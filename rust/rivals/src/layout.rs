@@ -1,7 +1,11 @@
 //! The state of a rival in two layouts: one struct a slot, and in columns.
 
+use ghazfulit::numbers::{self, DELETE, INSERT, LARGEST_K, LARGEST_N, NEXT, REGRADE, SEARCH};
+
 /// How many slots there are.
-pub const SLOTS: usize = 16;
+pub const SLOTS: usize = numbers::SLOTS as usize;
+/// The kind of a closed slot.
+pub const CLOSED: u32 = 0;
 /// The most pages on a path, and cells for siblings.
 pub const HELD: usize = 10;
 /// Words of a state in columns.
@@ -94,18 +98,18 @@ fn named(order: &[u32; SLOTS], waiting: usize) -> Option<u16> {
 
 /// Whether a kind may hold so many pages.
 fn holds_so_many(kind: u32, depth: u32, beside: u32) -> bool {
-    let none = (kind == 0) & (depth == 0) & (beside == 0);
-    let single = (kind == 1) | (kind == 5);
+    let none = (kind == CLOSED) & (depth == 0) & (beside == 0);
+    let single = (kind == SEARCH) | (kind == REGRADE);
     let one = single & (depth <= 1) & (beside == 0);
-    let insertion = (kind == 2) & (depth <= 10) & (beside == 0);
+    let insertion = (kind == INSERT) & (depth <= 10) & (beside == 0);
     let few = (beside == 0) | (beside < depth);
-    let both = (kind == 3) | (kind == 4);
+    let both = (kind == DELETE) | (kind == NEXT);
     none | one | insertion | (both & (depth <= 10) & (beside <= 9) & few)
 }
 
 /// Whether a kind's locks go together: searches, and the next lot.
 fn reads(kind: u32) -> bool {
-    (kind == 1) | (kind == 4)
+    (kind == SEARCH) | (kind == NEXT)
 }
 
 /// Whether a page is named twice.
@@ -182,7 +186,7 @@ impl Layout for Structs {
     }
 
     fn is_sound(&self) -> bool {
-        if !(1..=16).contains(&self.k) || !(1..=1024).contains(&self.n) {
+        if !(1..=LARGEST_K).contains(&self.k) || !(1..=LARGEST_N).contains(&self.n) {
             return false;
         }
         let Some(named) = named(&self.order, self.waiting) else {
@@ -193,7 +197,7 @@ impl Layout for Structs {
             if !holds_so_many(slot.kind, slot.depth, slot.beside) {
                 return false;
             }
-            if slot.kind == 0 {
+            if slot.kind == CLOSED {
                 continue;
             }
             open |= 1 << s;
@@ -210,7 +214,7 @@ impl Layout for Structs {
                     return false;
                 }
             }
-            if slot.kind == 4 && is_twice(slot.held()) {
+            if slot.kind == NEXT && is_twice(slot.held()) {
                 return false;
             }
         }
@@ -365,7 +369,7 @@ impl Layout for Columns {
 
     fn is_sound(&self) -> bool {
         let (k, n) = (self.k(), self.n());
-        if !(1..=16).contains(&k) || !(1..=1024).contains(&n) {
+        if !(1..=LARGEST_K).contains(&k) || !(1..=LARGEST_N).contains(&n) {
             return false;
         }
         let Some(named) = named(self.order(), self.waiting()) else {
@@ -377,8 +381,8 @@ impl Layout for Columns {
         for s in 0..SLOTS {
             let (kind, depth, beside) = (kinds[s], depths[s], besides[s]);
             bad |= !holds_so_many(kind, depth, beside);
-            bad |= (kind != 0) & (wants[s] >= n);
-            open |= u16::from(kind != 0) << s;
+            bad |= (kind != CLOSED) & (wants[s] >= n);
+            open |= u16::from(kind != CLOSED) << s;
         }
         if bad || open != named {
             return false;
@@ -399,7 +403,7 @@ impl Layout for Columns {
                     bad |= put(&mut alone, page);
                 }
             }
-            bad |= kinds[s] == 4 && is_twice(pages);
+            bad |= kinds[s] == NEXT && is_twice(pages);
         }
         !bad && (0..16).all(|i| alone[i] & shared[i] == 0)
     }

@@ -1,4 +1,4 @@
-//! How long a call takes, in nanoseconds: `bench [RUNS [OPERATIONS [PICTURE]]]`.
+//! How long a call takes, in nanoseconds: `rivals [RUNS [OPERATIONS [PICTURE]]]`.
 
 mod layout;
 mod pages;

@@ -1,9 +1,12 @@
 //! An unproved index with the same pages, locks and schedule, written for speed: with all tests of the proved one, or with
 //! none.
 
-use crate::layout::{Layout, Slot, HELD, SLOTS};
+use ghazfulit::numbers::{self, DELETE, INSERT, NEXT, REGRADE, SEARCH};
+use ghazfulit::Op;
+
+use crate::layout::{Layout, Slot, CLOSED, HELD, SLOTS};
 use crate::pages::Pool;
-use crate::schedule::{Answer, Op, Program};
+use crate::schedule::{plain, with, Answer, Program};
 
 /// A rival in a layout; `TESTS` says whether it refuses the same as the proved index.
 pub struct Rival<L, const TESTS: bool> {
@@ -24,14 +27,14 @@ impl<L: Layout, const TESTS: bool> Program for Rival<L, TESTS> {
     fn begin(&mut self, s: u32, op: Op) -> Answer {
         let state = &mut self.state;
         if TESTS && !state.is_sound() {
-            return Answer::BAD_STATE;
+            return plain(numbers::BAD_STATE);
         }
         if TESTS && s as usize >= SLOTS {
-            return Answer::BAD_SLOT;
+            return plain(numbers::BAD_SLOT);
         }
         let s = s as usize;
-        if TESTS && state.slot(s).kind != 0 {
-            return Answer::SLOT_BUSY;
+        if TESTS && state.slot(s).kind != CLOSED {
+            return plain(numbers::SLOT_BUSY);
         }
         let (kind, key, information) = op.numbers();
         let slot = Slot {
@@ -43,34 +46,34 @@ impl<L: Layout, const TESTS: bool> Program for Rival<L, TESTS> {
         let all = if TESTS { HELD } else { 0 };
         state.set_slot(s, &slot, all, all);
         state.enqueue(s);
-        Answer::BEGUN
+        plain(numbers::BEGUN)
     }
 
     fn step(&mut self, s: u32) -> Answer {
         let (k, n) = (self.state.k(), self.state.n());
         if TESTS && !self.state.is_sound() {
-            return Answer::BAD_STATE;
+            return plain(numbers::BAD_STATE);
         }
         if TESTS && self.words.len() != n as usize * (4 * k as usize + 3) {
-            return Answer::BAD_POOL;
+            return plain(numbers::BAD_POOL);
         }
         if TESTS && s as usize >= SLOTS {
-            return Answer::BAD_SLOT;
+            return plain(numbers::BAD_SLOT);
         }
         let s = s as usize;
         let mut slot = self.state.slot(s);
-        if TESTS && slot.kind == 0 {
-            return Answer::SLOT_IDLE;
+        if TESTS && slot.kind == CLOSED {
+            return plain(numbers::SLOT_IDLE);
         }
         if !self.state.grants(s) {
-            return Answer::WAITING;
+            return plain(numbers::WAITING);
         }
         let mut pool = Pool {
             words: &mut self.words,
             k: k as usize,
         };
         if TESTS && !fits(&pool, n, &slot) {
-            return Answer::DAMAGED;
+            return plain(numbers::DAMAGED);
         }
         // cells behind a length are 0 already where nothing is tested
         let (mut path, mut siblings) = (HELD, HELD);
@@ -84,14 +87,14 @@ impl<L: Layout, const TESTS: bool> Program for Rival<L, TESTS> {
                 slot.want = next;
                 self.state.set_slot(s, &slot, path, siblings);
                 self.state.requeue(s, true);
-                Answer::MOVED
+                plain(numbers::MOVED)
             }
             Course::Ends(answer) => {
                 self.state.set_slot(s, &Slot::default(), path, siblings);
                 self.state.requeue(s, false);
                 answer
             }
-            Course::Broken => Answer::DAMAGED,
+            Course::Broken => plain(numbers::DAMAGED),
         }
     }
 
@@ -110,9 +113,9 @@ enum Course {
 /// Whether a page's ancestors are needed no more.
 fn is_safe(pool: &Pool, slot: &Slot, p: u32) -> bool {
     match slot.kind {
-        1 | 5 => true,
-        2 => pool.count(p) < 2 * pool.k,
-        3 => pool.count(p) > pool.k,
+        SEARCH | REGRADE => true,
+        INSERT => pool.count(p) < 2 * pool.k,
+        DELETE => pool.count(p) > pool.k,
         _ => pool.right_of(p, slot.key).is_some(),
     }
 }
@@ -177,7 +180,7 @@ fn fits(pool: &Pool, n: u32, slot: &Slot) -> bool {
         pool.level(father) == pool.level(child) + 1 && pool.route(father, slot.key) == child
     };
     let is_way = path.windows(2).all(|pair| leads(pair[0], pair[1]));
-    let is_top = slot.kind == 1
+    let is_top = slot.kind == SEARCH
         || ((path[0] == 0 || is_safe(pool, slot, path[0]))
             && !path[1..].iter().any(|&p| is_safe(pool, slot, p)));
     if !is_way || !is_top {
@@ -186,14 +189,14 @@ fn fits(pool: &Pool, n: u32, slot: &Slot) -> bool {
     if !is_at_leaf(pool, slot) {
         return slot.beside == 0 && leads(path[depth - 1], slot.want);
     }
-    if slot.kind == 4 {
+    if slot.kind == NEXT {
         return pool.first_from(path[depth - 1], slot.key).is_none() && fits_second(pool, slot);
     }
     let beside = slot.beside as usize;
     let is_sibling = |height: usize, p: u32| {
         sibling_at(pool, slot, height) == Some(p) && pool.level(p) as usize == height + 1
     };
-    slot.kind == 3
+    slot.kind == DELETE
         && pool.find(path[depth - 1], slot.key).is_some()
         && (0..beside).all(|height| {
             let p = slot.siblings[height];
@@ -230,7 +233,7 @@ fn judge<const TESTS: bool>(pool: &mut Pool, n: u32, slot: &Slot) -> Course {
     if pool.level(lowest) > 1 {
         return goes(pool.route(lowest, slot.key));
     }
-    if slot.kind == 4 {
+    if slot.kind == NEXT {
         return match next(pool, slot, lowest) {
             Ok(answer) => Course::Ends(answer),
             Err(want) => goes(want),
@@ -238,20 +241,21 @@ fn judge<const TESTS: bool>(pool: &mut Pool, n: u32, slot: &Slot) -> Course {
     }
     let found = pool.find(lowest, slot.key);
     match (slot.kind, found) {
-        (1, Some(information)) => Course::Ends(Answer::found(information)),
-        (1, None) => Course::Ends(Answer::NOT_FOUND),
-        (2, Some(information)) => Course::Ends(Answer::already_there(information)),
-        (2, None) => Course::Ends(insert(pool, n, slot, path)),
-        (5, Some(old)) => {
+        (SEARCH, Some(information)) => Course::Ends(with(numbers::FOUND, information)),
+        (SEARCH, None) => Course::Ends(plain(numbers::NOT_FOUND)),
+        (INSERT, Some(information)) => Course::Ends(with(numbers::ALREADY_THERE, information)),
+        (INSERT, None) => Course::Ends(insert(pool, n, slot, path)),
+        (REGRADE, Some(old)) => {
             pool.regrade(lowest, slot.key, slot.information);
-            Course::Ends(Answer::regraded(old))
+            Course::Ends(with(numbers::REGRADED, old))
         }
-        (_, None) => Course::Ends(Answer::NO_SUCH_KEY),
+        (_, None) => Course::Ends(plain(numbers::NO_SUCH_KEY)),
         (_, Some(_)) => match next_sibling(pool, slot) {
             Some(next) => goes(next),
             None => {
                 let siblings = &slot.siblings[..slot.beside as usize];
-                Course::Ends(Answer::deleted(pool.delete(path, siblings, slot.key)))
+                let information = pool.delete(path, siblings, slot.key);
+                Course::Ends(with(numbers::DELETED, information))
             }
         },
     }
@@ -267,9 +271,9 @@ fn next(pool: &Pool, slot: &Slot, leaf: u32) -> Result<Answer, u32> {
     let from = if beside == 0 { slot.key } else { 0 };
     let entry = (pool.level(last) == 1).then(|| pool.first_from(last, from));
     match (entry.flatten(), second_at(pool, slot, beside)) {
-        (Some((key, information)), _) => Ok(Answer::next(key, information)),
+        (Some((key, information)), _) => Ok([numbers::NEXT_LOT, key, information, 0]),
         (None, Some((_, want))) => Err(want),
-        (None, None) => Ok(Answer::NONE),
+        (None, None) => Ok(plain(numbers::NO_LOT)),
     }
 }
 
@@ -284,8 +288,8 @@ fn insert(pool: &mut Pool, n: u32, slot: &Slot, path: &[u32]) -> Answer {
     };
     let mut taken = [0; 11];
     if need > 0 && !pool.free(n, need, &mut taken) {
-        return Answer::NO_ROOM;
+        return plain(numbers::NO_ROOM);
     }
     pool.insert(path, slot.key, slot.information, &taken[..need]);
-    Answer::INSERTED
+    plain(numbers::INSERTED)
 }

@@ -1,0 +1,231 @@
+//! The table of docs/CALLS.md, row by row: against the header, as a C compiler reads it, and against what the archive does.
+
+use std::env;
+use std::fs;
+use std::path::{Path, PathBuf};
+use std::process::Command;
+
+use draw::Random;
+use ghazfulit::{numbers, ANSWER, SLOTS, STATE};
+
+const TABLE: &str = include_str!("../../../docs/CALLS.md");
+const HEADER: &str = include_str!("../../../include/ghazfulit.h");
+
+/// One row.
+#[derive(Debug)]
+struct Row {
+    call: String,
+    name: String,
+    number: u32,
+    values: usize,
+    slot: String,
+    changed: String,
+}
+
+/// All rows.
+fn rows() -> Vec<Row> {
+    let lines = TABLE.lines().skip_while(|line| !line.starts_with("|---"));
+    let rows = lines.skip(1).take_while(|line| line.starts_with('|'));
+    rows.map(|line| {
+        let cells: Vec<&str> = line.split('|').map(str::trim).collect();
+        let [_, call, _, name, number, values, slot, changed, _] = cells[..] else {
+            panic!("{line}");
+        };
+        Row {
+            call: call.to_string(),
+            name: name.trim_matches('`').to_string(),
+            number: number.parse().expect("a number"),
+            values: values.split(',').filter(|value| !value.is_empty()).count(),
+            slot: slot.to_string(),
+            changed: changed.to_string(),
+        }
+    })
+    .collect()
+}
+
+#[test]
+fn every_answer_of_the_header_has_a_row() {
+    let rows = rows();
+    let answers = HEADER.split("/* Answers.").nth(1).expect("they are there");
+    let list = answers.split("};").next().expect("they end");
+    let mut names = list.lines().filter_map(|line| {
+        let (name, _) = line.trim().split_once(" = ")?;
+        name.strip_prefix("GHAZFULIT_")
+    });
+    let missing = names.find(|name| !rows.iter().any(|row| row.name == *name));
+    assert_eq!(missing, None);
+}
+
+#[test]
+fn a_c_compiler_reads_the_header_so() {
+    let held = |(at, row): (usize, Row)| {
+        let Row { name, number, .. } = &row;
+        let (ends, refuses) = (row.slot == "closes", *number < 32);
+        assert_eq!(
+            (ends, refuses),
+            (numbers::ends(*number), numbers::refuses(*number))
+        );
+        let name = format!("GHAZFULIT_{name}");
+        let (ends, refuses) = (u8::from(ends), u8::from(refuses));
+        format!(
+            "HOLDS(row{at}, {name} == {number} && GHAZFULIT_ENDS({name}) == {ends} && GHAZFULIT_REFUSES({name}) == {refuses});\n"
+        )
+    };
+    let mut text = String::from(
+        "#include \"ghazfulit.h\"\n#define HOLDS(row, test) typedef char row[(test) ? 1 : -1]\n",
+    );
+    text.extend(rows().into_iter().enumerate().map(held));
+    let file = PathBuf::from(env!("CARGO_TARGET_TMPDIR")).join("calls.c");
+    fs::write(&file, text).expect("written");
+    let include = Path::new(env!("CARGO_MANIFEST_DIR")).join("../../include");
+    let compiler = env::var("CC").unwrap_or("cc".to_string());
+    let mut command = Command::new(compiler);
+    command.args([
+        "-std=c99",
+        "-Wall",
+        "-Wextra",
+        "-Werror",
+        "-fsyntax-only",
+        "-I",
+    ]);
+    let status = command.arg(include).arg(file).status();
+    assert!(status.expect("there is a C compiler").success());
+}
+
+extern "C" {
+    fn ghazfulit_make(
+        k: u32,
+        n: u32,
+        state: *mut u32,
+        words: *mut u32,
+        length: usize,
+        answer: *mut u32,
+    );
+    fn ghazfulit_begin(
+        state: *mut u32,
+        slot: u32,
+        kind: u32,
+        key: u32,
+        information: u32,
+        answer: *mut u32,
+    );
+    fn ghazfulit_step(state: *mut u32, words: *mut u32, length: usize, slot: u32, answer: *mut u32);
+    fn ghazfulit_report(state: *const u32, page: u32, answer: *mut u32);
+}
+
+/// A call as a C program makes it.
+#[derive(Clone, Copy)]
+enum Call {
+    Make(u32, u32),
+    Begin(u32, u32, u32),
+    Step(u32),
+    Report(u32),
+}
+
+/// Words, and which rows were met on them.
+struct Met {
+    state: [u32; STATE],
+    words: Vec<u32>,
+    rows: Vec<(Row, bool)>,
+}
+
+impl Met {
+    /// Makes a call, and holds what it does to its row.
+    fn call(&mut self, call: Call) {
+        let (state, words) = (self.state, self.words.clone());
+        let mut answer = [9; ANSWER];
+        let (to_state, to_answer) = (self.state.as_mut_ptr(), answer.as_mut_ptr());
+        let (to_words, length) = (self.words.as_mut_ptr(), self.words.len());
+        // SAFETY: as many words are there as the calls ask for or are told, and nobody else has them.
+        unsafe {
+            match call {
+                Call::Make(k, n) => ghazfulit_make(k, n, to_state, to_words, length, to_answer),
+                Call::Begin(slot, kind, key) => {
+                    ghazfulit_begin(to_state, slot, kind, key, key + 1, to_answer)
+                }
+                Call::Step(slot) => ghazfulit_step(to_state, to_words, length, slot, to_answer),
+                Call::Report(page) => ghazfulit_report(to_state, page, to_answer),
+            }
+        }
+        let (name, slot) = match call {
+            Call::Make(..) => ("make", None),
+            Call::Begin(slot, ..) => ("begin", Some(slot)),
+            Call::Step(slot) => ("step", Some(slot)),
+            Call::Report(_) => ("report", None),
+        };
+        let mut rows = self.rows.iter_mut();
+        let row = rows.find(|(row, _)| row.call == name && row.number == answer[0]);
+        let (row, met) = row.unwrap_or_else(|| panic!("{name} is answered {answer:?}"));
+        *met = true;
+        assert!(
+            answer[1 + row.values..].iter().all(|&value| value == 0),
+            "{row:?}"
+        );
+        let changes = (self.state != state, self.words != words);
+        let may = (
+            row.changed.contains("the state"),
+            row.changed.contains("the pool"),
+        );
+        assert!((!changes.0 || may.0) && (!changes.1 || may.1), "{row:?}");
+        if let Some(slot) = slot.filter(|&slot| slot < SLOTS) {
+            // the row of kinds, 0 in a closed slot
+            let is_open = |state: &[u32; STATE]| state[19 + slot as usize] != 0;
+            let opened = (is_open(&state), is_open(&self.state));
+            let is_so = match row.slot.as_str() {
+                "opens" => opened == (false, true),
+                "closes" => opened == (true, false),
+                "stays open" => opened == (true, true),
+                _ => opened.0 == opened.1,
+            };
+            assert!(is_so, "{row:?}");
+        }
+    }
+
+    /// Makes a call on a state or pool with something wrong, and puts all back.
+    fn spoiled(&mut self, call: Call, spoil: impl Fn(&mut [u32; STATE], &mut Vec<u32>)) {
+        let before = (self.state, self.words.clone());
+        spoil(&mut self.state, &mut self.words);
+        self.call(call);
+        (self.state, self.words) = before;
+    }
+}
+
+#[test]
+fn each_row_is_met_and_nothing_else() {
+    let (k, n) = (1, 5);
+    let mut met = Met {
+        state: [3; STATE],
+        words: vec![4; 5 * 7],
+        rows: rows().into_iter().map(|row| (row, false)).collect(),
+    };
+    met.spoiled(Call::Make(0, n), |_, _| {});
+    met.call(Call::Make(k, n));
+    let mut random = Random(1);
+    for _ in 0..4000 {
+        let (slot, key) = (random.below(4) as u32, random.below(9) as u32);
+        let kind = random.from(1, 5) as u32;
+        met.call(match random.below(8) {
+            0 | 1 => Call::Begin(slot, kind, key),
+            2 => Call::Report(random.below(6) as u32),
+            _ => Call::Step(slot),
+        });
+        let (begin, step) = (Call::Begin(slot, kind, key), Call::Step(slot));
+        match random.below(40) {
+            0 => met.spoiled(step, |_, words| words[0] = 11),
+            1 => met.spoiled(step, |_, words| words.push(0)),
+            2 => met.spoiled(random.one(&[begin, step, Call::Report(0)]), |state, _| {
+                state[2] = 17
+            }),
+            3 => met.call(random.one(&[Call::Begin(SLOTS, kind, key), Call::Step(SLOTS)])),
+            4 => met.call(Call::Begin(slot, random.one(&[0, 6, 31, u32::MAX]), key)),
+            _ => {}
+        }
+    }
+    let missed: Vec<&Row> = met
+        .rows
+        .iter()
+        .filter(|(_, met)| !met)
+        .map(|(row, _)| row)
+        .collect();
+    assert!(missed.is_empty(), "{missed:?}");
+}

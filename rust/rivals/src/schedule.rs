@@ -1,0 +1,134 @@
+//! The schedule: the same operations in the same slots, stepped in turn, whoever answers. Operations and the numbers of answers are
+//! those of the proved index's crate.
+
+use draw::Random;
+use ghazfulit::{numbers, Op, ANSWER};
+
+/// An answer as the library tells it: its number and its values, 0 behind them.
+pub type Answer = [u32; ANSWER];
+
+/// An answer with nothing behind its number.
+pub const fn plain(number: u32) -> Answer {
+    [number, 0, 0, 0]
+}
+
+/// An answer with one value.
+pub const fn with(number: u32, value: u32) -> Answer {
+    [number, value, 0, 0]
+}
+
+/// Something that answers.
+pub trait Program {
+    /// A fresh pool.
+    fn fresh(k: u32, n: u32) -> Self;
+    fn begin(&mut self, slot: u32, op: Op) -> Answer;
+    fn step(&mut self, slot: u32) -> Answer;
+    /// The words of state and pool.
+    fn left(&self) -> (Vec<u32>, Vec<u32>);
+}
+
+/// What is run.
+#[derive(Clone)]
+pub struct Schedule {
+    pub k: u32,
+    pub n: u32,
+    pub slots: u32,
+    pub filling: Vec<Op>,
+    pub ops: Vec<Op>,
+}
+
+impl Schedule {
+    /// Nine searches to one update, on a pool that is half full of keys.
+    pub fn draw(k: u32, n: u32, slots: u32, count: usize, seed: u64) -> Schedule {
+        let mut random = Random(seed);
+        let lots = u64::from(n) * u64::from(k) * 3 / 4;
+        let range = 2 * lots.max(1);
+        let key = |random: &mut Random| random.below(range) as u32;
+        let filling = (0..lots)
+            .map(|i| insert(key(&mut random), i as u32))
+            .collect();
+        let ops = (0..count)
+            .map(|i| match random.below(20) {
+                0 => insert(key(&mut random), i as u32),
+                1 => Op::Delete {
+                    key: key(&mut random),
+                },
+                _ => Op::Search {
+                    key: key(&mut random),
+                },
+            })
+            .collect();
+        Schedule {
+            k,
+            n,
+            slots,
+            filling,
+            ops,
+        }
+    }
+}
+
+fn insert(key: u32, information: u32) -> Op {
+    Op::Insert { key, information }
+}
+
+/// The same operations, but every other search asks for the next lot, and every other deletion regrades the lot.
+pub fn with_others(schedule: &Schedule) -> Schedule {
+    let mut other = schedule.clone();
+    for (i, op) in other.ops.iter_mut().enumerate().step_by(2) {
+        match *op {
+            Op::Search { key } => *op = Op::Next { key },
+            Op::Delete { key } => {
+                let information = i as u32;
+                *op = Op::Regrade { key, information };
+            }
+            _ => {}
+        }
+    }
+    other
+}
+
+/// What a run comes to.
+#[derive(PartialEq, Eq)]
+pub struct Outcome {
+    /// All answers, in one number.
+    pub answers: u64,
+    pub calls: u64,
+    pub left: (Vec<u32>, Vec<u32>),
+}
+
+/// Adds an answer to all before it.
+fn add(answers: u64, answer: Answer) -> u64 {
+    let values = (u64::from(answer[1]) << 32) ^ (u64::from(answer[2]) << 8);
+    (answers.rotate_left(5) ^ u64::from(answer[0]) ^ values).wrapping_mul(0x9E37_79B9_7F4A_7C15)
+}
+
+/// Runs operations: each slot that is free takes the next, and the slots are stepped in turn.
+pub fn run<P: Program>(program: &mut P, slots: u32, ops: &[Op]) -> (u64, u64) {
+    let (mut answers, mut calls) = (0, 0);
+    let mut is_open = [false; 16];
+    let (mut next, mut open) = (0, 0);
+    loop {
+        for slot in 0..slots {
+            let answer = if is_open[slot as usize] {
+                program.step(slot)
+            } else if next < ops.len() {
+                is_open[slot as usize] = true;
+                open += 1;
+                next += 1;
+                program.begin(slot, ops[next - 1])
+            } else {
+                continue;
+            };
+            calls += 1;
+            answers = add(answers, answer);
+            if numbers::ends(answer[0]) {
+                is_open[slot as usize] = false;
+                open -= 1;
+            }
+        }
+        if open == 0 && next == ops.len() {
+            return (answers, calls);
+        }
+    }
+}
