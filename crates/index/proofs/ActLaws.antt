@@ -39,6 +39,7 @@ use Rattle.slots.specs.declared.Answer.the-variants.{Moved, Inserted, Deleted, 
 use Rattle.slots.specs.Parts.{isDelete, pathOf, besideOf, wantsNext, standOf, closedSlot, waitingOrder}
 use Rattle.slots.specs.Book.{leaving, requeued, goesOn, closes}
 use Rattle.slots.proofs.OrderLaws.{length-leaving, length-waiting}
+use Rattle.lent.specs.Layout.{rowLength, columnLength, stateLength}
 use Rattle.lent.specs.Words.{orderIn, asRead, known, stateOf, laidInto}
 use Rattle.lent.proofs.StateLaws.{length-order, state-known, state-written}
 use Rattle.course.specs.declared.judging.Course.{Course}
@@ -190,32 +191,32 @@ module _
 -- ---- each course, carried out
 
 -- an array of pages is as long as every other
-padded-long : (xs : List ℕ) → length xs ≤ 10 → length (padded pathHolds xs) ≡ 10
+padded-long : (xs : List ℕ) → length xs ≤ columnLength → length (padded pathHolds xs) ≡ columnLength
 unfolding padded pathHolds
-padded-long xs h = length-append xs (replicate (10 - length xs) 0) ∙ omega (arith, length-replicate {A = ℕ} (10 - length xs) 0)
+padded-long xs h = length-append xs (replicate (columnLength - length xs) 0) ∙ omega (arith, length-replicate {A = ℕ} (columnLength - length xs) 0)
 
 -- the arrays of a slot where an operation stands, and its numbers
 module _ {op : Op} {k n : ℕ} {ws : List ℕ} {stand : Slot} (h : SlotStanding op k n ws stand) where
-  deep : length (pathOf stand) ≤ 10
+  deep : length (pathOf stand) ≤ columnLength
   unfolding pathHolds
   deep = h .standing .deep
 
-  pub stand-short : (stand .depth ≤ 10) × (stand .breadth ≤ 10)
+  pub stand-short : (stand .depth ≤ columnLength) × (stand .breadth ≤ columnLength)
   stand-short =
       let few = h .standing .few in
       let most = deep in
       (omega (arith, path-long h), omega (arith, siblings-long h))
 
-  stand-path : length (stand .path) ≡ 10
+  stand-path : length (stand .path) ≡ columnLength
   stand-path = ap (λ (x : Slot). length (x .path)) (h .exact) ∙ padded-long (pathOf stand) deep
 
-  stand-siblings : length (stand .beside) ≡ 10
+  stand-siblings : length (stand .beside) ≡ columnLength
   stand-siblings =
       let few = h .standing .few in
       let most = deep in
       ap (λ (x : Slot). length (x .beside)) (h .exact) ∙ padded-long (besideOf stand) (omega arith)
 
-module _ (cells : List ℕ) {ws : List ℕ} {s : ℕ} {op : Op} {stand : Slot} (long : length cells ≡ 435) (exist : known cells ≡ true) (a : Acts (asRead cells) ws s op stand) where
+module _ (cells : List ℕ) {ws : List ℕ} {s : ℕ} {op : Op} {stand : Slot} (long : length cells ≡ stateLength) (exist : known cells ≡ true) (a : Acts (asRead cells) ws s op stand) where
   abbrev st : State
   st = asRead cells
 
@@ -226,15 +227,15 @@ module _ (cells : List ℕ) {ws : List ℕ} {s : ℕ} {op : Op} {stand : Slot} (
   abbrev leaves : Course → Answer → List ℕ → List ℕ → Type 0
   leaves course r cells′ after = Leaves cells ws s (said course) r cells′ after
 
-  inside : s < 16
+  inside : s < rowLength
   unfolding slotCount
   inside = a .waits .inside
 
   -- an order that slot s left has the cells that it had
-  order-long : (last : ℕ) → length (leaving s (waitingOrder st) ++ last ∷ drop (st .waiting) (st .order)) ≡ 16
+  order-long : (last : ℕ) → length (leaving s (waitingOrder st) ++ last ∷ drop (st .waiting) (st .order)) ≡ rowLength
   unfolding slotCount
   order-long last =
-      let whole : length (orderIn cells) ≡ 16 = length-order cells long in
+      let whole : length (orderIn cells) ≡ rowLength = length-order cells long in
       let few = a .waits .few in
       let fewer = length-leaving s (waitingOrder st) (a .waits .named) in
       let waiting = length-waiting st (omega arith) in

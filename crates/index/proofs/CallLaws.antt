@@ -21,6 +21,7 @@ use Rattle.slots.specs.Sound.{sound}
 use Rattle.slots.specs.Book.{begins}
 use Rattle.slots.specs.Begin.{outcome, begun}
 use Rattle.slots.specs.Report.{lockKind, holders, lowestHolder, reported}
+use Rattle.lent.specs.Layout.{nAt, waitingAt, stateLength}
 use Rattle.lent.specs.Words.{orderIn, asRead, known, stateOf, laidInto, lentAfter}
 use Rattle.lent.proofs.StateLaws.{length-order, state-known, state-written}
 use Rattle.index.specs.Statements.{BeginSays, ReportSays}
@@ -76,7 +77,7 @@ module _ (cells : List ℕ) (s : ℕ) (op : Op) where
       pub says-busy : openAt (asRead cells) s ≡ true → BeginSays cells s op SlotBusy cells
       says-busy o = refused SlotBusy (begun-busy (stateOf cells) s op h b (ap (λ (st : State). openAt st s) (state-known cells exist) ∙ o)) refl
 
-      pub says-begun : length cells ≡ 435 → openAt (asRead cells) s ≡ false → {after : List ℕ} → after ≡ laidInto cells s (begins (asRead cells) s op)
+      pub says-begun : length cells ≡ stateLength → openAt (asRead cells) s ≡ false → {after : List ℕ} → after ≡ laidInto cells s (begins (asRead cells) s op)
           → BeginSays cells s op Begun after
       unfolding begins slotCount padded pathHolds lentAfter
       says-begun long o {after} e =
@@ -84,8 +85,8 @@ module _ (cells : List ℕ) (s : ℕ) (op : Op) where
           begin-says cells s op (outcome Begun (begins (stateOf cells) s op))
           (begun-done (stateOf cells) s op h b (ap (λ (st : State). openAt st s) read ∙ o))
           (ap stateOf e
-          ∙ state-written cells s (openSlot op 0 [] []) (set (orderIn cells) (getD cells 2 0) s) (getD cells 2 0 + 1) long b
-          (length-set (orderIn cells) (getD cells 2 0) s ∙ length-order cells long) refl refl exist
+          ∙ state-written cells s (openSlot op 0 [] []) (set (orderIn cells) (getD cells waitingAt 0) s) (getD cells waitingAt 0 + 1) long b
+          (length-set (orderIn cells) (getD cells waitingAt 0) s ∙ length-order cells long) refl refl exist
           ∙ ap (λ (st : State). begins st s op) (sym read))
           (e ∙ ap (λ (st : State). laidInto cells s (begins st s op)) (sym read))
 
@@ -117,8 +118,8 @@ module _ (cells : List ℕ) (p : ℕ) where
     h′ : sound (asRead cells) ≡ true
     h′ = ap sound (sym read) ∙ h
 
-    pub report-nowhere : getD cells 1 0 ≤ p → ReportSays cells p BadPage
+    pub report-nowhere : getD cells nAt 0 ≤ p → ReportSays cells p BadPage
     report-nowhere b = record { answer = ap heard (reported-nowhere (asRead cells) p h′ b ∙ ap (λ (st : State). reported st p) (sym read)) }
 
-    pub report-done : p < getD cells 1 0 → {r : Answer} → r ≡ Reported (lockKind (asRead cells) p) (holders (asRead cells) p) (lowestHolder (asRead cells) p) → ReportSays cells p r
+    pub report-done : p < getD cells nAt 0 → {r : Answer} → r ≡ Reported (lockKind (asRead cells) p) (holders (asRead cells) p) (lowestHolder (asRead cells) p) → ReportSays cells p r
     report-done b e = record { answer = ap heard (e ∙ reported-done (asRead cells) p h′ b ∙ ap (λ (st : State). reported st p) (sym read)) }

@@ -16,6 +16,7 @@ use Rattle.slots.specs.declared.Answer.{Answer}
 use Rattle.slots.specs.declared.Answer.the-variants.{Made, BadPool}
 use Rattle.slots.specs.Heard.{heard}
 use Rattle.slots.specs.Parts.{idleState}
+use Rattle.lent.specs.Layout.{stateLength}
 use Rattle.lent.specs.Words.{stateOf, stateWords}
 use Rattle.lent.proofs.Inverse.{state-back, idle-words, idle-sized}
 use Rattle.index.specs.Step.{Left, left}
@@ -78,8 +79,8 @@ made-says l e answer state all words =
     }
 
 -- the words of an idle state
-module _ (cells : List ℕ) (long : length cells ≡ 435) {cleared : List ℕ} (zeros : cleared ≡ replicate (length cells) 0) where
-  all-zero : cleared ≡ replicate 435 0
+module _ (cells : List ℕ) (long : length cells ≡ stateLength) {cleared : List ℕ} (zeros : cleared ≡ replicate (length cells) 0) where
+  all-zero : cleared ≡ replicate stateLength 0
   all-zero = zeros ∙ ap (λ (m : ℕ). replicate m 0) long
 
   idle-cells : (k n : ℕ) → set (set cleared 0 k) 1 n ≡ stateWords (idleState k n)

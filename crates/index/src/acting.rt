@@ -27,6 +27,7 @@ ghost use Rattle.deletion.specs.Deleting.{Deleting};
 ghost use Rattle.slots.specs.declared.Op.the-variants.{Insert};
 ghost use Rattle.slots.specs.Parts.{pathOf, standOf};
 ghost use Rattle.slots.specs.Book.{requeued};
+ghost use Rattle.lent.specs.Layout.{columnLength};
 ghost use Rattle.lent.specs.Words.{asRead, known, laidInto};
 ghost use Rattle.footing.specs.Fitting.{verdict};
 ghost use Rattle.footing.specs.Standing.{Asks, SlotStanding};
@@ -73,7 +74,7 @@ pub fn regrade_lot(words: &mut [u32], k: usize, n: usize, x: u32, v: u32, stand:
 
 // The slot goes on from where it stands and wants this page.
 pub fn go_on(state: &mut [u32; STATE], s: usize, stand: Slot, next: u32)
-    requires { ⌜ (Waits (asRead (now state)) s) × (stand .depth ≤ 10) × (stand .breadth ≤ 10) ⌝ }
+    requires { ⌜ (Waits (asRead (now state)) s) × (stand .depth ≤ columnLength) × (stand .breadth ≤ columnLength) ⌝ }
     ensures { λ _. ⌜ now (state .exit) ≡ laidInto (now (state .entry)) s (requeued (asRead (now (state .entry))) s (wanting next stand)) ⌝ }
 {
     let mut slot = stand;

@@ -23,6 +23,7 @@ use Rattle.slots.specs.Parts.{isOpen, held, pathOf, besideOf, slotAt, openAt, h
 use Rattle.slots.specs.Locks.{lockOf, lockHeldAt, lockWantedAt, clash, noClashOn}
 use Rattle.slots.specs.Grant.{clashingWant, noClash, noOlder}
 use Rattle.slots.proofs.HoldingLaws.{noOlderFrom, older-end, older-here, older-stops, older-more, order-names}
+use Rattle.lent.specs.Layout.{waitingAt, orderFrom, rowLength, columnLength, kindRow, keyRow, informationRow, wantRow, depthRow, breadthRow, pathRow, besideRow, stateLength}
 use Rattle.lent.specs.Words.{cell, column, highestKind, taskFrom, slotIn, orderIn, asRead, known}
 use Rattle.lent.specs.Holds.{WithinRows, OpenOrder, kindLock, lockHeldIn, lockWantedIn, lockNamed, numbersClash, counts, otherHolds, topHolds, isDeep, deepHolds, othersHold, alsoWants}
 use Rattle.lent.proofs.StateLaws.{slot-read, length-column, column-cell, length-order, order-cell}
@@ -70,7 +71,7 @@ any-not f (suc n) = ap (λ (b : Bool). b && not (f n)) (any-not f n) ∙ turned 
 -- ---- tops, and the slots that hold more
 
 -- a slot that holds one page or none
-shallow : (p depth beside : ℕ) (path siblings : List ℕ) → length path ≡ 10 → ltb 1 depth || ltb 0 beside ≡ false
+shallow : (p depth beside : ℕ) (path siblings : List ℕ) → length path ≡ columnLength → ltb 1 depth || ltb 0 beside ≡ false
     → ltb 0 depth && eqb p (getD path 0 0) ≡ member p (take depth path ++ take beside siblings)
 unfolding member
 shallow p depth beside path siblings long e =
@@ -83,14 +84,14 @@ shallow p depth beside path siblings long e =
     or-no true = refl
     or-no false = refl
 
-    by-depth : (d : ℕ) → d ≤ 1 → (l : List ℕ) → length l ≡ 10 → ltb 0 d && eqb p (getD l 0 0) ≡ member p (take d l ++ [])
+    by-depth : (d : ℕ) → d ≤ 1 → (l : List ℕ) → length l ≡ columnLength → ltb 0 d && eqb p (getD l 0 0) ≡ member p (take d l ++ [])
     by-depth zero h l k = refl
     by-depth (suc zero) h [] k = absurd (omega arith)
     by-depth (suc zero) h (x ∷ l) k = or-no (eqb p x)
     by-depth (suc (suc d)) h l k = absurd (omega arith)
 
 -- the top is held
-top-held : (p depth : ℕ) (path rest : List ℕ) → length path ≡ 10 → ltb 0 depth && eqb p (getD path 0 0) ≡ true → member p (take depth path ++ rest) ≡ true
+top-held : (p depth : ℕ) (path rest : List ℕ) → length path ≡ columnLength → ltb 0 depth && eqb p (getD path 0 0) ≡ true → member p (take depth path ++ rest) ≡ true
 unfolding member
 top-held p zero path rest long e = absurd (false≢true e)
 top-held p (suc d) [] rest long e = absurd (omega arith)
@@ -107,31 +108,31 @@ module _ (ws : List ℕ) (s : ℕ) (lock : ℕ) (p : ℕ) where
   top-or-deep : (t : ℕ) → topHolds ws s lock p t || deepHolds ws s lock p t ≡ otherHolds ws s lock p t
   unfolding pathOf besideOf
   top-or-deep t =
-      let path : List ℕ = column ws 6 t in
-      let siblings : List ℕ = column ws 16 t in
-      let first : getD path 0 0 ≡ cell ws 6 t = column-cell ws 6 t 0 (omega arith) in
-      joins (counts ws s lock p t) (ltb 0 (cell ws 4 t) && eqb p (cell ws 6 t)) (isDeep ws t) (member p (held (slotIn ws t)))
-      (λ e. ap (λ (x : ℕ). ltb 0 (cell ws 4 t) && eqb p x) (sym first)
-      ∙ shallow p (cell ws 4 t) (cell ws 5 t) path siblings (length-column ws 6 t) e)
-      (λ e. top-held p (cell ws 4 t) path (take (cell ws 5 t) siblings) (length-column ws 6 t)
-      (ap (λ (x : ℕ). ltb 0 (cell ws 4 t) && eqb p x) first ∙ e))
+      let path : List ℕ = column ws pathRow t in
+      let siblings : List ℕ = column ws besideRow t in
+      let first : getD path 0 0 ≡ cell ws pathRow t = column-cell ws pathRow t 0 (omega arith) in
+      joins (counts ws s lock p t) (ltb 0 (cell ws depthRow t) && eqb p (cell ws pathRow t)) (isDeep ws t) (member p (held (slotIn ws t)))
+      (λ e. ap (λ (x : ℕ). ltb 0 (cell ws depthRow t) && eqb p x) (sym first)
+      ∙ shallow p (cell ws depthRow t) (cell ws breadthRow t) path siblings (length-column ws pathRow t) e)
+      (λ e. top-held p (cell ws depthRow t) path (take (cell ws breadthRow t) siblings) (length-column ws pathRow t)
+      (ap (λ (x : ℕ). ltb 0 (cell ws depthRow t) && eqb p x) first ∙ e))
 
-  both-ways : anyBelow 16 (topHolds ws s lock p) || anyBelow 16 (deepHolds ws s lock p) ≡ othersHold ws s lock p
+  both-ways : anyBelow rowLength (topHolds ws s lock p) || anyBelow rowLength (deepHolds ws s lock p) ≡ othersHold ws s lock p
   unfolding othersHold
-  both-ways = any-or (topHolds ws s lock p) (deepHolds ws s lock p) 16 ∙ anyBelow-same _ _ 16 (λ t _. top-or-deep t)
+  both-ways = any-or (topHolds ws s lock p) (deepHolds ws s lock p) rowLength ∙ anyBelow-same _ _ rowLength (λ t _. top-or-deep t)
 
-  pub others-top : {r : Bool} → r ≡ anyBelow 16 (topHolds ws s lock p) → r ≡ true → true ≡ othersHold ws s lock p
-  others-top e t = sym (sym both-ways ∙ or-first (anyBelow 16 (deepHolds ws s lock p)) (sym e ∙ t))
+  pub others-top : {r : Bool} → r ≡ anyBelow rowLength (topHolds ws s lock p) → r ≡ true → true ≡ othersHold ws s lock p
+  others-top e t = sym (sym both-ways ∙ or-first (anyBelow rowLength (deepHolds ws s lock p)) (sym e ∙ t))
 
-  pub others-deep : {r q : Bool} → r ≡ anyBelow 16 (topHolds ws s lock p) → r ≡ false → q ≡ anyBelow 16 (deepHolds ws s lock p) → q ≡ othersHold ws s lock p
-  others-deep e f d = d ∙ sym (ap (λ (b : Bool). b || anyBelow 16 (deepHolds ws s lock p)) (sym e ∙ f)) ∙ both-ways
+  pub others-deep : {r q : Bool} → r ≡ anyBelow rowLength (topHolds ws s lock p) → r ≡ false → q ≡ anyBelow rowLength (deepHolds ws s lock p) → q ≡ othersHold ws s lock p
+  others-deep e f d = d ∙ sym (ap (λ (b : Bool). b || anyBelow rowLength (deepHolds ws s lock p)) (sym e ∙ f)) ∙ both-ways
 
   -- where no slot holds more than one page
-  pub others-shallow : {r q : Bool} → r ≡ anyBelow 16 (topHolds ws s lock p) → r ≡ false → q ≡ anyBelow 16 (isDeep ws) → q ≡ false → false ≡ othersHold ws s lock p
+  pub others-shallow : {r q : Bool} → r ≡ anyBelow rowLength (topHolds ws s lock p) → r ≡ false → q ≡ anyBelow rowLength (isDeep ws) → q ≡ false → false ≡ othersHold ws s lock p
   others-shallow e f d n =
       others-deep e f
-      (sym (anyBelow-fails (deepHolds ws s lock p) 16
-      (λ t b. and-first-fails (member p (held (slotIn ws t))) (and-second-fails (counts ws s lock p t) (anyBelow-false-at (isDeep ws) 16 (sym d ∙ n) t b)))))
+      (sym (anyBelow-fails (deepHolds ws s lock p) rowLength
+      (λ t b. and-first-fails (member p (held (slotIn ws t))) (and-second-fails (counts ws s lock p t) (anyBelow-false-at (isDeep ws) rowLength (sym d ∙ n) t b)))))
 
   -- a slot that holds more than one page, by its tests
   module _ (t : ℕ) where
@@ -170,9 +171,9 @@ by-kind P a b c d e f (suc (suc (suc (suc zero)))) h = e
 by-kind P a b c d e f (suc (suc (suc (suc (suc zero))))) h = f
 by-kind P a b c d e f (suc (suc (suc (suc (suc (suc n)))))) h = absurd (omega arith)
 
-pub kind-known : (ws : List ℕ) → known ws ≡ true → (t : ℕ) → t < 16 → cell ws 0 t ≤ highestKind
+pub kind-known : (ws : List ℕ) → known ws ≡ true → (t : ℕ) → t < rowLength → cell ws kindRow t ≤ highestKind
 unfolding known slotCount
-kind-known ws e t h = leb-true (cell ws 0 t) highestKind (allBelow-at (λ (s : ℕ). leb (cell ws 0 s) highestKind) 16 e t h)
+kind-known ws e t h = leb-true (cell ws kindRow t) highestKind (allBelow-at (λ (s : ℕ). leb (cell ws kindRow s) highestKind) rowLength e t h)
 
 -- the kind of a slot with an operation is not 0
 kind-if-open : (kind key information : ℕ) → isOpen (taskFrom kind key information) ≡ true → 0 < kind
@@ -208,43 +209,43 @@ swap false false true false none = refl
 swap false false false true none = refl
 swap false false false false none = refl
 
-module _ (ws : List ℕ) (e : known ws ≡ true) (t : ℕ) (b : t < 16) where
+module _ (ws : List ℕ) (e : known ws ≡ true) (t : ℕ) (b : t < rowLength) where
   -- the locks of slot t, by its kind
-  task-lock : lockOf (slotAt (asRead ws) t .task) ≡ kindsLock (cell ws 0 t)
-  task-lock = ap (λ (x : Slot). lockOf (x .task)) (slot-read ws t b) ∙ lock-kind (cell ws 1 t) (cell ws 2 t) (cell ws 0 t) (kind-known ws e t b)
+  task-lock : lockOf (slotAt (asRead ws) t .task) ≡ kindsLock (cell ws kindRow t)
+  task-lock = ap (λ (x : Slot). lockOf (x .task)) (slot-read ws t b) ∙ lock-kind (cell ws keyRow t) (cell ws informationRow t) (cell ws kindRow t) (kind-known ws e t b)
 
-  pub held-read : (p : ℕ) → lockHeldAt (asRead ws) t p ≡ cond (eqb (cell ws 0 t) 0) None (lockNamed (lockHeldIn ws t p))
+  pub held-read : (p : ℕ) → lockHeldAt (asRead ws) t p ≡ cond (eqb (cell ws kindRow t) 0) None (lockNamed (lockHeldIn ws t p))
   held-read p = task-lock
 
-  wanted-read : lockWantedAt (asRead ws) t ≡ cond (eqb (cell ws 0 t) 0) None (lockNamed (lockWantedIn ws t))
+  wanted-read : lockWantedAt (asRead ws) t ≡ cond (eqb (cell ws kindRow t) 0) None (lockNamed (lockWantedIn ws t))
   wanted-read = task-lock
 
   -- an open slot wants with a lock
-  wanted-open : 0 < cell ws 0 t → lockWantedAt (asRead ws) t ≡ lockNamed (lockWantedIn ws t)
-  wanted-open o = wanted-read ∙ cond-false None (lockNamed (lockWantedIn ws t)) (ne-eqb (cell ws 0 t) 0 (λ z. omega arith))
+  wanted-open : 0 < cell ws kindRow t → lockWantedAt (asRead ws) t ≡ lockNamed (lockWantedIn ws t)
+  wanted-open o = wanted-read ∙ cond-false None (lockNamed (lockWantedIn ws t)) (ne-eqb (cell ws kindRow t) 0 (λ z. omega arith))
 
 -- A page held against the locks of the other slots, by the rule and on the words.
 module _ (ws : List ℕ) (e : known ws ≡ true) (short : WithinRows ws) (s p lock : ℕ) where
-  shut-holds : (t : ℕ) → t < 16 → eqb (cell ws 0 t) 0 ≡ true → member p (held (slotIn ws t)) ≡ false
+  shut-holds : (t : ℕ) → t < rowLength → eqb (cell ws kindRow t) 0 ≡ true → member p (held (slotIn ws t)) ≡ false
   unfolding pathOf besideOf
   shut-holds t b z =
-      let none = short .closed t b (eqb-true (cell ws 0 t) 0 z) in
-      ap₂ (λ (d n : ℕ). member p (take d (column ws 6 t) ++ take n (column ws 16 t))) (none .0) (none .1) ∙ member-none p
+      let none = short .closed t b (eqb-true (cell ws kindRow t) 0 z) in
+      ap₂ (λ (d n : ℕ). member p (take d (column ws pathRow t) ++ take n (column ws besideRow t))) (none .0) (none .1) ∙ member-none p
 
-  each : (t : ℕ) → t < 16 → eqb t s || not (holdsAt (asRead ws) t p && clash (lockHeldAt (asRead ws) t p) (lockNamed lock)) ≡ not (otherHolds ws s lock p t)
+  each : (t : ℕ) → t < rowLength → eqb t s || not (holdsAt (asRead ws) t p && clash (lockHeldAt (asRead ws) t p) (lockNamed lock)) ≡ not (otherHolds ws s lock p t)
   each t b =
-      let shut : Bool = eqb (cell ws 0 t) 0 in
+      let shut : Bool = eqb (cell ws kindRow t) 0 in
       ap₂ (λ (x : Slot) (l : Lock). eqb t s || not (member p (held x) && clash l (lockNamed lock))) (slot-read ws t b) (held-read ws e t b p)
       ∙ ap (λ (c : Bool). eqb t s || not (member p (held (slotIn ws t)) && c)) (clash-there shut (lockNamed (lockHeldIn ws t p)) (lockNamed lock))
       ∙ swap (eqb t s) shut (numbersClash (lockHeldIn ws t p) lock) (member p (held (slotIn ws t))) (shut-holds t b)
 
   pub others-words : noClashOn (asRead ws) s p (lockNamed lock) ≡ not (othersHold ws s lock p)
   unfolding slotCount othersHold
-  others-words = allBelow-same _ _ 16 each ∙ any-not (otherHolds ws s lock p) 16
+  others-words = allBelow-same _ _ rowLength each ∙ any-not (otherHolds ws s lock p) rowLength
 
 -- so of the page that an open slot wants
-pub no-clash-words : (ws : List ℕ) (s : ℕ) → known ws ≡ true → s < 16 → WithinRows ws → 0 < cell ws 0 s
-    → {lock want : ℕ} {r : Bool} → lock ≡ lockWantedIn ws s → want ≡ cell ws 3 s → r ≡ othersHold ws s lock want → not r ≡ noClash (asRead ws) s
+pub no-clash-words : (ws : List ℕ) (s : ℕ) → known ws ≡ true → s < rowLength → WithinRows ws → 0 < cell ws kindRow s
+    → {lock want : ℕ} {r : Bool} → lock ≡ lockWantedIn ws s → want ≡ cell ws wantRow s → r ≡ othersHold ws s lock want → not r ≡ noClash (asRead ws) s
 unfolding noClash
 no-clash-words ws s e h short opened {lock} {want} a w said =
     ap not said
@@ -255,8 +256,8 @@ no-clash-words ws s e h short opened {lock} {want} a w said =
 
 -- ---- the walk over older wants, on the words
 
-module _ (ws : List ℕ) (s : ℕ) (long : length ws ≡ 435) (inside : s < 16) (e : known ws ≡ true) (opened : 0 < cell ws 0 s) (waits : OpenOrder ws) where
-  few : getD ws 2 0 ≤ slotCount
+module _ (ws : List ℕ) (s : ℕ) (long : length ws ≡ stateLength) (inside : s < rowLength) (e : known ws ≡ true) (opened : 0 < cell ws kindRow s) (waits : OpenOrder ws) where
+  few : getD ws waitingAt 0 ≤ slotCount
   unfolding slotCount
   few = waits .few
 
@@ -265,25 +266,25 @@ module _ (ws : List ℕ) (s : ℕ) (long : length ws ≡ 435) (inside : s < 16) 
   cells = length-order ws long
 
   -- an open slot wants the page that slot s wants, with a clashing lock
-  want-words : (t : ℕ) → t < 16 → openAt (asRead ws) t ≡ true → clashingWant (asRead ws) s t ≡ alsoWants ws (lockWantedIn ws s) (cell ws 3 s) t
+  want-words : (t : ℕ) → t < rowLength → openAt (asRead ws) t ≡ true → clashingWant (asRead ws) s t ≡ alsoWants ws (lockWantedIn ws s) (cell ws wantRow s) t
   want-words t b o =
-      let some : 0 < cell ws 0 t = kind-if-open (cell ws 0 t) (cell ws 1 t) (cell ws 2 t) (ap (λ (x : Slot). isOpen (x .task)) (sym (slot-read ws t b)) ∙ o) in
+      let some : 0 < cell ws kindRow t = kind-if-open (cell ws kindRow t) (cell ws keyRow t) (cell ws informationRow t) (ap (λ (x : Slot). isOpen (x .task)) (sym (slot-read ws t b)) ∙ o) in
       ap₂ (λ (x y : Slot). eqb (x .want) (y .want) && clash (lockWantedAt (asRead ws) t) (lockWantedAt (asRead ws) s)) (slot-read ws t b) (slot-read ws s inside)
-      ∙ ap₂ (λ (x y : Lock). eqb (cell ws 3 t) (cell ws 3 s) && clash x y) (wanted-open ws e t b some) (wanted-open ws e s inside opened)
+      ∙ ap₂ (λ (x y : Lock). eqb (cell ws wantRow t) (cell ws wantRow s) && clash x y) (wanted-open ws e t b some) (wanted-open ws e s inside opened)
 
   -- behind the last that waits
-  pub walk-end : {i : ℕ} → noOlder (asRead ws) s ≡ noOlderFrom (asRead ws) s i → getD ws 2 0 ≤ i → true ≡ noOlder (asRead ws) s
+  pub walk-end : {i : ℕ} → noOlder (asRead ws) s ≡ noOlderFrom (asRead ws) s i → getD ws waitingAt 0 ≤ i → true ≡ noOlder (asRead ws) s
   walk-end {i} so-far h = sym (so-far ∙ older-end (asRead ws) s i cells few h)
 
   -- at place i
-  module _ {i t : ℕ} (so-far : noOlder (asRead ws) s ≡ noOlderFrom (asRead ws) s i) (here : i < getD ws 2 0) (read : t ≡ getD ws (i + 3) 0) where
+  module _ {i t : ℕ} (so-far : noOlder (asRead ws) s ≡ noOlderFrom (asRead ws) s i) (here : i < getD ws waitingAt 0) (read : t ≡ getD ws (i + orderFrom) 0) where
     place : getD (orderIn ws) i 0 ≡ t
     place = order-cell ws i (omega (arith, waits .few)) ∙ sym read
 
     named : member t (waitingOrder (asRead ws)) ≡ true
     named = subst (λ (x : ℕ). member x (waitingOrder (asRead ws)) ≡ true) place (order-names (asRead ws) i cells few here)
 
-    pub walk-slot : t < 16
+    pub walk-slot : t < rowLength
     unfolding slotCount
     walk-slot = waits .below t named
 
@@ -291,7 +292,7 @@ module _ (ws : List ℕ) (s : ℕ) (long : length ws ≡ 435) (inside : s < 16) 
     walk-own q = sym (so-far ∙ older-here (asRead ws) s i cells few here (place ∙ q))
 
     -- another slot, with what was found of its want
-    module _ (other : t ≡ s → ⊥) {found : Bool} {lock want : ℕ} (own : lock ≡ lockWantedIn ws s) (wanted : want ≡ cell ws 3 s) (said : found ≡ alsoWants ws lock want t) where
+    module _ (other : t ≡ s → ⊥) {found : Bool} {lock want : ℕ} (own : lock ≡ lockWantedIn ws s) (wanted : want ≡ cell ws wantRow s) (said : found ≡ alsoWants ws lock want t) where
       is-found : clashingWant (asRead ws) s (getD (orderIn ws) i 0) ≡ found
       is-found =
           ap (clashingWant (asRead ws) s) place

@@ -8,6 +8,7 @@ use native.Mathlib.Nat.{not-suc-le-zero, le-of-suc-le-suc}
 use native.Mathlib.Numerals.{add-one}
 use lib.ListN.{length, getD, take, set, length-set}
 use lib.Seq.{take-suc, getD-set-same, getD-set-other, length-take-le}
+use Rattle.lent.specs.Layout.{rowsFrom, rowLength}
 use Rattle.lent.specs.Words.{address, cell, spread}
 
 pub length-spread : (ws : List ℕ) (r s : ℕ) (xs : List ℕ) → length (spread ws r s xs) ≡ length ws
@@ -24,18 +25,18 @@ spread-out ws r s (x ∷ xs) i h =
     ∙ getD-set-other ws (address r s) i x 0 (h r (omega arith))
 
 -- a cell of another slot
-pub spread-beside : (ws : List ℕ) (r s : ℕ) (xs : List ℕ) (q t : ℕ) → s < 16 → t < 16 → t ≢ s → cell (spread ws r s xs) q t ≡ cell ws q t
+pub spread-beside : (ws : List ℕ) (r s : ℕ) (xs : List ℕ) (q t : ℕ) → s < rowLength → t < rowLength → t ≢ s → cell (spread ws r s xs) q t ≡ cell ws q t
 spread-beside ws r s xs q t a b n = spread-out ws r s xs (address q t) (λ p _ e. n (apart p e))
   where
     apart : (p : ℕ) → address q t ≡ address p s → t ≡ s
     apart p e = omega arith
 
 -- a word before the rows
-pub spread-front : (ws : List ℕ) (r s : ℕ) (xs : List ℕ) (i : ℕ) → i < 19 → getD (spread ws r s xs) i 0 ≡ getD ws i 0
+pub spread-front : (ws : List ℕ) (r s : ℕ) (xs : List ℕ) (i : ℕ) → i < rowsFrom → getD (spread ws r s xs) i 0 ≡ getD ws i 0
 spread-front ws r s xs i h = spread-out ws r s xs i (λ p _ e. absurd (omega arith))
 
 -- the cells written
-pub spread-at : (ws : List ℕ) (r s : ℕ) (xs : List ℕ) (j : ℕ) → s < 16 → j < length xs → 19 + 16 * (r + length xs) ≤ length ws
+pub spread-at : (ws : List ℕ) (r s : ℕ) (xs : List ℕ) (j : ℕ) → s < rowLength → j < length xs → rowsFrom + rowLength * (r + length xs) ≤ length ws
     → cell (spread ws r s xs) (r + j) s ≡ getD xs j 0
 unfolding spread
 spread-at ws r s [] j a h room = absurd (not-suc-le-zero h)

@@ -11,25 +11,26 @@ use Rattle.slots.specs.declared.Slot.{Slot}
 use Rattle.slots.specs.Parts.{openSlot, closedSlot, waitingOrder}
 use Rattle.slots.specs.Book.{leaving, begins, requeued, closes}
 use Rattle.slots.proofs.MakingLaws.{gapAt}
+use Rattle.lent.specs.Layout.{waitingAt, orderFrom, rowLength, columnLength, kindRow, wantRow, depthRow, breadthRow, pathRow, besideRow, stateLength}
 use Rattle.lent.specs.Words.{address, orderIn, asRead, kindOf, keyIn, informationIn, spread, slotLaid, orderLaid, laidInto}
 use Rattle.lent.proofs.SpreadLaws.{spread-append}
 use Rattle.lent.proofs.StateLaws.{by-front, written-laid}
 
 -- ---- one more that waits
 
-joined-front : (w s a b x : ℕ) (rest : List ℕ) → w < 16 → length (a ∷ b ∷ x ∷ rest) ≡ 435
+joined-front : (w s a b x : ℕ) (rest : List ℕ) → w < rowLength → length (a ∷ b ∷ x ∷ rest) ≡ stateLength
     → set (set (a ∷ b ∷ x ∷ rest) (w + 3) s) 2 (w + 1) ≡ orderLaid (a ∷ b ∷ x ∷ rest) (w + 1) (set (orderIn (a ∷ b ∷ x ∷ rest)) w s)
 unfolding orderLaid orderIn
 joined-front w s a b x rest h long =
     let at : w + 3 ≡ suc (suc (suc w)) = omega arith in
-    let room : length (take 16 rest) ≡ 16 = length-take-le 16 rest (omega arith) in
+    let room : length (take rowLength rest) ≡ rowLength = length-take-le rowLength rest (omega arith) in
     ap (λ (i : ℕ). set (set (a ∷ b ∷ x ∷ rest) i s) 2 (w + 1)) at
-    ∙ ap (λ (l : List ℕ). a ∷ b ∷ (w + 1) ∷ set l w s) (sym (take-append-drop 16 rest))
-    ∙ ap (λ (l : List ℕ). a ∷ b ∷ (w + 1) ∷ l) (set-append-left (take 16 rest) (drop 16 rest) w s (omega arith))
+    ∙ ap (λ (l : List ℕ). a ∷ b ∷ (w + 1) ∷ set l w s) (sym (take-append-drop rowLength rest))
+    ∙ ap (λ (l : List ℕ). a ∷ b ∷ (w + 1) ∷ l) (set-append-left (take rowLength rest) (drop rowLength rest) w s (omega arith))
 
-pub joined : (ws : List ℕ) (w s : ℕ) → length ws ≡ 435 → w < 16 → set (set ws (w + 3) s) 2 (w + 1) ≡ orderLaid ws (w + 1) (set (orderIn ws) w s)
+pub joined : (ws : List ℕ) (w s : ℕ) → length ws ≡ stateLength → w < rowLength → set (set ws (w + orderFrom) s) waitingAt (w + 1) ≡ orderLaid ws (w + 1) (set (orderIn ws) w s)
 joined ws w s long h =
-    by-front (λ (l : List ℕ). length l ≡ 435 → set (set l (w + 3) s) 2 (w + 1) ≡ orderLaid l (w + 1) (set (orderIn l) w s))
+    by-front (λ (l : List ℕ). length l ≡ stateLength → set (set l (w + orderFrom) s) waitingAt (w + 1) ≡ orderLaid l (w + 1) (set (orderIn l) w s))
     (λ a b x rest e. joined-front w s a b x rest h e)
     ws (omega arith) long
 
@@ -52,49 +53,49 @@ gap-read order at i behind inside =
     ∙ ap (λ (j : ℕ). getD order j 0) back
 
 -- the order alone written anew
-pub left-laid : (ws order : List ℕ) → length ws ≡ 435 → putMid 3 16 ws order ≡ orderLaid ws (getD ws 2 0) order
+pub left-laid : (ws order : List ℕ) → length ws ≡ stateLength → putMid orderFrom rowLength ws order ≡ orderLaid ws (getD ws waitingAt 0) order
 unfolding orderLaid
 left-laid ws order long =
-    by-front (λ (l : List ℕ). putMid 3 16 l order ≡ orderLaid l (getD l 2 0) order) (λ a b x rest. refl) ws (omega arith)
+    by-front (λ (l : List ℕ). putMid orderFrom rowLength l order ≡ orderLaid l (getD l 2 0) order) (λ a b x rest. refl) ws (omega arith)
 
 -- then the number of those that wait
-pub fewer-laid : (ws order : List ℕ) (w v : ℕ) → length ws ≡ 435 → set (orderLaid ws w order) 2 v ≡ orderLaid ws v order
+pub fewer-laid : (ws order : List ℕ) (w v : ℕ) → length ws ≡ stateLength → set (orderLaid ws w order) waitingAt v ≡ orderLaid ws v order
 unfolding orderLaid
 fewer-laid ws order w v long =
-    by-front (λ (l : List ℕ). set (orderLaid l w order) 2 v ≡ orderLaid l v order) (λ a b x rest. refl) ws (omega arith)
+    by-front (λ (l : List ℕ). set (orderLaid l w order) waitingAt v ≡ orderLaid l v order) (λ a b x rest. refl) ws (omega arith)
 
 -- ---- the whole
 
-module _ (ws : List ℕ) (s : ℕ) (long : length ws ≡ 435) (inside : s < 16) where
-  pub begins-writes : (op : Op) → slotLaid (orderLaid ws (getD ws 2 0 + 1) (set (orderIn ws) (getD ws 2 0) s)) s (openSlot op 0 [] []) ≡ laidInto ws s (begins (asRead ws) s op)
+module _ (ws : List ℕ) (s : ℕ) (long : length ws ≡ stateLength) (inside : s < rowLength) where
+  pub begins-writes : (op : Op) → slotLaid (orderLaid ws (getD ws waitingAt 0 + 1) (set (orderIn ws) (getD ws waitingAt 0) s)) s (openSlot op 0 [] []) ≡ laidInto ws s (begins (asRead ws) s op)
   unfolding begins
-  begins-writes op = sym (written-laid ws s (openSlot op 0 [] []) (set (orderIn ws) (getD ws 2 0) s) (getD ws 2 0 + 1) long inside)
+  begins-writes op = sym (written-laid ws s (openSlot op 0 [] []) (set (orderIn ws) (getD ws waitingAt 0) s) (getD ws waitingAt 0 + 1) long inside)
 
   pub requeued-writes : (slot : Slot)
-      → slotLaid (orderLaid ws (getD ws 2 0) (leaving s (take (getD ws 2 0) (orderIn ws)) ++ s ∷ drop (getD ws 2 0) (orderIn ws))) s slot ≡ laidInto ws s (requeued (asRead ws) s slot)
+      → slotLaid (orderLaid ws (getD ws waitingAt 0) (leaving s (take (getD ws waitingAt 0) (orderIn ws)) ++ s ∷ drop (getD ws waitingAt 0) (orderIn ws))) s slot ≡ laidInto ws s (requeued (asRead ws) s slot)
   unfolding waitingOrder
-  requeued-writes slot = sym (written-laid ws s slot _ (getD ws 2 0) long inside)
+  requeued-writes slot = sym (written-laid ws s slot _ (getD ws waitingAt 0) long inside)
 
-  pub closes-writes : slotLaid (orderLaid ws (getD ws 2 0 - 1) (leaving s (take (getD ws 2 0) (orderIn ws)) ++ 0 ∷ drop (getD ws 2 0) (orderIn ws))) s closedSlot ≡ laidInto ws s (closes (asRead ws) s)
+  pub closes-writes : slotLaid (orderLaid ws (getD ws waitingAt 0 - 1) (leaving s (take (getD ws waitingAt 0) (orderIn ws)) ++ 0 ∷ drop (getD ws waitingAt 0) (orderIn ws))) s closedSlot ≡ laidInto ws s (closes (asRead ws) s)
   unfolding waitingOrder closes
-  closes-writes = sym (written-laid ws s closedSlot _ (getD ws 2 0 - 1) long inside)
+  closes-writes = sym (written-laid ws s closedSlot _ (getD ws waitingAt 0 - 1) long inside)
 
 -- a slot laid down number by number
-pub laid-by : (ws : List ℕ) (s : ℕ) (slot : Slot) {c₁ c₂ c₃ c₄ c₅ c₆ : List ℕ} → length (slot .path) ≡ 10
-    → c₁ ≡ spread ws 0 s (kindOf (slot .task) ∷ keyIn (slot .task) ∷ informationIn (slot .task) ∷ [])
-    → c₂ ≡ set c₁ (address 3 s) (slot .want)
-    → c₃ ≡ set c₂ (address 4 s) (slot .depth)
-    → c₄ ≡ set c₃ (address 5 s) (slot .breadth)
-    → c₅ ≡ spread c₄ 6 s (slot .path)
-    → c₆ ≡ spread c₅ 16 s (slot .beside)
+pub laid-by : (ws : List ℕ) (s : ℕ) (slot : Slot) {c₁ c₂ c₃ c₄ c₅ c₆ : List ℕ} → length (slot .path) ≡ columnLength
+    → c₁ ≡ spread ws kindRow s (kindOf (slot .task) ∷ keyIn (slot .task) ∷ informationIn (slot .task) ∷ [])
+    → c₂ ≡ set c₁ (address wantRow s) (slot .want)
+    → c₃ ≡ set c₂ (address depthRow s) (slot .depth)
+    → c₄ ≡ set c₃ (address breadthRow s) (slot .breadth)
+    → c₅ ≡ spread c₄ pathRow s (slot .path)
+    → c₆ ≡ spread c₅ besideRow s (slot .beside)
     → c₆ ≡ slotLaid ws s slot
 unfolding slotLaid spread
 laid-by ws s slot long e₁ e₂ e₃ e₄ e₅ e₆ =
-    let six : List ℕ = spread ws 0 s (kindOf (slot .task) ∷ keyIn (slot .task) ∷ informationIn (slot .task) ∷ slot .want ∷ slot .depth ∷ slot .breadth ∷ []) in
+    let six : List ℕ = spread ws kindRow s (kindOf (slot .task) ∷ keyIn (slot .task) ∷ informationIn (slot .task) ∷ slot .want ∷ slot .depth ∷ slot .breadth ∷ []) in
     let there : _ ≡ six =
-    e₄ ∙ ap (λ (l : List ℕ). set l (address 5 s) (slot .breadth)) (e₃ ∙ ap (λ (l : List ℕ). set l (address 4 s) (slot .depth)) (e₂ ∙ ap (λ (l : List ℕ). set l (address 3 s) (slot .want)) e₁)) in
-    let behind : 6 + length (slot .path) ≡ 16 = omega arith in
+    e₄ ∙ ap (λ (l : List ℕ). set l (address breadthRow s) (slot .breadth)) (e₃ ∙ ap (λ (l : List ℕ). set l (address depthRow s) (slot .depth)) (e₂ ∙ ap (λ (l : List ℕ). set l (address wantRow s) (slot .want)) e₁)) in
+    let behind : pathRow + length (slot .path) ≡ besideRow = omega arith in
     e₆
-    ∙ ap (λ (l : List ℕ). spread l 16 s (slot .beside)) (e₅ ∙ ap (λ (l : List ℕ). spread l 6 s (slot .path)) there)
-    ∙ ap (λ (r : ℕ). spread (spread six 6 s (slot .path)) r s (slot .beside)) (sym behind)
-    ∙ sym (spread-append six 6 s (slot .path) (slot .beside))
+    ∙ ap (λ (l : List ℕ). spread l besideRow s (slot .beside)) (e₅ ∙ ap (λ (l : List ℕ). spread l pathRow s (slot .path)) there)
+    ∙ ap (λ (r : ℕ). spread (spread six pathRow s (slot .path)) r s (slot .beside)) (sym behind)
+    ∙ sym (spread-append six pathRow s (slot .path) (slot .beside))

@@ -12,17 +12,18 @@ use Rattle.slots.specs.declared.Lock.the-variants.{Rho, Xi}
 use Rattle.slots.specs.Parts.{held, openAt, waitingOrder}
 use Rattle.slots.specs.Locks.{clash}
 use Rattle.slots.specs.Heard.{lockNumber}
+use Rattle.lent.specs.Layout.{waitingAt, rowLength, columnLength, kindRow, wantRow, depthRow, breadthRow, pathRow}
 use Rattle.lent.specs.Words.{cell, slotIn, asRead}
 
 -- no path is longer than its rows, nor are the pages beside it, and a closed slot holds nothing
 pub record WithinRows (ws : List ℕ) : Type 0 where
-  pub path : (s : ℕ) → s < 16 → cell ws 4 s ≤ 10
-  pub beside : (s : ℕ) → s < 16 → cell ws 5 s ≤ 10
-  pub closed : (t : ℕ) → t < 16 → cell ws 0 t ≡ 0 → (cell ws 4 t ≡ 0) × (cell ws 5 t ≡ 0)
+  pub path : (s : ℕ) → s < rowLength → cell ws depthRow s ≤ columnLength
+  pub beside : (s : ℕ) → s < rowLength → cell ws breadthRow s ≤ columnLength
+  pub closed : (t : ℕ) → t < rowLength → cell ws kindRow t ≡ 0 → (cell ws depthRow t ≡ 0) × (cell ws breadthRow t ≡ 0)
 
 -- the waiting order is no longer than its row, and names open slots
 pub record OpenOrder (ws : List ℕ) : Type 0 where
-  pub few : getD ws 2 0 ≤ 16
+  pub few : getD ws waitingAt 0 ≤ rowLength
   pub below : (t : ℕ) → member t (waitingOrder (asRead ws)) ≡ true → t < slotCount
   pub opened : (t : ℕ) → member t (waitingOrder (asRead ws)) ≡ true → openAt (asRead ws) t ≡ true
 
@@ -36,10 +37,10 @@ kindLock kind = cond (updatesKind kind) (lockNumber Xi) (lockNumber Rho)
 
 -- the lock under which slot t holds page p, and the one that it wants
 abbrev pub lockHeldIn : List ℕ → ℕ → ℕ → ℕ
-lockHeldIn ws t p = kindLock (cell ws 0 t)
+lockHeldIn ws t p = kindLock (cell ws kindRow t)
 
 abbrev pub lockWantedIn : List ℕ → ℕ → ℕ
-lockWantedIn ws t = kindLock (cell ws 0 t)
+lockWantedIn ws t = kindLock (cell ws kindRow t)
 
 -- the lock of a number, and the rule's table of two numbers
 abbrev pub lockNamed : ℕ → Lock
@@ -58,19 +59,19 @@ otherHolds ws s lock p t = counts ws s lock p t && member p (held (slotIn ws t))
 
 -- it holds page p on top of its path
 abbrev pub topHolds : List ℕ → ℕ → ℕ → ℕ → ℕ → Bool
-topHolds ws s lock p t = counts ws s lock p t && (ltb 0 (cell ws 4 t) && eqb p (cell ws 6 t))
+topHolds ws s lock p t = counts ws s lock p t && (ltb 0 (cell ws depthRow t) && eqb p (cell ws pathRow t))
 
 -- it holds more than one page
 abbrev pub isDeep : List ℕ → ℕ → Bool
-isDeep ws t = ltb 1 (cell ws 4 t) || ltb 0 (cell ws 5 t)
+isDeep ws t = ltb 1 (cell ws depthRow t) || ltb 0 (cell ws breadthRow t)
 
 abbrev pub deepHolds : List ℕ → ℕ → ℕ → ℕ → ℕ → Bool
 deepHolds ws s lock p t = counts ws s lock p t && isDeep ws t && member p (held (slotIn ws t))
 
 -- some slot other than s holds page p under a lock that clashes with this one
 unfoldable pub othersHold : List ℕ → ℕ → ℕ → ℕ → Bool
-othersHold ws s lock p = anyBelow 16 (otherHolds ws s lock p)
+othersHold ws s lock p = anyBelow rowLength (otherHolds ws s lock p)
 
 -- slot t wants page p, with a lock that clashes with this one
 abbrev pub alsoWants : List ℕ → ℕ → ℕ → ℕ → Bool
-alsoWants ws lock p t = eqb (cell ws 3 t) p && numbersClash (lockWantedIn ws t) lock
+alsoWants ws lock p t = eqb (cell ws wantRow t) p && numbersClash (lockWantedIn ws t) lock

@@ -15,25 +15,24 @@ use Rattle.slots.specs.declared.State.{State}
 use Rattle.slots.specs.declared.Answer.{Answer}
 use Rattle.slots.specs.Heard.{changesNothing}
 use Rattle.slots.specs.Parts.{slotAt, idleState}
+use Rattle.lent.specs.Layout.{kAt, nAt, waitingAt, orderFrom, rowsFrom, rowLength, columnLength, kindRow, keyRow, informationRow, wantRow, depthRow, breadthRow, pathRow, besideRow, rowWords}
 
 -- the list of what f gives for 0 to n - 1
 unfoldable pub listOf : {A : Type 0} → ℕ → (ℕ → A) → List A
 listOf zero f = []
 listOf (suc n) f = listOf n f ++ f n ∷ []
 
--- Where row r of slot s lies: behind 3 words and the 16 of the order, in rows of 16. The numbers are those of the limits
--- (`layout`, in proofs/StateLaws).
+-- where row r of slot s lies
 abbrev pub address : ℕ → ℕ → ℕ
-address r s = 19 + 16 * r + s
+address r s = rowsFrom + rowLength * r + s
 
 -- the word in row r of slot s
 abbrev pub cell : List ℕ → ℕ → ℕ → ℕ
 cell ws r s = getD ws (address r s) 0
 
--- Rows: 0 kind of task, 1 key, 2 information, 3 want, 4 how long the path is, 5 how many pages stand beside it, 6 to 15 the path,
--- 16 to 25 the pages beside it.
+-- a column of slot s: its words in the rows from r on
 unfoldable pub column : List ℕ → ℕ → ℕ → List ℕ
-column ws r s = listOf 10 (λ (j : ℕ). cell ws (r + j) s)
+column ws r s = listOf columnLength (λ (j : ℕ). cell ws (r + j) s)
 
 -- the highest kind of task
 abbrev pub highestKind : ℕ
@@ -53,25 +52,25 @@ taskFrom kind key information =
 -- slot s of these words
 abbrev pub slotIn : List ℕ → ℕ → Slot
 slotIn ws s = record {
-  task = taskFrom (cell ws 0 s) (cell ws 1 s) (cell ws 2 s);
-  want = cell ws 3 s;
-  path = column ws 6 s;
-  depth = cell ws 4 s;
-  beside = column ws 16 s;
-  breadth = cell ws 5 s;
+  task = taskFrom (cell ws kindRow s) (cell ws keyRow s) (cell ws informationRow s);
+  want = cell ws wantRow s;
+  path = column ws pathRow s;
+  depth = cell ws depthRow s;
+  beside = column ws besideRow s;
+  breadth = cell ws breadthRow s;
 }
 
 -- the waiting order
 unfoldable pub orderIn : List ℕ → List ℕ
-orderIn ws = take 16 (drop 3 ws)
+orderIn ws = take rowLength (drop orderFrom ws)
 
 -- the state as the words read
 abbrev pub asRead : List ℕ → State
-asRead ws = record { k = getD ws 0 0; n = getD ws 1 0; slots = listOf 16 (slotIn ws); order = orderIn ws; waiting = getD ws 2 0 }
+asRead ws = record { k = getD ws kAt 0; n = getD ws nAt 0; slots = listOf rowLength (slotIn ws); order = orderIn ws; waiting = getD ws waitingAt 0 }
 
 -- every kind exists
 unfoldable pub known : List ℕ → Bool
-known ws = allBelow slotCount (λ (s : ℕ). leb (cell ws 0 s) highestKind)
+known ws = allBelow slotCount (λ (s : ℕ). leb (cell ws kindRow s) highestKind)
 
 -- The state of these words. A kind that does not exist makes them no state: they count as the empty one, "which is itself
 -- BadState".
@@ -117,11 +116,11 @@ spread ws r s (x ∷ xs) = spread (set ws (address r s) x) (suc r) s xs
 
 -- a slot laid down in its column
 unfoldable pub slotLaid : List ℕ → ℕ → Slot → List ℕ
-slotLaid ws s slot = spread ws 0 s (rowsOf slot)
+slotLaid ws s slot = spread ws kindRow s (rowsOf slot)
 
 -- the number of those that wait, and the order
 unfoldable pub orderLaid : List ℕ → ℕ → List ℕ → List ℕ
-orderLaid ws waiting order = take 2 ws ++ waiting ∷ order ++ drop 19 ws
+orderLaid ws waiting order = take waitingAt ws ++ waiting ∷ order ++ drop rowsFrom ws
 
 -- the words with slot s and the waiting order as a state has them; all others stay
 unfoldable pub laidInto : List ℕ → ℕ → State → List ℕ
@@ -133,4 +132,4 @@ lentAfter ws s answer st = cond (changesNothing answer) ws (laidInto ws s st)
 
 -- all words of a state
 unfoldable pub stateWords : State → List ℕ
-stateWords st = st .k ∷ st .n ∷ st .waiting ∷ st .order ++ listOf 416 (λ (i : ℕ). getD (rowsOf (slotAt st (i % 16))) (i / 16) 0)
+stateWords st = st .k ∷ st .n ∷ st .waiting ∷ st .order ++ listOf rowWords (λ (i : ℕ). getD (rowsOf (slotAt st (i % rowLength))) (i / rowLength) 0)

@@ -18,6 +18,7 @@ ghost use lib.ListN.{length, getD, take, drop, set, replicate};
 ghost use Rattle.ground.specs.Tests.{member};
 ghost use Rattle.slots.specs.Parts.{waitingOrder};
 ghost use Rattle.slots.specs.Book.{leaving, begins, requeued, closes};
+ghost use Rattle.lent.specs.Layout.{waitingAt, rowLength, columnLength, stateLength};
 ghost use Rattle.lent.specs.Words.{orderIn, asRead, orderLaid, laidInto};
 
 // Every word 0.
@@ -62,15 +63,15 @@ pub fn leave(order: &mut [u32], waiting: usize, s: u32, last: u32)
 
 // The same in the words of a state.
 pub fn leave_order(cells: &mut [u32], waiting: usize, s: u32, last: u32)
-    requires { ⌜ (length (now cells) ≡ 435) × (waiting ≤ 16) × (member s (take waiting (orderIn (now cells))) ≡ true) ⌝ }
-    ensures { λ _. ⌜ now (cells .exit) ≡ orderLaid (now (cells .entry)) (getD (now (cells .entry)) 2 0) (leaving s (take waiting (orderIn (now (cells .entry)))) ++ last ∷ drop waiting (orderIn (now (cells .entry)))) ⌝ }
+    requires { ⌜ (length (now cells) ≡ stateLength) × (waiting ≤ rowLength) × (member s (take waiting (orderIn (now cells))) ≡ true) ⌝ }
+    ensures { λ _. ⌜ now (cells .exit) ≡ orderLaid (now (cells .entry)) (getD (now (cells .entry)) waitingAt 0) (leaving s (take waiting (orderIn (now (cells .entry)))) ++ last ∷ drop waiting (orderIn (now (cells .entry)))) ⌝ }
 {
     leave(&mut cells[ORDER..ROWS_FROM], waiting, s, last);
 }
 
 // Slot s is the last that waits.
 pub fn join_order(cells: &mut [u32; STATE], waiting: usize, s: usize)
-    requires { ⌜ (waiting < 16) × (s < 16) ⌝ }
+    requires { ⌜ (waiting < rowLength) × (s < rowLength) ⌝ }
     ensures { λ _. ⌜ now (cells .exit) ≡ orderLaid (now (cells .entry)) (waiting + 1) (set (orderIn (now (cells .entry))) waiting s) ⌝ }
 {
     sized(cells);
@@ -80,7 +81,7 @@ pub fn join_order(cells: &mut [u32; STATE], waiting: usize, s: usize)
 
 // Beginning an operation makes the slot want page 0.
 pub fn begins(cells: &mut [u32; STATE], s: usize, op: Op)
-    requires { ⌜ (s < 16) × (getD (now cells) 2 0 < 16) ⌝ }
+    requires { ⌜ (s < rowLength) × (getD (now cells) waitingAt 0 < rowLength) ⌝ }
     ensures { λ _. ⌜ now (cells .exit) ≡ laidInto (now (cells .entry)) s (begins (asRead (now (cells .entry))) s op) ⌝ }
 {
     sized(cells);
@@ -91,7 +92,7 @@ pub fn begins(cells: &mut [u32; STATE], s: usize, op: Op)
 
 // The slot goes on with new holdings: its new want goes to the end of the waiting order.
 pub fn requeues(cells: &mut [u32; STATE], s: usize, slot: Slot)
-    requires { ⌜ (s < 16) × (getD (now cells) 2 0 ≤ 16) × (member s (waitingOrder (asRead (now cells))) ≡ true) × (slot .depth ≤ 10) × (slot .breadth ≤ 10) ⌝ }
+    requires { ⌜ (s < rowLength) × (getD (now cells) waitingAt 0 ≤ rowLength) × (member s (waitingOrder (asRead (now cells))) ≡ true) × (slot .depth ≤ columnLength) × (slot .breadth ≤ columnLength) ⌝ }
     ensures { λ _. ⌜ now (cells .exit) ≡ laidInto (now (cells .entry)) s (requeued (asRead (now (cells .entry))) s slot) ⌝ }
 {
     sized(cells);
@@ -102,7 +103,7 @@ pub fn requeues(cells: &mut [u32; STATE], s: usize, slot: Slot)
 
 // An answer that ends the operation gives up every lock and closes the slot.
 pub fn closes(cells: &mut [u32; STATE], s: usize)
-    requires { ⌜ (s < 16) × (getD (now cells) 2 0 ≤ 16) × (member s (waitingOrder (asRead (now cells))) ≡ true) ⌝ }
+    requires { ⌜ (s < rowLength) × (getD (now cells) waitingAt 0 ≤ rowLength) × (member s (waitingOrder (asRead (now cells))) ≡ true) ⌝ }
     ensures { λ _. ⌜ now (cells .exit) ≡ laidInto (now (cells .entry)) s (closes (asRead (now (cells .entry))) s) ⌝ }
 {
     sized(cells);

@@ -14,6 +14,7 @@ use ground::SLOTS;
 ghost use mathlib.Core.Path.{_≡_};
 ghost use Prim.Native.Nat.{_+_, _<_};
 ghost use lib.ListN.{length, getD, set};
+ghost use Rattle.lent.specs.Layout.{kAt, nAt, waitingAt, orderFrom, rowLength, kindRow, wantRow, depthRow, breadthRow, pathRow, rowCount, stateLength};
 ghost use Rattle.lent.specs.Words.{address, cell};
 
 pub fn wide(x: u32) -> usize
@@ -24,13 +25,13 @@ pub fn wide(x: u32) -> usize
 
 // The words are as many as a state has.
 pub fn sized(cells: &[u32])
-    requires { ⌜ length (now cells) ≡ 435 ⌝ }
-    ensures { λ _. ⌜ length (now (cells .entry)) ≡ 435 ⌝ }
+    requires { ⌜ length (now cells) ≡ stateLength ⌝ }
+    ensures { λ _. ⌜ length (now (cells .entry)) ≡ stateLength ⌝ }
 {}
 
 // The word in a row of slot s.
 pub fn word_at(cells: &[u32; STATE], row: usize, s: usize) -> u32
-    requires { ⌜ (row < 26) × (s < 16) ⌝ }
+    requires { ⌜ (row < rowCount) × (s < rowLength) ⌝ }
     ensures { λ r. ⌜ r ≡ cell (now (cells .entry)) row s ⌝ }
 {
     cells[ROWS_FROM + SLOTS * row + s]
@@ -38,7 +39,7 @@ pub fn word_at(cells: &[u32; STATE], row: usize, s: usize) -> u32
 
 // The same, written.
 pub fn put(cells: &mut [u32; STATE], row: usize, s: usize, x: u32)
-    requires { ⌜ (row < 26) × (s < 16) ⌝ }
+    requires { ⌜ (row < rowCount) × (s < rowLength) ⌝ }
     ensures { λ _. ⌜ now (cells .exit) ≡ set (now (cells .entry)) (address row s) x ⌝ }
 {
     cells[ROWS_FROM + SLOTS * row + s] = x;
@@ -46,69 +47,69 @@ pub fn put(cells: &mut [u32; STATE], row: usize, s: usize, x: u32)
 
 // k.
 pub fn k_of(cells: &[u32; STATE]) -> usize
-    ensures { λ r. ⌜ r ≡ getD (now (cells .entry)) 0 0 ⌝ }
+    ensures { λ r. ⌜ r ≡ getD (now (cells .entry)) kAt 0 ⌝ }
 {
     wide(cells[WIDTH])
 }
 
 // N.
 pub fn n_of(cells: &[u32; STATE]) -> usize
-    ensures { λ r. ⌜ r ≡ getD (now (cells .entry)) 1 0 ⌝ }
+    ensures { λ r. ⌜ r ≡ getD (now (cells .entry)) nAt 0 ⌝ }
 {
     wide(cells[PAGES])
 }
 
 // How many wait.
 pub fn waiting_of(cells: &[u32; STATE]) -> usize
-    ensures { λ r. ⌜ r ≡ getD (now (cells .entry)) 2 0 ⌝ }
+    ensures { λ r. ⌜ r ≡ getD (now (cells .entry)) waitingAt 0 ⌝ }
 {
     wide(cells[WAITING])
 }
 
 // The slot at place i of the waiting order.
 pub fn order_at(cells: &[u32; STATE], i: usize) -> usize
-    requires { ⌜ i < 16 ⌝ }
-    ensures { λ r. ⌜ r ≡ getD (now (cells .entry)) (i + 3) 0 ⌝ }
+    requires { ⌜ i < rowLength ⌝ }
+    ensures { λ r. ⌜ r ≡ getD (now (cells .entry)) (i + orderFrom) 0 ⌝ }
 {
     wide(cells[i + ORDER])
 }
 
 // The kind of task of slot s.
 pub fn kind_at(cells: &[u32; STATE], s: usize) -> u32
-    requires { ⌜ s < 16 ⌝ }
-    ensures { λ r. ⌜ r ≡ cell (now (cells .entry)) 0 s ⌝ }
+    requires { ⌜ s < rowLength ⌝ }
+    ensures { λ r. ⌜ r ≡ cell (now (cells .entry)) kindRow s ⌝ }
 {
     word_at(cells, KIND, s)
 }
 
 // The page that it wants.
 pub fn want_at(cells: &[u32; STATE], s: usize) -> u32
-    requires { ⌜ s < 16 ⌝ }
-    ensures { λ r. ⌜ r ≡ cell (now (cells .entry)) 3 s ⌝ }
+    requires { ⌜ s < rowLength ⌝ }
+    ensures { λ r. ⌜ r ≡ cell (now (cells .entry)) wantRow s ⌝ }
 {
     word_at(cells, WANT, s)
 }
 
 // How many pages are on its path.
 pub fn depth_at(cells: &[u32; STATE], s: usize) -> u32
-    requires { ⌜ s < 16 ⌝ }
-    ensures { λ r. ⌜ r ≡ cell (now (cells .entry)) 4 s ⌝ }
+    requires { ⌜ s < rowLength ⌝ }
+    ensures { λ r. ⌜ r ≡ cell (now (cells .entry)) depthRow s ⌝ }
 {
     word_at(cells, DEPTH, s)
 }
 
 // How many pages it holds beside its path.
 pub fn breadth_at(cells: &[u32; STATE], s: usize) -> u32
-    requires { ⌜ s < 16 ⌝ }
-    ensures { λ r. ⌜ r ≡ cell (now (cells .entry)) 5 s ⌝ }
+    requires { ⌜ s < rowLength ⌝ }
+    ensures { λ r. ⌜ r ≡ cell (now (cells .entry)) breadthRow s ⌝ }
 {
     word_at(cells, BREADTH, s)
 }
 
 // The top page of its path.
 pub fn top_at(cells: &[u32; STATE], s: usize) -> u32
-    requires { ⌜ s < 16 ⌝ }
-    ensures { λ r. ⌜ r ≡ cell (now (cells .entry)) 6 s ⌝ }
+    requires { ⌜ s < rowLength ⌝ }
+    ensures { λ r. ⌜ r ≡ cell (now (cells .entry)) pathRow s ⌝ }
 {
     word_at(cells, PATH, s)
 }

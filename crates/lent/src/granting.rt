@@ -24,6 +24,7 @@ ghost use lib.ListN.{take};
 ghost use Rattle.ground.specs.Tests.{anyBelow, member};
 ghost use Rattle.slots.specs.Parts.{held};
 ghost use Rattle.slots.specs.Grant as rule;
+ghost use Rattle.lent.specs.Layout.{rowLength, columnLength, kindRow, besideRow};
 ghost use Rattle.lent.specs.Words.{cell, column, slotIn, asRead, known};
 ghost use Rattle.lent.specs.Holds.{WithinRows, OpenOrder, updatesKind, kindLock, numbersClash, topHolds, deepHolds, isDeep, othersHold, alsoWants};
 
@@ -34,7 +35,7 @@ pub const XI: u32 = 2;
 
 // Page p stands in one of the first `count` rows from `row` on, of slot s.
 pub fn column_has(cells: &[u32; STATE], row: usize, count: usize, s: usize, p: u32) -> bool
-    requires { ⌜ (row ≤ 16) × (count ≤ 10) × (s < 16) ⌝ }
+    requires { ⌜ (row ≤ besideRow) × (count ≤ columnLength) × (s < rowLength) ⌝ }
     ensures { λ r. ⌜ r ≡ member p (take count (column (now (cells .entry)) row s)) ⌝ }
 {
     let mut j = 0;
@@ -49,7 +50,7 @@ pub fn column_has(cells: &[u32; STATE], row: usize, count: usize, s: usize, p: u
 
 // Slot s holds page p, on its path or as a sibling.
 pub fn holds_at(cells: &[u32; STATE], s: usize, p: u32) -> bool
-    requires { ⌜ (s < 16) × WithinRows (now cells) ⌝ }
+    requires { ⌜ (s < rowLength) × WithinRows (now cells) ⌝ }
     ensures { λ r. ⌜ r ≡ member p (held (slotIn (now (cells .entry)) s)) ⌝ }
 {
     if column_has(cells, PATH, wide(depth_at(cells, s)), s, p) {
@@ -91,8 +92,8 @@ pub fn is_top(t: u32, s: u32, lock: u32, kind: u32, depth: u32, top: u32, p: u32
 
 // Another slot than s has page p on top of its path, under a lock that clashes with this one.
 pub fn tops_hold(cells: &[u32; STATE], s: usize, lock: u32, p: u32) -> bool
-    requires { ⌜ s < 16 ⌝ }
-    ensures { λ r. ⌜ r ≡ anyBelow 16 (topHolds (now (cells .entry)) s lock p) ⌝ }
+    requires { ⌜ s < rowLength ⌝ }
+    ensures { λ r. ⌜ r ≡ anyBelow rowLength (topHolds (now (cells .entry)) s lock p) ⌝ }
 {
     let mut found = false;
     let mut t = 0;
@@ -114,7 +115,7 @@ pub fn tops_hold(cells: &[u32; STATE], s: usize, lock: u32, p: u32) -> bool
 
 // Slot t holds more than one page.
 pub fn is_deep(cells: &[u32; STATE], t: usize) -> bool
-    requires { ⌜ t < 16 ⌝ }
+    requires { ⌜ t < rowLength ⌝ }
     ensures { λ r. ⌜ r ≡ isDeep (now (cells .entry)) t ⌝ }
 {
     (1 < depth_at(cells, t)) | (0 < breadth_at(cells, t))
@@ -122,7 +123,7 @@ pub fn is_deep(cells: &[u32; STATE], t: usize) -> bool
 
 // Some slot does.
 pub fn some_deep(cells: &[u32; STATE]) -> bool
-    ensures { λ r. ⌜ r ≡ anyBelow 16 (isDeep (now (cells .entry))) ⌝ }
+    ensures { λ r. ⌜ r ≡ anyBelow rowLength (isDeep (now (cells .entry))) ⌝ }
 {
     let mut found = false;
     let mut t = 0;
@@ -135,7 +136,7 @@ pub fn some_deep(cells: &[u32; STATE]) -> bool
 
 // Slot t is another one than s, its lock clashes with this one, it holds more than one page, and page p is among them.
 pub fn deep_holds(cells: &[u32; STATE], s: usize, lock: u32, p: u32, t: usize) -> bool
-    requires { ⌜ (t < 16) × WithinRows (now cells) ⌝ }
+    requires { ⌜ (t < rowLength) × WithinRows (now cells) ⌝ }
     ensures { λ r. ⌜ r ≡ deepHolds (now (cells .entry)) s lock p t ⌝ }
 {
     if !is_deep(cells, t) {
@@ -153,7 +154,7 @@ pub fn deep_holds(cells: &[u32; STATE], s: usize, lock: u32, p: u32, t: usize) -
 // Such a slot is there.
 pub fn some_deep_holds(cells: &[u32; STATE], s: usize, lock: u32, p: u32) -> bool
     requires { ⌜ WithinRows (now cells) ⌝ }
-    ensures { λ r. ⌜ r ≡ anyBelow 16 (deepHolds (now (cells .entry)) s lock p) ⌝ }
+    ensures { λ r. ⌜ r ≡ anyBelow rowLength (deepHolds (now (cells .entry)) s lock p) ⌝ }
 {
     let mut t = 0;
     while t < SLOTS {
@@ -167,7 +168,7 @@ pub fn some_deep_holds(cells: &[u32; STATE], s: usize, lock: u32, p: u32) -> boo
 
 // Another slot than s holds page p under a lock that clashes with this one.
 pub fn others_hold(cells: &[u32; STATE], s: usize, lock: u32, p: u32) -> bool
-    requires { ⌜ (s < 16) × WithinRows (now cells) ⌝ }
+    requires { ⌜ (s < rowLength) × WithinRows (now cells) ⌝ }
     ensures { λ r. ⌜ r ≡ othersHold (now (cells .entry)) s lock p ⌝ }
 {
     if tops_hold(cells, s, lock, p) {
@@ -181,7 +182,7 @@ pub fn others_hold(cells: &[u32; STATE], s: usize, lock: u32, p: u32) -> bool
 
 // No other slot holds a clashing lock on the page that slot s wants. A closed slot has no lock, and holds no page either.
 pub fn no_clash(cells: &[u32; STATE], s: usize) -> bool
-    requires { ⌜ (s < 16) × (known (now cells) ≡ true) × WithinRows (now cells) × (0 < cell (now cells) 0 s) ⌝ }
+    requires { ⌜ (s < rowLength) × (known (now cells) ≡ true) × WithinRows (now cells) × (0 < cell (now cells) kindRow s) ⌝ }
     ensures { λ r. ⌜ r ≡ rule.noClash (asRead (now (cells .entry))) s ⌝ }
 {
     let lock = kind_lock(kind_at(cells, s));
@@ -190,7 +191,7 @@ pub fn no_clash(cells: &[u32; STATE], s: usize) -> bool
 
 // Slot t wants page p, with a lock that clashes with this one.
 pub fn also_wants(cells: &[u32; STATE], lock: u32, p: u32, t: usize) -> bool
-    requires { ⌜ t < 16 ⌝ }
+    requires { ⌜ t < rowLength ⌝ }
     ensures { λ r. ⌜ r ≡ alsoWants (now (cells .entry)) lock p t ⌝ }
 {
     if want_at(cells, t) != p {
@@ -201,7 +202,7 @@ pub fn also_wants(cells: &[u32; STATE], lock: u32, p: u32, t: usize) -> bool
 
 // No older want clashes with that of slot s.
 pub fn no_older(cells: &[u32; STATE], s: usize) -> bool
-    requires { ⌜ (s < 16) × (known (now cells) ≡ true) × (0 < cell (now cells) 0 s) × OpenOrder (now cells) ⌝ }
+    requires { ⌜ (s < rowLength) × (known (now cells) ≡ true) × (0 < cell (now cells) kindRow s) × OpenOrder (now cells) ⌝ }
     ensures { λ r. ⌜ r ≡ rule.noOlder (asRead (now (cells .entry))) s ⌝ }
 {
     sized(cells);
@@ -226,7 +227,7 @@ pub fn no_older(cells: &[u32; STATE], s: usize) -> bool
 
 // A step grants the want of slot s.
 pub fn grants(cells: &[u32; STATE], s: usize) -> bool
-    requires { ⌜ (s < 16) × (known (now cells) ≡ true) × WithinRows (now cells) × (0 < cell (now cells) 0 s) × OpenOrder (now cells) ⌝ }
+    requires { ⌜ (s < rowLength) × (known (now cells) ≡ true) × WithinRows (now cells) × (0 < cell (now cells) kindRow s) × OpenOrder (now cells) ⌝ }
     ensures { λ r. ⌜ r ≡ rule.grants (asRead (now (cells .entry))) s ⌝ }
 {
     if !no_older(cells, s) {

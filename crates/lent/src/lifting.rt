@@ -28,6 +28,7 @@ use slots::Task;
 ghost use mathlib.Core.Path.{_≡_};
 ghost use mathlib.Core.List.{[], _∷_};
 ghost use Prim.Native.Nat.{_≤_, _<_};
+ghost use Rattle.lent.specs.Layout.{rowLength, columnLength, besideRow};
 ghost use Rattle.lent.specs.Words.{column, taskFrom, slotIn, kindOf, keyIn, informationIn, spread, slotLaid};
 
 // The task of this kind.
@@ -54,7 +55,7 @@ pub fn task_of(kind: u32, key: u32, information: u32) -> Task
 
 // Ten rows of slot s.
 pub fn column_of(cells: &[u32; STATE], row: usize, s: usize) -> [u32; HELD]
-    requires { ⌜ (row ≤ 16) × (s < 16) ⌝ }
+    requires { ⌜ (row ≤ besideRow) × (s < rowLength) ⌝ }
     ensures { λ r. ⌜ r ≡ column (now (cells .entry)) row s ⌝ }
 {
     let mut pages = [0u32; HELD];
@@ -68,7 +69,7 @@ pub fn column_of(cells: &[u32; STATE], row: usize, s: usize) -> [u32; HELD]
 
 // The task of slot s.
 pub fn task_at(cells: &[u32; STATE], s: usize) -> Task
-    requires { ⌜ s < 16 ⌝ }
+    requires { ⌜ s < rowLength ⌝ }
     ensures { λ r. ⌜ r ≡ slotIn (now (cells .entry)) s .task ⌝ }
 {
     let kind = kind_at(cells, s);
@@ -79,7 +80,7 @@ pub fn task_at(cells: &[u32; STATE], s: usize) -> Task
 
 // Slot s.
 pub fn slot_at(cells: &[u32; STATE], s: usize) -> Slot
-    requires { ⌜ s < 16 ⌝ }
+    requires { ⌜ s < rowLength ⌝ }
     ensures { λ r. ⌜ r ≡ slotIn (now (cells .entry)) s ⌝ }
 {
     let task = task_at(cells, s);
@@ -143,7 +144,7 @@ pub fn information_of(task: Task) -> u32
 
 // The three numbers of a task, down the column of slot s.
 pub fn lay_task(cells: &mut [u32; STATE], s: usize, task: Task)
-    requires { ⌜ s < 16 ⌝ }
+    requires { ⌜ s < rowLength ⌝ }
     ensures { λ _. ⌜ now (cells .exit) ≡ spread (now (cells .entry)) 0 s (kindOf task ∷ keyIn task ∷ informationIn task ∷ []) ⌝ }
 {
     let kind = kind_of(task);
@@ -156,7 +157,7 @@ pub fn lay_task(cells: &mut [u32; STATE], s: usize, task: Task)
 
 // Ten pages, down the column of slot s.
 pub fn lay_column(cells: &mut [u32; STATE], row: usize, s: usize, pages: [u32; HELD])
-    requires { ⌜ (row ≤ 16) × (s < 16) ⌝ }
+    requires { ⌜ (row ≤ besideRow) × (s < rowLength) ⌝ }
     ensures { λ _. ⌜ now (cells .exit) ≡ spread (now (cells .entry)) row s pages ⌝ }
 {
     let mut j = 0;
@@ -168,7 +169,7 @@ pub fn lay_column(cells: &mut [u32; STATE], row: usize, s: usize, pages: [u32; H
 
 // A slot, laid back.
 pub fn lay(cells: &mut [u32; STATE], s: usize, slot: Slot)
-    requires { ⌜ (s < 16) × (slot .depth ≤ 10) × (slot .breadth ≤ 10) ⌝ }
+    requires { ⌜ (s < rowLength) × (slot .depth ≤ columnLength) × (slot .breadth ≤ columnLength) ⌝ }
     ensures { λ _. ⌜ now (cells .exit) ≡ slotLaid (now (cells .entry)) s slot ⌝ }
 {
     let task = slot.task;

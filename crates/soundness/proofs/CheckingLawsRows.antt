@@ -1,6 +1,6 @@
 -- Laws for the rows of the slots: what they tell of a slot's pages, and that with the slots that hold more than one page they
 -- are the rule of a sound slot.
-use Prim.Native.Nat.{ℕ, zero, suc, _≤_, _<_}
+use Prim.Native.Nat.{ℕ, zero, suc, _-_, _≤_, _<_}
 use mathlib.Core.Bool.{Bool, true, false, not, _&&_, _||_, and-true, and-false}
 use mathlib.Core.List.{List, [], _∷_, _++_}
 use mathlib.Core.Logic.{_⊎_, inl, inr, ⊎-elim}
@@ -15,6 +15,7 @@ use Rattle.ground.proofs.Bools.{and-first, and-second, and-both, or-cases, or-s
 use Rattle.ground.proofs.Tests.{allBelow-at}
 use Rattle.slots.specs.Parts.{pathOf, besideOf}
 use Rattle.slots.specs.Sound.{withinLimits, belowAndOnce, ifOpen, slotSound}
+use Rattle.lent.specs.Layout.{rowLength, columnLength, kindRow, keyRow, informationRow, wantRow, depthRow, breadthRow, pathRow, besideRow}
 use Rattle.lent.specs.Words.{cell, column, highestKind, taskFrom, slotIn}
 use Rattle.lent.specs.Holds.{WithinRows}
 use Rattle.lent.proofs.HoldLaws.{by-kind}
@@ -41,7 +42,7 @@ one-held true false e = refl
 one-held false b e = refl
 
 -- one page or none is held
-shallow : (n want depth breadth : ℕ) (path siblings : List ℕ) → length path ≡ 10 → ltb 1 depth || ltb 0 breadth ≡ false
+shallow : (n want depth breadth : ℕ) (path siblings : List ℕ) → length path ≡ columnLength → ltb 1 depth || ltb 0 breadth ≡ false
     → named depth n want (getD path 0 0) ≡ asked n want (take depth path ++ take breadth siblings)
 unfolding all distinct member
 shallow n want depth breadth path siblings long e =
@@ -49,14 +50,14 @@ shallow n want depth breadth path siblings long e =
     by-depth depth (ltb-false 1 depth (or-first-fails (ltb 1 depth) (ltb 0 breadth) e)) path long
     ∙ ap (λ (b : ℕ). asked n want (take depth path ++ take b siblings)) (sym none)
   where
-    by-depth : (d : ℕ) → d ≤ 1 → (l : List ℕ) → length l ≡ 10 → named d n want (getD l 0 0) ≡ asked n want (take d l ++ [])
+    by-depth : (d : ℕ) → d ≤ 1 → (l : List ℕ) → length l ≡ columnLength → named d n want (getD l 0 0) ≡ asked n want (take d l ++ [])
     by-depth zero h l k = none-held (ltb want n)
     by-depth (suc zero) h [] k = absurd (omega arith)
     by-depth (suc zero) h (x ∷ l) k = one-held (ltb want n) (ltb x n) (eqb want x)
     by-depth (suc (suc d)) h l k = absurd (omega arith)
 
 -- however many are held
-rows-of-pages : (n want depth : ℕ) (path rest : List ℕ) → length path ≡ 10 → asked n want (take depth path ++ rest) ≡ true → named depth n want (getD path 0 0) ≡ true
+rows-of-pages : (n want depth : ℕ) (path rest : List ℕ) → length path ≡ columnLength → asked n want (take depth path ++ rest) ≡ true → named depth n want (getD path 0 0) ≡ true
 unfolding all distinct member
 rows-of-pages n want zero path rest long e =
     and-both (and-first (ltb want n) (all (λ (p : ℕ). ltb p n) rest) (and-first (all (λ (p : ℕ). ltb p n) (want ∷ rest)) (distinct (want ∷ rest)) e)) refl
@@ -81,12 +82,12 @@ fewer depth breadth = eqb breadth 0 || ltb breadth depth
 
 -- the numbers of pages held, as the rows test them
 abbrev rowLimits : ℕ → ℕ → ℕ → Bool
-rowLimits kind depth breadth = leb kind highestKind && leb depth 10 && (not (eqb kind 0) || eqb depth 0) && fewer depth breadth
+rowLimits kind depth breadth = leb kind highestKind && leb depth columnLength && (not (eqb kind 0) || eqb depth 0) && fewer depth breadth
 
 pub record Row (kind depth breadth : ℕ) : Type 0 where
   pub exists : kind ≤ highestKind
-  pub path : depth ≤ 10
-  pub beside : breadth ≤ 10
+  pub path : depth ≤ columnLength
+  pub beside : breadth ≤ columnLength
   pub closed : kind ≡ 0 → (depth ≡ 0) × (breadth ≡ 0)
 
 pub row-says : (kind depth breadth n want top : ℕ) → fineRow kind depth breadth n want top ≡ true → Row kind depth breadth
@@ -94,17 +95,17 @@ row-says kind depth breadth n want top e =
     let g = not (eqb kind 0) || eqb depth 0 in
     let w = eqb kind 0 || ltb want n in
     let limits = and-first (rowLimits kind depth breadth) w (and-first (rowLimits kind depth breadth && w) (eqb depth 0 || (ltb top n && not (eqb want top))) e) in
-    let numbers = and-first (leb kind highestKind && leb depth 10 && g) (fewer depth breadth) limits in
-    let both = and-first (leb kind highestKind && leb depth 10) g numbers in
-    let l = leb-true depth 10 (and-second (leb kind highestKind) (leb depth 10) both) in
+    let numbers = and-first (leb kind highestKind && leb depth columnLength && g) (fewer depth breadth) limits in
+    let both = and-first (leb kind highestKind && leb depth columnLength) g numbers in
+    let l = leb-true depth columnLength (and-second (leb kind highestKind) (leb depth columnLength) both) in
     let few : (breadth ≡ 0) ⊎ (breadth < depth) =
     ⊎-elim (λ z. inl (eqb-true breadth 0 z)) (λ d. inr (ltb-true breadth depth d))
-    (or-cases (eqb breadth 0) (ltb breadth depth) (and-second (leb kind highestKind && leb depth 10 && g) (fewer depth breadth) limits)) in
+    (or-cases (eqb breadth 0) (ltb breadth depth) (and-second (leb kind highestKind && leb depth columnLength && g) (fewer depth breadth) limits)) in
     let none : kind ≡ 0 → depth ≡ 0 = λ z.
     eqb-true depth 0
-    (ap (λ (k : ℕ). not (eqb k 0) || eqb depth 0) (sym z) ∙ and-second (leb kind highestKind && leb depth 10) g numbers) in
+    (ap (λ (k : ℕ). not (eqb k 0) || eqb depth 0) (sym z) ∙ and-second (leb kind highestKind && leb depth columnLength) g numbers) in
     record {
-      exists = leb-true kind highestKind (and-first (leb kind highestKind) (leb depth 10) both);
+      exists = leb-true kind highestKind (and-first (leb kind highestKind) (leb depth columnLength) both);
       path = l;
       beside = ⊎-elim (λ z. omega arith) (λ d. omega arith) few;
       closed = λ z. (none z, ⊎-elim (λ y. y) (λ d. let empty = none z in absurd (omega arith)) few);
@@ -152,20 +153,20 @@ follows true false true h = sym (h refl refl)
 follows true false false h = refl
 
 -- fewer siblings than path pages are few enough
-few-beside : (depth breadth : ℕ) → leb depth 10 ≡ true → fewer depth breadth ≡ true → leb breadth 9 ≡ true
+few-beside : (depth breadth : ℕ) → leb depth columnLength ≡ true → fewer depth breadth ≡ true → leb breadth (columnLength - 1) ≡ true
 few-beside depth breadth a g =
-    let short = leb-true depth 10 a in
+    let short = leb-true depth columnLength a in
     ⊎-elim
-    (λ z. let none = eqb-true breadth 0 z in le-leb breadth 9 (omega arith))
-    (λ l. let less = ltb-true breadth depth l in le-leb breadth 9 (omega arith))
+    (λ z. let none = eqb-true breadth 0 z in le-leb breadth (columnLength - 1) (omega arith))
+    (λ l. let less = ltb-true breadth depth l in le-leb breadth (columnLength - 1) (omega arith))
     (or-cases (eqb breadth 0) (ltb breadth depth) g)
 
 -- and one that may hold more beside it too
-beside-too : (depth breadth : ℕ) → leb depth 10 && true && fewer depth breadth && (not (more depth breadth) || true) ≡ most 10 9 depth breadth
+beside-too : (depth breadth : ℕ) → leb depth columnLength && true && fewer depth breadth && (not (more depth breadth) || true) ≡ most columnLength (columnLength - 1) depth breadth
 beside-too depth breadth =
-    ap (λ (b : Bool). leb depth 10 && true && fewer depth breadth && b) (or-second (not (more depth breadth)) refl)
-    ∙ and-true (leb depth 10 && true && fewer depth breadth)
-    ∙ follows (leb depth 10) (leb breadth 9) (fewer depth breadth) (few-beside depth breadth)
+    ap (λ (b : Bool). leb depth columnLength && true && fewer depth breadth && b) (or-second (not (more depth breadth)) refl)
+    ∙ and-true (leb depth columnLength && true && fewer depth breadth)
+    ∙ follows (leb depth columnLength) (leb breadth (columnLength - 1)) (fewer depth breadth) (few-beside depth breadth)
 
 -- the kind's test stands before that of the pages, which asks what the rows ask
 fits : (r w t d m p : Bool) → (d ≡ false → w && t ≡ p) → (p ≡ true → w && t ≡ true) → r && w && t && (not d || (m && p)) ≡ r && (not d || m) && p
@@ -183,10 +184,10 @@ module _ (key information depth breadth n want top : ℕ) (pages : Bool)
 
   -- the limits of an open kind are the rule's; what is left are the pages
   limited : (onPath aside : ℕ) (m : Bool)
-      → leb depth 10 && true && fewer depth breadth && (not (more depth breadth) || m) ≡ most onPath aside depth breadth
-      → leb depth 10 && true && fewer depth breadth && ltb want n && (eqb depth 0 || (ltb top n && not (eqb want top))) && (not (more depth breadth) || (m && pages)) ≡ most onPath aside depth breadth && pages
+      → leb depth columnLength && true && fewer depth breadth && (not (more depth breadth) || m) ≡ most onPath aside depth breadth
+      → leb depth columnLength && true && fewer depth breadth && ltb want n && (eqb depth 0 || (ltb top n && not (eqb want top))) && (not (more depth breadth) || (m && pages)) ≡ most onPath aside depth breadth && pages
   limited onPath aside m e =
-      fits (leb depth 10 && true && fewer depth breadth) (ltb want n) (eqb depth 0 || (ltb top n && not (eqb want top))) (more depth breadth) m pages same told
+      fits (leb depth columnLength && true && fewer depth breadth) (ltb want n) (eqb depth 0 || (ltb top n && not (eqb want top))) (more depth breadth) m pages same told
       ∙ ap (λ (l : Bool). l && pages) e
 
   -- a closed slot: nothing is held, and nothing asked of its pages
@@ -209,7 +210,7 @@ module _ (key information depth breadth n want top : ℕ) (pages : Bool)
   unfolding searchHolds
   at-most-one =
       limited 1 0 false
-      (one-page (leb depth 10) (fewer depth breadth) (ltb 1 depth) (ltb 0 breadth) (λ e. let few = ltb-false 1 depth e in le-leb depth 10 (omega arith))
+      (one-page (leb depth columnLength) (fewer depth breadth) (ltb 1 depth) (ltb 0 breadth) (λ e. let few = ltb-false 1 depth e in le-leb depth columnLength (omega arith))
       ∙ ap₂ (λ (a b : Bool). a && b && fewer depth breadth) (at-most depth 1) (at-most breadth 0))
 
   kind-fits : (kind : ℕ) → kind ≤ highestKind → Fits kind
@@ -218,31 +219,31 @@ module _ (key information depth breadth n want top : ℕ) (pages : Bool)
       by-kind Fits
       nothing
       at-most-one
-      (limited 10 0 (eqb breadth 0)
-      (ap (λ (m : Bool). leb depth 10 && true && fewer depth breadth && (not (more depth breadth) || m)) (at-most-none breadth ∙ sym (at-most breadth 0))
-      ∙ path-alone (leb depth 10) (fewer depth breadth) (ltb 1 depth) (ltb 0 breadth)
-      ∙ ap (λ (b : Bool). leb depth 10 && b && fewer depth breadth) (at-most breadth 0)))
-      (limited 10 9 true (beside-too depth breadth))
-      (limited 10 9 true (beside-too depth breadth))
+      (limited columnLength 0 (eqb breadth 0)
+      (ap (λ (m : Bool). leb depth columnLength && true && fewer depth breadth && (not (more depth breadth) || m)) (at-most-none breadth ∙ sym (at-most breadth 0))
+      ∙ path-alone (leb depth columnLength) (fewer depth breadth) (ltb 1 depth) (ltb 0 breadth)
+      ∙ ap (λ (b : Bool). leb depth columnLength && b && fewer depth breadth) (at-most breadth 0)))
+      (limited columnLength (columnLength - 1) true (beside-too depth breadth))
+      (limited columnLength (columnLength - 1) true (beside-too depth breadth))
       at-most-one
 
 -- the rows and the pages of a slot that holds more are the rule
-pub slot-fits : (ws : List ℕ) (n s : ℕ) → cell ws 0 s ≤ highestKind → rowFine ws n s && deepFine ws n s ≡ slotSound n (slotIn ws s)
+pub slot-fits : (ws : List ℕ) (n s : ℕ) → cell ws kindRow s ≤ highestKind → rowFine ws n s && deepFine ws n s ≡ slotSound n (slotIn ws s)
 unfolding slotSound pathOf besideOf
 slot-fits ws n s known =
-    let path : List ℕ = column ws 6 s in
-    let first : getD path 0 0 ≡ cell ws 6 s = column-cell ws 6 s 0 (omega arith) in
-    kind-fits (cell ws 1 s) (cell ws 2 s) (cell ws 4 s) (cell ws 5 s) n (cell ws 3 s) (cell ws 6 s) (belowAndOnce n (slotIn ws s))
-    (λ e. ap (named (cell ws 4 s) n (cell ws 3 s)) (sym first) ∙ shallow n (cell ws 3 s) (cell ws 4 s) (cell ws 5 s) path (column ws 16 s) (length-column ws 6 s) e)
-    (λ e. ap (named (cell ws 4 s) n (cell ws 3 s)) (sym first)
-    ∙ rows-of-pages n (cell ws 3 s) (cell ws 4 s) path (take (cell ws 5 s) (column ws 16 s)) (length-column ws 6 s) e)
-    (cell ws 0 s) known
+    let path : List ℕ = column ws pathRow s in
+    let first : getD path 0 0 ≡ cell ws pathRow s = column-cell ws pathRow s 0 (omega arith) in
+    kind-fits (cell ws keyRow s) (cell ws informationRow s) (cell ws depthRow s) (cell ws breadthRow s) n (cell ws wantRow s) (cell ws pathRow s) (belowAndOnce n (slotIn ws s))
+    (λ e. ap (named (cell ws depthRow s) n (cell ws wantRow s)) (sym first) ∙ shallow n (cell ws wantRow s) (cell ws depthRow s) (cell ws breadthRow s) path (column ws besideRow s) (length-column ws pathRow s) e)
+    (λ e. ap (named (cell ws depthRow s) n (cell ws wantRow s)) (sym first)
+    ∙ rows-of-pages n (cell ws wantRow s) (cell ws depthRow s) path (take (cell ws breadthRow s) (column ws besideRow s)) (length-column ws pathRow s) e)
+    (cell ws kindRow s) known
 
 -- ---- the rows of every slot
 
-module _ (ws : List ℕ) (n : ℕ) (e : allBelow 16 (rowFine ws n) ≡ true) where
-  pub row-at : (s : ℕ) → s < 16 → Row (cell ws 0 s) (cell ws 4 s) (cell ws 5 s)
-  row-at s h = row-says (cell ws 0 s) (cell ws 4 s) (cell ws 5 s) n (cell ws 3 s) (cell ws 6 s) (allBelow-at (rowFine ws n) 16 e s h)
+module _ (ws : List ℕ) (n : ℕ) (e : allBelow rowLength (rowFine ws n) ≡ true) where
+  pub row-at : (s : ℕ) → s < rowLength → Row (cell ws kindRow s) (cell ws depthRow s) (cell ws breadthRow s)
+  row-at s h = row-says (cell ws kindRow s) (cell ws depthRow s) (cell ws breadthRow s) n (cell ws wantRow s) (cell ws pathRow s) (allBelow-at (rowFine ws n) rowLength e s h)
 
   -- no path and no list of siblings is longer than its rows, and a closed slot holds nothing
   pub rows-short : WithinRows ws

@@ -16,6 +16,7 @@ use Rattle.slots.specs.declared.Slot.{Slot}
 use Rattle.slots.specs.Parts.{idleState, slotAt, openAt, isOpen}
 use Rattle.slots.specs.Sound.{namesEach, orderSound, slotSound, noClashingHolds, sound}
 use Rattle.slots.proofs.SoundFacts.{SoundState, sound-facts, empty-unsound}
+use Rattle.lent.specs.Layout.{kAt, nAt, waitingAt, rowLength, kindRow, keyRow, informationRow}
 use Rattle.lent.specs.Words.{cell, highestKind, taskFrom, orderIn, asRead, known, stateOf}
 use Rattle.lent.specs.Holds.{WithinRows}
 use Rattle.lent.proofs.StateLaws.{slot-read, state-known}
@@ -46,36 +47,36 @@ open-kind : (key information kind : ℕ) → kind ≤ highestKind → isOpen (ta
 open-kind key information = by-kind (λ (k : ℕ). isOpen (taskFrom k key information) ≡ openKind k) refl refl refl refl refl refl
 
 -- a slot is open as its kind tells
-open-as : (ws : List ℕ) (s : ℕ) → known ws ≡ true → s < 16 → openAt (asRead ws) s ≡ openKind (cell ws 0 s)
-open-as ws s e h = ap (λ (x : Slot). isOpen (x .task)) (slot-read ws s h) ∙ open-kind (cell ws 1 s) (cell ws 2 s) (cell ws 0 s) (kind-known ws e s h)
+open-as : (ws : List ℕ) (s : ℕ) → known ws ≡ true → s < rowLength → openAt (asRead ws) s ≡ openKind (cell ws kindRow s)
+open-as ws s e h = ap (λ (x : Slot). isOpen (x .task)) (slot-read ws s h) ∙ open-kind (cell ws keyRow s) (cell ws informationRow s) (cell ws kindRow s) (kind-known ws e s h)
 
-pub kind-closed : (ws : List ℕ) (s : ℕ) → known ws ≡ true → s < 16 → cell ws 0 s ≡ 0 → openAt (asRead ws) s ≡ false
+pub kind-closed : (ws : List ℕ) (s : ℕ) → known ws ≡ true → s < rowLength → cell ws kindRow s ≡ 0 → openAt (asRead ws) s ≡ false
 kind-closed ws s e h z = open-as ws s e h ∙ ap openKind z
 
-pub kind-open : (ws : List ℕ) (s : ℕ) → known ws ≡ true → s < 16 → (cell ws 0 s ≡ 0 → ⊥) → openAt (asRead ws) s ≡ true
+pub kind-open : (ws : List ℕ) (s : ℕ) → known ws ≡ true → s < rowLength → (cell ws kindRow s ≡ 0 → ⊥) → openAt (asRead ws) s ≡ true
 kind-open ws s e h n =
-    open-as ws s e h ∙ and-both (not-of-false (ne-eqb (cell ws 0 s) 0 n)) (le-leb (cell ws 0 s) highestKind (kind-known ws e s h))
+    open-as ws s e h ∙ and-both (not-of-false (ne-eqb (cell ws kindRow s) 0 n)) (le-leb (cell ws kindRow s) highestKind (kind-known ws e s h))
 
-order-words : (ws : List ℕ) → known ws ≡ true → orderSound (asRead ws) ≡ namesEach (λ (s : ℕ). openKind (cell ws 0 s)) (getD ws 2 0) (orderIn ws)
+order-words : (ws : List ℕ) → known ws ≡ true → orderSound (asRead ws) ≡ namesEach (λ (s : ℕ). openKind (cell ws kindRow s)) (getD ws waitingAt 0) (orderIn ws)
 unfolding slotCount
 order-words ws e =
-    named-same (openAt (asRead ws)) (λ (s : ℕ). openKind (cell ws 0 s)) (getD ws 2 0) (orderIn ws)
+    named-same (openAt (asRead ws)) (λ (s : ℕ). openKind (cell ws kindRow s)) (getD ws waitingAt 0) (orderIn ws)
     (λ s h. open-as ws s e h)
 
 -- ---- the slots
 
 slots-words : (ws : List ℕ) → known ws ≡ true
-    → allBelow 16 (rowFine ws (getD ws 1 0)) && allBelow 16 (deepFine ws (getD ws 1 0)) ≡ allBelow slotCount (λ (s : ℕ). slotSound (getD ws 1 0) (slotAt (asRead ws) s))
+    → allBelow rowLength (rowFine ws (getD ws nAt 0)) && allBelow rowLength (deepFine ws (getD ws nAt 0)) ≡ allBelow slotCount (λ (s : ℕ). slotSound (getD ws nAt 0) (slotAt (asRead ws) s))
 unfolding slotCount
 slots-words ws e =
-    all-both (rowFine ws (getD ws 1 0)) (deepFine ws (getD ws 1 0)) 16
-    ∙ allBelow-same _ _ 16
-    (λ s h. slot-fits ws (getD ws 1 0) s (kind-known ws e s h) ∙ ap (slotSound (getD ws 1 0)) (sym (slot-read ws s h)))
+    all-both (rowFine ws (getD ws nAt 0)) (deepFine ws (getD ws nAt 0)) rowLength
+    ∙ allBelow-same _ _ rowLength
+    (λ s h. slot-fits ws (getD ws nAt 0) s (kind-known ws e s h) ∙ ap (slotSound (getD ws nAt 0)) (sym (slot-read ws s h)))
 
 -- rows that are fine are of kinds that exist
-rows-known : (ws : List ℕ) (n : ℕ) → allBelow 16 (rowFine ws n) ≡ true → known ws ≡ true
+rows-known : (ws : List ℕ) (n : ℕ) → allBelow rowLength (rowFine ws n) ≡ true → known ws ≡ true
 unfolding known slotCount
-rows-known ws n e = allBelow-from (λ (s : ℕ). leb (cell ws 0 s) highestKind) 16 (λ s h. le-leb (cell ws 0 s) highestKind (row-at ws n e s h .exists))
+rows-known ws n e = allBelow-from (λ (s : ℕ). leb (cell ws kindRow s) highestKind) rowLength (λ s h. le-leb (cell ws kindRow s) highestKind (row-at ws n e s h .exists))
 
 -- ---- the whole
 
@@ -94,19 +95,19 @@ last-any true false w d a b f = refl
 
 module _ (ws : List ℕ) where
   abbrev numbers : Bool
-  numbers = kInRange (getD ws 0 0) && nInRange (getD ws 1 0)
+  numbers = kInRange (getD ws kAt 0) && nInRange (getD ws nAt 0)
 
   abbrev rows : Bool
-  rows = allBelow 16 (rowFine ws (getD ws 1 0))
+  rows = allBelow rowLength (rowFine ws (getD ws nAt 0))
 
   abbrev names : Bool
-  names = namesEach (λ (s : ℕ). openKind (cell ws 0 s)) (getD ws 2 0) (orderIn ws)
+  names = namesEach (λ (s : ℕ). openKind (cell ws kindRow s)) (getD ws waitingAt 0) (orderIn ws)
 
   abbrev deeps : Bool
-  deeps = allBelow 16 (deepFine ws (getD ws 1 0))
+  deeps = allBelow rowLength (deepFine ws (getD ws nAt 0))
 
   abbrev alones : Bool
-  alones = allBelow 16 (xiAlone ws)
+  alones = allBelow rowLength (xiAlone ws)
 
   abbrev clashless : Bool
   clashless = noClashingHolds (asRead ws)
@@ -114,11 +115,11 @@ module _ (ws : List ℕ) where
   known-sound : known ws ≡ true → sound (asRead ws) ≡ numbers && rows && names && deeps && alones
   unfolding sound
   known-sound e =
-      ap (λ (w : Bool). numbers && w && allBelow slotCount (λ (s : ℕ). slotSound (getD ws 1 0) (slotAt (asRead ws) s)) && clashless) (order-words ws e)
+      ap (λ (w : Bool). numbers && w && allBelow slotCount (λ (s : ℕ). slotSound (getD ws nAt 0) (slotAt (asRead ws) s)) && clashless) (order-words ws e)
       ∙ ap (λ (x : Bool). numbers && names && x && clashless) (sym (slots-words ws e))
       ∙ reorder numbers names rows deeps clashless
       ∙ by-test rows
-      (λ t. ap (λ (a : Bool). numbers && rows && names && deeps && a) (no-clashes ws e (rows-short ws (getD ws 1 0) t)))
+      (λ t. ap (λ (a : Bool). numbers && rows && names && deeps && a) (no-clashes ws e (rows-short ws (getD ws nAt 0) t)))
       (last-any numbers rows names deeps clashless alones)
 
   unknown-state : known ws ≡ false → sound (stateOf ws) ≡ false
@@ -130,7 +131,7 @@ module _ (ws : List ℕ) where
       ⊎-elim
       (λ e. ap sound (state-known ws e) ∙ known-sound e)
       (λ f.
-      let none : rows ≡ false = false-if-not-true rows (λ t. not-both (rows-known ws (getD ws 1 0) t) f) in
+      let none : rows ≡ false = false-if-not-true rows (λ t. not-both (rows-known ws (getD ws nAt 0) t) f) in
       unknown-state f
       ∙ sym
       (and-first-fails alones (and-first-fails deeps (and-first-fails names (and-second-fails numbers none)))))
@@ -174,12 +175,12 @@ pub record SoundWords (ws : List ℕ) : Type 0 where
 
 pub sound-words : (ws : List ℕ) → sound (stateOf ws) ≡ true → SoundWords ws
 sound-words ws e =
-    let fine : allBelow 16 (rowFine ws (getD ws 1 0)) ≡ true = sound-rows-fine ws e in
-    let exist : known ws ≡ true = rows-known ws (getD ws 1 0) fine in
+    let fine : allBelow rowLength (rowFine ws (getD ws nAt 0)) ≡ true = sound-rows-fine ws e in
+    let exist : known ws ≡ true = rows-known ws (getD ws nAt 0) fine in
     let read : stateOf ws ≡ asRead ws = state-known ws exist in
     record {
       exist = exist;
       read = read;
       facts = sound-facts (asRead ws) (ap sound (sym read) ∙ e);
-      short = rows-short ws (getD ws 1 0) fine;
+      short = rows-short ws (getD ws nAt 0) fine;
     }

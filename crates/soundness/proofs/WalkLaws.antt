@@ -12,6 +12,7 @@ use Rattle.ground.specs.Tests.{allBelow}
 use Rattle.ground.proofs.Bools.{true-or-false, or-first, or-second, or-none, not-of-true, not-of-false}
 use Rattle.ground.proofs.Tests.{allBelow-none, allBelow-at, allBelow-from, allBelow-stops}
 use Rattle.slots.specs.Report.{maskBelow}
+use Rattle.lent.specs.Layout.{rowLength}
 use Rattle.soundness.specs.Checking.{updates, aloneIn, xiAlone}
 use Rattle.soundness.proofs.MaskLaws.{mask-same, mask-empty, from, Next, next-of}
 
@@ -19,17 +20,17 @@ use Rattle.soundness.proofs.MaskLaws.{mask-same, mask-empty, from, Next
 pub record Walked (ws : List ℕ) (left : ℕ) : Type 0 where
   pub at : ℕ
   pub alone : allBelow at (xiAlone ws) ≡ true
-  pub rest : left ≡ maskBelow 16 (from (updates ws) at)
+  pub rest : left ≡ maskBelow rowLength (from (updates ws) at)
 
 module _ (ws : List ℕ) where
   idle : (s : ℕ) → updates ws s ≡ false → xiAlone ws s ≡ true
   idle s e = or-first (aloneIn ws s) (not-of-false e)
 
-  pub walk-start : (left : ℕ) → left ≡ maskBelow 16 (updates ws) → Walked ws left
+  pub walk-start : (left : ℕ) → left ≡ maskBelow rowLength (updates ws) → Walked ws left
   walk-start left e = record {
     at = 0;
     alone = allBelow-none (xiAlone ws);
-    rest = e ∙ mask-same (updates ws) (from (updates ws) 0) 16 (λ i _. sym (ap (λ (t : Bool). t && updates ws i) (le-leb 0 i (omega arith))));
+    rest = e ∙ mask-same (updates ws) (from (updates ws) 0) rowLength (λ i _. sym (ap (λ (t : Bool). t && updates ws i) (le-leb 0 i (omega arith))));
   }
 
   module _ (left : ℕ) (w : Walked ws left) where
@@ -38,13 +39,13 @@ module _ (ws : List ℕ) where
         next-of (updates ws) (w .at) s (λ z. some (w .rest ∙ z)) (e ∙ ap (trailingZeros 16) (w .rest))
 
     -- nothing is left
-    pub walk-end : left ≡ 0 → allBelow 16 (xiAlone ws) ≡ true
+    pub walk-end : left ≡ 0 → allBelow rowLength (xiAlone ws) ≡ true
     walk-end e =
-        allBelow-from (xiAlone ws) 16
+        allBelow-from (xiAlone ws) rowLength
         (λ i b.
         ⊎-elim
         (λ t. allBelow-at (xiAlone ws) (w .at) (w .alone) i (ltb-true i (w .at) t))
-        (λ f. idle i (sym (ap (λ (t : Bool). t && updates ws i) (le-leb (w .at) i (ltb-false i (w .at) f))) ∙ mask-empty (from (updates ws) (w .at)) 16 (sym (w .rest) ∙ e) i b))
+        (λ f. idle i (sym (ap (λ (t : Bool). t && updates ws i) (le-leb (w .at) i (ltb-false i (w .at) f))) ∙ mask-empty (from (updates ws) (w .at)) rowLength (sym (w .rest) ∙ e) i b))
         (true-or-false (ltb i (w .at))))
 
     module _ (s : ℕ) (n : Next (updates ws) (w .at) s) where
@@ -67,5 +68,5 @@ module _ (ws : List ℕ) where
       }
 
       -- it does not
-      pub walk-stops : aloneIn ws s ≡ false → allBelow 16 (xiAlone ws) ≡ false
-      walk-stops a = allBelow-stops (xiAlone ws) 16 s (n .inside) (or-none (not-of-true (n .passed)) a)
+      pub walk-stops : aloneIn ws s ≡ false → allBelow rowLength (xiAlone ws) ≡ false
+      walk-stops a = allBelow-stops (xiAlone ws) rowLength s (n .inside) (or-none (not-of-true (n .passed)) a)

@@ -8,6 +8,7 @@ use Rattle.slots.specs.declared.Lock.the-variants.{Xi}
 use Rattle.slots.specs.Parts.{held}
 use Rattle.slots.specs.Heard.{lockNumber}
 use Rattle.slots.specs.Sound.{belowAndOnce}
+use Rattle.lent.specs.Layout.{columnLength, kindRow, wantRow, depthRow, breadthRow, pathRow}
 use Rattle.lent.specs.Words.{cell, highestKind, slotIn}
 use Rattle.lent.specs.Holds.{updatesKind, isDeep, othersHold}
 
@@ -26,14 +27,14 @@ mayEnter n want own pages = all (enters n want own) pages && distinct pages
 abbrev pub fineRow : ℕ → ℕ → ℕ → ℕ → ℕ → ℕ → Bool
 fineRow kind depth breadth n want top =
     leb kind highestKind
-    && leb depth 10
+    && leb depth columnLength
     && (not (eqb kind 0) || eqb depth 0)
     && (eqb breadth 0 || ltb breadth depth)
     && (eqb kind 0 || ltb want n)
     && (eqb depth 0 || (ltb top n && not (eqb want top)))
 
 abbrev pub rowFine : List ℕ → ℕ → ℕ → Bool
-rowFine ws n s = fineRow (cell ws 0 s) (cell ws 4 s) (cell ws 5 s) n (cell ws 3 s) (cell ws 6 s)
+rowFine ws n s = fineRow (cell ws kindRow s) (cell ws depthRow s) (cell ws breadthRow s) n (cell ws wantRow s) (cell ws pathRow s)
 
 -- the kinds that may hold more than one page: deletions and Next, and insertions if none is beside the path
 abbrev pub mayHoldMore : ℕ → ℕ → Bool
@@ -41,7 +42,7 @@ mayHoldMore kind breadth = eqb kind 3 || eqb kind 4 || (eqb kind 2 && eqb breadt
 
 -- a slot that holds more than one page is of such a kind, and its pages are sound
 abbrev pub moreFine : List ℕ → ℕ → ℕ → Bool
-moreFine ws n s = mayHoldMore (cell ws 0 s) (cell ws 5 s) && belowAndOnce n (slotIn ws s)
+moreFine ws n s = mayHoldMore (cell ws kindRow s) (cell ws breadthRow s) && belowAndOnce n (slotIn ws s)
 
 abbrev pub deepFine : List ℕ → ℕ → ℕ → Bool
 deepFine ws n s = not (isDeep ws s) || moreFine ws n s
@@ -56,7 +57,7 @@ aloneIn ws s = all (λ (p : ℕ). not (othersHold ws s (lockNumber Xi) p)) (held
 
 -- slot s holds its pages under ξ
 abbrev pub updates : List ℕ → ℕ → Bool
-updates ws s = updatesKind (cell ws 0 s)
+updates ws s = updatesKind (cell ws kindRow s)
 
 -- then no other slot holds them
 abbrev pub xiAlone : List ℕ → ℕ → Bool

@@ -40,6 +40,7 @@ ghost use Rattle.slots.specs.declared.Lock.the-variants.{Xi};
 ghost use Rattle.slots.specs.Heard.{lockNumber};
 ghost use Rattle.slots.specs.Report.{maskBelow};
 ghost use Rattle.slots.specs.Sound.{namesEach, belowAndOnce, sound};
+ghost use Rattle.lent.specs.Layout.{waitingAt, rowLength, columnLength, kindRow, wantRow, pathRow, besideRow};
 ghost use Rattle.lent.specs.Words.{cell, column, slotIn, orderIn, stateOf};
 ghost use Rattle.lent.specs.Holds.{WithinRows, othersHold};
 ghost use Rattle.soundness.specs.Checking.{mayEnter, fineRow, rowFine, mayHoldMore, moreFine, deepFine, openKind, aloneIn, updates, xiAlone};
@@ -65,7 +66,7 @@ pub fn numbers_in_range(k: usize, n: usize) -> bool
 
 // A slot with these numbers may be sound, as far as the rows tell. A closed slot holds nothing. No open kind is told from another
 // here, which keeps the rows quick: one page is within the limits of each, and what a kind may hold beyond that is asked only of the
-// slots that do (`more_fine`). Pages beside the path are fewer than on it: so at most 9.
+// slots that do (`more_fine`). Pages beside the path are fewer than on it, so within their limit.
 fn is_fine(kind: u32, depth: u32, breadth: u32, n: u32, want: u32, top: u32) -> bool
     ensures { λ r. ⌜ r ≡ fineRow kind depth breadth n want top ⌝ }
 {
@@ -79,7 +80,7 @@ fn is_fine(kind: u32, depth: u32, breadth: u32, n: u32, want: u32, top: u32) -> 
 
 // Every slot does.
 fn rows_fine(cells: &[u32; STATE], n: u32) -> bool
-    ensures { λ r. ⌜ r ≡ allBelow 16 (rowFine (now (cells .entry)) n) ⌝ }
+    ensures { λ r. ⌜ r ≡ allBelow rowLength (rowFine (now (cells .entry)) n) ⌝ }
 {
     let mut good = true;
     let mut s = 0;
@@ -101,8 +102,8 @@ fn rows_fine(cells: &[u32; STATE], n: u32) -> bool
 // The first `count` rows from `row` on name pages below n, none of them the wanted one, none among the first `own` of the
 // path, and none twice.
 fn may_enter(cells: &[u32; STATE], s: usize, n: u32, row: usize, count: usize, own: usize) -> bool
-    requires { ⌜ (s < 16) × (row ≤ 16) × (count ≤ 10) × (own ≤ 10) ⌝ }
-    ensures { λ r. ⌜ r ≡ mayEnter n (cell (now (cells .entry)) 3 s) (take own (column (now (cells .entry)) 6 s)) (take count (column (now (cells .entry)) row s)) ⌝ }
+    requires { ⌜ (s < rowLength) × (row ≤ besideRow) × (count ≤ columnLength) × (own ≤ columnLength) ⌝ }
+    ensures { λ r. ⌜ r ≡ mayEnter n (cell (now (cells .entry)) wantRow s) (take own (column (now (cells .entry)) pathRow s)) (take count (column (now (cells .entry)) row s)) ⌝ }
 {
     let want = want_at(cells, s);
     let mut i = 0;
@@ -127,7 +128,7 @@ fn may_enter(cells: &[u32; STATE], s: usize, n: u32, row: usize, count: usize, o
 
 // All pages that slot s names are below n, it holds none twice, and wants none that it holds.
 fn pages_fine(cells: &[u32; STATE], s: usize, n: u32) -> bool
-    requires { ⌜ (s < 16) × WithinRows (now cells) ⌝ }
+    requires { ⌜ (s < rowLength) × WithinRows (now cells) ⌝ }
     ensures { λ r. ⌜ r ≡ belowAndOnce n (slotIn (now (cells .entry)) s) ⌝ }
 {
     if n <= want_at(cells, s) {
@@ -151,7 +152,7 @@ fn may_hold_more(kind: u32, breadth: u32) -> bool
 
 // Slot s, which holds more than one page, may, and its pages are fine.
 fn more_fine(cells: &[u32; STATE], s: usize, n: u32) -> bool
-    requires { ⌜ (s < 16) × WithinRows (now cells) ⌝ }
+    requires { ⌜ (s < rowLength) × WithinRows (now cells) ⌝ }
     ensures { λ r. ⌜ r ≡ moreFine (now (cells .entry)) n s ⌝ }
 {
     if !may_hold_more(kind_at(cells, s), breadth_at(cells, s)) {
@@ -163,7 +164,7 @@ fn more_fine(cells: &[u32; STATE], s: usize, n: u32) -> bool
 // Every slot that holds more than one page is so.
 fn deep_fine(cells: &[u32; STATE], n: u32) -> bool
     requires { ⌜ WithinRows (now cells) ⌝ }
-    ensures { λ r. ⌜ r ≡ allBelow 16 (deepFine (now (cells .entry)) n) ⌝ }
+    ensures { λ r. ⌜ r ≡ allBelow rowLength (deepFine (now (cells .entry)) n) ⌝ }
 {
     if !some_deep(cells) {
         return true;
@@ -182,7 +183,7 @@ fn deep_fine(cells: &[u32; STATE], n: u32) -> bool
 
 // Which slots are open.
 fn busy_of(cells: &[u32; STATE]) -> [bool; SLOTS]
-    ensures { λ r. ⌜ (length r ≡ 16) × ((s : ℕ) → s < 16 → getD r s false ≡ openKind (cell (now (cells .entry)) 0 s)) ⌝ }
+    ensures { λ r. ⌜ (length r ≡ rowLength) × ((s : ℕ) → s < rowLength → getD r s false ≡ openKind (cell (now (cells .entry)) kindRow s)) ⌝ }
 {
     let mut busy = [false; SLOTS];
     let mut s = 0;
@@ -239,7 +240,7 @@ fn order_sound(cells: &[u32; STATE], waiting: usize, busy: [bool; SLOTS]) -> boo
 
 // No other slot holds one of the first `count` pages from `row` on, of slot s, under a lock that clashes with ξ.
 fn column_alone(cells: &[u32; STATE], s: usize, row: usize, count: usize) -> bool
-    requires { ⌜ (s < 16) × (row ≤ 16) × (count ≤ 10) × WithinRows (now cells) ⌝ }
+    requires { ⌜ (s < rowLength) × (row ≤ besideRow) × (count ≤ columnLength) × WithinRows (now cells) ⌝ }
     ensures { λ r. ⌜ r ≡ all (λ (p : ℕ). not (othersHold (now (cells .entry)) s (lockNumber Xi) p)) (take count (column (now (cells .entry)) row s)) ⌝ }
 {
     let mut i = 0;
@@ -254,7 +255,7 @@ fn column_alone(cells: &[u32; STATE], s: usize, row: usize, count: usize) -> boo
 
 // No other slot holds a page that slot s holds, under a lock that clashes with ξ.
 fn is_alone(cells: &[u32; STATE], s: usize) -> bool
-    requires { ⌜ (s < 16) × WithinRows (now cells) ⌝ }
+    requires { ⌜ (s < rowLength) × WithinRows (now cells) ⌝ }
     ensures { λ r. ⌜ r ≡ aloneIn (now (cells .entry)) s ⌝ }
 {
     if !column_alone(cells, s, PATH, wide(depth_at(cells, s))) {
@@ -265,7 +266,7 @@ fn is_alone(cells: &[u32; STATE], s: usize) -> bool
 
 // The slots whose lock is ξ, one bit for each.
 fn updating(cells: &[u32; STATE]) -> u16
-    ensures { λ r. ⌜ r ≡ maskBelow 16 (updates (now (cells .entry))) ⌝ }
+    ensures { λ r. ⌜ r ≡ maskBelow rowLength (updates (now (cells .entry))) ⌝ }
 {
     let mut mask = 0u16;
     let mut s = 0;
@@ -282,7 +283,7 @@ fn updating(cells: &[u32; STATE]) -> u16
 // off the mask from the lowest on.
 fn no_clashes(cells: &[u32; STATE]) -> bool
     requires { ⌜ WithinRows (now cells) ⌝ }
-    ensures { λ r. ⌜ r ≡ allBelow 16 (xiAlone (now (cells .entry))) ⌝ }
+    ensures { λ r. ⌜ r ≡ allBelow rowLength (xiAlone (now (cells .entry))) ⌝ }
 {
     let mut left = updating(cells);
     while left != 0 {
@@ -297,7 +298,7 @@ fn no_clashes(cells: &[u32; STATE]) -> bool
 
 // The waiting order is sound.
 fn waits_sound(cells: &[u32; STATE]) -> bool
-    ensures { λ r. ⌜ r ≡ namesEach (λ (s : ℕ). openKind (cell (now (cells .entry)) 0 s)) (getD (now (cells .entry)) 2 0) (orderIn (now (cells .entry))) ⌝ }
+    ensures { λ r. ⌜ r ≡ namesEach (λ (s : ℕ). openKind (cell (now (cells .entry)) kindRow s)) (getD (now (cells .entry)) waitingAt 0) (orderIn (now (cells .entry))) ⌝ }
 {
     let waiting = waiting_of(cells);
     let busy = busy_of(cells);

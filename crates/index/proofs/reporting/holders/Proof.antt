@@ -1,6 +1,7 @@
 -- The mask has a bit for each of the slots passed that holds the page.
 use Rattle.soundness.proofs.MaskLaws.{mask-none, mask-sets, mask-keeps}
 use Rattle.lent.proofs.StateLaws.{slot-read}
+use Rattle.lent.specs.Layout.{rowLength}
 use Rattle.lent.specs.Words.{asRead}
 use Rattle.slots.specs.Report.{maskBelow}
 use Rattle.slots.specs.Parts.{held, holdsAt}
@@ -18,10 +19,10 @@ use Rattle.index.proofs.reporting.holders.Statement.{statement}
 use Rattle.index.proofs.reporting.holders.Tie as tie
 
 abbrev Inv-loop : tie.InvT-loop
-Inv-loop cells p mask₀ s₀ mask s = (s ≤ 16) × (mask ≡ maskBelow s (λ (t : ℕ). holdsAt (asRead cells) t p))
+Inv-loop cells p mask₀ s₀ mask s = (s ≤ rowLength) × (mask ≡ maskBelow s (λ (t : ℕ). holdsAt (asRead cells) t p))
 
 abbrev μ-loop : tie.MeasureT-loop
-μ-loop cells p mask₀ s₀ mask s = 16 - s
+μ-loop cells p mask₀ s₀ mask s = rowLength - s
 
 loop-holds : tie.Need-loop-holds Inv-loop μ-loop
 loop-holds c = (omega arith, sym (mask-none (λ (s : ℕ). holdsAt (asRead (c .args .cells .now)) s (c .args .p))))
@@ -60,7 +61,7 @@ returns : tie.Need-returns Inv-loop μ-loop
 unfolding slotCount
 returns c =
     let was = c .before .before .args in
-    let end : c .before .loop .s ≡ 16 = omega arith in
+    let end : c .before .loop .s ≡ rowLength = omega arith in
     c .before .loop .inv .1 ∙ ap (λ (n : ℕ). maskBelow n (λ (s : ℕ). holdsAt (asRead (was .cells .now)) s (was .p))) end
 
 pub holders-spec : {M : Type 1} → statement M

@@ -1,5 +1,6 @@
 -- The order that slot s leaves, one fewer that wait, and the slot closed.
 use Rattle.lent.proofs.WritingLaws.{fewer-laid, closes-writes}
+use Rattle.lent.specs.Layout.{waitingAt, rowLength}
 use Rattle.lent.specs.Words.{orderIn, orderLaid, slotLaid}
 use Rattle.slots.proofs.MakingLaws.{member-some}
 use Rattle.slots.specs.Book.{leaving}
@@ -31,7 +32,7 @@ leave-order-requires c κs =
     let was = c .before .before .before .before .before .before in
     let w = c .before .waiting-of .ensures in (
       c .before .before .before .sized .ensures,
-      subst (λ (n : ℕ). n ≤ 16) (sym w) (was .pre .1),
+      subst (λ (n : ℕ). n ≤ rowLength) (sym w) (was .pre .1),
       subst (λ (n : ℕ). member (was .args .s) (take n (orderIn (was .args .cells .now))) ≡ true) (sym w) (was .pre .2),
     )
 
@@ -39,7 +40,7 @@ sub-cells : tie.Need-sub-cells
 unfolding waitingOrder
 sub-cells c =
     let was = c .before .before .before .before .before .before .before in
-    let some = member-some (was .args .s) (orderIn (was .args .cells .now)) (getD (was .args .cells .now) 2 0) (was .pre .2) in
+    let some = member-some (was .args .s) (orderIn (was .args .cells .now)) (getD (was .args .cells .now) waitingAt 0) (was .pre .2) in
     omega (arith, c .before .before .waiting-of .ensures)
 
 cast-cells : tie.Need-cast-cells
@@ -67,7 +68,7 @@ returns c =
     c .lay .ensures
     ∙ ap₂ (λ (l : List ℕ) (x : Slot). slotLaid l s x)
     (ap (λ (l : List ℕ). set l 2 (c .before .before .before .before .before .waiting-of .result - 1)) (c .before .before .before .leave-order .ensures)
-    ∙ fewer-laid ws _ (getD ws 2 0) (c .before .before .before .before .before .waiting-of .result - 1) (c .before .before .before .before .before .before .before .sized .ensures)
+    ∙ fewer-laid ws _ (getD ws waitingAt 0) (c .before .before .before .before .before .waiting-of .result - 1) (c .before .before .before .before .before .before .before .sized .ensures)
     ∙ ap (λ (n : ℕ). orderLaid ws (n - 1) (leaving s (take n (orderIn ws)) ++ 0 ∷ drop n (orderIn ws))) w)
     (c .before .closed-slot .ensures)
     ∙ closes-writes ws s (c .before .before .before .before .before .before .before .sized .ensures) (was .pre .0)

@@ -1,6 +1,7 @@
 -- The part of the words where the order lies is lent on.
 use Rattle.lent.proofs.WritingLaws.{left-laid}
 use Rattle.lent.proofs.StateLaws.{length-order}
+use Rattle.lent.specs.Layout.{orderFrom, rowLength}
 use Rattle.lent.specs.Words.{orderIn}
 use borrow.Rule.Slice.PartMut.{putMid}
 use native.Mathlib.Omega.{arith}
@@ -31,7 +32,7 @@ returns : tie.Need-returns
 unfolding orderIn
 returns c =
     let was = c .before .before .before .before .before in
-    ap (putMid 3 16 (was .args .cells .now)) (c .before .before .leave .ensures) ∙ left-laid (was .args .cells .now) _ (was .pre .0)
+    ap (putMid orderFrom rowLength (was .args .cells .now)) (c .before .before .leave .ensures) ∙ left-laid (was .args .cells .now) _ (was .pre .0)
 
 pub leave-order-spec : {M : Type 1} → statement M
 leave-order-spec =

@@ -1,5 +1,6 @@
 -- The order that slot s leaves for its end, and the slot as given.
 use Rattle.lent.proofs.WritingLaws.{requeued-writes}
+use Rattle.lent.specs.Layout.{waitingAt, rowLength}
 use Rattle.lent.specs.Words.{orderIn, orderLaid, slotLaid}
 use Rattle.slots.specs.Book.{leaving}
 use Rattle.slots.specs.Parts.{waitingOrder}
@@ -31,7 +32,7 @@ leave-order-requires c κs =
     let was = c .before .before .before .before .before .before in
     let w = c .before .waiting-of .ensures in (
       c .before .before .before .sized .ensures,
-      subst (λ (n : ℕ). n ≤ 16) (sym w) (was .pre .1),
+      subst (λ (n : ℕ). n ≤ rowLength) (sym w) (was .pre .1),
       subst (λ (n : ℕ). member (was .args .s) (take n (orderIn (was .args .cells .now))) ≡ true) (sym w) (was .pre .2),
     )
 
@@ -46,7 +47,7 @@ returns c =
     c .lay .ensures
     ∙ ap (λ (l : List ℕ). slotLaid l s (was .args .slot))
     (c .before .before .leave-order .ensures
-    ∙ ap (λ (n : ℕ). orderLaid ws (getD ws 2 0) (leaving s (take n (orderIn ws)) ++ s ∷ drop n (orderIn ws))) (c .before .before .before .before .waiting-of .ensures))
+    ∙ ap (λ (n : ℕ). orderLaid ws (getD ws waitingAt 0) (leaving s (take n (orderIn ws)) ++ s ∷ drop n (orderIn ws))) (c .before .before .before .before .waiting-of .ensures))
     ∙ requeued-writes ws s (c .before .before .before .before .before .before .sized .ensures) (was .pre .0) (was .args .slot)
 
 pub requeues-spec : {M : Type 1} → statement M

@@ -3,6 +3,7 @@ use mathlib.Core.Path.{sym, ap, _∙_}
 use mathlib.Core.Bool.{Bool, _&&_}
 use borrow.Author.Tests.{eq-eqb, ne-eqb}
 use Rattle.ground.proofs.Bools.{and-first-fails}
+use Rattle.lent.specs.Layout.{kindRow, wantRow}
 use Rattle.lent.specs.Words.{cell}
 use Rattle.lent.specs.Holds.{kindLock, numbersClash}
 use Prim.Native.Nat.{ℕ}
@@ -17,7 +18,7 @@ returns : tie.Need-returns
 returns c =
     let was = c .before .before .args in
     let ws = was .cells .now in
-    sym (and-first-fails (numbersClash (kindLock (cell ws 0 (was .t))) (was .lock)) (ne-eqb (cell ws 3 (was .t)) (was .p) (λ e. c .if1 .taken (c .before .want-at .ensures ∙ e))))
+    sym (and-first-fails (numbersClash (kindLock (cell ws kindRow (was .t))) (was .lock)) (ne-eqb (cell ws wantRow (was .t)) (was .p) (λ e. c .if1 .taken (c .before .want-at .ensures ∙ e))))
 
 kind-at-requires : tie.Need-kind-at-requires
 kind-at-requires c κs = search needs
@@ -34,7 +35,7 @@ returns-2 c =
     let ws = was .cells .now in
     c .clashes .ensures
     ∙ ap (λ (held : ℕ). numbersClash held (was .lock)) (c .before .kind-lock .ensures ∙ ap kindLock (c .before .before .kind-at .ensures))
-    ∙ sym (ap (λ (b : Bool). b && numbersClash (kindLock (cell ws 0 (was .t))) (was .lock)) (eq-eqb (cell ws 3 (was .t)) (was .p) (sym (c .before .before .before .before .want-at .ensures) ∙ c .before .before .before .if1 .left)))
+    ∙ sym (ap (λ (b : Bool). b && numbersClash (kindLock (cell ws kindRow (was .t))) (was .lock)) (eq-eqb (cell ws wantRow (was .t)) (was .p) (sym (c .before .before .before .before .want-at .ensures) ∙ c .before .before .before .if1 .left)))
 
 pub also-wants-spec : {M : Type 1} → statement M
 also-wants-spec = tie.close (tie.spec want-at-requires returns kind-at-requires kind-lock-requires clashes-requires returns-2)

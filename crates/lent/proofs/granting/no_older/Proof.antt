@@ -1,6 +1,7 @@
 -- The answer is that of the walk from place i on: at the end, at slot s and at an older want that clashes it is known.
 use Rattle.lent.proofs.HoldLaws.{walk-end, walk-slot, walk-own, walk-older, walk-on}
 use denote.Ref.{now}
+use Rattle.lent.specs.Layout.{waitingAt}
 use Rattle.lent.specs.Words.{asRead}
 use Rattle.lent.specs.Holds.{kindLock}
 use Rattle.slots.proofs.HoldingLaws.{noOlderFrom, older-none}
@@ -43,7 +44,7 @@ order-at-requires c κs = search needs
 also-wants-requires : tie.Need-also-wants-requires Inv-loop μ-loop
 also-wants-requires c κs =
     let was = c .before .before .before .before .before .before .before .before .before .before in
-    let w : c .before .before .before .before .waiting-of .result ≡ getD (was .args .cells .now) 2 0 = c .before .before .before .before .waiting-of .ensures in
+    let w : c .before .before .before .before .waiting-of .result ≡ getD (was .args .cells .now) waitingAt 0 = c .before .before .before .before .waiting-of .ensures in
     walk-slot (was .args .cells .now) (was .args .s) (c .before .before .before .before .before .before .before .before .sized .ensures) (was .pre .0) (was .pre .1) (was .pre .2) (was .pre .3) (c .before .before .before .loop .inv .1) (omega arith) (c .before .order-at .ensures)
 
 add-i : tie.Need-add-i Inv-loop μ-loop
@@ -55,7 +56,7 @@ loop-less c = search needs
 loop-again : tie.Need-loop-again Inv-loop μ-loop
 loop-again c =
     let was = c .before .before .before .before .before .before .before .before .before .before .before .before in
-    let w : c .before .before .before .before .before .before .waiting-of .result ≡ getD (was .args .cells .now) 2 0 = c .before .before .before .before .before .before .waiting-of .ensures in (
+    let w : c .before .before .before .before .before .before .waiting-of .result ≡ getD (was .args .cells .now) waitingAt 0 = c .before .before .before .before .before .before .waiting-of .ensures in (
       omega arith,
       walk-on (was .args .cells .now) (was .args .s) (c .before .before .before .before .before .before .before .before .before .before .sized .ensures) (was .pre .0) (was .pre .1) (was .pre .2) (was .pre .3) (c .before .before .before .before .before .loop .inv .1) (omega arith) (c .before .before .before .order-at .ensures)
           (c .before .before .if2 .left) (c .before .before .before .before .before .before .before .before .kind-lock .ensures ∙ ap kindLock (c .before .before .before .before .before .before .before .before .before .kind-at .ensures)) (c .before .before .before .before .before .before .before .want-at .ensures) (c .before .also-wants .ensures) (c .if3 .left),
@@ -64,19 +65,19 @@ loop-again c =
 returns : tie.Need-returns Inv-loop μ-loop
 returns c =
     let was = c .before .before .before .before .before .before .before .before in
-    let w : c .before .before .waiting-of .result ≡ getD (was .args .cells .now) 2 0 = c .before .before .waiting-of .ensures in
+    let w : c .before .before .waiting-of .result ≡ getD (was .args .cells .now) waitingAt 0 = c .before .before .waiting-of .ensures in
     walk-end (was .args .cells .now) (was .args .s) (c .before .before .before .before .before .before .sized .ensures) (was .pre .0) (was .pre .1) (was .pre .2) (was .pre .3) (c .before .loop .inv .1) (omega arith)
 
 returns-2 : tie.Need-returns-2 Inv-loop μ-loop
 returns-2 c =
     let was = c .before .before .before .before .before .before .before .before .before .before in
-    let w : c .before .before .before .before .waiting-of .result ≡ getD (was .args .cells .now) 2 0 = c .before .before .before .before .waiting-of .ensures in
+    let w : c .before .before .before .before .waiting-of .result ≡ getD (was .args .cells .now) waitingAt 0 = c .before .before .before .before .waiting-of .ensures in
     walk-own (was .args .cells .now) (was .args .s) (c .before .before .before .before .before .before .before .before .sized .ensures) (was .pre .0) (was .pre .1) (was .pre .2) (was .pre .3) (c .before .before .before .loop .inv .1) (omega arith) (c .before .order-at .ensures) (c .if2 .taken)
 
 returns-3 : tie.Need-returns-3 Inv-loop μ-loop
 returns-3 c =
     let was = c .before .before .before .before .before .before .before .before .before .before .before .before in
-    let w : c .before .before .before .before .before .before .waiting-of .result ≡ getD (was .args .cells .now) 2 0 = c .before .before .before .before .before .before .waiting-of .ensures in
+    let w : c .before .before .before .before .before .before .waiting-of .result ≡ getD (was .args .cells .now) waitingAt 0 = c .before .before .before .before .before .before .waiting-of .ensures in
     walk-older (was .args .cells .now) (was .args .s) (c .before .before .before .before .before .before .before .before .before .before .sized .ensures) (was .pre .0) (was .pre .1) (was .pre .2) (was .pre .3) (c .before .before .before .before .before .loop .inv .1) (omega arith) (c .before .before .before .order-at .ensures)
     (c .before .before .if2 .left) (c .before .before .before .before .before .before .before .before .kind-lock .ensures ∙ ap kindLock (c .before .before .before .before .before .before .before .before .before .kind-at .ensures)) (c .before .before .before .before .before .before .before .want-at .ensures) (c .before .also-wants .ensures) (c .if3 .taken)
 

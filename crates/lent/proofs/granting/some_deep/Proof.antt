@@ -1,5 +1,6 @@
 -- Whether one of the slots passed holds more than one page.
 use Rattle.lent.proofs.HoldLaws.{any-on}
+use Rattle.lent.specs.Layout.{rowLength}
 use Rattle.lent.specs.Holds.{isDeep}
 use Rattle.ground.proofs.Tests.{anyBelow-none}
 use Rattle.ground.specs.Tests.{anyBelow}
@@ -12,10 +13,10 @@ use Rattle.lent.proofs.granting.some_deep.Statement.{statement}
 use Rattle.lent.proofs.granting.some_deep.Tie as tie
 
 abbrev Inv-loop : tie.InvT-loop
-Inv-loop cells found₀ t₀ found t = (t ≤ 16) × (found ≡ anyBelow t (isDeep cells))
+Inv-loop cells found₀ t₀ found t = (t ≤ rowLength) × (found ≡ anyBelow t (isDeep cells))
 
 abbrev μ-loop : tie.MeasureT-loop
-μ-loop cells found₀ t₀ found t = 16 - t
+μ-loop cells found₀ t₀ found t = rowLength - t
 
 loop-holds : tie.Need-loop-holds Inv-loop μ-loop
 loop-holds c = (omega arith, sym (anyBelow-none (isDeep (c .args .cells .now))))
@@ -38,7 +39,7 @@ loop-again c =
 returns : tie.Need-returns Inv-loop μ-loop
 returns c =
     let ws = c .before .before .args .cells .now in
-    let end : c .before .loop .t ≡ 16 = omega arith in
+    let end : c .before .loop .t ≡ rowLength = omega arith in
     c .before .loop .inv .1 ∙ ap (λ (n : ℕ). anyBelow n (isDeep ws)) end
 
 pub some-deep-spec : {M : Type 1} → statement M

@@ -1,5 +1,6 @@
 -- Whether one of the slots passed has the page on top.
 use Rattle.lent.proofs.HoldLaws.{any-on}
+use Rattle.lent.specs.Layout.{rowLength, kindRow}
 use Rattle.lent.specs.Words.{cell}
 use Rattle.ground.proofs.Tests.{anyBelow-none}
 use denote.Ref.{now}
@@ -17,10 +18,10 @@ use Rattle.lent.proofs.granting.tops_hold.Statement.{statement}
 use Rattle.lent.proofs.granting.tops_hold.Tie as tie
 
 abbrev Inv-loop : tie.InvT-loop
-Inv-loop cells s lock p found₀ t₀ found t = (t ≤ 16) × (found ≡ anyBelow t (topHolds cells s lock p))
+Inv-loop cells s lock p found₀ t₀ found t = (t ≤ rowLength) × (found ≡ anyBelow t (topHolds cells s lock p))
 
 abbrev μ-loop : tie.MeasureT-loop
-μ-loop cells s lock p found₀ t₀ found t = 16 - t
+μ-loop cells s lock p found₀ t₀ found t = rowLength - t
 
 loop-holds : tie.Need-loop-holds Inv-loop μ-loop
 loop-holds c = (omega arith, sym (anyBelow-none (topHolds (c .args .cells .now) (c .args .s) (c .args .lock) (c .args .p))))
@@ -56,7 +57,7 @@ loop-again c =
     let this : c .is-top .result ≡ topHolds (was .cells .now) (was .s) (was .lock) (was .p) t =
     c .is-top .ensures
     ∙ ap (λ (k : ℕ). (not (eqb t (was .s)) && numbersClash (kindLock k) (was .lock)) && (ltb 0 (c .before .before .depth-at .result) && eqb (was .p) (c .before .top-at .result))) (c .before .before .before .kind-at .ensures)
-    ∙ ap₂ (λ (d x : ℕ). (not (eqb t (was .s)) && numbersClash (kindLock (cell (was .cells .now) 0 t)) (was .lock)) && (ltb 0 d && eqb (was .p) x)) (c .before .before .depth-at .ensures) (c .before .top-at .ensures) in (
+    ∙ ap₂ (λ (d x : ℕ). (not (eqb t (was .s)) && numbersClash (kindLock (cell (was .cells .now) kindRow t)) (was .lock)) && (ltb 0 d && eqb (was .p) x)) (c .before .before .depth-at .ensures) (c .before .top-at .ensures) in (
       omega arith,
       ap₂ (λ (a b : Bool). a || b) (c .before .before .before .before .before .loop .inv .1) this
           ∙ sym (any-on (topHolds (was .cells .now) (was .s) (was .lock) (was .p)) t),
@@ -65,7 +66,7 @@ loop-again c =
 returns : tie.Need-returns Inv-loop μ-loop
 returns c =
     let was = c .before .before .args in
-    let end : c .before .loop .t ≡ 16 = omega arith in
+    let end : c .before .loop .t ≡ rowLength = omega arith in
     c .before .loop .inv .1 ∙ ap (λ (n : ℕ). anyBelow n (topHolds (was .cells .now) (was .s) (was .lock) (was .p))) end
 
 pub tops-hold-spec : {M : Type 1} → statement M

@@ -2,6 +2,7 @@
 use Rattle.lent.proofs.StateLaws.{length-column, column-cell, padded-whole}
 use lib.ListN.{getD, length}
 use mathlib.Core.Path.{sym}
+use Rattle.lent.specs.Layout.{columnLength}
 use Rattle.lent.specs.Words.{column}
 use Rattle.slots.proofs.MakingLaws.{padded-more}
 use Rattle.ground.specs.Tests.{padded}
@@ -15,10 +16,10 @@ use Rattle.lent.proofs.lifting.column_of.Statement.{statement}
 use Rattle.lent.proofs.lifting.column_of.Tie as tie
 
 abbrev Inv-loop : tie.InvT-loop
-Inv-loop cells row s pages₀ j₀ pages j = (j ≤ 10) × (pages ≡ padded 10 (take j (column cells row s)))
+Inv-loop cells row s pages₀ j₀ pages j = (j ≤ columnLength) × (pages ≡ padded columnLength (take j (column cells row s)))
 
 abbrev μ-loop : tie.MeasureT-loop
-μ-loop cells row s pages₀ j₀ pages j = 10 - j
+μ-loop cells row s pages₀ j₀ pages j = columnLength - j
 
 loop-holds : tie.Need-loop-holds Inv-loop μ-loop
 unfolding padded
@@ -47,18 +48,18 @@ loop-again c =
     let was = c .before .before .before .args in
     let j : ℕ = c .before .before .loop .j in
     let col : List ℕ = column (was .cells .now) (was .row) (was .s) in
-    let long : length col ≡ 10 = length-column (was .cells .now) (was .row) (was .s) in (
+    let long : length col ≡ columnLength = length-column (was .cells .now) (was .row) (was .s) in (
       omega arith,
       ap (λ (x : ℕ). set (c .before .before .loop .pages) j x) (c .word-at .ensures ∙ sym (column-cell (was .cells .now) (was .row) (was .s) j (omega arith)))
           ∙ ap (λ (l : List ℕ). set l j (getD col j 0)) (c .before .before .loop .inv .1)
-          ∙ padded-more 10 col j (omega arith) (omega arith),
+          ∙ padded-more columnLength col j (omega arith) (omega arith),
     )
 
 returns : tie.Need-returns Inv-loop μ-loop
 returns c =
     let was = c .before .before .args in
     let col : List ℕ = column (was .cells .now) (was .row) (was .s) in
-    let long : length col ≡ 10 = length-column (was .cells .now) (was .row) (was .s) in
+    let long : length col ≡ columnLength = length-column (was .cells .now) (was .row) (was .s) in
     c .before .loop .inv .1 ∙ padded-whole col (c .before .loop .j) long (omega arith)
 
 pub column-of-spec : {M : Type 1} → statement M

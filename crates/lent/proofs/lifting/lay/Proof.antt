@@ -5,6 +5,7 @@ use mathlib.Core.Path.{_≡_}
 use borrow.Author.Needs.{needs}
 use Rattle.lent.proofs.lifting.lay.Statement.{statement}
 use Rattle.lent.proofs.lifting.lay.Tie as tie
+use Rattle.lent.specs.Layout.{columnLength}
 
 lay-task-requires : tie.Need-lay-task-requires
 lay-task-requires c κs = search needs
@@ -30,7 +31,7 @@ lay-column-requires c κs = search needs
 lay-column-requires-2 : tie.Need-lay-column-requires-2
 lay-column-requires-2 c κs = search needs
 
-path-long : (c : tie.Start) → length (c .args .slot .path) ≡ 10
+path-long : (c : tie.Start) → length (c .args .slot .path) ≡ columnLength
 path-long c = search needs
 
 returns : tie.Need-returns

@@ -1,5 +1,6 @@
 -- The pages passed are written down the column.
 use Rattle.lent.proofs.SpreadLaws.{spread-none, spread-more}
+use Rattle.lent.specs.Layout.{columnLength}
 use Rattle.lent.specs.Words.{spread, address}
 use lib.Seq.{take-all}
 use lib.ListN.{length, getD, take, set}
@@ -12,10 +13,10 @@ use Rattle.lent.proofs.lifting.lay_column.Statement.{statement}
 use Rattle.lent.proofs.lifting.lay_column.Tie as tie
 
 abbrev Inv-loop : tie.InvT-loop
-Inv-loop cells₀ row s pages j₀ cells j = (j ≤ 10) × (cells ≡ spread cells₀ row s (take j pages)) × (length pages ≡ 10)
+Inv-loop cells₀ row s pages j₀ cells j = (j ≤ columnLength) × (cells ≡ spread cells₀ row s (take j pages)) × (length pages ≡ columnLength)
 
 abbrev μ-loop : tie.MeasureT-loop
-μ-loop cells₀ row s pages j₀ cells j = 10 - j
+μ-loop cells₀ row s pages j₀ cells j = columnLength - j
 
 loop-holds : tie.Need-loop-holds Inv-loop μ-loop
 loop-holds c = (omega arith, spread-none (c .args .cells .now) (c .args .row) (c .args .s) (c .args .t4), search needs)

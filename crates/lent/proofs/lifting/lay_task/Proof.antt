@@ -1,6 +1,6 @@
 -- Three rows, one behind the other.
-use Rattle.lent.specs.Words.{spread}
-use Prim.Native.Nat.{_+_}
+use Rattle.lent.specs.Layout.{kindRow, keyRow, informationRow}
+use Rattle.lent.specs.Words.{address, spread}
 use lib.ListN.{set}
 use borrow.Author.Needs.{needs}
 use Rattle.lent.proofs.lifting.lay_task.Statement.{statement}
@@ -59,7 +59,7 @@ unfolding spread
 returns c =
     let ws = c .before .before .before .args .cells .now in
     let s = c .before .before .before .args .s in
-    λ i. set (set (set ws (19 + s) (c .before .before .kind-of .ensures i)) (35 + s) (c .before .key-of .ensures i)) (51 + s) (c .information-of .ensures i)
+    λ i. set (set (set ws (address kindRow s) (c .before .before .kind-of .ensures i)) (address keyRow s) (c .before .key-of .ensures i)) (address informationRow s) (c .information-of .ensures i)
 
 pub lay-task-spec : {M : Type 1} → statement M
 lay-task-spec =

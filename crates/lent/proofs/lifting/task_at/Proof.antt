@@ -1,4 +1,5 @@
 -- The task of the three numbers read.
+use Rattle.lent.specs.Layout.{kindRow}
 use Rattle.lent.specs.Words.{cell, taskFrom}
 use mathlib.Core.Path.{ap, ap₂, _∙_}
 use Prim.Native.Nat.{ℕ}
@@ -22,7 +23,7 @@ returns : tie.Need-returns
 returns c =
     c .task-of .ensures
     ∙ ap (λ (a : ℕ). taskFrom a (c .before .before .word-at .result) (c .before .word-at2 .result)) (c .before .before .before .kind-at .ensures)
-    ∙ ap₂ (taskFrom (cell (c .before .before .before .before .args .cells .now) 0 (c .before .before .before .before .args .s))) (c .before .before .word-at .ensures) (c .before .word-at2 .ensures)
+    ∙ ap₂ (taskFrom (cell (c .before .before .before .before .args .cells .now) kindRow (c .before .before .before .before .args .s))) (c .before .before .word-at .ensures) (c .before .word-at2 .ensures)
 
 pub task-at-spec : {M : Type 1} → statement M
 task-at-spec =

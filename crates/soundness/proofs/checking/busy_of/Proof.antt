@@ -1,6 +1,7 @@
 -- The slots passed are marked as their kinds tell.
 use Rattle.soundness.proofs.CheckingLawsOrder.{marks-on}
 use Rattle.soundness.specs.Checking.{openKind}
+use Rattle.lent.specs.Layout.{rowLength, kindRow}
 use Rattle.lent.specs.Words.{cell}
 use lib.ListN.{length, getD, length-set}
 use native.Mathlib.Omega.{arith}
@@ -12,10 +13,10 @@ use Rattle.soundness.proofs.checking.busy_of.Statement.{statement}
 use Rattle.soundness.proofs.checking.busy_of.Tie as tie
 
 abbrev Inv-loop : tie.InvT-loop
-Inv-loop cells busy₀ s₀ busy s = (s ≤ 16) × (length busy ≡ 16) × ((t : ℕ) → t < s → getD busy t false ≡ openKind (cell cells 0 t))
+Inv-loop cells busy₀ s₀ busy s = (s ≤ rowLength) × (length busy ≡ rowLength) × ((t : ℕ) → t < s → getD busy t false ≡ openKind (cell cells kindRow t))
 
 abbrev μ-loop : tie.MeasureT-loop
-μ-loop cells busy₀ s₀ busy s = 16 - s
+μ-loop cells busy₀ s₀ busy s = rowLength - s
 
 loop-holds : tie.Need-loop-holds Inv-loop μ-loop
 loop-holds c = (omega arith, search needs, λ t h. absurd (omega arith))
@@ -39,7 +40,7 @@ loop-again c =
     let s : ℕ = c .before .before .loop .s in (
       omega arith,
       length-set (c .before .before .loop .busy) s _ ∙ inv .1,
-      marks-on (λ (t : ℕ). openKind (cell ws 0 t)) (c .before .before .loop .busy) s _ (omega arith) (inv .2) (ap openKind (c .kind-at .ensures)),
+      marks-on (λ (t : ℕ). openKind (cell ws kindRow t)) (c .before .before .loop .busy) s _ (omega arith) (inv .2) (ap openKind (c .kind-at .ensures)),
     )
 
 returns : tie.Need-returns Inv-loop μ-loop

@@ -3,6 +3,7 @@ use Rattle.soundness.proofs.CheckingLaws.{all-on, all-stop}
 use Rattle.lent.proofs.StateLaws.{length-column, column-cell}
 use Rattle.slots.specs.declared.Lock.the-variants.{Xi}
 use Rattle.slots.specs.Heard.{lockNumber}
+use Rattle.lent.specs.Layout.{columnLength}
 use Rattle.lent.specs.Holds.{othersHold}
 use Rattle.lent.specs.Words.{column}
 use Rattle.ground.proofs.Tests.{all-none}
@@ -49,7 +50,7 @@ returns c =
     let was = c .before .before .before .before .before .args in
     let ws = was .cells .now in
     let col : List ℕ = column ws (was .row) (was .s) in
-    let long : length col ≡ 10 = length-column ws (was .row) (was .s) in
+    let long : length col ≡ columnLength = length-column ws (was .row) (was .s) in
     sym (all-stop col (c .before .before .before .before .loop .i) (λ (p : ℕ). not (othersHold ws (was .s) (lockNumber Xi) p)) (was .count) (omega arith) (omega arith) (not-of-true (next (c .before) ∙ c .if1 .taken)))
 
 add-i : tie.Need-add-i Inv-loop μ-loop
@@ -63,7 +64,7 @@ loop-again c =
     let was = c .before .before .before .before .before .args in
     let ws = was .cells .now in
     let col : List ℕ = column ws (was .row) (was .s) in
-    let long : length col ≡ 10 = length-column ws (was .row) (was .s) in (
+    let long : length col ≡ columnLength = length-column ws (was .row) (was .s) in (
       omega arith,
       all-on col (c .before .before .before .before .loop .i) (λ (p : ℕ). not (othersHold ws (was .s) (lockNumber Xi) p)) (omega arith) (c .before .before .before .before .loop .inv .1) (not-of-false (next (c .before) ∙ c .if1 .left)),
     )

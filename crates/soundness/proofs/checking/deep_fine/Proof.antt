@@ -1,6 +1,7 @@
 -- Where no slot holds more than one page there is nothing to look at. Of the slots passed those that hold more than one page are fine.
 use Rattle.soundness.specs.Checking.{moreFine, deepFine}
 use Rattle.lent.proofs.HoldLaws.{all-on}
+use Rattle.lent.specs.Layout.{rowLength}
 use Rattle.lent.specs.Holds.{isDeep}
 use Rattle.ground.proofs.Tests.{allBelow-none, allBelow-from, allBelow-stops, anyBelow-false-at}
 use Rattle.ground.proofs.Bools.{and-both, or-first, or-second, or-none, not-of-true, not-of-false}
@@ -16,10 +17,10 @@ use Rattle.soundness.proofs.checking.deep_fine.Statement.{statement}
 use Rattle.soundness.proofs.checking.deep_fine.Tie as tie
 
 abbrev Inv-loop : tie.InvT-loop
-Inv-loop cells n s₀ s = (s ≤ 16) × (allBelow s (deepFine cells n) ≡ true)
+Inv-loop cells n s₀ s = (s ≤ rowLength) × (allBelow s (deepFine cells n) ≡ true)
 
 abbrev μ-loop : tie.MeasureT-loop
-μ-loop cells n s₀ s = 16 - s
+μ-loop cells n s₀ s = rowLength - s
 
 some-deep-requires : tie.Need-some-deep-requires Inv-loop μ-loop
 some-deep-requires c κs = search needs
@@ -29,8 +30,8 @@ returns c =
     let was = c .before .before .args in
     let none = sym (c .before .some-deep .ensures) ∙ not-true (c .before .some-deep .result) (c .if1 .taken) in
     sym
-    (allBelow-from (deepFine (was .cells .now) (was .n)) 16
-    (λ s b. or-first (moreFine (was .cells .now) (was .n) s) (not-of-false (anyBelow-false-at (isDeep (was .cells .now)) 16 none s b))))
+    (allBelow-from (deepFine (was .cells .now) (was .n)) rowLength
+    (λ s b. or-first (moreFine (was .cells .now) (was .n) s) (not-of-false (anyBelow-false-at (isDeep (was .cells .now)) rowLength none s b))))
 
 loop-holds : tie.Need-loop-holds Inv-loop μ-loop
 loop-holds c =
@@ -49,7 +50,7 @@ returns-2 c =
     let n : ℕ = c .before .before .before .before .before .before .before .before .args .n in
     let s : ℕ = c .before .before .before .before .before .loop .s in
     sym
-    (allBelow-stops (deepFine ws n) 16 s (omega arith)
+    (allBelow-stops (deepFine ws n) rowLength s (omega arith)
     (or-none (not-of-true (sym (c .before .before .before .is-deep .ensures) ∙ c .before .before .if2 .taken)) (sym (c .before .more-fine .ensures) ∙ not-true (c .before .more-fine .result) (c .if3 .taken))))
 
 add-s : tie.Need-add-s Inv-loop μ-loop
@@ -74,7 +75,7 @@ returns-3 : tie.Need-returns-3 Inv-loop μ-loop
 returns-3 c =
     let ws = c .before .before .before .before .args .cells .now in
     let n : ℕ = c .before .before .before .before .args .n in
-    let end : c .before .loop .s ≡ 16 = omega arith in
+    let end : c .before .loop .s ≡ rowLength = omega arith in
     sym (ap (λ (m : ℕ). allBelow m (deepFine ws n)) (sym end) ∙ c .before .loop .inv .1)
 
 pub deep-fine-spec : {M : Type 1} → statement M

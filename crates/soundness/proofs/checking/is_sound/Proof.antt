@@ -5,6 +5,7 @@ use Rattle.soundness.specs.Checking.{rowFine, deepFine}
 use Rattle.ground.proofs.Bools.{and-second}
 use Rattle.ground.specs.Tests.{allBelow}
 use Rattle.ground.specs.Limits.{kInRange, largestN, nInRange}
+use Rattle.lent.specs.Layout.{kAt, nAt, rowLength}
 use borrow.Author.Tests.{not-true, not-false, leb-true}
 use lib.ListN.{getD}
 use lib.Dec.{leb}
@@ -26,7 +27,7 @@ numbers-in-range-requires : tie.Need-numbers-in-range-requires
 numbers-in-range-requires c κs = search needs
 
 numbers-said : (c : tie.After-numbers-in-range)
-    → c .numbers-in-range .result ≡ kInRange (getD (c .before .before .before .args .cells .now) 0 0) && nInRange (getD (c .before .before .before .args .cells .now) 1 0)
+    → c .numbers-in-range .result ≡ kInRange (getD (c .before .before .before .args .cells .now) kAt 0) && nInRange (getD (c .before .before .before .args .cells .now) nAt 0)
 numbers-said c =
     c .numbers-in-range .ensures
     ∙ ap₂ (λ (k n : ℕ). kInRange k && nInRange n) (c .before .k-of .ensures) (c .before .before .n-of .ensures)
@@ -45,8 +46,8 @@ cast-bound c =
 rows-fine-requires : tie.Need-rows-fine-requires
 rows-fine-requires c κs = search needs
 
-rows-said : (c : tie.After-rows-fine) → c .rows-fine .result ≡ allBelow 16 (rowFine (c .before .before .before .before .before .args .cells .now) (getD (c .before .before .before .before .before .args .cells .now) 1 0))
-rows-said c = c .rows-fine .ensures ∙ ap (λ (n : ℕ). allBelow 16 (rowFine (c .before .before .before .before .before .args .cells .now) n)) (c .before .before .before .before .n-of .ensures)
+rows-said : (c : tie.After-rows-fine) → c .rows-fine .result ≡ allBelow rowLength (rowFine (c .before .before .before .before .before .args .cells .now) (getD (c .before .before .before .before .before .args .cells .now) nAt 0))
+rows-said c = c .rows-fine .ensures ∙ ap (λ (n : ℕ). allBelow rowLength (rowFine (c .before .before .before .before .before .args .cells .now) n)) (c .before .before .before .before .n-of .ensures)
 
 returns-2 : tie.Need-returns-2
 returns-2 c = sound-rows (c .before .before .before .before .before .before .args .cells .now) (rows-said (c .before)) (not-true (c .before .rows-fine .result) (c .if2 .taken))
@@ -60,10 +61,10 @@ returns-3 c = sound-order (c .before .before .before .before .before .before .be
 deep-fine-requires : tie.Need-deep-fine-requires
 deep-fine-requires c κs =
     let ws = c .before .before .before .before .before .before .before .before .args .cells .now in
-    rows-short ws (getD ws 1 0) (sym (rows-said (c .before .before .before)) ∙ not-false (c .before .before .before .rows-fine .result) (c .before .before .if2 .left))
+    rows-short ws (getD ws nAt 0) (sym (rows-said (c .before .before .before)) ∙ not-false (c .before .before .before .rows-fine .result) (c .before .before .if2 .left))
 
-deep-said : (c : tie.After-deep-fine) → c .deep-fine .result ≡ allBelow 16 (deepFine (c .before .before .before .before .before .before .before .before .before .args .cells .now) (getD (c .before .before .before .before .before .before .before .before .before .args .cells .now) 1 0))
-deep-said c = c .deep-fine .ensures ∙ ap (λ (n : ℕ). allBelow 16 (deepFine (c .before .before .before .before .before .before .before .before .before .args .cells .now) n)) (c .before .before .before .before .before .before .before .before .n-of .ensures)
+deep-said : (c : tie.After-deep-fine) → c .deep-fine .result ≡ allBelow rowLength (deepFine (c .before .before .before .before .before .before .before .before .before .args .cells .now) (getD (c .before .before .before .before .before .before .before .before .before .args .cells .now) nAt 0))
+deep-said c = c .deep-fine .ensures ∙ ap (λ (n : ℕ). allBelow rowLength (deepFine (c .before .before .before .before .before .before .before .before .before .args .cells .now) n)) (c .before .before .before .before .before .before .before .before .n-of .ensures)
 
 returns-4 : tie.Need-returns-4
 returns-4 c = sound-deep (c .before .before .before .before .before .before .before .before .before .before .args .cells .now) (deep-said (c .before)) (not-true (c .before .deep-fine .result) (c .if4 .taken))
@@ -71,7 +72,7 @@ returns-4 c = sound-deep (c .before .before .before .before .before .before .bef
 no-clashes-requires : tie.Need-no-clashes-requires
 no-clashes-requires c κs =
     let ws = c .before .before .before .before .before .before .before .before .before .before .args .cells .now in
-    rows-short ws (getD ws 1 0) (sym (rows-said (c .before .before .before .before .before)) ∙ not-false (c .before .before .before .before .before .rows-fine .result) (c .before .before .before .before .if2 .left))
+    rows-short ws (getD ws nAt 0) (sym (rows-said (c .before .before .before .before .before)) ∙ not-false (c .before .before .before .before .before .rows-fine .result) (c .before .before .before .before .if2 .left))
 
 returns-5 : tie.Need-returns-5
 returns-5 c =

@@ -2,6 +2,7 @@
 use Rattle.ground.proofs.Tests.{countBelow-none, countBelow-passes, countBelow-skips}
 use Rattle.ground.specs.Limits.{slotCount}
 use Rattle.ground.specs.Tests.{countBelow}
+use Rattle.lent.specs.Layout.{rowLength}
 use lib.ListN.{getD}
 use native.Mathlib.Numerals.{add-one}
 use native.Mathlib.Omega.{arith}
@@ -18,10 +19,10 @@ abbrev passed : List Bool → ℕ → Bool
 passed marks t = getD marks t false
 
 abbrev Inv-loop : tie.InvT-loop
-Inv-loop marks count₀ s₀ count s = (s ≤ 16) × (count ≤ s) × (count ≡ countBelow s (passed marks))
+Inv-loop marks count₀ s₀ count s = (s ≤ rowLength) × (count ≤ s) × (count ≡ countBelow s (passed marks))
 
 abbrev μ-loop : tie.MeasureT-loop
-μ-loop marks count₀ s₀ count s = 16 - s
+μ-loop marks count₀ s₀ count s = rowLength - s
 
 loop-holds : tie.Need-loop-holds Inv-loop μ-loop
 loop-holds c = (omega arith, omega arith, sym (countBelow-none (passed (c .args .t1))))
@@ -54,7 +55,7 @@ loop-again c =
 returns : tie.Need-returns Inv-loop μ-loop
 unfolding slotCount
 returns c =
-    let end : c .before .loop .s ≡ 16 = omega arith in
+    let end : c .before .loop .s ≡ rowLength = omega arith in
     c .before .loop .inv .2 ∙ ap (λ (n : ℕ). countBelow n (passed (c .before .before .args .t1))) end
 
 pub marked-spec : {M : Type 1} → statement M

@@ -3,6 +3,7 @@ use mathlib.Core.List.{_++_}
 use Rattle.soundness.proofs.CheckingLaws.{may-none, may-on, may-stop-high, may-stop-want, may-stop-twice}
 use Rattle.soundness.specs.Checking.{mayEnter}
 use Rattle.lent.proofs.StateLaws.{length-column, column-cell}
+use Rattle.lent.specs.Layout.{columnLength, wantRow, pathRow}
 use Rattle.lent.specs.Words.{cell, column}
 use Rattle.ground.proofs.Tests.{member-append}
 use Rattle.ground.proofs.Bools.{or-first, or-second, or-none}
@@ -18,7 +19,7 @@ use Rattle.soundness.proofs.checking.may_enter.Statement.{statement}
 use Rattle.soundness.proofs.checking.may_enter.Tie as tie
 
 abbrev Inv-loop : tie.InvT-loop
-Inv-loop cells s n row count own want i₀ i = (i ≤ count) × (mayEnter n (cell cells 3 s) (take own (column cells 6 s)) (take i (column cells row s)) ≡ true)
+Inv-loop cells s n row count own want i₀ i = (i ≤ count) × (mayEnter n (cell cells wantRow s) (take own (column cells pathRow s)) (take i (column cells row s)) ≡ true)
 
 abbrev μ-loop : tie.MeasureT-loop
 μ-loop cells s n row count own want i₀ i = count - i
@@ -29,7 +30,7 @@ want-at-requires c κs = c .pre .0
 loop-holds : tie.Need-loop-holds Inv-loop μ-loop
 loop-holds c =
     let was = c .before .args in
-    (omega arith, may-none (was .n) (cell (was .cells .now) 3 (was .s)) (take (was .own) (column (was .cells .now) 6 (was .s))))
+    (omega arith, may-none (was .n) (cell (was .cells .now) wantRow (was .s)) (take (was .own) (column (was .cells .now) pathRow (was .s))))
 
 add-word-at : tie.Need-add-word-at Inv-loop μ-loop
 add-word-at c = search needs
@@ -48,9 +49,9 @@ returns c =
     let was = c .before .before .before .before .before .args in
     let ws = was .cells .now in
     let col : List ℕ = column ws (was .row) (was .s) in
-    let long : length col ≡ 10 = length-column ws (was .row) (was .s) in
+    let long : length col ≡ columnLength = length-column ws (was .row) (was .s) in
     sym
-    (may-stop-high (was .n) (cell ws 3 (was .s)) (take (was .own) (column ws 6 (was .s))) col (c .before .before .before .loop .i) (was .count) (omega arith) (omega arith)
+    (may-stop-high (was .n) (cell ws wantRow (was .s)) (take (was .own) (column ws pathRow (was .s))) col (c .before .before .before .loop .i) (was .count) (omega arith) (omega arith)
     (subst (λ (p : ℕ). was .n ≤ p) (sym (next (c .before))) (c .if1 .taken)))
 
 returns-2 : tie.Need-returns-2 Inv-loop μ-loop
@@ -58,9 +59,9 @@ returns-2 c =
     let was = c .before .before .before .before .before .before .args in
     let ws = was .cells .now in
     let col : List ℕ = column ws (was .row) (was .s) in
-    let long : length col ≡ 10 = length-column ws (was .row) (was .s) in
+    let long : length col ≡ columnLength = length-column ws (was .row) (was .s) in
     sym
-    (may-stop-want (was .n) (cell ws 3 (was .s)) (take (was .own) (column ws 6 (was .s))) col (c .before .before .before .before .loop .i) (was .count) (omega arith) (omega arith)
+    (may-stop-want (was .n) (cell ws wantRow (was .s)) (take (was .own) (column ws pathRow (was .s))) col (c .before .before .before .before .loop .i) (was .count) (omega arith) (omega arith)
     (next (c .before .before) ∙ c .if2 .taken ∙ c .before .before .before .before .before .want-at .ensures))
 
 column-has-requires : tie.Need-column-has-requires Inv-loop μ-loop
@@ -71,11 +72,11 @@ returns-3 c =
     let was = c .before .before .before .before .before .before .before .before .args in
     let ws = was .cells .now in
     let col : List ℕ = column ws (was .row) (was .s) in
-    let own : List ℕ = take (was .own) (column ws 6 (was .s)) in
+    let own : List ℕ = take (was .own) (column ws pathRow (was .s)) in
     let i : ℕ = c .before .before .before .before .before .before .loop .i in
-    let long : length col ≡ 10 = length-column ws (was .row) (was .s) in
+    let long : length col ≡ columnLength = length-column ws (was .row) (was .s) in
     sym
-    (may-stop-twice (was .n) (cell ws 3 (was .s)) own col i (was .count) (omega arith) (omega arith)
+    (may-stop-twice (was .n) (cell ws wantRow (was .s)) own col i (was .count) (omega arith) (omega arith)
     (ap (λ (p : ℕ). member p (own ++ take i col)) (next (c .before .before .before .before))
     ∙ member-append (c .before .before .before .before .word-at .result) own (take i col)
     ∙ or-first (member (c .before .before .before .before .word-at .result) (take i col)) (sym (c .before .column-has .ensures) ∙ c .if3 .taken)))
@@ -88,11 +89,11 @@ returns-4 c =
     let was = c .before .before .before .before .before .before .before .before .before .before .args in
     let ws = was .cells .now in
     let col : List ℕ = column ws (was .row) (was .s) in
-    let own : List ℕ = take (was .own) (column ws 6 (was .s)) in
+    let own : List ℕ = take (was .own) (column ws pathRow (was .s)) in
     let i : ℕ = c .before .before .before .before .before .before .before .before .loop .i in
-    let long : length col ≡ 10 = length-column ws (was .row) (was .s) in
+    let long : length col ≡ columnLength = length-column ws (was .row) (was .s) in
     sym
-    (may-stop-twice (was .n) (cell ws 3 (was .s)) own col i (was .count) (omega arith) (omega arith)
+    (may-stop-twice (was .n) (cell ws wantRow (was .s)) own col i (was .count) (omega arith) (omega arith)
     (ap (λ (p : ℕ). member p (own ++ take i col)) (next (c .before .before .before .before .before .before))
     ∙ member-append (c .before .before .before .before .before .before .word-at .result) own (take i col)
     ∙ or-second (member (c .before .before .before .before .before .before .word-at .result) own) (sym (c .before .column-has2 .ensures) ∙ c .if4 .taken)))
@@ -108,12 +109,12 @@ loop-again c =
     let was = c .before .before .before .before .before .before .before .before .before .before .args in
     let ws = was .cells .now in
     let col : List ℕ = column ws (was .row) (was .s) in
-    let own : List ℕ = take (was .own) (column ws 6 (was .s)) in
+    let own : List ℕ = take (was .own) (column ws pathRow (was .s)) in
     let i : ℕ = c .before .before .before .before .before .before .before .before .loop .i in
-    let long : length col ≡ 10 = length-column ws (was .row) (was .s) in
+    let long : length col ≡ columnLength = length-column ws (was .row) (was .s) in
     let read = next (c .before .before .before .before .before .before) in (
       omega arith,
-      may-on (was .n) (cell ws 3 (was .s)) own col i (omega arith) (c .before .before .before .before .before .before .before .before .loop .inv .1)
+      may-on (was .n) (cell ws wantRow (was .s)) own col i (omega arith) (c .before .before .before .before .before .before .before .before .loop .inv .1)
           (subst (λ (p : ℕ). p < was .n) (sym read) (c .before .before .before .before .before .if1 .left))
           (λ e. c .before .before .before .before .if2 .left (sym read ∙ e ∙ sym (c .before .before .before .before .before .before .before .before .before .want-at .ensures)))
           (ap (λ (p : ℕ). member p (own ++ take i col)) read
@@ -126,7 +127,7 @@ returns-5 c =
     let was = c .before .before .before .args in
     let ws = was .cells .now in
     let end : c .before .loop .i ≡ was .count = omega arith in
-    sym (ap (λ (m : ℕ). mayEnter (was .n) (cell ws 3 (was .s)) (take (was .own) (column ws 6 (was .s))) (take m (column ws (was .row) (was .s)))) (sym end) ∙ c .before .loop .inv .1)
+    sym (ap (λ (m : ℕ). mayEnter (was .n) (cell ws wantRow (was .s)) (take (was .own) (column ws pathRow (was .s))) (take m (column ws (was .row) (was .s)))) (sym end) ∙ c .before .loop .inv .1)
 
 pub may-enter-spec : {M : Type 1} → statement M
 may-enter-spec =

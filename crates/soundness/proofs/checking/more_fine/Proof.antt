@@ -1,5 +1,6 @@
 -- The kind, then the pages.
 use Rattle.soundness.specs.Checking.{mayHoldMore}
+use Rattle.lent.specs.Layout.{kindRow, breadthRow}
 use Rattle.lent.specs.Words.{cell, slotIn}
 use Rattle.slots.specs.Sound.{belowAndOnce}
 use Rattle.ground.proofs.Bools.{and-first-fails}
@@ -21,7 +22,7 @@ may-hold-more-requires c κs = search needs
 
 -- what the test of the kind says
 kind-said : (c : tie.After-may-hold-more)
-    → c .may-hold-more .result ≡ mayHoldMore (cell (c .before .before .before .args .cells .now) 0 (c .before .before .before .args .s)) (cell (c .before .before .before .args .cells .now) 5 (c .before .before .before .args .s))
+    → c .may-hold-more .result ≡ mayHoldMore (cell (c .before .before .before .args .cells .now) kindRow (c .before .before .before .args .s)) (cell (c .before .before .before .args .cells .now) breadthRow (c .before .before .before .args .s))
 kind-said c = c .may-hold-more .ensures ∙ ap₂ mayHoldMore (c .before .before .kind-at .ensures) (c .before .breadth-at .ensures)
 
 returns : tie.Need-returns

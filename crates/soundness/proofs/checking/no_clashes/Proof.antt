@@ -11,6 +11,7 @@ use Prim.Native.Nat.{ℕ, _*_, _%_, _^_, _≤_, _<_, _-_}
 use borrow.Author.Needs.{needs}
 use Rattle.soundness.proofs.checking.no_clashes.Statement.{statement}
 use Rattle.soundness.proofs.checking.no_clashes.Tie as tie
+use Rattle.lent.specs.Layout.{rowLength}
 
 abbrev Inv-loop : tie.InvT-loop
 Inv-loop cells left₀ left = Walked cells left
@@ -51,7 +52,7 @@ shl-left : tie.Need-shl-left Inv-loop μ-loop
 shl-left c = next (c .before .before) .inside
 
 -- its bit, as the code makes it
-bit : (s : ℕ) → s < 16 → 1 * 2 ^ s % 65536 ≡ 2 ^ s
+bit : (s : ℕ) → s < rowLength → 1 * 2 ^ s % 65536 ≡ 2 ^ s
 bit s h = bit-fits 16 s h ∙ one-mul (2 ^ s)
 
 -- it is in the mask

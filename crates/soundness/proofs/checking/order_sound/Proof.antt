@@ -2,6 +2,7 @@
 -- slots are open as wait, so none is left once all that wait are named.
 use Rattle.soundness.proofs.CheckingLawsOrder.{Naming, naming-start, naming-long, naming-other, naming-on, naming-high, naming-unmarked, naming-end}
 use Rattle.lent.proofs.StateLaws.{length-order, order-cell}
+use Rattle.lent.specs.Layout.{rowLength}
 use Rattle.lent.specs.Words.{orderIn}
 use Rattle.ground.specs.Limits.{slotCount}
 use borrow.Author.Tests.{not-true, not-false}
@@ -16,7 +17,7 @@ use Rattle.soundness.proofs.checking.order_sound.Statement.{statement}
 use Rattle.soundness.proofs.checking.order_sound.Tie as tie
 
 abbrev Inv-loop : tie.InvT-loop
-Inv-loop cells waiting unnamed₀ i₀ unnamed i = (i ≤ waiting) × (waiting ≤ 16) × (length unnamed ≡ 16) × Naming unnamed₀ unnamed (orderIn cells) i
+Inv-loop cells waiting unnamed₀ i₀ unnamed i = (i ≤ waiting) × (waiting ≤ rowLength) × (length unnamed ≡ rowLength) × Naming unnamed₀ unnamed (orderIn cells) i
 
 abbrev μ-loop : tie.MeasureT-loop
 μ-loop cells waiting unnamed₀ i₀ unnamed i = waiting - i
@@ -57,7 +58,7 @@ returns-3 c =
     let a = c .before .before .before .before .before .before .before .before .before .args in
     let l = c .before .before .before .loop in
     let long = length-order (a .cells .now) (c .before .before .before .before .before .before .before .sized .ensures) in
-    sym (naming-high (a .busy) (l .unnamed) (orderIn (a .cells .now)) (l .i) (l .inv .3) (a .waiting) (omega arith) (omega arith) (subst (λ (s : ℕ). 16 ≤ s) (sym (next (c .before))) (c .if3 .taken)))
+    sym (naming-high (a .busy) (l .unnamed) (orderIn (a .cells .now)) (l .i) (l .inv .3) (a .waiting) (omega arith) (omega arith) (subst (λ (s : ℕ). rowLength ≤ s) (sym (next (c .before))) (c .if3 .taken)))
 
 array-read-if4 : tie.Need-array-read-if4 Inv-loop μ-loop
 array-read-if4 c = search needs
@@ -87,7 +88,7 @@ loop-again c =
     let a = c .before .before .before .before .before .before .before .before .before .before .args in
     let l = c .before .before .before .before .loop in
     let order : List ℕ = orderIn (a .cells .now) in
-    let long : length order ≡ 16 = length-order (a .cells .now) (c .before .before .before .before .before .before .before .before .sized .ensures) in
+    let long : length order ≡ rowLength = length-order (a .cells .now) (c .before .before .before .before .before .before .before .before .sized .ensures) in
     let s : ℕ = c .before .before .order-at .result in
     let read : getD order (l .i) 0 ≡ s = next (c .before .before) in
     let marked = not-false (getD (l .unnamed) s false) (c .if4 .left) in (
@@ -95,7 +96,7 @@ loop-again c =
       l .inv .1,
       length-set (l .unnamed) s false ∙ l .inv .2,
       subst (λ (x : ℕ). Naming (a .busy) (set (l .unnamed) x false) order (l .i + 1)) read
-          (naming-on (a .busy) (l .unnamed) order (l .i) (l .inv .3) (omega arith) (subst (λ (x : ℕ). x < 16) (sym read) (c .before .if3 .left)) (omega arith)
+          (naming-on (a .busy) (l .unnamed) order (l .i) (l .inv .3) (omega arith) (subst (λ (x : ℕ). x < rowLength) (sym read) (c .before .if3 .left)) (omega arith)
           (ap (λ (x : ℕ). getD (l .unnamed) x false) read ∙ marked)),
     )
 

@@ -1,6 +1,7 @@
 -- The wanted page, then the path, then the siblings.
 use Rattle.soundness.proofs.CheckingLawsSlot.{pages-high, pages-path, pages-siblings}
 use Rattle.soundness.specs.Checking.{mayEnter}
+use Rattle.lent.specs.Layout.{wantRow, depthRow, pathRow, besideRow}
 use Rattle.lent.specs.Words.{cell, column, slotIn}
 use borrow.Author.Tests.{not-true, not-false}
 use lib.ListN.{take}
@@ -33,15 +34,15 @@ may-enter-requires c κs =
 
 -- what the test of the path says
 path-said : (c : tie.After-may-enter)
-    → c .may-enter .result ≡ mayEnter (c .before .before .before .before .before .args .n) (cell (c .before .before .before .before .before .args .cells .now) 3 (c .before .before .before .before .before .args .s)) [] (take (cell (c .before .before .before .before .before .args .cells .now) 4 (c .before .before .before .before .before .args .s)) (column (c .before .before .before .before .before .args .cells .now) 6 (c .before .before .before .before .before .args .s)))
+    → c .may-enter .result ≡ mayEnter (c .before .before .before .before .before .args .n) (cell (c .before .before .before .before .before .args .cells .now) wantRow (c .before .before .before .before .before .args .s)) [] (take (cell (c .before .before .before .before .before .args .cells .now) depthRow (c .before .before .before .before .before .args .s)) (column (c .before .before .before .before .before .args .cells .now) pathRow (c .before .before .before .before .before .args .s)))
 path-said c =
     let was = c .before .before .before .before .before .args in
     let ws = was .cells .now in
     c .may-enter .ensures
-    ∙ ap (λ (m : ℕ). mayEnter (was .n) (cell ws 3 (was .s)) [] (take m (column ws 6 (was .s)))) (c .before .wide .ensures ∙ c .before .before .depth-at .ensures)
+    ∙ ap (λ (m : ℕ). mayEnter (was .n) (cell ws wantRow (was .s)) [] (take m (column ws pathRow (was .s)))) (c .before .wide .ensures ∙ c .before .before .depth-at .ensures)
 
 -- and of the wanted page
-below : (c : tie.Else1) → cell (c .before .before .args .cells .now) 3 (c .before .before .args .s) < c .before .before .args .n
+below : (c : tie.Else1) → cell (c .before .before .args .cells .now) wantRow (c .before .before .args .s) < c .before .before .args .n
 below c = subst (λ (w : ℕ). w < c .before .before .args .n) (c .before .want-at .ensures) (c .if1 .left)
 
 returns-2 : tie.Need-returns-2
@@ -67,7 +68,7 @@ returns-3 c =
     let ws = was .cells .now in
     pages-siblings (was .n) (slotIn ws (was .s)) (below (c .before .before .before .before .before .before .before)) (path-said (c .before .before .before .before)) (not-false (c .before .before .before .before .may-enter .result) (c .before .before .before .if2 .left))
     (c .may-enter2 .ensures
-    ∙ ap₂ (λ (d b : ℕ). mayEnter (was .n) (cell ws 3 (was .s)) (take d (column ws 6 (was .s))) (take b (column ws 16 (was .s))))
+    ∙ ap₂ (λ (d b : ℕ). mayEnter (was .n) (cell ws wantRow (was .s)) (take d (column ws pathRow (was .s))) (take b (column ws besideRow (was .s))))
     (c .before .before .before .before .before .wide .ensures ∙ c .before .before .before .before .before .before .depth-at .ensures) (c .before .wide2 .ensures ∙ c .before .before .breadth-at .ensures))
 
 pub pages-fine-spec : {M : Type 1} → statement M

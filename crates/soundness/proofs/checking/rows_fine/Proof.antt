@@ -1,6 +1,7 @@
 -- Whether all rows passed are fine.
 use Rattle.soundness.specs.Checking.{fineRow, rowFine}
 use Rattle.lent.proofs.HoldLaws.{all-on}
+use Rattle.lent.specs.Layout.{rowLength, kindRow, depthRow, breadthRow}
 use Rattle.lent.specs.Words.{cell}
 use Rattle.ground.proofs.Tests.{allBelow-none}
 use Rattle.ground.specs.Tests.{allBelow}
@@ -13,10 +14,10 @@ use Rattle.soundness.proofs.checking.rows_fine.Statement.{statement}
 use Rattle.soundness.proofs.checking.rows_fine.Tie as tie
 
 abbrev Inv-loop : tie.InvT-loop
-Inv-loop cells n good₀ s₀ good s = (s ≤ 16) × (good ≡ allBelow s (rowFine cells n))
+Inv-loop cells n good₀ s₀ good s = (s ≤ rowLength) × (good ≡ allBelow s (rowFine cells n))
 
 abbrev μ-loop : tie.MeasureT-loop
-μ-loop cells n good₀ s₀ good s = 16 - s
+μ-loop cells n good₀ s₀ good s = rowLength - s
 
 loop-holds : tie.Need-loop-holds Inv-loop μ-loop
 loop-holds c = (omega arith, sym (allBelow-none (rowFine (c .args .cells .now) (c .args .n))))
@@ -53,14 +54,14 @@ loop-again c =
     let this : c .is-fine .result ≡ rowFine ws n s =
     c .is-fine .ensures
     ∙ ap (λ (k : ℕ). fineRow k (c .before .before .before .before .depth-at .result) (c .before .before .before .breadth-at .result) n (c .before .before .want-at .result) (c .before .top-at .result)) (c .before .before .before .before .before .kind-at .ensures)
-    ∙ ap₂ (λ (d b : ℕ). fineRow (cell ws 0 s) d b n (c .before .before .want-at .result) (c .before .top-at .result)) (c .before .before .before .before .depth-at .ensures) (c .before .before .before .breadth-at .ensures)
-    ∙ ap₂ (fineRow (cell ws 0 s) (cell ws 4 s) (cell ws 5 s) n) (c .before .before .want-at .ensures) (c .before .top-at .ensures) in
+    ∙ ap₂ (λ (d b : ℕ). fineRow (cell ws kindRow s) d b n (c .before .before .want-at .result) (c .before .top-at .result)) (c .before .before .before .before .depth-at .ensures) (c .before .before .before .breadth-at .ensures)
+    ∙ ap₂ (fineRow (cell ws kindRow s) (cell ws depthRow s) (cell ws breadthRow s) n) (c .before .before .want-at .ensures) (c .before .top-at .ensures) in
     (omega arith, ap₂ (λ (a b : Bool). a && b) (c .before .before .before .before .before .before .before .loop .inv .1) this ∙ sym (all-on (rowFine ws n) s))
 
 returns : tie.Need-returns Inv-loop μ-loop
 returns c =
     let was = c .before .before .args in
-    let end : c .before .loop .s ≡ 16 = omega arith in
+    let end : c .before .loop .s ≡ rowLength = omega arith in
     c .before .loop .inv .1 ∙ ap (λ (m : ℕ). allBelow m (rowFine (was .cells .now) (was .n))) end
 
 pub rows-fine-spec : {M : Type 1} → statement M

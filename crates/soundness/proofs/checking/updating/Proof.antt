@@ -3,6 +3,7 @@ use Rattle.soundness.proofs.MaskLaws.{mask-none, mask-sets, mask-keeps}
 use Rattle.soundness.specs.Checking.{updates}
 use Rattle.slots.specs.Report.{maskBelow}
 use lib.Bits.{bitOr}
+use Rattle.lent.specs.Layout.{rowLength}
 use Rattle.lent.specs.Holds.{updatesKind}
 use native.Mathlib.Omega.{arith}
 use mathlib.Core.Logic.{⊎-elim}
@@ -13,10 +14,10 @@ use Rattle.soundness.proofs.checking.updating.Statement.{statement}
 use Rattle.soundness.proofs.checking.updating.Tie as tie
 
 abbrev Inv-loop : tie.InvT-loop
-Inv-loop cells mask₀ s₀ mask s = (s ≤ 16) × (mask ≡ maskBelow s (updates cells))
+Inv-loop cells mask₀ s₀ mask s = (s ≤ rowLength) × (mask ≡ maskBelow s (updates cells))
 
 abbrev μ-loop : tie.MeasureT-loop
-μ-loop cells mask₀ s₀ mask s = 16 - s
+μ-loop cells mask₀ s₀ mask s = rowLength - s
 
 loop-holds : tie.Need-loop-holds Inv-loop μ-loop
 loop-holds c = (omega arith, sym (mask-none (updates (c .args .cells .now))))
@@ -54,7 +55,7 @@ loop-again c =
 returns : tie.Need-returns Inv-loop μ-loop
 returns c =
     let ws = c .before .before .args .cells .now in
-    let end : c .before .loop .s ≡ 16 = omega arith in
+    let end : c .before .loop .s ≡ rowLength = omega arith in
     c .before .loop .inv .1 ∙ ap (λ (n : ℕ). maskBelow n (updates ws)) end
 
 pub updating-spec : {M : Type 1} → statement M

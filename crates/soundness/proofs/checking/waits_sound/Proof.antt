@@ -2,6 +2,7 @@
 use Rattle.soundness.proofs.CheckingLawsSound.{named-same}
 use Rattle.soundness.specs.Checking.{openKind}
 use Rattle.slots.specs.Sound.{namesEach}
+use Rattle.lent.specs.Layout.{kindRow}
 use Rattle.lent.specs.Words.{cell, orderIn}
 use Rattle.ground.specs.Limits.{slotCount}
 use lib.ListN.{getD}
@@ -27,8 +28,8 @@ returns c =
     let ws = c .before .before .before .args .cells .now in
     let busy = c .before .busy-of in
     c .order-sound .ensures
-    ∙ named-same (λ (s : ℕ). getD (busy .result) s false) (λ (s : ℕ). openKind (cell ws 0 s)) (c .before .before .waiting-of .result) (orderIn ws) (busy .ensures .1)
-    ∙ ap (λ (w : ℕ). namesEach (λ (s : ℕ). openKind (cell ws 0 s)) w (orderIn ws)) (c .before .before .waiting-of .ensures)
+    ∙ named-same (λ (s : ℕ). getD (busy .result) s false) (λ (s : ℕ). openKind (cell ws kindRow s)) (c .before .before .waiting-of .result) (orderIn ws) (busy .ensures .1)
+    ∙ ap (λ (w : ℕ). namesEach (λ (s : ℕ). openKind (cell ws kindRow s)) w (orderIn ws)) (c .before .before .waiting-of .ensures)
 
 pub waits-sound-spec : {M : Type 1} → statement M
 waits-sound-spec =
