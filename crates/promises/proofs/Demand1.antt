@@ -17,23 +17,28 @@ use Rattle.slots.specs.declared.Task.{Task}
 use Rattle.slots.specs.declared.Task.the-variants.{Closed, Open}
 use Rattle.slots.specs.declared.Slot.{Slot}
 use Rattle.slots.specs.declared.State.{State}
+use Rattle.slots.specs.declared.Lock.{Lock}
 use Rattle.slots.specs.declared.Answer.{Answer}
-use Rattle.slots.specs.declared.Answer.the-variants.{Waiting, Begun, Made, BadState, BadPool, BadSlot, SlotBusy, SlotIdle, Damaged, BadPage}
+use Rattle.slots.specs.declared.Answer.the-variants.{Waiting, Begun, Made, Reported, BadState, BadPool, BadSlot, SlotBusy, SlotIdle, Damaged, BadPage}
 use Rattle.slots.specs.Heard.{numberOf, refuses, changesNothing}
 use Rattle.slots.specs.Parts.{isOpen, slotAt, openAt, holding, standOf}
 use Rattle.slots.specs.Sound.{sound}
 use Rattle.slots.specs.Grant.{grants}
 use Rattle.slots.specs.Begin.{begun}
-use Rattle.slots.specs.Report.{reported}
+use Rattle.slots.specs.Report.{holders, lowestHolder, lockKind, reported}
 use Rattle.slots.proofs.Refusals.{begin-refused}
-use Rattle.slots.proofs.SoundFacts.{empty-unsound}
+use Rattle.slots.proofs.SoundFacts.{sound-facts, empty-unsound}
 use Rattle.footing.specs.Granted.{Verdict, broken, goes, ends, granted}
 use Rattle.footing.specs.Fitting.{pagesSound, fitting, nextIsNew, soundForStep, verdict}
 use Rattle.ground.proofs.Choice.{by-test}
 use Rattle.index.specs.Step.{ofGranted, acted, steppedTask, stepped}
 use Rattle.index.specs.Make.{made}
 use Rattle.index.proofs.Refusals.{Answers, granted-answers, changes, step-refused, make-refused, step-length, make-length}
+use Rattle.promises.specs.Terms.{Exactly}
+use Rattle.promises.specs.Report.{Reports}
 use Rattle.promises.specs.Demand1.{BeginDemand, WordsFit, soundForTask, StepDemand, ReportDemand, MakingInRange, MakeDemand, Demand1}
+use Rattle.promises.proofs.SoundState.{numbers, sound-is}
+use Rattle.promises.proofs.Report.{reports-so, reports-once}
 
 -- A row of a table: an answer, and what it tells. By its number an answer tells what stands beside it; one with no row tells `other`.
 record Row : Type 1 where
@@ -239,13 +244,41 @@ report-tells st p =
     (λ b. rw (a, b) (refl, ltb-false p (st .n) b)))
     (λ a. rw a refl)
 
+-- a report is that of the rules' kind, number and lowest holder
+report-rule : (st : State) (p : ℕ) → sound st ≡ true → p < st .n → reported st p ≡ Reported (lockKind st p) (holders st p) (lowestHolder st p)
+unfolding reported
+report-rule st p a b = rw (a, lt-ltb p (st .n) b)
+
+-- and these are the only ones that satisfy the plain terms
+report-is : (st : State) (p : ℕ) (kind : Lock) (count lowest : ℕ) → sound st ≡ true → p < st .n
+    → Exactly (reported st p ≡ Reported kind count lowest) (Reports st p kind count lowest)
+report-is st p kind count lowest a b =
+    let f = sound-facts st a in
+    let rule = report-rule st p a b in (
+      (λ e. same-report rule e (reports-so st p f)),
+      (λ r. let (k, c, l) = reports-once st p f kind count lowest r in cc),
+    )
+  where
+    same-report : {k : Lock} {c l : ℕ} → reported st p ≡ Reported k c l → reported st p ≡ Reported kind count lowest → Reports st p k c l → Reports st p kind count lowest
+    same-report {k} {c} {l} rule e r =
+        let x : k ≡ kind = cc in
+        let y : c ≡ count = cc in
+        let z : l ≡ lowest = cc in
+        rw (← x, ← y, ← z) r
+
 pub report-demand : (st : State) (p : ℕ) → ReportDemand st p
 unfolding reported
 report-demand st p = record {
   badState = (told, λ h. rw h);
   badPage = (told, λ h. rw (h .0, le-ltb p (st .n) (h .1)));
-  reports = (told, λ h. rw (h .0, lt-ltb p (st .n) (h .1)));
-  noOther = by-test (sound st) (λ a. by-test (ltb p (st .n)) (λ b. inr (inr (rw (a, b)))) (λ b. inr (inl (rw (a, b))))) (λ a. inl (rw a));
+  reports = λ kind count lowest. (
+    (λ e. let (a, b) = told e in (a, b, report-is st p kind count lowest a b .0 e)),
+    (λ h. report-is st p kind count lowest (h .0) (h .1) .1 (h .2)),
+  );
+  noOther =
+      by-test (sound st)
+      (λ a. by-test (ltb p (st .n)) (λ b. inr (inr (lockKind st p, holders st p, lowestHolder st p, report-rule st p a (ltb-true p (st .n) b)))) (λ b. inr (inl (rw (a, b)))))
+      (λ a. inl (rw a));
 }
   where
     told : {a : Answer} → reported st p ≡ a → ReportTells st p a
@@ -302,4 +335,4 @@ make-demand k n ws = record {
     told e = subst (MakeTells k n ws) e (make-tells k n ws)
 
 pub demand1 : Demand1
-demand1 = record { begin = begin-demand; step = step-demand; report = report-demand; make = make-demand }
+demand1 = record { begin = begin-demand; step = step-demand; report = report-demand; make = make-demand; soundState = sound-is; numbers = numbers }

@@ -60,8 +60,9 @@ use Rattle.runs.proofs.Progress.{barred, barred-waits, older-other, older-waits
 use Rattle.runs.proofs.Older.{older-before, before-older}
 use Rattle.runs.proofs.PlainLaws.{none-below, below-none}
 use Rattle.runs.proofs.Agreement.{plain-counted}
-use Rattle.promises.specs.Demand1.{Exactly}
-use Rattle.promises.specs.Demand2.{Reader, AfterEveryCall, Seen, InTheWay, StepLocks, CallLocks, Words, Demand2Holds}
+use Rattle.promises.specs.Terms.{Exactly, Reader}
+use Rattle.promises.specs.Demand2.{AfterEveryCall, Seen, InTheWay, StepLocks, CallLocks, Words, Demand2Holds}
+use Rattle.promises.proofs.Terms.{never-both}
 use Rattle.promises.proofs.Seen.{step-seen}
 
 -- ---- after every call
@@ -119,13 +120,6 @@ one-updates (Open op) (Open op′) o q c = by-lock (lock-says op) (lock-says op�
     by-lock (shares e r) (shares f p) = not-both c (ap₂ clash e f)
 
 -- and where one updates they clash
-abbrev ReaderTask : Task → Type 0
-ReaderTask Closed = ⊥
-ReaderTask (Open op) = Reader op
-
-never-both : (task : Task) → ReadsTask task → UpdatesTask task → ⊥
-never-both task (op, e, r) (op′, f, never) = never (subst ReaderTask f (subst ReaderTask (sym e) r))
-
 update-clashes : (a b : Task) → isOpen a ≡ true → isOpen b ≡ true → UpdatesTask a ⊎ UpdatesTask b → clash (lockOf a) (lockOf b) ≡ true
 update-clashes a b o q u =
     ⊎-elim

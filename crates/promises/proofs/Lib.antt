@@ -1,7 +1,10 @@
 pub mod Computed
-pub mod Demand1
+pub mod Terms
+pub mod SoundState
+pub mod Report
 pub mod Seen
 pub mod Demand2
+pub mod Demand1
 pub mod Room
 pub mod Demand3
 pub mod Regrading

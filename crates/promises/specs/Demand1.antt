@@ -18,20 +18,20 @@ use Rattle.slots.specs.declared.Task.{Task}
 use Rattle.slots.specs.declared.Task.the-variants.{Closed, Open}
 use Rattle.slots.specs.declared.Slot.{Slot}
 use Rattle.slots.specs.declared.State.{State}
+use Rattle.slots.specs.declared.Lock.{Lock}
 use Rattle.slots.specs.declared.Answer.the-variants.{Waiting, Begun, Made, Reported, BadState, BadPool, BadSlot, SlotBusy, SlotIdle, Damaged, BadPage}
 use Rattle.slots.specs.Heard.{refuses, changesNothing}
 use Rattle.slots.specs.Parts.{slotAt, openAt, standOf, idleState}
 use Rattle.slots.specs.Sound.{sound}
 use Rattle.slots.specs.Grant.{grants}
 use Rattle.slots.specs.Begin.{begun}
-use Rattle.slots.specs.Report.{holders, lowestHolder, lockKind, reported}
+use Rattle.slots.specs.Report.{reported}
 use Rattle.footing.specs.Fitting.{soundForStep}
 use Rattle.index.specs.Step.{ofGranted, stepped}
 use Rattle.index.specs.Make.{made}
-
--- P holds exactly if Q does
-abbrev pub Exactly : Type 0 → Type 0 → Type 0
-Exactly P Q = (P → Q) × (Q → P)
+use Rattle.promises.specs.Terms.{Exactly}
+use Rattle.promises.specs.SoundState.{Numbers, IsSound}
+use Rattle.promises.specs.Report.{Reports}
 
 -- "Order. Begin: 1, 3, 4." Begin is handed no words, so it leaves them.
 pub record BeginDemand (st : State) (s : ℕ) (op : Op) : Type 0 where
@@ -88,8 +88,9 @@ pub record ReportDemand (st : State) (p : ℕ) : Type 0 where
   -- 7, "a lock report for a page N or above"
   pub badPage : Exactly (reported st p ≡ BadPage) ((sound st ≡ true) × (st .n ≤ p))
   -- "A lock report for a page gives the lock kind, how many slots hold the page, and the lowest-numbered holder"
-  pub reports : Exactly (reported st p ≡ Reported (lockKind st p) (holders st p) (lowestHolder st p)) ((sound st ≡ true) × (p < st .n))
-  pub noOther : (reported st p ≡ BadState) ⊎ (reported st p ≡ BadPage) ⊎ (reported st p ≡ Reported (lockKind st p) (holders st p) (lowestHolder st p))
+  pub reports : (kind : Lock) (count lowest : ℕ)
+      → Exactly (reported st p ≡ Reported kind count lowest) ((sound st ≡ true) × (p < st .n) × Reports st p kind count lowest)
+  pub noOther : (reported st p ≡ BadState) ⊎ (reported st p ≡ BadPage) ⊎ ((kind : Lock) × (count : ℕ) × (lowest : ℕ) × (reported st p ≡ Reported kind count lowest))
 
 -- "k is 1 to 16. .. The pool has N pages, 1 to 1,024, .. and exactly N(4k+3) words."
 pub record MakingInRange (k n : ℕ) (ws : List ℕ) : Type 0 where
@@ -119,3 +120,6 @@ pub record Demand1 : Type 0 where
   pub step : (st : State) (ws : List ℕ) (s : ℕ) → StepDemand st ws s
   pub report : (st : State) (p : ℕ) → ReportDemand st p
   pub make : (k n : ℕ) (ws : List ℕ) → MakeDemand k n ws
+  -- a sound state, of which they speak by the rule's test, in plain terms
+  pub soundState : (st : State) → Exactly (sound st ≡ true) (IsSound st)
+  pub numbers : Numbers

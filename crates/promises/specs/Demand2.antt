@@ -37,25 +37,9 @@ use Rattle.runs.specs.Stance.{Safe, Stance, Takes}
 use Rattle.runs.specs.Waits.{Barred, Before}
 use Rattle.runs.specs.Done.{writing}
 use Rattle.runs.specs.PlainFacts.{Among, AllBelow}
-use Rattle.promises.specs.Demand1.{Exactly}
+use Rattle.promises.specs.Terms.{Exactly, Reader, Reads, Updates}
 
 -- ---- after every call
-
--- the operation only reads: it is a search, or asks for the next lot
-abbrev pub Reader : Op → Type 0
-Reader (Search x) = Unit {0}
-Reader (Insert x v) = ⊥
-Reader (Delete x) = ⊥
-Reader (Next x) = Unit {0}
-Reader (Regrade x v) = ⊥
-
--- slot s only reads
-abbrev pub Reads : State → ℕ → Type 0
-Reads st s = (op : Op) × Opened st s op × Reader op
-
--- slot s updates: it inserts, deletes or regrades
-abbrev pub Updates : State → ℕ → Type 0
-Updates st s = (op : Op) × Opened st s op × (Reader op → ⊥)
 
 -- What a run with this k and N has left.
 pub record AfterEveryCall (k n : ℕ) (st : State) (ws : List ℕ) : Type 0 where

@@ -1,4 +1,7 @@
 pub mod Bench
+pub mod Terms
+pub mod SoundState
+pub mod Report
 pub mod Demand1
 pub mod Demand2
 pub mod Demand3

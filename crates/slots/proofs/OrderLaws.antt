@@ -24,7 +24,7 @@ use Rattle.slots.specs.Book.{leaving, begins, requeued, closes}
 use Rattle.slots.proofs.SoundFacts.{SoundState}
 
 -- a list of different numbers below n is as long as there are numbers below n in it
-length-counted : (n : ℕ) (xs : List ℕ) → distinct xs ≡ true → ((x : ℕ) → member x xs ≡ true → x < n) → length xs ≡ countBelow n (λ (i : ℕ). member i xs)
+pub length-counted : (n : ℕ) (xs : List ℕ) → distinct xs ≡ true → ((x : ℕ) → member x xs ≡ true → x < n) → length xs ≡ countBelow n (λ (i : ℕ). member i xs)
 unfolding distinct
 length-counted n [] d b = sym (countBelow-fails (λ (i : ℕ). member i []) n (λ i _. member-none i))
 length-counted n (x ∷ xs) d b =

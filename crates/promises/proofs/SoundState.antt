@@ -1,0 +1,118 @@
+-- The rule's test of a sound state passes exactly where the state is sound in plain terms.
+use Prim.Native.Nat.{ℕ, _≤_, _<_}
+use mathlib.Core.Bool.{Bool, true, false, _&&_, _||_}
+use mathlib.Core.List.{List, _∷_}
+use mathlib.Core.Logic.{_⊎_, inl, inr, ⊎-elim}
+use mathlib.Core.Path.{_≡_, refl, ap}
+use native.Mathlib.Omega.{arith}
+use lib.Dec.{leb, ltb, eqb}
+use borrow.Author.Tests.{leb-true, le-leb, ltb-true, lt-ltb, eqb-true, eq-eqb}
+use Rattle.ground.specs.Limits.{largestK, largestN, tallest, slotCount, searchHolds, regradeHolds, pathHolds, siblingHolds}
+use Rattle.ground.specs.Tests.{member}
+use Rattle.ground.proofs.Bools.{not-both, false-if-not-true, and-first, and-second, and-both, or-first, or-second, or-cases}
+use Rattle.ground.proofs.Tests.{member-at, distinct-at, distinct-from, apart-member, apart-from}
+use Rattle.slots.specs.declared.Op.the-variants.{Search, Insert, Delete, Next, Regrade}
+use Rattle.slots.specs.declared.Task.{Task}
+use Rattle.slots.specs.declared.Task.the-variants.{Closed, Open}
+use Rattle.slots.specs.declared.State.{State}
+use Rattle.slots.specs.Parts.{isOpen, held, slotAt, wantAt, waitingOrder}
+use Rattle.slots.specs.Sound.{withinLimits, sound}
+use Rattle.slots.proofs.SoundFacts.{SoundState, sound-facts, facts-sound}
+use Rattle.promises.specs.Terms.{Exactly}
+use Rattle.promises.specs.SoundState.{Numbers, InLimits, IsSound}
+use Rattle.promises.proofs.Terms.{in-member, open-with, xi-updates, updates-xi}
+
+pub numbers : Numbers
+unfolding largestK largestN tallest slotCount searchHolds regradeHolds pathHolds siblingHolds
+numbers = record { widest = refl; largest = refl; highest = refl; slots = refl; search = refl; path = refl; siblings = refl; regrading = refl }
+
+-- ---- how many pages a slot holds
+
+abbrev Within : ℕ → ℕ → ℕ → ℕ → Type 0
+Within most few path beside = (path ≤ most) × (beside ≤ few) × ((beside ≡ 0) ⊎ (beside < path))
+
+abbrev within : ℕ → ℕ → ℕ → ℕ → Bool
+within most few path beside = leb path most && leb beside few && (eqb beside 0 || ltb beside path)
+
+within-told : (most few path beside : ℕ) → within most few path beside ≡ true → Within most few path beside
+within-told most few path beside h =
+    let both = and-first (leb path most && leb beside few) (eqb beside 0 || ltb beside path) h in (
+      leb-true path most (and-first (leb path most) (leb beside few) both),
+      leb-true beside few (and-second (leb path most) (leb beside few) both),
+      ⊎-elim (λ e. inl (eqb-true beside 0 e)) (λ e. inr (ltb-true beside path e))
+          (or-cases (eqb beside 0) (ltb beside path) (and-second (leb path most && leb beside few) (eqb beside 0 || ltb beside path) h)),
+    )
+
+within-from : (most few path beside : ℕ) → Within most few path beside → within most few path beside ≡ true
+within-from most few path beside (p, b, f) =
+    and-both (and-both (le-leb path most p) (le-leb beside few b))
+    (⊎-elim (λ e. or-first (ltb beside path) (eq-eqb beside 0 e)) (λ l. or-second (eqb beside 0) (lt-ltb beside path l)) f)
+
+-- of an operation that holds nothing beside its path
+none-told : (most path beside : ℕ) → within most 0 path beside ≡ true → (path ≤ most) × (beside ≡ 0)
+none-told most path beside h = let (p, b, f) = within-told most 0 path beside h in (p, omega (arith, b))
+
+none-from : (most path beside : ℕ) → (path ≤ most) × (beside ≡ 0) → within most 0 path beside ≡ true
+none-from most path beside (p, b) = within-from most 0 path beside (p, omega (arith, b), inl b)
+
+limits-told : (task : Task) (path beside : ℕ) → withinLimits task path beside ≡ true → InLimits task path beside
+limits-told Closed path beside h = let (p, b) = none-told 0 path beside h in (omega (arith, p), b)
+limits-told (Open (Search x)) path beside h = none-told searchHolds path beside h
+limits-told (Open (Insert x v)) path beside h = none-told pathHolds path beside h
+limits-told (Open (Delete x)) path beside h = within-told pathHolds siblingHolds path beside h
+limits-told (Open (Next x)) path beside h = within-told pathHolds siblingHolds path beside h
+limits-told (Open (Regrade x v)) path beside h = none-told regradeHolds path beside h
+
+limits-from : (task : Task) (path beside : ℕ) → InLimits task path beside → withinLimits task path beside ≡ true
+limits-from Closed path beside (p, b) = none-from 0 path beside (omega (arith, p), b)
+limits-from (Open (Search x)) path beside h = none-from searchHolds path beside h
+limits-from (Open (Insert x v)) path beside h = none-from pathHolds path beside h
+limits-from (Open (Delete x)) path beside h = within-from pathHolds siblingHolds path beside h
+limits-from (Open (Next x)) path beside h = within-from pathHolds siblingHolds path beside h
+limits-from (Open (Regrade x v)) path beside h = none-from regradeHolds path beside h
+
+-- ---- the whole
+
+told : (st : State) → SoundState st → IsSound st
+told st f = record {
+  kLeast = f .kLeast;
+  kMost = f .kMost;
+  nLeast = f .nLeast;
+  nMost = f .nMost;
+  orderFits = f .waits;
+  orderOnce = distinct-at (waitingOrder st) 0 (f .orderOnce);
+  orderNames = λ s. (
+    (λ i. let m = in-member s (waitingOrder st) i in (f .orderBelow s m, open-with (slotAt st s .task) (f .orderOpen s m))),
+    (λ o. member-at s (waitingOrder st) 0 (f .orderNames s (o .0) (ap isOpen (o .1 .1)))),
+  );
+  below = λ s p b o i. f .slot s b .below (ap isOpen (o .1)) p (in-member p (wantAt st s ∷ held (slotAt st s)) i);
+  different = λ s b o. distinct-at (wantAt st s ∷ held (slotAt st s)) 0 (f .slot s b .different (ap isOpen (o .1)));
+  limits = λ s b. limits-told (slotAt st s .task) (slotAt st s .depth) (slotAt st s .breadth) (f .slot s b .limits);
+  alone = λ s t p b c n u i j.
+      not-both (in-member p (held (slotAt st t)) j)
+      (apart-member (held (slotAt st s)) (held (slotAt st t)) (f .alone s t b c n (updates-xi (slotAt st s .task) (u .0) (u .1) (u .2))) p (in-member p (held (slotAt st s)) i));
+}
+
+from : (st : State) → IsSound st → SoundState st
+from st g = record {
+  kLeast = g .kLeast;
+  kMost = g .kMost;
+  nLeast = g .nLeast;
+  nMost = g .nMost;
+  waits = g .orderFits;
+  orderBelow = λ s m. g .orderNames s .0 (member-at s (waitingOrder st) 0 m) .0;
+  orderOpen = λ s m. ap isOpen (g .orderNames s .0 (member-at s (waitingOrder st) 0 m) .1 .1);
+  orderOnce = distinct-from (waitingOrder st) 0 (g .orderOnce);
+  orderNames = λ s b o. in-member s (waitingOrder st) (g .orderNames s .1 (b, open-with (slotAt st s .task) o));
+  slot = λ s b. record {
+    limits = limits-from (slotAt st s .task) (slotAt st s .depth) (slotAt st s .breadth) (g .limits s b);
+    below = λ o p m. g .below s p b (open-with (slotAt st s .task) o) (member-at p (wantAt st s ∷ held (slotAt st s)) 0 m);
+    different = λ o. distinct-from (wantAt st s ∷ held (slotAt st s)) 0 (g .different s b (open-with (slotAt st s .task) o));
+  };
+  alone = λ s t b c n x. apart-from (held (slotAt st s)) (held (slotAt st t))
+      (λ p m. false-if-not-true (member p (held (slotAt st t)))
+      (λ m′. g .alone s t p b c n (xi-updates (slotAt st s .task) x) (member-at p (held (slotAt st s)) 0 m) (member-at p (held (slotAt st t)) 0 m′)));
+}
+
+pub sound-is : (st : State) → Exactly (sound st ≡ true) (IsSound st)
+sound-is st = ((λ h. told st (sound-facts st h)), (λ g. facts-sound st (from st g)))
