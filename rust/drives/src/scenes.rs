@@ -3,7 +3,7 @@
 
 use draw::Random;
 use moments::{built, draw, limits, next_call, operation, Call, Draw, Moment};
-use twin::{is_sound, kind, page_words, state_of, State, STATE};
+use twin::{is_sound, kind, page_words, state_of, Op, State, STATE};
 use versus::spoiled;
 
 use crate::scene::{call_line, Scene};
@@ -388,9 +388,13 @@ fn making(random: &mut Random) -> Scene {
             random.below(9)
         ));
         scene.text(&format!("m {k} {n}"));
-        scene.text("b 3 2 4 5");
-        scene.text("t 3");
-        scene.text("r 0");
+        for call in [
+            Call::Begin(3, Op::Insert(4, 5)),
+            Call::Step(3),
+            Call::Report(0),
+        ] {
+            scene.call(call);
+        }
     }
     scene
 }

@@ -44,7 +44,7 @@ impl From<Refusal> for Stop {
 }
 
 /// How far the questions are.
-#[derive(Clone, Copy)]
+#[derive(Clone, Copy, Debug)]
 enum Asked {
     /// The next one is for the first lot at or above this key.
     From(u32),
@@ -57,10 +57,11 @@ enum Asked {
 /// The lots from a key on, in the order of their keys ([`Index::lots`]).
 ///
 /// Each lot is a question of its own, `Next` behind the last one, and not a picture of one moment: what other slots enter, take
-/// out or regrade between two questions shows in those that follow. Keys always rise, and a lot that is there all the time, at or
-/// above the first key, is told once.
+/// out or regrade between two questions shows in those that follow. Keys always rise. Who asks to the end hears just once of each
+/// lot, at or above the first key, that was there all the time.
 ///
 /// As long as it lives, the slot is its own. Where it is dropped after [`Stop::Waiting`], its question stays open in the slot.
+#[derive(Debug)]
 pub struct Lots<'i, 'w> {
     index: &'i mut Index<'w>,
     slot: u32,
