@@ -3,30 +3,38 @@ use Prim.Native.Nat.{ℕ, _≤_, _<_}
 use mathlib.Core.Bool.{Bool, true, false, cond, _&&_}
 use mathlib.Core.List.{List}
 use mathlib.Core.Logic.{_⊎_, inl, inr, ⊎-elim, _≢_}
-use mathlib.Core.Path.{_≡_, refl, sym, subst, _∙_}
+use mathlib.Core.Path.{_≡_, refl, sym, ap, subst, _∙_}
 use native.Mathlib.Omega.{arith}
 use lib.Arith.{lt-of-le-ne}
 use lib.Dec.{eqb, ltb}
 use lib.ListN.{length, getD}
-use borrow.Author.Tests.{eqb-true, eqb-false, ltb-true, ltb-false}
+use borrow.Author.Tests.{eq-eqb, ltb-true, ltb-false}
 use Rattle.ground.specs.Limits.{slotCount}
-use Rattle.ground.specs.Tests.{member, anyBelow, listBelow}
+use Rattle.ground.specs.Tests.{member, listBelow}
 use Rattle.ground.proofs.Bools.{not-both, false-if-not-true, same-if-true-together, and-first, and-second, and-both}
 use Rattle.ground.proofs.Choice.{by-test, same-or-not, cond-true, cond-false}
-use Rattle.ground.proofs.Tests.{member-at, distinct-at, distinct-from, anyBelow-at, anyBelow-false-at, countBelow-same, length-listBelow, listBelow-at, listBelow-from, listBelow-index, listBelow-distinct, firstBelow-passes, firstBelow-before, firstBelow-most, firstBelow-all-fail}
+use Rattle.ground.proofs.Tests.{member-at, distinct-at, distinct-from, anyBelow-at, anyBelow-false-at, countBelow-same, length-listBelow, listBelow-at, listBelow-from, listBelow-distinct, firstBelow-passes, firstBelow-before, firstBelow-most, firstBelow-all-fail}
 use Rattle.slots.specs.declared.Lock.{Lock}
 use Rattle.slots.specs.declared.Lock.the-variants.{None, Rho, Xi}
 use Rattle.slots.specs.declared.State.{State}
-use Rattle.slots.specs.Parts.{held, slotAt, holdsAt}
-use Rattle.slots.specs.Locks.{lockAt, isXi}
-use Rattle.slots.specs.Report.{holders, lowestHolder, lockKind}
+use Rattle.slots.specs.Parts.{isOpen, held, slotAt, holdsAt}
+use Rattle.slots.specs.Locks.{lockHeldAt}
+use Rattle.slots.specs.Heard.{lockNumber}
+use Rattle.slots.specs.Report.{holders, lowestHolder, heldUnder, lockKind}
 use Rattle.slots.proofs.SoundFacts.{SoundState}
+use Rattle.slots.proofs.LockLaws.{isLock, held-lock}
 use Rattle.slots.proofs.Clashes.{update-alone}
 use Rattle.slots.proofs.GrantLaws.{holder-open}
 use Rattle.slots.proofs.OrderLaws.{length-counted}
 use Rattle.promises.specs.Terms.{Holds, Reads}
 use Rattle.promises.specs.Report.{Holders, Nobody, Lowest, KindIs, Reports}
 use Rattle.promises.proofs.Terms.{in-member, xi-updates, shares-reads, never-both}
+
+-- the kind whose number is that of ξ
+is-xi : (l : Lock) → eqb (lockNumber l) (lockNumber Xi) ≡ true → l ≡ Xi
+is-xi None e = not-both e refl
+is-xi Rho e = not-both e refl
+is-xi Xi e = refl
 
 module _ (st : State) (p : ℕ) where
   -- the slots that hold the page, by the rule's test
@@ -83,34 +91,30 @@ module _ (st : State) (p : ℕ) where
 
   -- ---- the kind
 
-  -- the page is held with a ξ-lock by slot s
-  abbrev byXi : ℕ → Bool
-  byXi s = holdsAt st s p && isXi (lockAt st s)
+  -- slot s holds the page under this kind
+  abbrev under : Lock → ℕ → Bool
+  under lock s = holdsAt st s p && eqb (lockNumber (lockHeldAt st s p)) (lockNumber lock)
 
-  nobody-counted : holders st p ≡ 0 → Nobody st p
-  nobody-counted e s b h =
-      let (i, inside, _) = member-at s theirs 0 (listBelow-from (λ (t : ℕ). holdsAt st t p) slotCount s b (holds-test s h)) in
-      omega (arith, inside, e, length-listBelow (λ (t : ℕ). holdsAt st t p) slotCount)
-
-  somebody : holders st p ≢ 0 → (s : ℕ) × (s < slotCount) × Holds st s p
-  somebody n =
-      let some : 0 < length theirs = subst (λ (m : ℕ). 0 < m) (sym (length-listBelow (λ (t : ℕ). holdsAt st t p) slotCount)) (lt-of-le-ne (omega arith) (λ e. n (sym e))) in
-      let (b, h) = listBelow-index (λ (t : ℕ). holdsAt st t p) slotCount 0 0 some in
-      (getD theirs 0 0, b, holds-told (getD theirs 0 0) h)
+  under-of : (lock : Lock) (s : ℕ) → holdsAt st s p ≡ true → lockHeldAt st s p ≡ lock → under lock s ≡ true
+  under-of lock s h e = and-both h (eq-eqb (lockNumber (lockHeldAt st s p)) (lockNumber lock) (ap lockNumber e))
 
   kind-told : SoundState st → KindIs st p (lockKind st p)
   kind-told f =
-      by-test (eqb (holders st p) 0)
-      (λ e. subst (KindIs st p) (sym (cond-true None (cond (anyBelow slotCount byXi) Xi Rho) e)) (nobody-counted (eqb-true (holders st p) 0 e)))
-      (λ e. by-test (anyBelow slotCount byXi)
-      (λ x. subst (KindIs st p) (sym (cond-false None (cond (anyBelow slotCount byXi) Xi Rho) e ∙ cond-true Xi Rho x)) (by-update (anyBelow-at byXi slotCount x)))
-      (λ x. subst (KindIs st p) (sym (cond-false None (cond (anyBelow slotCount byXi) Xi Rho) e ∙ cond-false Xi Rho x))
-      (somebody (eqb-false (holders st p) 0 e), λ s b h. all-read s b h (anyBelow-false-at byXi slotCount x s b))))
+      by-test (heldUnder st p Xi)
+      (λ x. subst (KindIs st p) (sym (cond-true Xi (cond (heldUnder st p Rho) Rho None) x)) (by-update (anyBelow-at (under Xi) slotCount x)))
+      (λ x. by-test (heldUnder st p Rho)
+      (λ r. subst (KindIs st p) (sym (cond-false Xi (cond (heldUnder st p Rho) Rho None) x ∙ cond-true Rho None r))
+      (by-reader (anyBelow-at (under Rho) slotCount r), λ s b h. all-read x s b (holds-test s h)))
+      (λ r. subst (KindIs st p) (sym (cond-false Xi (cond (heldUnder st p Rho) Rho None) x ∙ cond-false Rho None r))
+      (λ s b h. nobody x r s b (holds-test s h) (lockHeldAt st s p) refl)))
     where
-      by-update : (s : ℕ) × (s < slotCount) × (byXi s ≡ true) → KindIs st p Xi
+      opened : (s : ℕ) → s < slotCount → holdsAt st s p ≡ true → isOpen (slotAt st s .task) ≡ true
+      opened s b holds = holder-open (st .n) (slotAt st s) p (f .slot s b) holds
+
+      by-update : (s : ℕ) × (s < slotCount) × (under Xi s ≡ true) → KindIs st p Xi
       by-update (s, b, t) =
-          let holds = and-first (holdsAt st s p) (isXi (lockAt st s)) t in
-          let xi = and-second (holdsAt st s p) (isXi (lockAt st s)) t in (
+          let holds = and-first (holdsAt st s p) (eqb (lockNumber (lockHeldAt st s p)) (lockNumber Xi)) t in
+          let xi = is-xi (lockHeldAt st s p) (and-second (holdsAt st s p) (eqb (lockNumber (lockHeldAt st s p)) (lockNumber Xi)) t) in (
             s,
             b,
             holds-told s holds,
@@ -119,11 +123,19 @@ module _ (st : State) (p : ℕ) where
                 ⊎-elim (λ e. e) (λ n. not-both (holds-test u h) (update-alone st f s u p b c (λ e. n (sym e)) xi holds)) (same-or-not u s),
           )
 
-      all-read : (s : ℕ) → s < slotCount → Holds st s p → byXi s ≡ false → Reads st s
-      all-read s b h x =
-          let holds = holds-test s h in
-          shares-reads (slotAt st s .task) (holder-open (st .n) (slotAt st s) p (f .slot s b) holds)
-          (false-if-not-true (isXi (lockAt st s)) (λ xi. not-both (and-both holds xi) x))
+      by-reader : (s : ℕ) × (s < slotCount) × (under Rho s ≡ true) → (s : ℕ) × (s < slotCount) × Holds st s p
+      by-reader (s, b, t) = (s, b, holds-told s (and-first (holdsAt st s p) (eqb (lockNumber (lockHeldAt st s p)) (lockNumber Rho)) t))
+
+      all-read : heldUnder st p Xi ≡ false → (s : ℕ) → s < slotCount → holdsAt st s p ≡ true → Reads st s
+      all-read x s b holds =
+          shares-reads (slotAt st s .task) (opened s b holds)
+          (λ xi. not-both (under-of Xi s holds xi) (anyBelow-false-at (under Xi) slotCount x s b))
+
+      nobody : heldUnder st p Xi ≡ false → heldUnder st p Rho ≡ false → (s : ℕ) → s < slotCount → holdsAt st s p ≡ true
+          → (lock : Lock) → lockHeldAt st s p ≡ lock → ⊥
+      nobody x r s b holds None e = not-both (held-lock (slotAt st s) p (opened s b holds)) (ap isLock e)
+      nobody x r s b holds Rho e = not-both (under-of Rho s holds e) (anyBelow-false-at (under Rho) slotCount r s b)
+      nobody x r s b holds Xi e = not-both (under-of Xi s holds e) (anyBelow-false-at (under Xi) slotCount x s b)
 
   -- ---- the whole
 

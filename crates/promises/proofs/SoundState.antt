@@ -3,24 +3,25 @@ use Prim.Native.Nat.{ℕ, _≤_, _<_}
 use mathlib.Core.Bool.{Bool, true, false, _&&_, _||_}
 use mathlib.Core.List.{List, _∷_}
 use mathlib.Core.Logic.{_⊎_, inl, inr, ⊎-elim}
-use mathlib.Core.Path.{_≡_, refl, ap}
+use mathlib.Core.Path.{_≡_, refl, sym, ap}
 use native.Mathlib.Omega.{arith}
 use lib.Dec.{leb, ltb, eqb}
 use borrow.Author.Tests.{leb-true, le-leb, ltb-true, lt-ltb, eqb-true, eq-eqb}
 use Rattle.ground.specs.Limits.{largestK, largestN, tallest, slotCount, searchHolds, regradeHolds, pathHolds, siblingHolds}
-use Rattle.ground.specs.Tests.{member}
 use Rattle.ground.proofs.Bools.{not-both, false-if-not-true, and-first, and-second, and-both, or-first, or-second, or-cases}
-use Rattle.ground.proofs.Tests.{member-at, distinct-at, distinct-from, apart-member, apart-from}
+use Rattle.ground.proofs.Tests.{member-at, distinct-at, distinct-from}
 use Rattle.slots.specs.declared.Op.the-variants.{Search, Insert, Delete, Next, Regrade}
 use Rattle.slots.specs.declared.Task.{Task}
 use Rattle.slots.specs.declared.Task.the-variants.{Closed, Open}
 use Rattle.slots.specs.declared.State.{State}
 use Rattle.slots.specs.Parts.{isOpen, held, slotAt, wantAt, waitingOrder}
+use Rattle.slots.specs.Locks.{lockHeldAt, clash}
 use Rattle.slots.specs.Sound.{withinLimits, sound}
 use Rattle.slots.proofs.SoundFacts.{SoundState, sound-facts, facts-sound}
+use Rattle.slots.proofs.Clashes.{update-alone}
 use Rattle.promises.specs.Terms.{Exactly}
 use Rattle.promises.specs.SoundState.{Numbers, InLimits, IsSound}
-use Rattle.promises.proofs.Terms.{in-member, open-with, xi-updates, updates-xi}
+use Rattle.promises.proofs.Terms.{in-member, open-with, xi-updates, updates-xi, clash-xi}
 
 pub numbers : Numbers
 unfolding largestK largestN tallest slotCount searchHolds regradeHolds pathHolds siblingHolds
@@ -90,7 +91,7 @@ told st f = record {
   limits = λ s b. limits-told (slotAt st s .task) (slotAt st s .depth) (slotAt st s .breadth) (f .slot s b .limits);
   alone = λ s t p b c n u i j.
       not-both (in-member p (held (slotAt st t)) j)
-      (apart-member (held (slotAt st s)) (held (slotAt st t)) (f .alone s t b c n (updates-xi (slotAt st s .task) (u .0) (u .1) (u .2))) p (in-member p (held (slotAt st s)) i));
+      (update-alone st f s t p b c n (updates-xi (slotAt st s .task) (u .0) (u .1) (u .2)) (in-member p (held (slotAt st s)) i));
 }
 
 from : (st : State) → IsSound st → SoundState st
@@ -109,9 +110,13 @@ from st g = record {
     below = λ o p m. g .below s p b (open-with (slotAt st s .task) o) (member-at p (wantAt st s ∷ held (slotAt st s)) 0 m);
     different = λ o. distinct-from (wantAt st s ∷ held (slotAt st s)) 0 (g .different s b (open-with (slotAt st s .task) o));
   };
-  alone = λ s t b c n x. apart-from (held (slotAt st s)) (held (slotAt st t))
-      (λ p m. false-if-not-true (member p (held (slotAt st t)))
-      (λ m′. g .alone s t p b c n (xi-updates (slotAt st s .task) x) (member-at p (held (slotAt st s)) 0 m) (member-at p (held (slotAt st t)) 0 m′)));
+  locks = λ s t b c n p h m. false-if-not-true (clash (lockHeldAt st s p) (lockHeldAt st t p)) (λ e.
+      let mine = member-at p (held (slotAt st s)) 0 h in
+      let theirs = member-at p (held (slotAt st t)) 0 m in
+      ⊎-elim
+      (λ x. g .alone s t p b c n (xi-updates (slotAt st s .task) x) mine theirs)
+      (λ x. g .alone t s p c b (λ q. n (sym q)) (xi-updates (slotAt st t .task) x) theirs mine)
+      (clash-xi (lockHeldAt st s p) (lockHeldAt st t p) e));
 }
 
 pub sound-is : (st : State) → Exactly (sound st ≡ true) (IsSound st)

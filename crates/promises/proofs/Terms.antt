@@ -2,7 +2,9 @@
 use Prim.Native.Nat.{ℕ, _<_}
 use mathlib.Core.Bool.{true, false}
 use mathlib.Core.List.{List}
-use mathlib.Core.Path.{_≡_, refl, sym, ap, subst}
+use mathlib.Core.Logic.{_⊎_, inl, inr}
+use mathlib.Core.Path.{_≡_, refl, sym, ap, subst, _∙_}
+use native.Mathlib.Omega.{arith}
 use lib.ListN.{length, getD}
 use Rattle.ground.specs.Tests.{member}
 use Rattle.ground.proofs.Bools.{not-both}
@@ -11,13 +13,23 @@ use Rattle.slots.specs.declared.Op.{Op}
 use Rattle.slots.specs.declared.Op.the-variants.{Search, Insert, Delete, Next, Regrade}
 use Rattle.slots.specs.declared.Task.{Task}
 use Rattle.slots.specs.declared.Task.the-variants.{Closed, Open}
+use Rattle.slots.specs.declared.Lock.{Lock}
+use Rattle.slots.specs.declared.Lock.the-variants.{None, Rho, Xi}
 use Rattle.slots.specs.Parts.{isOpen}
-use Rattle.slots.specs.Locks.{lockOf, isXi}
+use Rattle.slots.specs.Locks.{lockOf, clash}
+use Rattle.slots.specs.Heard.{lockNumber}
 use Rattle.promises.specs.Terms.{In, Reader}
 
 -- what stands in a list is a member of it (`member-at` is the way back)
 pub in-member : (x : ℕ) (xs : List ℕ) → In x xs → member x xs ≡ true
 in-member x xs (i, b, e) = member-from x xs i 0 b e
+
+-- ξ is another kind than ρ and none
+none-not-xi : None ≡ Xi → ⊥
+none-not-xi e = let z : _≡_ {A = ℕ} 0 2 = ap lockNumber e in omega arith
+
+rho-not-xi : Rho ≡ Xi → ⊥
+rho-not-xi e = let z : _≡_ {A = ℕ} 1 2 = ap lockNumber e in omega arith
 
 -- an open task is that of an operation
 pub open-with : (task : Task) → isOpen task ≡ true → (op : Op) × (task ≡ Open op)
@@ -25,33 +37,45 @@ open-with Closed o = not-both o refl
 open-with (Open op) o = (op, refl)
 
 -- a ξ-lock is that of an operation that does not only read,
-pub xi-updates : (task : Task) → isXi (lockOf task) ≡ true → (op : Op) × (task ≡ Open op) × (Reader op → ⊥)
-xi-updates Closed x = not-both x refl
-xi-updates (Open (Search k)) x = not-both x refl
+pub xi-updates : (task : Task) → lockOf task ≡ Xi → (op : Op) × (task ≡ Open op) × (Reader op → ⊥)
+xi-updates Closed x = absurd (none-not-xi x)
+xi-updates (Open (Search k)) x = absurd (rho-not-xi x)
 xi-updates (Open (Insert k v)) x = (Insert k v, refl, λ r. r)
 xi-updates (Open (Delete k)) x = (Delete k, refl, λ r. r)
-xi-updates (Open (Next k)) x = not-both x refl
+xi-updates (Open (Next k)) x = absurd (rho-not-xi x)
 xi-updates (Open (Regrade k v)) x = (Regrade k v, refl, λ r. r)
 
 -- and such an operation has one
-updating-xi : (op : Op) → (Reader op → ⊥) → isXi (lockOf (Open op)) ≡ true
+updating-xi : (op : Op) → (Reader op → ⊥) → lockOf (Open op) ≡ Xi
 updating-xi (Search k) never = absurd (never tt)
 updating-xi (Insert k v) never = refl
 updating-xi (Delete k) never = refl
 updating-xi (Next k) never = absurd (never tt)
 updating-xi (Regrade k v) never = refl
 
-pub updates-xi : (task : Task) (op : Op) → task ≡ Open op → (Reader op → ⊥) → isXi (lockOf task) ≡ true
-updates-xi task op e never = subst (λ (t : Task). isXi (lockOf t) ≡ true) (sym e) (updating-xi op never)
+pub updates-xi : (task : Task) (op : Op) → task ≡ Open op → (Reader op → ⊥) → lockOf task ≡ Xi
+updates-xi task op e never = ap lockOf e ∙ updating-xi op never
 
 -- an open task without a ξ-lock only reads
-pub shares-reads : (task : Task) → isOpen task ≡ true → isXi (lockOf task) ≡ false → (op : Op) × (task ≡ Open op) × Reader op
+pub shares-reads : (task : Task) → isOpen task ≡ true → (lockOf task ≡ Xi → ⊥) → (op : Op) × (task ≡ Open op) × Reader op
 shares-reads Closed o x = not-both o refl
 shares-reads (Open (Search k)) o x = (Search k, refl, tt)
-shares-reads (Open (Insert k v)) o x = not-both refl x
-shares-reads (Open (Delete k)) o x = not-both refl x
+shares-reads (Open (Insert k v)) o x = absurd (x refl)
+shares-reads (Open (Delete k)) o x = absurd (x refl)
 shares-reads (Open (Next k)) o x = (Next k, refl, tt)
-shares-reads (Open (Regrade k v)) o x = not-both refl x
+shares-reads (Open (Regrade k v)) o x = absurd (x refl)
+
+-- where two kinds clash, one of them is ξ
+pub clash-xi : (a b : Lock) → clash a b ≡ true → (a ≡ Xi) ⊎ (b ≡ Xi)
+clash-xi None None e = not-both e refl
+clash-xi None Rho e = not-both e refl
+clash-xi None Xi e = inr refl
+clash-xi Rho None e = not-both e refl
+clash-xi Rho Rho e = not-both e refl
+clash-xi Rho Xi e = inr refl
+clash-xi Xi None e = inl refl
+clash-xi Xi Rho e = inl refl
+clash-xi Xi Xi e = inl refl
 
 -- no task reads only and updates
 abbrev ReaderTask : Task → Type 0
