@@ -1,4 +1,3 @@
 pub mod Told
-pub mod Asked
 pub mod Statements
 pub mod Version

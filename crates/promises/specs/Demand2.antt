@@ -26,7 +26,7 @@ use Rattle.slots.specs.Parts.{keyOf, isDelete, isNext, goesBeside, held, standO
 use Rattle.slots.specs.Locks.{lockHeld, lockWanted, clash}
 use Rattle.slots.specs.Grant.{olderThan}
 use Rattle.slots.specs.Sound.{sound}
-use Rattle.slots.specs.Heard.{changesNothing, isOneOf, ending}
+use Rattle.slots.specs.Heard.{changesNothing, isOneOf, ending, writing}
 use Rattle.slots.specs.Book.{leaving}
 use Rattle.footing.specs.Granted.{isSafe}
 use Rattle.index.specs.Step.{Left}
@@ -35,7 +35,6 @@ use Rattle.runs.specs.Calls.{Call, begin, step, report, called, CallInWords, an
 use Rattle.runs.specs.Run.{Start, runFrom, Run}
 use Rattle.runs.specs.Stance.{Safe, Stance, Takes}
 use Rattle.runs.specs.Waits.{Barred, Before}
-use Rattle.runs.specs.Done.{writing}
 use Rattle.runs.specs.PlainFacts.{Among, AllBelow}
 use Rattle.promises.specs.Terms.{Exactly, Reader, Reads, Updates}
 
