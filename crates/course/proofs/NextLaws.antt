@@ -97,8 +97,8 @@ module _ (k : ℕ) (memory : ℕ → Page) (free : List ℕ) (x : ℕ) (stand : 
   -- ---- on its second way, at page p
 
   left-says : (p : ℕ)
-      → Says (cond (isLeaf (memory p)) (ends (nextAnswer (memory p .entries)) []) (goes (wantsNext z (pointer 0 (memory p)))))
-      (leftCourse memory stand p)
+      → Says (cond (isLeaf (memory p)) (ends (nextAnswer (atOrAbove x (memory p .entries))) []) (goes (wantsNext z (pointer 0 (memory p)))))
+      (leftCourse memory x stand p)
   left-says p = split (isLeaf (memory p))
     where
       first : (es : List Entry) → Says (ends (nextAnswer es) []) (nearCourse (Ends NoLot) (nearest es))
@@ -106,9 +106,9 @@ module _ (k : ℕ) (memory : ℕ → Page) (free : List ℕ) (x : ℕ) (stand : 
       first (e ∷ es) = (refl, tt)
 
       split : (b : Bool)
-          → Says (cond b (ends (nextAnswer (memory p .entries)) []) (goes (wantsNext z (pointer 0 (memory p)))))
-          (cond b (nearCourse (Ends NoLot) (nearest (memory p .entries))) (nextCourse stand (pointer 0 (memory p))))
-      split true = first (memory p .entries)
+          → Says (cond b (ends (nextAnswer (atOrAbove x (memory p .entries))) []) (goes (wantsNext z (pointer 0 (memory p)))))
+          (cond b (nearCourse (Ends NoLot) (nearest (atOrAbove x (memory p .entries)))) (nextCourse stand (pointer 0 (memory p))))
+      split true = first (atOrAbove x (memory p .entries))
       split false = next-judges k memory free stand (Next x) (pointer 0 (memory p))
 
 -- A Next at its leaf does what the rule says.
@@ -124,7 +124,7 @@ next-does {k} {stand = stand} op x memory free course h low told r =
 
     split : (b : Bool) → eqb (stand .breadth) 0 ≡ b
         → Says k memory free x stand (onSecond whole memory (standOf (Next x) stand) (reverse (besideOf stand)))
-        (cond b (firstCourse k memory x stand) (leftCourse memory stand (getD (stand .beside) (stand .breadth - 1) 0)))
+        (cond b (firstCourse k memory x stand) (leftCourse memory x stand (getD (stand .beside) (stand .breadth - 1) 0)))
     split true e =
         let none = none-second stand (eqb-true (stand .breadth) 0 e) in
         subst (λ (up : List ℕ). Says k memory free x stand (onSecond whole memory (standOf (Next x) stand) up) (firstCourse k memory x stand))
@@ -133,6 +133,6 @@ next-does {k} {stand = stand} op x memory free course h low told r =
     split false e =
         subst
         (λ (up : List ℕ). Says k memory free x stand (onSecond whole memory (standOf (Next x) stand) up)
-        (leftCourse memory stand (getD (stand .beside) (stand .breadth - 1) 0)))
+        (leftCourse memory x stand (getD (stand .beside) (stand .breadth - 1) 0)))
         (sym (second-upward h (eqb-false (stand .breadth) 0 e)))
         (left-says k memory free x stand (getD (stand .beside) (stand .breadth - 1) 0))

@@ -33,7 +33,9 @@ use Rattle.footing.specs.Fitting.{nextIsNew}
 abbrev pub onSecond : Verdict → (ℕ → Page) → Stand → List ℕ → Verdict
 onSecond first memory z [] = first
 onSecond first memory z (p ∷ up) =
-    cond (isLeaf (memory p)) (ends (nextAnswer (memory p .entries)) []) (goes (wantsNext z (pointer 0 (memory p))))
+    cond (isLeaf (memory p))
+    (ends (nextAnswer (atOrAbove (keyOf (z .op)) (memory p .entries))) [])
+    (goes (wantsNext z (pointer 0 (memory p))))
 
 -- at the leaf, with the pages beside the path held: by the operation of the slot that stands there
 unfoldable pub judgedAt : Op → ℕ → (ℕ → Page) → List ℕ → Stand → ℕ → List ℕ → Verdict
@@ -132,11 +134,11 @@ firstCourse k memory x stand =
     nearCourse (crossCourse k memory x stand) (nearest (atOrAbove x (memory (leafOf (stand .depth) (stand .path)) .entries)))
 
 -- it was granted page p of its second way
-abbrev pub leftCourse : (ℕ → Page) → Slot → ℕ → Course
-leftCourse memory stand p =
-    cond (isLeaf (memory p)) (nearCourse (Ends NoLot) (nearest (memory p .entries))) (nextCourse stand (pointer 0 (memory p)))
+abbrev pub leftCourse : (ℕ → Page) → ℕ → Slot → ℕ → Course
+leftCourse memory x stand p =
+    cond (isLeaf (memory p)) (nearCourse (Ends NoLot) (nearest (atOrAbove x (memory p .entries)))) (nextCourse stand (pointer 0 (memory p)))
 
 -- at its leaf, by whether it holds pages of a second way
 abbrev pub nextsCourse : ℕ → (ℕ → Page) → ℕ → Slot → Course
 nextsCourse k memory x stand =
-    cond (eqb (stand .breadth) 0) (firstCourse k memory x stand) (leftCourse memory stand (getD (stand .beside) (stand .breadth - 1) 0))
+    cond (eqb (stand .breadth) 0) (firstCourse k memory x stand) (leftCourse memory x stand (getD (stand .beside) (stand .breadth - 1) 0))

@@ -120,17 +120,17 @@ pub fn nexts_first(words: &[u32], k: usize, n: usize, x: u32, stand: Slot) -> Co
     }
 }
 
-// A Next that was granted page p of its second way: down by p0, or, at the leaf, its first entry. Every key is at or above 0.
-pub fn nexts_left(words: &[u32], k: usize, n: usize, p: u32, stand: Slot) -> Course
+// A Next that was granted page p of its second way: down by p0, or, at the leaf, the first entry at or above its key.
+pub fn nexts_left(words: &[u32], k: usize, n: usize, x: u32, p: u32, stand: Slot) -> Course
     requires { ⌜ InPool k n p (now words) ⌝ }
     requires { ⌜ Readable (wordsOf k p (now words)) ⌝ }
     requires { ⌜ rises (pageAt k (now words) p .entries) ≡ true ⌝ }
-    ensures { λ r. ⌜ r ≡ leftCourse (pageAt k (now (words .entry))) stand p ⌝ }
+    ensures { λ r. ⌜ r ≡ leftCourse (pageAt k (now (words .entry))) x stand p ⌝ }
 {
     if !is_leaf_of(words, k, n, p) {
         return goes(stand, pointer_of(words, k, n, p, 0));
     }
-    match at_or_above_of(words, k, n, p, 0) {
+    match at_or_above_of(words, k, n, p, x) {
         Nearest::Lot(y, v) => Course::Ends(Answer::Next(y, v)),
         Nearest::Nothing => Course::Ends(Answer::None),
     }
@@ -146,7 +146,7 @@ pub fn nexts(words: &[u32], k: usize, n: usize, x: u32, stand: Slot) -> Course
         return nexts_first(words, k, n, x, stand);
     }
     let second = stand.beside;
-    nexts_left(words, k, n, second[breadth - 1], stand)
+    nexts_left(words, k, n, x, second[breadth - 1], stand)
 }
 
 // What the operation does from where it stands.

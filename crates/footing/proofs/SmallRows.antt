@@ -37,9 +37,9 @@ next-crosses : comesDown 1 caseE [] (stand (Next 15) (0 ∷ []) [] 1) ≡ goes (
 unfolding caseE place count atOrAbove neighbour atLeaf comesDown
 next-crosses = refl
 
--- it answers the first entry of the second leaf
+-- it answers the first entry at or above its key in the second leaf
 next-answers : granted 1 caseE [] (stand (Next 15) (0 ∷ 1 ∷ []) [] 2) ≡ ends (NextLot 20 7) []
-unfolding caseE goesLeft besides granted
+unfolding caseE atOrAbove goesLeft besides granted
 next-answers = refl
 
 -- a key that is there is at or above itself

@@ -5,7 +5,7 @@ use mathlib.Core.List.{List, [], _∷_, _++_, reverse}
 use lib.Dec.{eqb}
 use lib.ListN.{getD}
 use Rattle.ground.specs.Tests.{all, member}
-use Rattle.page.specs.Words.{Entry, Page}
+use Rattle.page.specs.Words.{Page}
 use Rattle.page.specs.Place.{pointer, route, has, atOrAbove}
 use Rattle.page.specs.Short.{neighbour}
 use Rattle.page.specs.Sound.{soundByItself}

@@ -109,11 +109,11 @@ comesDown k memory free z =
     (goes (wantsNext down (route (keyOf (z .op)) (memory (z .want)))))
 
 -- Standing at its leaf, a Next is granted the wanted page of its second way: "goes down the leftmost way .., giving nothing up until
--- its answer".
+-- its answer". At the second leaf as at the first it answers the first entry at or above its key, or None.
 unfoldable pub goesLeft : (ℕ → Page) → Stand → Verdict
 goesLeft memory z =
     cond (isLeaf (memory (z .want)))
-    (ends (nextAnswer (memory (z .want) .entries)) [])
+    (ends (nextAnswer (atOrAbove (keyOf (z .op)) (memory (z .want) .entries))) [])
     (goes (wantsNext (wantBeside z) (pointer 0 (memory (z .want)))))
 
 -- Standing at its leaf, a deletion is granted the sibling that it wants, or a Next a page of its second way.

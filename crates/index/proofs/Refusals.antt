@@ -85,7 +85,7 @@ from-leaf act h (leaf ∷ fathers) = h leaf fathers
 
 left-answers : (memory : ℕ → Page) (z : Stand) → Answers (goesLeft memory z)
 unfolding goesLeft
-left-answers memory z = cond-ind Answers (isLeaf (memory (z .want))) (λ _. next-answers (memory (z .want) .entries)) (λ _. tt)
+left-answers memory z = cond-ind Answers (isLeaf (memory (z .want))) (λ _. next-answers (atOrAbove (keyOf (z .op)) (memory (z .want) .entries))) (λ _. tt)
 
 pub granted-answers : (k : ℕ) (memory : ℕ → Page) (free : List ℕ) (z : Stand) → Answers (granted k memory free z)
 unfolding granted comesDown besides

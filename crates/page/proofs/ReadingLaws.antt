@@ -203,12 +203,6 @@ module _ (x : ℕ) (es : List Entry) (rise : rises es ≡ true) (i : ℕ) (e : i
           omega (arith, last-below))
           (true-or-false (eqb j (i - 1)))
 
--- every key is at or above 0
-pub above-all : (es : List Entry) → atOrAbove 0 es ≡ es
-unfolding atOrAbove
-above-all [] = refl
-above-all (e ∷ es) = above-first 0 e es (omega arith)
-
 -- ---- the neighbour of the page to which a father F of m reference keys routes x, at place i
 
 module _ (x i m : ℕ) (F : Page) (e : i ≡ place x (F .entries)) (n : m ≡ μ F) where

@@ -1,7 +1,7 @@
 -- The lot that a Next answers stands on the leaf that its last step was granted: read off the rule.
 use Prim.Native.Nat.{ℕ, _<_}
 use mathlib.Core.Bool.{true, false, false≢true}
-use mathlib.Core.List.{List, [], _∷_, _++_, reverse, reverse-append}
+use mathlib.Core.List.{List, [], _∷_, reverse, reverse-append}
 use mathlib.Core.Path.{_≡_, refl, sym, ap, _∙_, subst}
 use borrow.Author.Tests.{eqb-true}
 use lib.Dec.{leb, ltb, eqb}
@@ -132,7 +132,7 @@ module _ (k : ℕ) (memory : ℕ → Page) (free : List ℕ) (z : Stand) where
 
   left-seen : SeenBy P (goesLeft memory z)
   unfolding goesLeft
-  left-seen = cond-ind (SeenBy P) (isLeaf P) (λ leaf. first-seen P leaf (P .entries) (λ y v a. a)) (λ _. tt)
+  left-seen = cond-ind (SeenBy P) (isLeaf P) (λ leaf. first-seen P leaf (atOrAbove (keyOf (z .op)) (P .entries)) (above-among (keyOf (z .op)) (P .entries))) (λ _. tt)
 
   deletion-seen : (up : List ℕ) → SeenBy P (fromLeaf (λ (leaf : ℕ) (fathers : List ℕ). deletes k memory (keyOf (z .op)) (wantBeside z) leaf fathers) up)
   deletion-seen [] = tt

@@ -207,11 +207,11 @@ nextRows =
     -- a deletion of 25, which its leaf has not, goes no second way
     ∷ row (answers (withPage (ran [] (slotOpen 7 (Delete 25) 3 (5 ∷ 2 ∷ []) []) tensWords) 5 (2 ∷ 2 ∷ 1 ∷ 20 ∷ 2 ∷ 30 ∷ 3 ∷ [])) (step 0 ∷ []))
     (damagedStep ∷ [])
-    -- "the leftmost way": by p0 of page 6, though 25 would be routed to page 4; the second leaf's first entry, whatever its key
+    -- "the leftmost way": by p0 of page 6, though 25 would be routed to page 4; at the second leaf no key below 25 is answered
     ∷ row (answers (damaged atFirstLeaf 45 20) (step 0 ∷ step 0 ∷ []))
     (onward ∷ next 30 ∷ [])
     ∷ row (answers (damaged onSecondWay 23 1) (step 0 ∷ []))
-    (next 1 ∷ [])
+    (none ∷ [])
     -- 1, BadState: as many pages beside the path as on it
     ∷ row (answers (nextSlot 7 2 (0 ∷ 5 ∷ []) (6 ∷ 3 ∷ [])) (step 0 ∷ report 0 ∷ []))
     (badState ∷ badState ∷ [])

@@ -17,7 +17,6 @@ use Rattle.page.specs.Words.{Page, μ}
 use Rattle.page.specs.Place.{place, pointer}
 use Rattle.page.specs.Short.{neighbour}
 use Rattle.page.proofs.PlaceLaws.{place-most}
-use Rattle.slots.specs.declared.Op.{Op}
 use Rattle.slots.specs.Parts.{keyOf, Stand, holding}
 use Rattle.tree.specs.Tree.{Tr, Stands, way, Forms}
 use Rattle.tree.specs.Facts.{Placed, WayFacts, PlaceFacts}

@@ -2,7 +2,6 @@
 -- rules would have it.
 use Prim.Native.Nat.{ℕ, _<_}
 use mathlib.Core.List.{List}
-use mathlib.Core.Path.{_≡_}
 use Rattle.ground.specs.Limits.{slotCount, wordRange}
 use Rattle.pool.specs.Pool.{pageAt}
 use Rattle.slots.specs.declared.Op.{Op}

@@ -13,7 +13,7 @@ use Rattle.ground.specs.Tests.{member}
 use Rattle.ground.proofs.Bools.{not-both}
 use Rattle.ground.proofs.Choice.{cond-ind}
 use Rattle.ground.proofs.Limits.{grants-of-height}
-use Rattle.page.specs.Words.{Page, μ, isLeaf}
+use Rattle.page.specs.Words.{Page, isLeaf}
 use Rattle.pool.specs.Pool.{Write, pageAt, applied}
 use Rattle.slots.specs.declared.Op.{Op}
 use Rattle.slots.specs.declared.Task.{Task}

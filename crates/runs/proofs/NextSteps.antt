@@ -1,6 +1,6 @@
 -- A granted step of a Next at a leaf, or past it. At its leaf it answers at once, or goes on to its second way, or there is no such
 -- entry in the tree. On its second way its pages are the ones the rules would have it hold and want, and it takes one more, or the
--- first entry of the second leaf is its answer.
+-- first entry of the second leaf at or above its key is its answer.
 use Prim.Native.Nat.{ℕ, suc, _+_, _-_, _≤_, _<_}
 use mathlib.Core.Bool.{Bool, true, false, _&&_, true≢false}
 use mathlib.Core.List.{List, [], _∷_, _++_, reverse}
@@ -17,6 +17,7 @@ use Rattle.ground.proofs.Choice.{by-test, cond-ind}
 use Rattle.page.specs.Words.{Entry, Page, isLeaf}
 use Rattle.page.specs.Place.{pointer, atOrAbove}
 use Rattle.page.specs.Short.{hasRight, neighbour}
+use Rattle.page.proofs.PlaceLaws.{above-first}
 use Rattle.pool.specs.Pool.{pageAt, freePages}
 use Rattle.slots.specs.declared.Op.the-variants.{Next}
 use Rattle.slots.specs.declared.Answer.the-variants.{None as NoLot}
@@ -29,6 +30,7 @@ use Rattle.tree.proofs.Next.{next-facts}
 use Rattle.runs.specs.Stance.{Rightly, Crossing, StandsAtLeaf, Takes}
 use Rattle.runs.specs.Plain.{plain}
 use Rattle.runs.specs.Step.{Ended}
+use Rattle.runs.proofs.PlainLaws.{above-key}
 use Rattle.runs.proofs.HeldPath.{below-unsafe}
 use Rattle.runs.proofs.Across.{Across, across, top-upward, first-facts, second-facts, second-level}
 use Rattle.runs.proofs.Landing.{Does, on, done, leaf-page, leaf-is, nothing-ends}
@@ -38,6 +40,13 @@ use Rattle.runs.proofs.Landing.{Does, on, done, leaf-page, leaf-is, not
 -- lists that begin with the same entry are answered alike
 first-answers : (es es′ : List Entry) → SameFirst es es′ → nextAnswer es ≡ nextAnswer es′
 first-answers es es′ s = ap nextAnswer (s .one) ∙ sym (ap nextAnswer (s .other))
+
+-- and where the one begins with the first entry at or above a key of the other, so does what it has at or above that key
+above-answers : (x : ℕ) (es es′ : List Entry) → SameFirst es (atOrAbove x es′) → nextAnswer (atOrAbove x es) ≡ nextAnswer (atOrAbove x es′)
+above-answers x es es′ s =
+    ap (λ (l : List Entry). nextAnswer (atOrAbove x l)) (s .one)
+    ∙ ap nextAnswer (above-first x (s .first) (s .rest) (above-key x es′ (s .first) (s .rest′) (s .other)))
+    ∙ sym (ap nextAnswer (s .other))
 
 -- a leaf is not safe for a Next
 leaf-unsafe : (x k : ℕ) (P : Page) → isLeaf P ≡ true → isSafe (Next x) k P ≡ false
@@ -302,8 +311,8 @@ module _ (x k n : ℕ) (ws : List ℕ) (l : ℕ) (t : Tr l) (pool : PoolForms k 
       (ap (λ (q : ℕ). isSafe (Next x) k (pages q)) (sym (two-ways .first (suc j) (omega arith)))
       ∙ below-unsafe (Next x) k pages (z .path) (c .rightly) (suc j) (omega (arith, two-ways .long)))
 
-  -- a leaf is the second way's, and its first entry is the tree's first at or above the key
-  second-answers : isLeaf (pages (z .want)) ≡ true → nextAnswer (pages (z .want) .entries) ≡ nextAnswer (atOrAbove x (entriesOf l t))
+  -- a leaf is the second way's, and its first entry at or above the key is the tree's
+  second-answers : isLeaf (pages (z .want)) ≡ true → nextAnswer (atOrAbove x (pages (z .want) .entries)) ≡ nextAnswer (atOrAbove x (entriesOf l t))
   second-answers leafPage =
       let level = eqb-true (pages (z .want) .level) 1 leafPage in
       let y : ℕ = two-ways .beyond .key in
@@ -312,17 +321,17 @@ module _ (x k n : ℕ) (ws : List ℕ) (l : ℕ) (t : Tr l) (pool : PoolForms k 
       = sym want-at
       ∙ two-ways .on (length (z .beside)) (omega arith)
       ∙ ap (λ (j : ℕ). getD (way y l t) j 0) end in
-      ap (λ (p : ℕ). nextAnswer (pages p .entries)) lowest
-      ∙ ap (λ (P : Page). nextAnswer (P .entries)) (second-facts k n pages l t forms z key two-ways .leaf)
-      ∙ first-answers (leafOn y l t) (atOrAbove x (entriesOf l t)) (two-ways .beyond .nearest leaf-none none-lower)
+      ap (λ (p : ℕ). nextAnswer (atOrAbove x (pages p .entries))) lowest
+      ∙ ap (λ (P : Page). nextAnswer (atOrAbove x (P .entries))) (second-facts k n pages l t forms z key two-ways .leaf)
+      ∙ above-answers x (leafOn y l t) (entriesOf l t) (two-ways .beyond .nearest leaf-none none-lower)
 
   left-does : Does k n ws l t z (goesLeft pages z)
   unfolding goesLeft
   left-does =
       cond-ind (Does k n ws l t z) (isLeaf (pages (z .want)))
       (λ y.
-      done (nextAnswer (pages (z .want) .entries)) [] refl
-      (answers k n ws l t pool one z₀ x key first-way (pages (z .want) .entries) (second-answers y)))
+      done (nextAnswer (atOrAbove x (pages (z .want) .entries))) [] refl
+      (answers k n ws l t pool one z₀ x key first-way (atOrAbove x (pages (z .want) .entries)) (second-answers y)))
       (λ f.
       on (wantsNext (wantBeside z) (pointer 0 (pages (z .want)))) refl refl (inr (inr (inr (one-more f))))
       (inr (inr (record { beside = refl; atLeaf = crossing-leaf; still = refl; holds = refl }))))

@@ -17,7 +17,6 @@ use Rattle.page.specs.Words.{Page, Entry, μ}
 use Rattle.page.specs.Place.{pointer, route, has, atOrAbove}
 use Rattle.page.specs.Short.{neighbour}
 use Rattle.pool.specs.Pool.{Write}
-use Rattle.slots.specs.declared.Op.{Op}
 use Rattle.slots.specs.Parts.{keyOf, Stand, holding}
 use Rattle.footing.specs.Granted.{isSafe}
 use Rattle.tree.specs.Tree.{Tr, way, leafOn, Forms}

@@ -198,6 +198,18 @@ none-below x (e ∷ es) none z w a =
     let later : atOrAbove x es ≡ [] = sym (cond-false (e ∷ es) (atOrAbove x es) low) ∙ none in
     ⊎-elim (λ here. omega (arith, here, leb-false x (e .key) low)) (λ there. none-below x es later z w there) (among-cases z w e es a))
 
+-- the first entry at or above a key is so
+pub above-key : (x : ℕ) (es : List Entry) (f : Entry) (rest : List Entry) → atOrAbove x es ≡ f ∷ rest → x ≤ f .key
+unfolding atOrAbove
+above-key x [] f rest e = absurd (omega (arith, ap length e))
+above-key x (e ∷ es) f rest found =
+    by-test (leb x (e .key))
+    (λ high.
+    let whole : e ∷ es ≡ f ∷ rest = sym (cond-true (e ∷ es) (atOrAbove x es) high) ∙ found in
+    let same : e ≡ f = cc in
+    subst (λ (g : Entry). x ≤ g .key) same (leb-true x (e .key) high))
+    (λ low. above-key x es f rest (sym (cond-false (e ∷ es) (atOrAbove x es) low) ∙ found))
+
 pub below-none : (x : ℕ) (es : List Entry) → AllBelow x es → atOrAbove x es ≡ []
 unfolding atOrAbove
 below-none x [] below = refl

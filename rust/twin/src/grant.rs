@@ -207,14 +207,15 @@ fn answer_at_leaf(op: Op, reach: &Reach) -> Option<Answer> {
     }
 }
 
-/// What a `Next` at its leaf is answered: an entry of the leaf, or the first of its second way's
-/// leaf, or None where there is no second way.
+/// What a `Next` at its leaf is answered: an entry of the leaf, or of its second way's leaf, or None
+/// where that leaf has none or there is no second way.
 fn next_entry(key: u32, leaf: &Page, reach: &Reach) -> Option<Answer> {
     let entry = leaf
         .first_from(key)
-        .or_else(|| second_way::first_entry(reach));
+        .or_else(|| second_way::first_entry(key, reach));
     match entry {
         Some((own, information)) => Some(Answer::Next(own, information)),
+        None if second_way::at_its_leaf(reach) => Some(Answer::None),
         None if reach.path[0].page.right_of_route(key).is_none() => Some(Answer::None),
         None => None,
     }

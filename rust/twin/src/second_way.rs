@@ -37,8 +37,14 @@ pub fn next_want(key: u32, reach: &Reach) -> Option<u32> {
     at(key, reach, reach.siblings.len()).map(|(_, number)| number)
 }
 
-/// The entry that ends the second way: the first of its leaf.
-pub fn first_entry(reach: &Reach) -> Option<(u32, u32)> {
+/// Whether the second way has come to its leaf.
+pub fn at_its_leaf(reach: &Reach) -> bool {
+    let lowest = reach.siblings.last();
+    lowest.is_some_and(|held| held.page.is_leaf())
+}
+
+/// The entry that ends the second way: the first at or above the key in its leaf.
+pub fn first_entry(key: u32, reach: &Reach) -> Option<(u32, u32)> {
     let lowest = &reach.siblings.last()?.page;
-    lowest.is_leaf().then(|| (lowest.keys[0], lowest.with[0]))
+    lowest.is_leaf().then(|| lowest.first_from(key))?
 }

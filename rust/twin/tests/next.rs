@@ -451,9 +451,12 @@ fn the_page_wanted_next_is_none_that_it_holds() {
     assert_eq!(given_up.says(), Answer::Moved);
 }
 
-/// The first entry of the second leaf is the answer, whatever its key: only in a damaged pool is it below.
+/// At the second leaf as at the first the answer is the first entry at or above the key, or None: only a damaged pool has a key
+/// below it there.
 #[test]
-fn the_second_leaf_is_not_compared_with_the_key() {
-    let stage = Stage::second().with(3, [1, 2, 1, 8, 30, 7, 0]);
-    assert_eq!(stage.says(), Answer::Next(1, 8));
+fn the_second_leaf_answers_no_key_below_the_one_asked() {
+    let later = Stage::second().with(3, [1, 2, 1, 8, 30, 7, 0]);
+    assert_eq!(later.says(), Answer::Next(30, 7));
+    let below = Stage::second().with(3, [1, 1, 1, 8, 0, 0, 0]);
+    assert_eq!(below.says(), Answer::None);
 }

@@ -22,7 +22,7 @@ returns c =
     let memory = pageAt (was .k) (was .words .now) in
     c .nexts-first .ensures
     ∙ sym
-    (cond-true (firstCourse (was .k) memory (was .x) (was .stand)) (leftCourse memory (was .stand) (getD (was .stand .beside) (was .stand .breadth - 1) 0))
+    (cond-true (firstCourse (was .k) memory (was .x) (was .stand)) (leftCourse memory (was .x) (was .stand) (getD (was .stand .beside) (was .stand .breadth - 1) 0))
     (eq-eqb (was .stand .breadth) 0 (c .before .if1 .taken)))
 
 sub-nexts-left : tie.Need-sub-nexts-left
@@ -45,7 +45,7 @@ returns-2 c =
     let memory = pageAt (was .k) (was .words .now) in
     c .nexts-left .ensures
     ∙ sym
-    (cond-false (firstCourse (was .k) memory (was .x) (was .stand)) (leftCourse memory (was .stand) (getD (was .stand .beside) (was .stand .breadth - 1) 0))
+    (cond-false (firstCourse (was .k) memory (was .x) (was .stand)) (leftCourse memory (was .x) (was .stand) (getD (was .stand .beside) (was .stand .breadth - 1) 0))
     (ne-eqb (was .stand .breadth) 0 (c .before .before .if1 .left)))
 
 pub nexts-spec : {M : Type 1} → statement M

@@ -1,12 +1,11 @@
--- Above the leaves the way goes on by p0. At the leaf every entry is at or above 0, and the first is answered.
+-- Above the leaves the way goes on by p0. At the leaf what is at or above the key is answered.
 use Prim.Native.Nat.{zero-le}
 use mathlib.Core.Path.{_≡_, sym, ap, _∙_}
 use borrow.Author.Needs.{needs}
 use Rattle.ground.proofs.Choice.{cond-true, cond-false}
-use Rattle.page.specs.Place.{pointer}
+use Rattle.page.specs.Place.{pointer, atOrAbove}
 use Rattle.page.specs.Reading.{nearest}
 use Rattle.page.specs.declared.reading.Nearest.{Nearest}
-use Rattle.page.proofs.ReadingLaws.{above-all}
 use Rattle.pool.specs.Pool.{pageAt}
 use Rattle.slots.specs.declared.Answer.the-variants.{None}
 use Rattle.footing.proofs.LookLaws.{told-true, told-false}
@@ -33,7 +32,7 @@ returns c =
     c .goes .ensures
     ∙ ap (nextCourse (was .stand)) (c .before .pointer-of .ensures)
     ∙ sym
-    (cond-false (nearCourse (Ends None) (nearest (page .entries))) (nextCourse (was .stand) (pointer 0 page))
+    (cond-false (nearCourse (Ends None) (nearest (atOrAbove (was .x) (page .entries)))) (nextCourse (was .stand) (pointer 0 page))
     (told-false (c .before .before .before .is-leaf-of .ensures) (c .before .before .if1 .taken)))
 
 at-or-above-of-requires : tie.Need-at-or-above-of-requires
@@ -47,13 +46,13 @@ enum-told c = search needs
 
 -- at the leaf, by what was read
 at-leaf : (c : tie.After-at-or-above-of) {near : Nearest} → c .at-or-above-of .result ≡ near
-    → nearCourse (Ends None) near ≡ leftCourse (pageAt (c .before .before .before .before .args .k) (c .before .before .before .before .args .words .now)) (c .before .before .before .before .args .stand) (c .before .before .before .before .args .p)
+    → nearCourse (Ends None) near ≡ leftCourse (pageAt (c .before .before .before .before .args .k) (c .before .before .before .before .args .words .now)) (c .before .before .before .before .args .x) (c .before .before .before .before .args .stand) (c .before .before .before .before .args .p)
 at-leaf c told =
     let was = c .before .before .before .before .args in
     let page = pageAt (was .k) (was .words .now) (was .p) in
-    ap (nearCourse (Ends None)) (sym told ∙ c .at-or-above-of .ensures ∙ ap nearest (above-all (page .entries)))
+    ap (nearCourse (Ends None)) (sym told ∙ c .at-or-above-of .ensures)
     ∙ sym
-    (cond-true (nearCourse (Ends None) (nearest (page .entries))) (nextCourse (was .stand) (pointer 0 page))
+    (cond-true (nearCourse (Ends None) (nearest (atOrAbove (was .x) (page .entries)))) (nextCourse (was .stand) (pointer 0 page))
     (told-true (c .before .before .is-leaf-of .ensures) (c .before .if1 .left)))
 
 returns-2 : tie.Need-returns-2
