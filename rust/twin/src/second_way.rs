@@ -37,8 +37,8 @@ pub fn next_want(key: u32, reach: &Reach) -> Option<u32> {
     at(key, reach, reach.siblings.len()).map(|(_, number)| number)
 }
 
-/// The entry that ends the second way: the first of its leaf.
-pub fn first_entry(reach: &Reach) -> Option<(u32, u32)> {
+/// The leaf that ends the second way, if it is held.
+pub fn leaf(reach: &Reach) -> Option<&Page> {
     let lowest = &reach.siblings.last()?.page;
-    lowest.is_leaf().then(|| (lowest.keys[0], lowest.with[0]))
+    lowest.is_leaf().then_some(lowest)
 }
