@@ -371,11 +371,24 @@ fn nexts() -> Vec<Case> {
     vec![
         leaf,
         second,
+        next_below(),
         next_child(),
         next_keeps(),
         next_gives_up(),
         next_shares(),
     ]
+}
+
+/// "the first entry whose key is at or above a given one, or None", also where the second leaf has keys below it: only in a damaged pool
+fn next_below() -> Case {
+    let mut case = Case::from_e("next tells no key below the one asked for");
+    // leaf 2 has 5 and 30, then 5 and 8
+    case.lines.push("w 16 5".to_string());
+    case.next(11, 3, next_is(30));
+    case.lines.push("w 18 8".to_string());
+    case.next(11, 3, Answer::None);
+    case.next(4, 2, next_is(10));
+    case
 }
 
 /// "the next child to the right", not the last one: page 0 has three children

@@ -47,6 +47,8 @@ enum Bug {
     NextEndsAtLeaf,
     /// A next passes over a key that is equal.
     NextPassesEqual,
+    /// A next tells the first entry of its second leaf, whatever its key.
+    NextTellsBelow,
     /// A next does not keep the pages of its second way.
     NextForgetsBeside,
     /// A next counts as one that holds alone.
@@ -95,10 +97,11 @@ const BUGS: [Bug; 12] = [
 ];
 
 /// Those of the next lot.
-const NEXT_BUGS: [Bug; 6] = [
+const NEXT_BUGS: [Bug; 7] = [
     Bug::NextGivesUp,
     Bug::NextEndsAtLeaf,
     Bug::NextPassesEqual,
+    Bug::NextTellsBelow,
     Bug::NextForgetsBeside,
     Bug::NextHoldsAlone,
     Bug::NextBesideUnsound,
@@ -291,6 +294,12 @@ impl Bug {
                 state[at(KEY, slot)] = key + 1;
                 return step_lent(state, words, slot);
             }
+            (Bug::NextTellsBelow, Answer::Next(..) | Answer::None)
+                if is_crossing(before, words, slot) =>
+            {
+                let entry = page_start(before, before[at(WANT, slot)]) + 2;
+                return Answer::Next(words[entry], words[entry + 1]);
+            }
             (Bug::NextForgetsBeside, Answer::Moved) if beside > 0 => state[at(SIBLINGS, slot)] = 0,
             (Bug::NextBesideUnsound, Answer::Moved | Answer::Next(..))
                 if before[at(SIBLINGS, slot)] > 0 =>
@@ -418,10 +427,20 @@ fn alone(state: &[u32; STATE], words: &mut [u32], op: Op) -> Answer {
     }
 }
 
+/// Where the pool has the level of a page.
+fn page_start(state: &[u32; STATE], page: u32) -> usize {
+    page as usize * page_words(state[0])
+}
+
 /// Where the pool has the level of a slot's lowest path page.
 fn leaf_word(state: &[u32; STATE], slot: usize) -> usize {
     let lowest = state[at(PATH + state[at(DEPTH, slot)] as usize - 1, slot)];
-    lowest as usize * page_words(state[0])
+    page_start(state, lowest)
+}
+
+/// Whether a slot that holds something is at its leaf, and so on its second way.
+fn is_crossing(state: &[u32; STATE], words: &[u32], slot: usize) -> bool {
+    state[at(DEPTH, slot)] > 0 && words[leaf_word(state, slot)] == 1
 }
 
 /// Some scenes, the same for every bug.

@@ -122,6 +122,35 @@ enum Call {
     Report(u32),
 }
 
+impl Call {
+    /// Its name in the table, and the slot that it is about.
+    fn named(self) -> (&'static str, Option<u32>) {
+        match self {
+            Call::Make(..) => ("make", None),
+            Call::Begin(slot, ..) => ("begin", Some(slot)),
+            Call::Step(slot) => ("step", Some(slot)),
+            Call::Report(_) => ("report", None),
+        }
+    }
+}
+
+impl Row {
+    /// What the row says of the slot is so: whether it was open before the call, and behind it.
+    fn leaves_slot(&self, was_open: bool, is_open: bool) -> bool {
+        match self.slot.as_str() {
+            "opens" => !was_open && is_open,
+            "closes" => was_open && !is_open,
+            "stays open" => was_open && is_open,
+            _ => was_open == is_open,
+        }
+    }
+}
+
+/// Whether a slot is open: the row of kinds has 0 for a closed one.
+fn is_open(state: &[u32; STATE], slot: u32) -> bool {
+    state[19 + slot as usize] != 0
+}
+
 /// Words, and which rows were met on them.
 struct Met {
     state: [u32; STATE],
@@ -130,54 +159,47 @@ struct Met {
 }
 
 impl Met {
-    /// Makes a call, and holds what it does to its row.
-    fn call(&mut self, call: Call) {
-        let (state, words) = (self.state, self.words.clone());
+    /// Makes a call, and gives its answer.
+    fn answer(&mut self, call: Call) -> [u32; ANSWER] {
         let mut answer = [9; ANSWER];
-        let (to_state, to_answer) = (self.state.as_mut_ptr(), answer.as_mut_ptr());
-        let (to_words, length) = (self.words.as_mut_ptr(), self.words.len());
+        let (state, out) = (self.state.as_mut_ptr(), answer.as_mut_ptr());
+        let (words, length) = (self.words.as_mut_ptr(), self.words.len());
         // SAFETY: as many words are there as the calls ask for or are told, and nobody else has them.
         unsafe {
             match call {
-                Call::Make(k, n) => ghazfulit_make(k, n, to_state, to_words, length, to_answer),
+                Call::Make(k, n) => ghazfulit_make(k, n, state, words, length, out),
                 Call::Begin(slot, kind, key) => {
-                    ghazfulit_begin(to_state, slot, kind, key, key + 1, to_answer)
+                    ghazfulit_begin(state, slot, kind, key, key + 1, out)
                 }
-                Call::Step(slot) => ghazfulit_step(to_state, to_words, length, slot, to_answer),
-                Call::Report(page) => ghazfulit_report(to_state, page, to_answer),
+                Call::Step(slot) => ghazfulit_step(state, words, length, slot, out),
+                Call::Report(page) => ghazfulit_report(state, page, out),
             }
         }
-        let (name, slot) = match call {
-            Call::Make(..) => ("make", None),
-            Call::Begin(slot, ..) => ("begin", Some(slot)),
-            Call::Step(slot) => ("step", Some(slot)),
-            Call::Report(_) => ("report", None),
-        };
+        answer
+    }
+
+    /// Makes a call, and holds what it does to its row.
+    fn call(&mut self, call: Call) {
+        let (state, words) = (self.state, self.words.clone());
+        let answer = self.answer(call);
+        let (name, slot) = call.named();
         let mut rows = self.rows.iter_mut();
         let row = rows.find(|(row, _)| row.call == name && row.number == answer[0]);
         let (row, met) = row.unwrap_or_else(|| panic!("{name} is answered {answer:?}"));
         *met = true;
+        let behind = &answer[1 + row.values..];
+        assert!(behind.iter().all(|&value| value == 0), "{row:?}");
         assert!(
-            answer[1 + row.values..].iter().all(|&value| value == 0),
+            self.state == state || row.changed.contains("the state"),
             "{row:?}"
         );
-        let changes = (self.state != state, self.words != words);
-        let may = (
-            row.changed.contains("the state"),
-            row.changed.contains("the pool"),
+        assert!(
+            self.words == words || row.changed.contains("the pool"),
+            "{row:?}"
         );
-        assert!((!changes.0 || may.0) && (!changes.1 || may.1), "{row:?}");
         if let Some(slot) = slot.filter(|&slot| slot < SLOTS) {
-            // the row of kinds, 0 in a closed slot
-            let is_open = |state: &[u32; STATE]| state[19 + slot as usize] != 0;
-            let opened = (is_open(&state), is_open(&self.state));
-            let is_so = match row.slot.as_str() {
-                "opens" => opened == (false, true),
-                "closes" => opened == (true, false),
-                "stays open" => opened == (true, true),
-                _ => opened.0 == opened.1,
-            };
-            assert!(is_so, "{row:?}");
+            let (was_open, is_open) = (is_open(&state, slot), is_open(&self.state, slot));
+            assert!(row.leaves_slot(was_open, is_open), "{row:?}");
         }
     }
 

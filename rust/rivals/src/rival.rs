@@ -268,8 +268,7 @@ fn next(pool: &Pool, slot: &Slot, leaf: u32) -> Result<Answer, u32> {
         0 => leaf,
         _ => slot.siblings[beside - 1],
     };
-    let from = if beside == 0 { slot.key } else { 0 };
-    let entry = (pool.level(last) == 1).then(|| pool.first_from(last, from));
+    let entry = (pool.level(last) == 1).then(|| pool.first_from(last, slot.key));
     match (entry.flatten(), second_at(pool, slot, beside)) {
         (Some((key, information)), _) => Ok([numbers::NEXT_LOT, key, information, 0]),
         (None, Some((_, want))) => Err(want),

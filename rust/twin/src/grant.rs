@@ -207,17 +207,15 @@ fn answer_at_leaf(op: Op, reach: &Reach) -> Option<Answer> {
     }
 }
 
-/// What a `Next` at its leaf is answered: an entry of the leaf, or of its second way's leaf, or None
-/// where that leaf has none or there is no second way.
+/// What a `Next` at its leaf is answered: the first entry at or above its key, of its leaf, or else of
+/// the leaf that ends its second way; or None where there is no such entry and no page to go to.
 fn next_entry(key: u32, leaf: &Page, reach: &Reach) -> Option<Answer> {
-    let entry = leaf
-        .first_from(key)
-        .or_else(|| second_way::first_entry(key, reach));
+    let second = second_way::leaf(reach);
+    let entry = leaf.first_from(key).or_else(|| second?.first_from(key));
+    let is_last = second.is_some() || reach.path[0].page.right_of_route(key).is_none();
     match entry {
         Some((own, information)) => Some(Answer::Next(own, information)),
-        None if second_way::at_its_leaf(reach) => Some(Answer::None),
-        None if reach.path[0].page.right_of_route(key).is_none() => Some(Answer::None),
-        None => None,
+        None => is_last.then_some(Answer::None),
     }
 }
 

@@ -37,14 +37,8 @@ pub fn next_want(key: u32, reach: &Reach) -> Option<u32> {
     at(key, reach, reach.siblings.len()).map(|(_, number)| number)
 }
 
-/// Whether the second way has come to its leaf.
-pub fn at_its_leaf(reach: &Reach) -> bool {
-    let lowest = reach.siblings.last();
-    lowest.is_some_and(|held| held.page.is_leaf())
-}
-
-/// The entry that ends the second way: the first at or above the key in its leaf.
-pub fn first_entry(key: u32, reach: &Reach) -> Option<(u32, u32)> {
+/// The leaf that ends the second way, if it is held.
+pub fn leaf(reach: &Reach) -> Option<&Page> {
     let lowest = &reach.siblings.last()?.page;
-    lowest.is_leaf().then(|| lowest.first_from(key))?
+    lowest.is_leaf().then_some(lowest)
 }

@@ -243,13 +243,15 @@ impl Stage {
         self
     }
 
-    /// What a step says; the state is sound, and what is refused stays as given.
+    /// What a step says; the state is sound, what is refused stays as given, and an answer closes the slot.
     fn says(&self) -> Answer {
         assert!(is_sound(&self.state));
         let mut after = self.words.clone();
         let (answer, next) = step(&self.state, &mut after, 0);
         assert_eq!(after, self.words);
         assert!(answer != Answer::Damaged || next == self.state);
+        let goes_on = matches!(answer, Answer::Damaged | Answer::Moved);
+        assert_eq!(next.slots[0].op.is_some(), goes_on);
         answer
     }
 }
@@ -451,12 +453,17 @@ fn the_page_wanted_next_is_none_that_it_holds() {
     assert_eq!(given_up.says(), Answer::Moved);
 }
 
-/// At the second leaf as at the first the answer is the first entry at or above the key, or None: only a damaged pool has a key
-/// below it there.
+/// The second leaf is looked through like the first: for the first entry at or above the key. Only in a damaged pool is another below it,
+/// or is there none.
 #[test]
-fn the_second_leaf_answers_no_key_below_the_one_asked() {
-    let later = Stage::second().with(3, [1, 2, 1, 8, 30, 7, 0]);
-    assert_eq!(later.says(), Answer::Next(30, 7));
-    let below = Stage::second().with(3, [1, 1, 1, 8, 0, 0, 0]);
-    assert_eq!(below.says(), Answer::None);
+fn the_second_leaf_is_compared_with_the_key() {
+    for (words, answer) in [
+        ([1, 2, 1, 8, 30, 7, 0], Answer::Next(30, 7)),
+        ([1, 2, 24, 8, 25, 9, 0], Answer::Next(25, 9)),
+        ([1, 2, 25, 8, 26, 9, 0], Answer::Next(25, 8)),
+        ([1, 2, 1, 8, 24, 7, 0], Answer::None),
+        ([1, 1, 24, 7, 0, 0, 0], Answer::None),
+    ] {
+        assert_eq!(Stage::second().with(3, words).says(), answer, "{words:?}");
+    }
 }
