@@ -32,7 +32,7 @@ use Rattle.slots.specs.Parts.{keyOf, isOpen, pathOf, besideOf, held, Stand, sta
 use Rattle.slots.specs.Sound.{limitsOf, withinLimits}
 use Rattle.slots.proofs.SoundFacts.{SoundSlot, sound-slot}
 use Rattle.footing.specs.Granted.{atItsLeaf}
-use Rattle.footing.specs.Fitting.{pagesSound, leads, descends, rightlyKept, rightlyBeside, isNone, leftmost, rightlyAcross, fitting}
+use Rattle.footing.specs.Fitting.{namesBelow, pagesSound, leads, descends, rightlyKept, rightlyBeside, isNone, leftmost, rightlyAcross, fitting}
 use Rattle.footing.specs.Standing.{Asks, fits, lastLeads}
 
 -- what a branch on a test's opposite tells of the test
@@ -44,11 +44,7 @@ told-false {answer} e t = sym e ∙ not-true answer t
 
 -- ---- one page below another
 
--- page p names page q, by its route, its p0 or as a neighbour, and q lies a level below
-abbrev pub namesBelow : (ℕ → Page) → (ℕ → ℕ) → ℕ → ℕ → Bool
-namesBelow memory names p q = eqb (names p) q && eqb (memory p .level) (memory q .level + 1)
-
-module _ (memory : ℕ → Page) (names : ℕ → ℕ) (p q : ℕ) where
+module _ (memory : ℕ → Page) (names : Page → ℕ) (p q : ℕ) where
   -- the test of the levels
   abbrev level-below : Bool
   level-below = eqb (memory p .level) (memory q .level + 1)
@@ -56,16 +52,16 @@ module _ (memory : ℕ → Page) (names : ℕ → ℕ) (p q : ℕ) where
   module _ {answer : Bool} (said : answer ≡ level-below) where
     -- where the levels are wrong it is not so
     pub below-astray : not answer ≡ true → false ≡ namesBelow memory names p q
-    below-astray f = sym (and-second-fails (eqb (names p) q) (told-false said f))
+    below-astray f = sym (and-second-fails (eqb (names (memory p)) q) (told-false said f))
 
     -- where they are right the page that is named tells
-    pub below-named : not answer ≡ false → {named : ℕ} → named ≡ names p → eqb named q ≡ namesBelow memory names p q
+    pub below-named : not answer ≡ false → {named : ℕ} → named ≡ names (memory p) → eqb named q ≡ namesBelow memory names p q
     below-named t e =
         ap (λ (r : ℕ). eqb r q) e
-        ∙ sym (ap (λ (b : Bool). eqb (names p) q && b) (told-true said t) ∙ and-true (eqb (names p) q))
+        ∙ sym (ap (λ (b : Bool). eqb (names (memory p)) q && b) (told-true said t) ∙ and-true (eqb (names (memory p)) q))
 
   pub below-level : namesBelow memory names p q ≡ true → memory p .level ≡ memory q .level + 1
-  below-level t = eqb-true (memory p .level) (memory q .level + 1) (and-second (eqb (names p) q) level-below t)
+  below-level t = eqb-true (memory p .level) (memory q .level + 1) (and-second (eqb (names (memory p)) q) level-below t)
 
 -- ---- a way, link by link
 
@@ -133,7 +129,7 @@ module _ (link : ℕ → ℕ → Bool) where
 module _ (memory : ℕ → Page) where
   -- p0 of page p is page q, a level below
   abbrev pub leadsLeft : ℕ → ℕ → Bool
-  leadsLeft = namesBelow memory (λ (p : ℕ). pointer 0 (memory p))
+  leadsLeft = namesBelow memory (pointer 0)
 
   pub leftmost-chain : (way : List ℕ) → leftmost memory way ≡ chain leadsLeft way
   unfolding leftmost chain

@@ -20,9 +20,13 @@ use Rattle.footing.specs.Granted.{Verdict, broken, goes, ends, isSafe, g
 unfoldable pub pagesSound : ℕ → ℕ → List ℕ → List ℕ → Bool
 pagesSound k n ws pages = all (λ (p : ℕ). soundByItself k n p (wordsOf k p ws)) pages
 
--- page q is the one to which page p routes x, "and, where its father is held, [its level is] one less than the father's"
+-- page p names page q, by its route, its p0 or as a neighbour, "and, where its father is held, [its level is] one less than the father's"
+abbrev pub namesBelow : (ℕ → Page) → (Page → ℕ) → ℕ → ℕ → Bool
+namesBelow memory named p q = eqb (named (memory p)) q && eqb (memory p .level) (memory q .level + 1)
+
+-- page q is the one to which page p routes x
 abbrev pub leads : (ℕ → Page) → ℕ → ℕ → ℕ → Bool
-leads memory x p q = eqb (route x (memory p)) q && eqb (memory p .level) (memory q .level + 1)
+leads memory x p q = namesBelow memory (route x) p q
 
 -- a way down: each page leads to the one behind it
 unfoldable pub descends : (ℕ → Page) → ℕ → List ℕ → Bool
@@ -67,14 +71,12 @@ isNone (p ∷ ps) = false
 unfoldable pub leftmost : (ℕ → Page) → List ℕ → Bool
 leftmost memory [] = true
 leftmost memory (p ∷ []) = true
-leftmost memory (p ∷ (q ∷ rest)) =
-    eqb (pointer 0 (memory p)) q && eqb (memory p .level) (memory q .level + 1) && leftmost memory (q ∷ rest)
+leftmost memory (p ∷ (q ∷ rest)) = namesBelow memory (pointer 0) p q && leftmost memory (q ∷ rest)
 
 -- the next child to the right of page top, a level below it, and its leftmost way
 abbrev pub turnsRight : (ℕ → Page) → ℕ → ℕ → List ℕ → Bool
 turnsRight memory x top [] = false
-turnsRight memory x top (p ∷ rest) =
-    eqb (neighbour x (memory top)) p && eqb (memory top .level) (memory p .level + 1) && leftmost memory (p ∷ rest)
+turnsRight memory x top (p ∷ rest) = namesBelow memory (neighbour x) top p && leftmost memory (p ∷ rest)
 
 -- A Next that goes down its second way: its leaf has no key at or above its own, the top page of its path has a child to the
 -- right, and what it holds beside the path and wants is that child's leftmost way so far. (Only a deletion and a Next go on

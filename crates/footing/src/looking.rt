@@ -177,7 +177,7 @@ pub fn same_levels(
 // p0 of page p is page q, a level below.
 pub fn leads_left(words: &[u32], k: usize, n: usize, p: u32, q: u32) -> bool
     requires { ⌜ Held k n (now words) (p ∷ q ∷ []) ⌝ }
-    ensures { λ r. ⌜ r ≡ eqb (pointer 0 (pageAt k (now (words .entry)) p)) q && eqb (pageAt k (now (words .entry)) p .level) (pageAt k (now (words .entry)) q .level + 1) ⌝ }
+    ensures { λ r. ⌜ r ≡ rule.namesBelow (pageAt k (now (words .entry))) (pointer 0) p q ⌝ }
 {
     if !lies_below(words, k, n, p, q) {
         return false;
@@ -188,7 +188,7 @@ pub fn leads_left(words: &[u32], k: usize, n: usize, p: u32, q: u32) -> bool
 // Page q, a level below page p, is the neighbour of the page to which p routes x.
 pub fn leads_across(words: &[u32], k: usize, n: usize, x: u32, p: u32, q: u32) -> bool
     requires { ⌜ Held k n (now words) (p ∷ q ∷ []) ⌝ }
-    ensures { λ r. ⌜ r ≡ eqb (neighbour x (pageAt k (now (words .entry)) p)) q && eqb (pageAt k (now (words .entry)) p .level) (pageAt k (now (words .entry)) q .level + 1) ⌝ }
+    ensures { λ r. ⌜ r ≡ rule.namesBelow (pageAt k (now (words .entry))) (neighbour x) p q ⌝ }
 {
     if !lies_below(words, k, n, p, q) {
         return false;

@@ -14,7 +14,7 @@ returns : tie.Need-returns
 returns c =
     let was = c .before .before .before .args in
     let memory = pageAt (was .k) (was .words .now) in
-    below-astray memory (λ (p : ℕ). route (was .x) (memory p)) (was .p) (was .q) (c .before .lies-below .ensures) (c .if1 .taken)
+    below-astray memory (route (was .x)) (was .p) (was .q) (c .before .lies-below .ensures) (c .if1 .taken)
 
 route-of-requires : tie.Need-route-of-requires
 route-of-requires c κs =
@@ -27,7 +27,7 @@ returns-2 : tie.Need-returns-2
 returns-2 c =
     let was = c .before .before .before .before .args in
     let memory = pageAt (was .k) (was .words .now) in
-    below-named memory (λ (p : ℕ). route (was .x) (memory p)) (was .p) (was .q) (c .before .before .lies-below .ensures) (c .before .if1 .left) (c .route-of .ensures)
+    below-named memory (route (was .x)) (was .p) (was .q) (c .before .before .lies-below .ensures) (c .before .if1 .left) (c .route-of .ensures)
 
 pub leads-spec : {M : Type 1} → statement M
 leads-spec = tie.close (tie.spec lies-below-requires returns route-of-requires returns-2)

@@ -15,7 +15,7 @@ returns : tie.Need-returns
 returns c =
     let was = c .before .before .before .args in
     let memory = pageAt (was .k) (was .words .now) in
-    below-astray memory (λ (p : ℕ). neighbour (was .x) (memory p)) (was .p) (was .q) (c .before .lies-below .ensures) (c .if1 .taken)
+    below-astray memory (neighbour (was .x)) (was .p) (was .q) (c .before .lies-below .ensures) (c .if1 .taken)
 
 neighbour-of-requires : tie.Need-neighbour-of-requires
 neighbour-of-requires c κs =
@@ -28,7 +28,7 @@ returns-2 : tie.Need-returns-2
 returns-2 c =
     let was = c .before .before .before .before .args in
     let memory = pageAt (was .k) (was .words .now) in
-    below-named memory (λ (p : ℕ). neighbour (was .x) (memory p)) (was .p) (was .q) (c .before .before .lies-below .ensures) (c .before .if1 .left) (c .neighbour-of .ensures)
+    below-named memory (neighbour (was .x)) (was .p) (was .q) (c .before .before .lies-below .ensures) (c .before .if1 .left) (c .neighbour-of .ensures)
 
 pub leads-across-spec : {M : Type 1} → statement M
 leads-across-spec = tie.close (tie.spec lies-below-requires returns neighbour-of-requires returns-2)

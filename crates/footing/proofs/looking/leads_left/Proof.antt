@@ -14,7 +14,7 @@ returns : tie.Need-returns
 returns c =
     let was = c .before .before .before .args in
     let memory = pageAt (was .k) (was .words .now) in
-    below-astray memory (λ (p : ℕ). pointer 0 (memory p)) (was .p) (was .q) (c .before .lies-below .ensures) (c .if1 .taken)
+    below-astray memory (pointer 0) (was .p) (was .q) (c .before .lies-below .ensures) (c .if1 .taken)
 
 pointer-of-requires : tie.Need-pointer-of-requires
 pointer-of-requires c κs =
@@ -27,7 +27,7 @@ returns-2 : tie.Need-returns-2
 returns-2 c =
     let was = c .before .before .before .before .args in
     let memory = pageAt (was .k) (was .words .now) in
-    below-named memory (λ (p : ℕ). pointer 0 (memory p)) (was .p) (was .q) (c .before .before .lies-below .ensures) (c .before .if1 .left) (c .pointer-of .ensures)
+    below-named memory (pointer 0) (was .p) (was .q) (c .before .before .lies-below .ensures) (c .before .if1 .left) (c .pointer-of .ensures)
 
 pub leads-left-spec : {M : Type 1} → statement M
 leads-left-spec = tie.close (tie.spec lies-below-requires returns pointer-of-requires returns-2)
