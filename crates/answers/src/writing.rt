@@ -78,6 +78,13 @@ pub fn write_answer(out: &mut [u8], at: usize, a: Answer) -> usize
     ensures { λ r. ⌜ (now (out .exit) ≡ laid (now (out .entry)) at (answerLine a)) × (r ≡ at + length (answerLine a)) × (length (answerLine a) ≤ 32) ⌝ }
 {
     match a {
+        Answer::BadState => write_word(out, at, b"BadState\n"),
+        Answer::BadPool => write_word(out, at, b"BadPool\n"),
+        Answer::BadSlot => write_word(out, at, b"BadSlot\n"),
+        Answer::SlotBusy => write_word(out, at, b"SlotBusy\n"),
+        Answer::SlotIdle => write_word(out, at, b"SlotIdle\n"),
+        Answer::Damaged => write_word(out, at, b"Damaged\n"),
+        Answer::BadPage => write_word(out, at, b"BadPage\n"),
         Answer::Waiting => write_word(out, at, b"Waiting\n"),
         Answer::Moved => write_word(out, at, b"Moved\n"),
         Answer::Found(information) => write_value(out, at, b"Found ", information),
@@ -93,13 +100,6 @@ pub fn write_answer(out: &mut [u8], at: usize, a: Answer) -> usize
         Answer::Next(key, information) => write_lot(out, at, b"Next ", key, information),
         Answer::None => write_word(out, at, b"None\n"),
         Answer::Regraded(information) => write_value(out, at, b"Regraded ", information),
-        Answer::BadState => write_word(out, at, b"BadState\n"),
-        Answer::BadPool => write_word(out, at, b"BadPool\n"),
-        Answer::BadSlot => write_word(out, at, b"BadSlot\n"),
-        Answer::SlotBusy => write_word(out, at, b"SlotBusy\n"),
-        Answer::SlotIdle => write_word(out, at, b"SlotIdle\n"),
-        Answer::Damaged => write_word(out, at, b"Damaged\n"),
-        Answer::BadPage => write_word(out, at, b"BadPage\n"),
     }
 }
 

@@ -2,7 +2,6 @@
 use change::needing::Need;
 use change::needing::needs;
 use footing::looking::has_child_right;
-use footing::looking::key_asked;
 use page::reading::Lot;
 use page::reading::Nearest;
 use pool::pages::at_or_above_of;
@@ -15,6 +14,7 @@ use slots::Answer;
 use slots::Op;
 use slots::Slot;
 use slots::holding::holds;
+use slots::operations::key_asked;
 ghost use mathlib.Core.Path.{_≡_};
 ghost use Rattle.page.specs.Reading.{Readable};
 ghost use Rattle.pool.specs.Pool.{wordsOf, pageAt, freePages};

@@ -10,6 +10,8 @@ use Rattle.ground.proofs.Choice.{cond-true, cond-ind}
 use Rattle.pool.specs.Pool.{kInRange, nInRange, poolLength}
 use Rattle.slots.specs.declared.Answer.{Answer}
 use Rattle.slots.specs.declared.State.{State}
+use Rattle.slots.specs.declared.operations.Asked.{Asked}
+use Rattle.slots.specs.declared.operations.Asked.the-variants.{Known, Unknown}
 use Rattle.slots.specs.Heard.{changesNothing}
 use Rattle.slots.specs.Parts.{idleState}
 use Rattle.slots.specs.Begin.{begun}
@@ -17,8 +19,6 @@ use Rattle.lent.specs.Words.{stateOf, stateWords, laidInto, lentAfter}
 use Rattle.index.specs.Step.{Left, stepped}
 use Rattle.index.specs.Make.{made}
 use Rattle.index.proofs.Refusals.{AsGiven, step-refused}
-use Rattle.embed.specs.declared.asking.Asked.{Asked}
-use Rattle.embed.specs.declared.asking.Asked.the-variants.{Known, Unknown}
 use Rattle.embed.specs.Told.{told, leavesAll}
 use Rattle.embed.specs.Statements.{beginTold, beginLeaves}
 

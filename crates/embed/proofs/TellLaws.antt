@@ -5,7 +5,10 @@ use mathlib.Core.Path.{_≡_, refl, sym, ap, _∙_}
 use lib.ListN.{getD}
 use Rattle.slots.specs.declared.Op.{Op}
 use Rattle.slots.specs.declared.Answer.{Answer}
+use Rattle.slots.specs.declared.operations.Asked.{Asked}
+use Rattle.slots.specs.declared.operations.Asked.the-variants.{Known, Unknown}
 use Rattle.slots.specs.Heard.{heard}
+use Rattle.slots.specs.Operations.{askedBy}
 use Rattle.slots.specs.Begin.{begun}
 use Rattle.slots.specs.Report.{reported}
 use Rattle.lent.specs.Words.{stateOf}
@@ -13,9 +16,6 @@ use Rattle.lent.specs.Statements.{BeginSays, ReportSays}
 use Rattle.index.specs.Step.{stepped}
 use Rattle.index.specs.Make.{made}
 use Rattle.index.specs.Statements.{MakeSays, StepSays}
-use Rattle.embed.specs.declared.asking.Asked.{Asked}
-use Rattle.embed.specs.declared.asking.Asked.the-variants.{Known, Unknown}
-use Rattle.embed.specs.Asked.{askedBy}
 use Rattle.embed.specs.Told.{told, badKind}
 use Rattle.embed.proofs.Refusals.{make-stays, step-stays, begin-stays}
 use Rattle.embed.specs.Statements.{beginTold, beginLeaves, beginNext, MakeTells, BeginTells, StepTells, ReportTells}

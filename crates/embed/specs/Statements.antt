@@ -7,15 +7,15 @@ use mathlib.Core.Bool.{true}
 use mathlib.Core.List.{List}
 use mathlib.Core.Path.{_≡_}
 use Rattle.slots.specs.declared.State.{State}
+use Rattle.slots.specs.declared.operations.Asked.{Asked}
+use Rattle.slots.specs.declared.operations.Asked.the-variants.{Known, Unknown}
+use Rattle.slots.specs.Operations.{askedBy}
 use Rattle.slots.specs.Parts.{idleState}
 use Rattle.slots.specs.Begin.{begun}
 use Rattle.slots.specs.Report.{reported}
 use Rattle.lent.specs.Words.{stateOf, stateWords, lentAfter}
 use Rattle.index.specs.Step.{stepped}
 use Rattle.index.specs.Make.{made}
-use Rattle.embed.specs.declared.asking.Asked.{Asked}
-use Rattle.embed.specs.declared.asking.Asked.the-variants.{Known, Unknown}
-use Rattle.embed.specs.Asked.{askedBy}
 use Rattle.embed.specs.Told.{told, badKind, leavesAll}
 
 pub record MakeTells (k n : ℕ) (ws cells′ after heard′ : List ℕ) : Type 0 where

@@ -1,6 +1,4 @@
 // The exported calls. A slice is handed in from C as a pointer and a length, an array as a pointer.
-use crate::asking::Asked;
-use crate::asking::read_asked;
 use crate::telling::tell;
 use crate::telling::tell_bad_kind;
 use index::calls::begin;
@@ -8,6 +6,8 @@ use index::calls::make;
 use index::calls::report;
 use index::calls::step;
 use lent::STATE;
+use slots::operations::Asked;
+use slots::operations::asked_by;
 ghost use Rattle.embed.specs.Statements.{MakeTells, BeginTells, StepTells, ReportTells};
 
 // Makes a fresh pool of n pages of width k in the lent words, and an idle state beside it.
@@ -37,7 +37,7 @@ pub extern "C" fn ghazfulit_begin(
 )
     ensures { λ _. ⌜ BeginTells (now (state .entry)) slot kind key information (now (state .exit)) (now (answer .exit)) ⌝ }
 {
-    let asked = read_asked(kind, key, information);
+    let asked = asked_by(kind, key, information);
     let Asked::Known(op) = asked else {
         tell_bad_kind(answer);
         return;

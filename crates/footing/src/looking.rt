@@ -25,22 +25,8 @@ ghost use Rattle.page.specs.Reading.{Readable};
 ghost use Rattle.pool.specs.Pool.{poolLength, wordsOf, pageAt};
 ghost use Rattle.pool.specs.Wrapped.{InPool};
 ghost use Rattle.change.specs.Held.{Held};
-ghost use Rattle.slots.specs.Parts.{keyOf};
 ghost use Rattle.footing.specs.Granted.{isSafe, atItsLeaf};
 ghost use Rattle.footing.specs.Fitting as rule;
-
-// The key that an operation is about.
-pub fn key_asked(op: Op) -> u32
-    ensures { λ r. ⌜ r ≡ keyOf op ⌝ }
-{
-    match op {
-        Op::Search(x) => x,
-        Op::Insert(x, _) => x,
-        Op::Delete(x) => x,
-        Op::Next(x) => x,
-        Op::Regrade(x, _) => x,
-    }
-}
 
 // Page p is above the leaves and has a child to the right of the route of x.
 pub fn has_child_right(words: &[u32], k: usize, n: usize, x: u32, p: u32) -> bool

@@ -14,14 +14,14 @@ use Rattle.ground.specs.Limits.{slotCount, pathHolds}
 use Rattle.ground.specs.Tests.{padded}
 use Rattle.ground.proofs.Choice.{cond-true}
 use Rattle.ground.proofs.Tests.{allBelow-at, allBelow-from}
-use Rattle.slots.specs.declared.Op.the-variants.{Search, Insert, Delete, Next, Regrade}
 use Rattle.slots.specs.declared.Task.{Task}
 use Rattle.slots.specs.declared.Task.the-variants.{Closed, Open}
 use Rattle.slots.specs.declared.Slot.{Slot}
 use Rattle.slots.specs.Parts.{closedSlot, slotAt}
 use Rattle.slots.specs.Book.{rewritten}
+use Rattle.slots.proofs.OperationLaws.{asked-back, kind-within}
 use Rattle.slots.proofs.OrderLaws.{same-or-not}
-use Rattle.lent.specs.Words.{listOf, address, cell, column, highestKind, taskFrom, slotIn, orderIn, asRead, known, stateOf, kindOf, keyIn, informationIn, rowsOf, spread, slotLaid, orderLaid, laidInto}
+use Rattle.lent.specs.Words.{listOf, address, cell, column, highestKind, taskOf, taskFrom, slotIn, orderIn, asRead, known, stateOf, kindOf, keyIn, informationIn, rowsOf, spread, slotLaid, orderLaid, laidInto}
 use Rattle.lent.proofs.ListLaws.{length-listOf, getD-listOf, listOf-same, listOf-getD, listOf-set}
 use Rattle.lent.proofs.SpreadLaws.{length-spread, spread-beside, spread-front, spread-at}
 
@@ -51,19 +51,11 @@ state-known ws e = cond-true _ _ e
 
 task-back : (t : Task) → taskFrom (kindOf t) (keyIn t) (informationIn t) ≡ t
 task-back Closed = refl
-task-back (Open (Search x)) = refl
-task-back (Open (Insert x v)) = refl
-task-back (Open (Delete x)) = refl
-task-back (Open (Next x)) = refl
-task-back (Open (Regrade x v)) = refl
+task-back (Open op) = ap taskOf (asked-back op)
 
 kind-exists : (t : Task) → kindOf t ≤ highestKind
 kind-exists Closed = omega arith
-kind-exists (Open (Search x)) = omega arith
-kind-exists (Open (Insert x v)) = omega arith
-kind-exists (Open (Delete x)) = omega arith
-kind-exists (Open (Next x)) = omega arith
-kind-exists (Open (Regrade x v)) = omega arith
+kind-exists (Open op) = kind-within op
 
 -- A slot whose numbers stand in these rows.
 module _ (ws : List ℕ) (s : ℕ) (slot : Slot) (path : length (slot .path) ≡ 10) (beside : length (slot .beside) ≡ 10)

@@ -3,17 +3,20 @@
 use Prim.Native.Nat.{ℕ, zero, suc, _+_, _*_, _/_, _%_}
 use mathlib.Core.Bool.{Bool, cond}
 use mathlib.Core.List.{List, [], _∷_, _++_}
-use lib.Dec.{eqb, leb}
+use lib.Dec.{leb}
 use lib.ListN.{getD, take, drop, set}
 use Rattle.ground.specs.Limits.{slotCount}
 use Rattle.ground.specs.Tests.{allBelow}
-use Rattle.slots.specs.declared.Op.the-variants.{Search, Insert, Delete, Next, Regrade}
+use Rattle.slots.specs.declared.operations.Asked.{Asked}
+use Rattle.slots.specs.declared.operations.Asked.the-variants.{Known, Unknown}
 use Rattle.slots.specs.declared.Task.{Task}
 use Rattle.slots.specs.declared.Task.the-variants.{Closed, Open}
 use Rattle.slots.specs.declared.Slot.{Slot}
 use Rattle.slots.specs.declared.State.{State}
 use Rattle.slots.specs.declared.Answer.{Answer}
 use Rattle.slots.specs.Heard.{changesNothing}
+use Rattle.slots.specs.Operations.{kindNumber, keyOf, informationOf, askedBy}
+pub use Rattle.slots.specs.Operations.{highestKind}
 use Rattle.slots.specs.Parts.{slotAt, idleState}
 
 -- the list of what f gives for 0 to n - 1
@@ -35,20 +38,14 @@ cell ws r s = getD ws (address r s) 0
 unfoldable pub column : List ℕ → ℕ → ℕ → List ℕ
 column ws r s = listOf 10 (λ (j : ℕ). cell ws (r + j) s)
 
--- the highest kind of task
-abbrev pub highestKind : ℕ
-highestKind = 5
+-- the task that three numbers ask for; a kind that does not exist stands for none
+abbrev pub taskOf : Asked → Task
+taskOf (Known op) = Open op
+taskOf Unknown = Closed
 
--- "closed, or open with an operation enum carrying key and information": kinds 0 to 5
+-- "closed, or open with an operation enum carrying key and information"
 abbrev pub taskFrom : ℕ → ℕ → ℕ → Task
-taskFrom kind key information =
-    cond (eqb kind 1)
-    (Open (Search key))
-    (cond (eqb kind 2)
-    (Open (Insert key information))
-    (cond (eqb kind 3)
-    (Open (Delete key))
-    (cond (eqb kind 4) (Open (Next key)) (cond (eqb kind 5) (Open (Regrade key information)) Closed))))
+taskFrom kind key information = taskOf (askedBy kind key information)
 
 -- slot s of these words
 abbrev pub slotIn : List ℕ → ℕ → Slot
@@ -80,30 +77,18 @@ stateOf ws = cond (known ws) (asRead ws) (idleState 0 0)
 
 -- ---- writing
 
+-- a task's kind, key and information; where it has none, 0
 abbrev pub kindOf : Task → ℕ
 kindOf Closed = 0
-kindOf (Open (Search x)) = 1
-kindOf (Open (Insert x v)) = 2
-kindOf (Open (Delete x)) = 3
-kindOf (Open (Next x)) = 4
-kindOf (Open (Regrade x v)) = 5
+kindOf (Open op) = kindNumber op
 
--- a task's key, and its information; where it has none, 0
 abbrev pub keyIn : Task → ℕ
 keyIn Closed = 0
-keyIn (Open (Search x)) = x
-keyIn (Open (Insert x v)) = x
-keyIn (Open (Delete x)) = x
-keyIn (Open (Next x)) = x
-keyIn (Open (Regrade x v)) = x
+keyIn (Open op) = keyOf op
 
 abbrev pub informationIn : Task → ℕ
 informationIn Closed = 0
-informationIn (Open (Search x)) = 0
-informationIn (Open (Insert x v)) = v
-informationIn (Open (Delete x)) = 0
-informationIn (Open (Next x)) = 0
-informationIn (Open (Regrade x v)) = v
+informationIn (Open op) = informationOf op
 
 -- the numbers of a slot, row by row
 abbrev pub rowsOf : Slot → List ℕ

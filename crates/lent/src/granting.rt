@@ -1,9 +1,7 @@
 // Who holds a page, and when a step grants a want. Most slots hold one page: the tops are looked at first, in one row, and
 // below them only the slots that hold more.
 use crate::BESIDE;
-use crate::HIGHEST_KIND;
 use crate::PATH;
-use crate::REGRADES;
 use crate::STATE;
 use crate::cells::breadth_at;
 use crate::cells::depth_at;
@@ -16,6 +14,8 @@ use crate::cells::want_at;
 use crate::cells::wide;
 use crate::cells::word_at;
 use ground::SLOTS;
+use slots::operations::HIGHEST_KIND;
+use slots::operations::REGRADES;
 ghost use mathlib.Core.Path.{_≡_};
 ghost use mathlib.Core.Bool.{true, not, _&&_};
 ghost use Prim.Native.Nat.{_≤_, _<_};

@@ -39,16 +39,3 @@ pub const ROWS: usize = BESIDE + HELD;
 
 // All words of a state.
 pub const STATE: usize = ROWS_FROM + SLOTS * ROWS;
-
-// Kinds of task; 0 is closed.
-pub const SEARCHES: u32 = 1;
-
-pub const INSERTS: u32 = 2;
-
-pub const DELETES: u32 = 3;
-
-pub const NEXTS: u32 = 4;
-
-pub const REGRADES: u32 = 5;
-
-pub const HIGHEST_KIND: u32 = REGRADES;

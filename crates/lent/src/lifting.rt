@@ -1,16 +1,11 @@
 // One slot lifted out of its column, and laid back.
 use crate::BESIDE;
 use crate::BREADTH;
-use crate::DELETES;
 use crate::DEPTH;
 use crate::INFORMATION;
-use crate::INSERTS;
 use crate::KEY;
-use crate::NEXTS;
 use crate::PATH;
-use crate::REGRADES;
 use crate::ROWS_FROM;
-use crate::SEARCHES;
 use crate::STATE;
 use crate::WANT;
 use crate::cells::breadth_at;
@@ -22,9 +17,13 @@ use crate::cells::wide;
 use crate::cells::word_at;
 use ground::HELD;
 use ground::SLOTS;
-use slots::Op;
 use slots::Slot;
 use slots::Task;
+use slots::operations::Asked;
+use slots::operations::asked_by;
+use slots::operations::information_asked;
+use slots::operations::key_asked;
+use slots::operations::kind_asked;
 ghost use mathlib.Core.Path.{_≡_};
 ghost use mathlib.Core.List.{[], _∷_};
 ghost use Prim.Native.Nat.{_≤_, _<_};
@@ -34,22 +33,10 @@ ghost use Rattle.lent.specs.Words.{column, taskFrom, slotIn, kindOf, key
 pub fn task_of(kind: u32, key: u32, information: u32) -> Task
     ensures { λ r. ⌜ r ≡ taskFrom kind key information ⌝ }
 {
-    if kind == SEARCHES {
-        return Task::Open(Op::Search(key));
+    match asked_by(kind, key, information) {
+        Asked::Known(op) => Task::Open(op),
+        Asked::Unknown => Task::Closed,
     }
-    if kind == INSERTS {
-        return Task::Open(Op::Insert(key, information));
-    }
-    if kind == DELETES {
-        return Task::Open(Op::Delete(key));
-    }
-    if kind == NEXTS {
-        return Task::Open(Op::Next(key));
-    }
-    if kind == REGRADES {
-        return Task::Open(Op::Regrade(key, information));
-    }
-    Task::Closed
 }
 
 // Ten rows of slot s.
@@ -95,19 +82,13 @@ pub fn slot_at(cells: &[u32; STATE], s: usize) -> Slot
     }
 }
 
-// The numbers of a task.
+// The numbers of a task: its kind, its key, its information.
 pub fn kind_of(task: Task) -> u32
     ensures { λ r. ⌜ r ≡ kindOf task ⌝ }
 {
     match task {
         Task::Closed => 0,
-        Task::Open(op) => match op {
-            Op::Search(_) => SEARCHES,
-            Op::Insert(_, _) => INSERTS,
-            Op::Delete(_) => DELETES,
-            Op::Next(_) => NEXTS,
-            Op::Regrade(_, _) => REGRADES,
-        },
+        Task::Open(op) => kind_asked(op),
     }
 }
 
@@ -116,13 +97,7 @@ pub fn key_of(task: Task) -> u32
 {
     match task {
         Task::Closed => 0,
-        Task::Open(op) => match op {
-            Op::Search(x) => x,
-            Op::Insert(x, _) => x,
-            Op::Delete(x) => x,
-            Op::Next(x) => x,
-            Op::Regrade(x, _) => x,
-        },
+        Task::Open(op) => key_asked(op),
     }
 }
 
@@ -131,13 +106,7 @@ pub fn information_of(task: Task) -> u32
 {
     match task {
         Task::Closed => 0,
-        Task::Open(op) => match op {
-            Op::Search(_) => 0,
-            Op::Insert(_, v) => v,
-            Op::Delete(_) => 0,
-            Op::Next(_) => 0,
-            Op::Regrade(_, v) => v,
-        },
+        Task::Open(op) => information_asked(op),
     }
 }
 

@@ -3,9 +3,9 @@
 -- front of the information. The line feed is written with it.
 use Prim.Native.Nat.{ℕ}
 use Prim.Native.String.{String}
-use mathlib.Core.List.{List, _++_}
+use mathlib.Core.List.{List, [], _∷_, _++_}
 use Rattle.slots.specs.declared.Answer.{Answer}
-use Rattle.slots.specs.declared.Answer.the-variants.{Waiting, Moved, Found, NotFound, Inserted, AlreadyThere, Deleted, NoSuchKey, NoRoom, Begun, Made, Reported, Next, None, Regraded, BadState, BadPool, BadSlot, SlotBusy, SlotIdle, Damaged, BadPage}
+use Rattle.slots.specs.Heard.{said}
 use Rattle.lines.specs.Text.{bytes}
 use Rattle.lines.specs.Decimal.{decimal}
 
@@ -21,30 +21,16 @@ informed name information = bytes name ++ bytes " " ++ decimal information ++ by
 abbrev pub lotLine : String → ℕ → ℕ → List ℕ
 lotLine name key information = bytes name ++ bytes " " ++ decimal key ++ bytes " " ++ decimal information ++ bytes "\n"
 
--- The program makes no lock report, so that it never writes `Reported`: of that answer the name alone stands here.
+-- A name and the values behind it. The program makes no lock report, so that it never writes `Reported`: of an answer with three
+-- values the name alone stands here.
+abbrev pub lineOf : String → List ℕ → List ℕ
+lineOf name [] = nameLine name
+lineOf name (information ∷ []) = informed name information
+lineOf name (key ∷ information ∷ []) = lotLine name key information
+lineOf name (kind ∷ holders ∷ lowest ∷ rest) = nameLine name
+
 abbrev pub answerLine : Answer → List ℕ
-answerLine Waiting = nameLine "Waiting"
-answerLine Moved = nameLine "Moved"
-answerLine (Found information) = informed "Found" information
-answerLine NotFound = nameLine "NotFound"
-answerLine Inserted = nameLine "Inserted"
-answerLine (AlreadyThere information) = informed "AlreadyThere" information
-answerLine (Deleted information) = informed "Deleted" information
-answerLine NoSuchKey = nameLine "NoSuchKey"
-answerLine NoRoom = nameLine "NoRoom"
-answerLine Begun = nameLine "Begun"
-answerLine Made = nameLine "Made"
-answerLine (Reported kind holders lowest) = nameLine "Reported"
-answerLine (Next key information) = lotLine "Next" key information
-answerLine None = nameLine "None"
-answerLine (Regraded information) = informed "Regraded" information
-answerLine BadState = nameLine "BadState"
-answerLine BadPool = nameLine "BadPool"
-answerLine BadSlot = nameLine "BadSlot"
-answerLine SlotBusy = nameLine "SlotBusy"
-answerLine SlotIdle = nameLine "SlotIdle"
-answerLine Damaged = nameLine "Damaged"
-answerLine BadPage = nameLine "BadPage"
+answerLine a = lineOf (said a .name) (said a .values)
 
 -- "Another line, an unended last one, or a number above 4,294,967,295, gives BadLine"
 abbrev pub badLine : List ℕ

@@ -29,6 +29,7 @@ use Rattle.slots.specs.declared.Lock.the-variants.{Rho, Xi}
 use Rattle.slots.specs.declared.Outcome.{Outcome}
 use Rattle.slots.specs.declared.Answer.{Answer}
 use Rattle.slots.specs.declared.Answer.the-variants.{Waiting, Moved, NoRoom, BadSlot, SlotIdle}
+use Rattle.slots.specs.Operations.{onlyReads}
 use Rattle.slots.specs.Parts.{isDelete, isNext, goesBeside, isOpen, held, pathOf, besideOf, slotAt, openAt, wantAt, holdsAt, waitingOrder, openSlot, closedSlot, Opened}
 use Rattle.slots.specs.Locks.{lockOf, lockAt, clash}
 use Rattle.slots.specs.Sound.{withinLimits}
@@ -71,11 +72,11 @@ data LockSays (op : Op) : Type 0 where
   excludes : lockOf (Open op) ≡ Xi → (Reader op → ⊥) → LockSays op
 
 lock-says : (op : Op) → LockSays op
-lock-says (Search x) = shares refl tt
-lock-says (Insert x v) = excludes refl (λ r. r)
-lock-says (Delete x) = excludes refl (λ r. r)
-lock-says (Next x) = shares refl tt
-lock-says (Regrade x v) = excludes refl (λ r. r)
+lock-says (Search x) = shares refl refl
+lock-says (Insert x v) = excludes refl false≢true
+lock-says (Delete x) = excludes refl false≢true
+lock-says (Next x) = shares refl refl
+lock-says (Regrade x v) = excludes refl false≢true
 
 -- the locks of two open slots go together just if both read only
 clashes-so : (op op′ : Op) → LockSays op → LockSays op′ → Exactly (clash (lockOf (Open op)) (lockOf (Open op′)) ≡ false) (Reader op × Reader op′)
@@ -161,7 +162,7 @@ after-call st ws inv = record {
       (holder-open (st .n) (slotAt st u) p (inv .sound .slot u c) hu)
       (no-two-locks-clash st (inv .sound) s u p b c n hs hu);
   stands = inv .stands;
-  closed = λ s b c. closed-empty (slotAt st s .task) (slotAt st s .depth) (slotAt st s .beside) (slotAt st s .path) (slotAt st s .siblings) (inv .sound .slot s b .limits) c;
+  closed = λ s b c. closed-empty (slotAt st s .task) (slotAt st s .depth) (slotAt st s .breadth) (slotAt st s .path) (slotAt st s .beside) (inv .sound .slot s b .limits) c;
   oneHeld = λ s x v b runs.
       regrade-one x v (st .k) (pageAt (st .k) ws) (inv .height) (inv .tree) (pathOf (slotAt st s)) (besideOf (slotAt st s)) (wantAt st s)
       (inv .stands s (Regrade x v) b runs);
@@ -429,6 +430,13 @@ next-named (Delete x) e = absurd (false≢true e)
 next-named (Next x) e = (x, refl)
 next-named (Regrade x v) e = absurd (false≢true e)
 
+reader-named : (op : Op) → Reader op → (x : ℕ) × ((op ≡ Search x) ⊎ (op ≡ Next x))
+reader-named (Search x) h = (x, inl refl)
+reader-named (Insert x v) h = absurd (false≢true h)
+reader-named (Delete x) h = absurd (false≢true h)
+reader-named (Next x) h = (x, inr refl)
+reader-named (Regrade x v) h = absurd (false≢true h)
+
 beside-named : (op : Op) → goesBeside op ≡ true → (x : ℕ) × ((op ≡ Delete x) ⊎ (op ≡ Next x))
 beside-named (Search x) e = absurd (false≢true e)
 beside-named (Insert x v) e = absurd (false≢true e)
@@ -442,6 +450,7 @@ words-pinned k = record {
   key = λ x v. (refl, refl, refl, refl, refl);
   deletion = λ op. (deletion-named op, λ d. ap isDelete (d .1));
   asksNext = λ op. (next-named op, λ n. ap isNext (n .1));
+  reader = λ op. (reader-named op, λ r. ⊎-elim (λ s. ap onlyReads s) (λ n. ap onlyReads n) (r .1));
   beside = λ op. (beside-named op, λ b. ⊎-elim (λ d. ap goesBeside d) (λ n. ap goesBeside n) (b .1));
   nearest = λ x es. (none-below x es, below-none x es);
   safe = safe-is k;

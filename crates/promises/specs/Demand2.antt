@@ -22,11 +22,12 @@ use Rattle.slots.specs.declared.State.{State}
 use Rattle.slots.specs.declared.Lock.the-variants.{None}
 use Rattle.slots.specs.declared.Answer.{Answer}
 use Rattle.slots.specs.declared.Answer.the-variants.{Waiting, Moved, Begun, Reported, BadSlot, SlotBusy, SlotIdle, BadPage, Next as NextLot, Regraded}
+use Rattle.slots.specs.Operations.{onlyReads}
 use Rattle.slots.specs.Parts.{keyOf, isDelete, isNext, goesBeside, held, pathOf, besideOf, slotAt, openAt, wantAt, holdsAt, waitingOrder, Opened}
 use Rattle.slots.specs.Locks.{lockOf, clash}
 use Rattle.slots.specs.Grant.{olderThan}
 use Rattle.slots.specs.Sound.{sound}
-use Rattle.slots.specs.Heard.{changesNothing, isOneOf, ending}
+use Rattle.slots.specs.Heard.{changesNothing, isOneOf, ending, writing}
 use Rattle.slots.specs.Book.{leaving}
 use Rattle.footing.specs.Granted.{isSafe}
 use Rattle.index.specs.Step.{Left}
@@ -34,7 +35,6 @@ use Rattle.tree.specs.Tree.{Tr, occurs, PoolForms}
 use Rattle.runs.specs.Run.{Call, begin, step, report, called, runFrom, CallInWords, Run}
 use Rattle.runs.specs.Stance.{Safe, Stance, Takes}
 use Rattle.runs.specs.Waits.{Barred, Before}
-use Rattle.runs.specs.Done.{writing}
 use Rattle.runs.specs.PlainFacts.{Among, AllBelow}
 use Rattle.promises.specs.Demand1.{Exactly}
 
@@ -42,11 +42,7 @@ use Rattle.promises.specs.Demand1.{Exactly}
 
 -- the operation only reads: it is a search, or asks for the next lot
 abbrev pub Reader : Op → Type 0
-Reader (Search x) = Unit {0}
-Reader (Insert x v) = ⊥
-Reader (Delete x) = ⊥
-Reader (Next x) = Unit {0}
-Reader (Regrade x v) = ⊥
+Reader op = onlyReads op ≡ true
 
 -- slot s only reads
 abbrev pub Reads : State → ℕ → Type 0
@@ -173,7 +169,9 @@ pub record Words (k : ℕ) : Type 0 where
   pub deletion : (op : Op) → Exactly (isDelete op ≡ true) ((x : ℕ) × (op ≡ Delete x))
   -- what asks for the next lot is a Next of some key,
   pub asksNext : (op : Op) → Exactly (isNext op ≡ true) ((x : ℕ) × (op ≡ Next x))
-  -- and just these two may hold pages beside their path
+  -- just a search and a Next only read,
+  pub reader : (op : Op) → Exactly (Reader op) ((x : ℕ) × ((op ≡ Search x) ⊎ (op ≡ Next x)))
+  -- and just a deletion and a Next may hold pages beside their path
   pub beside : (op : Op) → Exactly (goesBeside op ≡ true) ((x : ℕ) × ((op ≡ Delete x) ⊎ (op ≡ Next x)))
   -- no entry of a list is at or above a key just if every key of it is below
   pub nearest : (x : ℕ) (es : List Entry) → Exactly (atOrAbove x es ≡ []) (AllBelow x es)

@@ -16,7 +16,6 @@ use Rattle.ground.proofs.Choice.{cond-true, cond-false}
 use Rattle.page.specs.Words.{Page}
 use Rattle.pool.specs.Pool.{pageAt}
 use Rattle.slots.specs.declared.Op.{Op}
-use Rattle.slots.specs.declared.Op.the-variants.{Search, Insert, Delete, Next, Regrade}
 use Rattle.slots.specs.declared.Slot.{Slot}
 use Rattle.slots.specs.declared.State.{State}
 use Rattle.slots.specs.declared.Outcome.{Outcome}
@@ -32,7 +31,7 @@ use Rattle.index.proofs.Refusals.{step-refused}
 use Rattle.tree.proofs.Search.{way-facts}
 use Rattle.runs.specs.Run.{Call, begin, step, report, called, InWords}
 use Rattle.runs.specs.Step.{Comes, moves, stops}
-use Rattle.runs.specs.Counts.{grantedTo, grantsOf, endsWithin, heightGranted, GoesStraight, GrantCounts, CountsFrom}
+use Rattle.runs.specs.Counts.{grantedTo, grantsOf, endsWithin, heightGranted, GrantCounts, CountsFrom}
 use Rattle.runs.proofs.Invariant.{Invariant}
 use Rattle.runs.proofs.Calls.{same-op}
 use Rattle.runs.proofs.Runs.{BeginOf, noSuch, busy, begins-so, begin-of, call-keeps}
@@ -231,17 +230,9 @@ root-level st ws inv =
     let facts = way-facts (st .k) (st .n) (pageAt (st .k) ws) (inv .height) (inv .tree) (inv .forms .forms) 0 range-rises in
     ap (λ (p : ℕ). pageAt (st .k) ws p .level) (sym (facts .root)) ∙ facts .level (inv .height) (omega arith)
 
--- what goes straight down does not go beside its path
-straight-down : (op : Op) → GoesStraight op → goesBeside op ≡ false
-straight-down (Search x) so = refl
-straight-down (Insert x v) so = refl
-straight-down (Delete x) so = absurd so
-straight-down (Next x) so = absurd so
-straight-down (Regrade x v) so = refl
-
 -- So many grants were needed: at least m, and for what goes straight down just m.
 abbrev Needs : Op → ℕ → ℕ → Type 0
-Needs op m grants = (m ≤ grants) × (GoesStraight op → grants ≡ m)
+Needs op m grants = (m ≤ grants) × (goesBeside op ≡ false → grants ≡ m)
 
 module _ (s : ℕ) (b : s < slotCount) where
   -- an open slot is granted at most what its measure says
@@ -317,7 +308,7 @@ module _ (s : ℕ) (b : s < slotCount) where
           → Where op (pageAt (st .k) ws) (inv .height) (inv .tree) (pathOf (slotAt st s)) (besideOf (slotAt st s)) (wantAt st s)
           → Needs op (level - 1) (grantsOf s (c ∷ cs) st ws)
       granted-now rest g (atStart e f h) = absurd (omega (arith, u .some, ap length e))
-      granted-now rest g (atTheLeaf w f d) = (omega (arith, u .lowest, w .level), λ so. not-both d (straight-down op so))
+      granted-now rest g (atTheLeaf w f d) = (omega (arith, u .lowest, w .level), λ so. not-both d so)
       granted-now rest g (onTheWay low w e h) =
           subst (λ (m : ℕ). Needs op m (grantsOf s (c ∷ cs) st ws)) (omega (arith, u .lowest, w .level))
           (⊎-elim

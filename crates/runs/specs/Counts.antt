@@ -9,10 +9,10 @@ use lib.Dec.{eqb}
 use Rattle.ground.specs.Limits.{slotGrants}
 use Rattle.pool.specs.Pool.{pageAt}
 use Rattle.slots.specs.declared.Op.{Op}
-use Rattle.slots.specs.declared.Op.the-variants.{Search, Insert, Delete, Next, Regrade}
 use Rattle.slots.specs.declared.State.{State}
 use Rattle.slots.specs.declared.Answer.the-variants.{Begun}
 use Rattle.slots.specs.Heard.{changesNothing}
+use Rattle.slots.specs.Operations.{goesBeside}
 use Rattle.slots.specs.Parts.{openAt}
 use Rattle.runs.specs.Run.{Call, begin, step, report, called, InWords}
 
@@ -43,18 +43,10 @@ heightGranted s (c ∷ cs) st ws =
     let next = called st ws c in
     cond (grantedTo s st ws c) (pageAt (st .k) ws 0 .level) (heightGranted s cs (next .state) (next .words))
 
--- the operation goes straight down, and no further than its leaf: it is a search, an insertion or a regrading
-abbrev pub GoesStraight : Op → Type 0
-GoesStraight (Search x) = Unit {0}
-GoesStraight (Insert x v) = Unit {0}
-GoesStraight (Delete x) = ⊥
-GoesStraight (Next x) = ⊥
-GoesStraight (Regrade x v) = Unit {0}
-
 -- The grants of slot s, which has just begun this operation in this state, among these calls.
 pub record GrantCounts (s : ℕ) (op : Op) (cs : List Call) (st : State) (ws : List ℕ) : Type 0 where
-  -- "search and insertion take h", and so does a regrading
-  pub exactly : GoesStraight op → endsWithin s cs st ws ≡ true → grantsOf s cs st ws ≡ heightGranted s cs st ws
+  -- "search and insertion take h", and so does a regrading: they go straight down, and no further than their leaf
+  pub exactly : goesBeside op ≡ false → endsWithin s cs st ws ≡ true → grantsOf s cs st ws ≡ heightGranted s cs st ws
   -- "deletion h to 2h-1", and so does Next
   pub least : endsWithin s cs st ws ≡ true → heightGranted s cs st ws ≤ grantsOf s cs st ws
   pub most : grantsOf s cs st ws ≤ 2 * heightGranted s cs st ws - 1

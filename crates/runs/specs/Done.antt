@@ -8,7 +8,7 @@ use Rattle.page.specs.Words.{Entry}
 use Rattle.slots.specs.declared.Op.{Op}
 use Rattle.slots.specs.declared.Op.the-variants.{Search}
 use Rattle.slots.specs.declared.Answer.{Answer}
-use Rattle.slots.specs.declared.Answer.the-variants.{Inserted, Deleted, Begun, Regraded}
+use Rattle.slots.specs.declared.Answer.the-variants.{Begun}
 use Rattle.slots.specs.Heard.{isOneOf, countedAnswers}
 use Rattle.runs.specs.Run.{Call, begin, step, report}
 use Rattle.runs.specs.Plain.{plain}
@@ -21,10 +21,6 @@ pub record Done : Type 0 where
 
 abbrev pub ended : ℕ → Op → Answer → Done
 ended s op a = record { slot = s; op = op; answer = a }
-
--- the answers of which pages are written
-abbrev pub writing : List Answer
-writing = Inserted ∷ Deleted 0 ∷ Regraded 0 ∷ []
 
 -- what was asked last in each slot, and nothing yet
 abbrev pub nobody : ℕ → Op

@@ -16,7 +16,7 @@ use Rattle.slots.specs.declared.Op.the-variants.{Insert}
 use Rattle.slots.specs.declared.Answer.{Answer}
 use Rattle.slots.specs.declared.Answer.the-variants.{NoRoom, Regraded}
 use Rattle.slots.specs.Parts.{keyOf, onlyReads}
-use Rattle.slots.specs.Heard.{isOneOf}
+use Rattle.slots.specs.Heard.{isOneOf, writing}
 use Rattle.footing.specs.Granted.{goes, ends}
 use Rattle.footing.specs.Fitting.{verdict}
 use Rattle.tree.specs.Tree.{Tr, entriesOf, occurs, PoolForms}
@@ -24,7 +24,6 @@ use Rattle.tree.specs.Change.{writtenPages, Leads}
 use Rattle.tree.specs.Insertion.{treeRoom}
 use Rattle.runs.specs.Stance.{Stance, Takes}
 use Rattle.runs.specs.Plain.{plain}
-use Rattle.runs.specs.Done.{writing}
 
 -- What is known of an open slot of a run.
 pub record Scene (op : Op) (k n : ℕ) (ws : List ℕ) (l : ℕ) (t : Tr l) (path siblings : List ℕ) (want : ℕ) : Type 0 where

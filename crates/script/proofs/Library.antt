@@ -16,12 +16,12 @@ use Rattle.pool.specs.Pool.{kInRange, nInRange, poolLength}
 use Rattle.slots.specs.declared.State.{State}
 use Rattle.slots.specs.declared.Answer.{Answer}
 use Rattle.slots.specs.declared.Answer.the-variants.{Made}
+use Rattle.slots.specs.declared.operations.Asked.{Asked}
+use Rattle.slots.specs.declared.operations.Asked.the-variants.{Known, Unknown}
 use Rattle.slots.specs.Heard.{numberOf, isOneOf}
+use Rattle.slots.specs.Operations.{askedBy}
 use Rattle.lent.specs.Words.{stateOf}
 use Rattle.index.specs.Make.{made}
-use Rattle.embed.specs.declared.asking.Asked.{Asked}
-use Rattle.embed.specs.declared.asking.Asked.the-variants.{Known, Unknown}
-use Rattle.embed.specs.Asked.{askedBy}
 use Rattle.embed.specs.Told.{told}
 use Rattle.embed.specs.Statements.{beginTold, beginNext}
 use Rattle.runs.specs.Run.{Call, begin, step, report, called, run, runFrom, InWords, Run}

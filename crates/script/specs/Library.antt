@@ -8,11 +8,11 @@ use lib.ListN.{getD}
 use Rattle.ground.specs.Limits.{wordRange}
 use Rattle.ground.specs.Tests.{all, member}
 use Rattle.slots.specs.declared.Answer.the-variants.{Made, BadState, BadPool, Damaged}
+use Rattle.slots.specs.declared.operations.Asked.{Asked}
+use Rattle.slots.specs.declared.operations.Asked.the-variants.{Known, Unknown}
 use Rattle.slots.specs.Heard.{numberOf}
+use Rattle.slots.specs.Operations.{askedBy}
 use Rattle.lent.specs.Words.{stateOf}
-use Rattle.embed.specs.declared.asking.Asked.{Asked}
-use Rattle.embed.specs.declared.asking.Asked.the-variants.{Known, Unknown}
-use Rattle.embed.specs.Asked.{askedBy}
 use Rattle.embed.specs.Told.{told}
 use Rattle.embed.specs.Statements.{MakeTells, BeginTells, StepTells, ReportTells}
 use Rattle.runs.specs.Run.{Call, begin, step, report, runFrom, Run}

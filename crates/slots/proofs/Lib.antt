@@ -1,3 +1,4 @@
+pub mod OperationLaws
 pub mod Unique
 pub mod Refusals
 pub mod MakingLaws

@@ -1,3 +1,4 @@
+pub mod Operations
 pub mod Parts
 pub mod Locks
 pub mod Book

@@ -7,49 +7,11 @@ use lib.ListN.{length, getD, take, replicate}
 use Rattle.ground.specs.Limits.{pathHolds, slotCount}
 use Rattle.ground.specs.Tests.{member, padded}
 use Rattle.slots.specs.declared.Op.{Op}
-use Rattle.slots.specs.declared.Op.the-variants.{Search, Insert, Delete, Next, Regrade}
 use Rattle.slots.specs.declared.Task.{Task}
 use Rattle.slots.specs.declared.Task.the-variants.{Closed, Open}
 use Rattle.slots.specs.declared.Slot.{Slot}
 use Rattle.slots.specs.declared.State.{State}
-
--- the key of an operation
-abbrev pub keyOf : Op → ℕ
-keyOf (Search x) = x
-keyOf (Insert x v) = x
-keyOf (Delete x) = x
-keyOf (Next x) = x
-keyOf (Regrade x v) = x
-
--- the operations that only read
-abbrev pub onlyReads : Op → Bool
-onlyReads (Search x) = true
-onlyReads (Insert x v) = false
-onlyReads (Delete x) = false
-onlyReads (Next x) = true
-onlyReads (Regrade x v) = false
-
-abbrev pub isDelete : Op → Bool
-isDelete (Search x) = false
-isDelete (Insert x v) = false
-isDelete (Delete x) = true
-isDelete (Next x) = false
-isDelete (Regrade x v) = false
-
-abbrev pub isNext : Op → Bool
-isNext (Search x) = false
-isNext (Insert x v) = false
-isNext (Delete x) = false
-isNext (Next x) = true
-isNext (Regrade x v) = false
-
--- the operations that may hold pages beside their path: a deletion's siblings, the second way of a Next
-abbrev pub goesBeside : Op → Bool
-goesBeside (Search x) = false
-goesBeside (Insert x v) = false
-goesBeside (Delete x) = true
-goesBeside (Next x) = true
-goesBeside (Regrade x v) = false
+pub use Rattle.slots.specs.Operations.{keyOf, onlyReads, isDelete, isNext, goesBeside}
 
 abbrev pub isOpen : Task → Bool
 isOpen Closed = false

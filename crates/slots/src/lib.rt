@@ -1,6 +1,8 @@
 // Slots and locks: who holds what, who waits for whom. The state and what the caller hears.
+pub mod hearing;
 pub mod holding;
 pub mod making;
+pub mod operations;
 
 use ground::HELD;
 use ground::SLOTS;
@@ -51,8 +53,16 @@ pub enum Lock {
     Xi,
 }
 
-// What the caller hears: answers, then refusals in the order of their numbers.
+// What the caller hears: refusals, then answers, in the order of their numbers. A new one goes to the end, whatever its number: so the
+// proofs that go by cases only grow at their end.
 pub enum Answer {
+    BadState,
+    BadPool,
+    BadSlot,
+    SlotBusy,
+    SlotIdle,
+    Damaged,
+    BadPage,
     Waiting,
     Moved,
     // information
@@ -74,13 +84,6 @@ pub enum Answer {
     None,
     // the old information
     Regraded(u32),
-    BadState,
-    BadPool,
-    BadSlot,
-    SlotBusy,
-    SlotIdle,
-    Damaged,
-    BadPage,
 }
 
 // What beginning an operation gives, as the rules have it. In the code a state lies in lent words (crate lent).

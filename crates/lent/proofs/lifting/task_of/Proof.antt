@@ -1,25 +1,24 @@
--- Each kind by its test.
-use borrow.Author.Tests.{eq-eqb, ne-eqb}
+-- `task_of` meets its contract: the task is that of what the numbers ask for.
+use mathlib.Core.Path.{sym, ap, _∙_}
+use borrow.Author.Needs.{needs}
+use Rattle.lent.specs.Words.{taskOf}
 use Rattle.lent.proofs.lifting.task_of.Statement.{statement}
 use Rattle.lent.proofs.lifting.task_of.Tie as tie
 
+asked-by-requires : tie.Need-asked-by-requires
+asked-by-requires c κs = search needs
+
+enum-known-op : tie.Need-enum-known-op
+enum-known-op c = search needs
+
+enum-told : tie.Need-enum-told
+enum-told c = search needs
+
 returns : tie.Need-returns
-returns c = rw (eq-eqb (c .before .args .kind) 1 (c .if1 .taken))
+returns c = ap taskOf (sym (c .before .op .given .1) ∙ c .before .before .before .asked-by .ensures)
 
 returns-2 : tie.Need-returns-2
-returns-2 c = rw (ne-eqb (c .before .before .args .kind) 1 (c .before .if1 .left), eq-eqb (c .before .before .args .kind) 2 (c .if2 .taken))
-
-returns-3 : tie.Need-returns-3
-returns-3 c = rw (ne-eqb (c .before .before .before .args .kind) 1 (c .before .before .if1 .left), ne-eqb (c .before .before .before .args .kind) 2 (c .before .if2 .left), eq-eqb (c .before .before .before .args .kind) 3 (c .if3 .taken))
-
-returns-4 : tie.Need-returns-4
-returns-4 c = rw (ne-eqb (c .before .before .before .before .args .kind) 1 (c .before .before .before .if1 .left), ne-eqb (c .before .before .before .before .args .kind) 2 (c .before .before .if2 .left), ne-eqb (c .before .before .before .before .args .kind) 3 (c .before .if3 .left), eq-eqb (c .before .before .before .before .args .kind) 4 (c .if4 .taken))
-
-returns-5 : tie.Need-returns-5
-returns-5 c = rw (ne-eqb (c .before .before .before .before .before .args .kind) 1 (c .before .before .before .before .if1 .left), ne-eqb (c .before .before .before .before .before .args .kind) 2 (c .before .before .before .if2 .left), ne-eqb (c .before .before .before .before .before .args .kind) 3 (c .before .before .if3 .left), ne-eqb (c .before .before .before .before .before .args .kind) 4 (c .before .if4 .left), eq-eqb (c .before .before .before .before .before .args .kind) 5 (c .if5 .taken))
-
-returns-6 : tie.Need-returns-6
-returns-6 c = rw (ne-eqb (c .before .before .before .before .before .args .kind) 1 (c .before .before .before .before .if1 .left), ne-eqb (c .before .before .before .before .before .args .kind) 2 (c .before .before .before .if2 .left), ne-eqb (c .before .before .before .before .before .args .kind) 3 (c .before .before .if3 .left), ne-eqb (c .before .before .before .before .before .args .kind) 4 (c .before .if4 .left), ne-eqb (c .before .before .before .before .before .args .kind) 5 (c .if5 .left))
+returns-2 c = ap taskOf (sym (c .enum-told .given .1) ∙ c .before .before .asked-by .ensures)
 
 pub task-of-spec : {M : Type 1} → statement M
-task-of-spec = tie.close (tie.spec returns returns-2 returns-3 returns-4 returns-5 returns-6)
+task-of-spec = tie.close (tie.spec asked-by-requires enum-known-op enum-told returns returns-2)

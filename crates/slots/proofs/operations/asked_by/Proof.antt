@@ -1,7 +1,7 @@
--- `read_asked` meets its contract: the tests on the way are the rule's.
+-- `asked_by` meets its contract: the tests on the way are the rule's.
 use borrow.Author.Tests.{eq-eqb, ne-eqb}
-use Rattle.embed.proofs.asking.read_asked.Statement.{statement}
-use Rattle.embed.proofs.asking.read_asked.Tie as tie
+use Rattle.slots.proofs.operations.asked_by.Statement.{statement}
+use Rattle.slots.proofs.operations.asked_by.Tie as tie
 
 returns : tie.Need-returns
 returns c = rw (eq-eqb (c .before .args .kind) 1 (c .if1 .taken))
@@ -21,5 +21,5 @@ returns-5 c = rw (ne-eqb (c .before .before .before .before .before .args .kind)
 returns-6 : tie.Need-returns-6
 returns-6 c = rw (ne-eqb (c .before .before .before .before .before .args .kind) 1 (c .before .before .before .before .if1 .left), ne-eqb (c .before .before .before .before .before .args .kind) 2 (c .before .before .before .if2 .left), ne-eqb (c .before .before .before .before .before .args .kind) 3 (c .before .before .if3 .left), ne-eqb (c .before .before .before .before .before .args .kind) 4 (c .before .if4 .left), ne-eqb (c .before .before .before .before .before .args .kind) 5 (c .if5 .left))
 
-pub read-asked-spec : {M : Type 1} → statement M
-read-asked-spec = tie.close (tie.spec returns returns-2 returns-3 returns-4 returns-5 returns-6)
+pub asked-by-spec : {M : Type 1} → statement M
+asked-by-spec = tie.close (tie.spec returns returns-2 returns-3 returns-4 returns-5 returns-6)
