@@ -5,5 +5,6 @@ pub mod Demand3
 pub mod MoreRows
 pub mod LongRun
 pub mod NextRows
+pub mod NextAbove
 pub mod RegradeRows
 pub mod Regrading
