@@ -23,8 +23,8 @@ use Rattle.slots.specs.declared.Op.{Op}
 use Rattle.slots.specs.declared.Op.the-variants.{Next}
 use Rattle.slots.specs.Parts.{keyOf, isNext, Stand, stand, withOp}
 use Rattle.footing.specs.Granted.{isSafe}
-use Rattle.footing.specs.Fitting.{isNone, leftmost, turnsRight, rightlyAcross}
-use Rattle.footing.proofs.LookLaws.{told-true, told-false, namesBelow, held-two}
+use Rattle.footing.specs.Fitting.{namesBelow, isNone, leftmost, turnsRight, rightlyAcross}
+use Rattle.footing.proofs.LookLaws.{told-true, told-false, held-two}
 use Rattle.footing.proofs.KeepLaws.{last-first}
 
 -- ---- the way itself
@@ -32,7 +32,7 @@ use Rattle.footing.proofs.KeepLaws.{last-first}
 module _ (memory : ℕ → Page) (x top : ℕ) (way : List ℕ) (count : ℕ) (long : count ≤ length way) (some : 1 ≤ count) where
   -- the way begins with the next child to the right
   abbrev begins : Bool
-  begins = namesBelow memory (λ (p : ℕ). neighbour x (memory p)) top (getD way 0 0)
+  begins = namesBelow memory (neighbour x) top (getD way 0 0)
 
   by-turn : turnsRight memory x top (take count way) ≡ begins && leftmost memory (take count way)
   by-turn =

@@ -141,7 +141,7 @@ module _ (memory : ℕ → Page) where
   pub leftmost-levels : (way : List ℕ) → leftmost memory way ≡ true → (i : ℕ) → suc i < length way
       → memory (getD way i 0) .level ≡ memory (getD way (suc i) 0) .level + 1
   leftmost-levels way t i h =
-      below-level memory (λ (p : ℕ). pointer 0 (memory p)) (getD way i 0) (getD way (suc i) 0)
+      below-level memory (pointer 0) (getD way i 0) (getD way (suc i) 0)
       (chain-at leadsLeft way (sym (leftmost-chain way) ∙ t) i h)
 
 -- ---- a way down by a key
@@ -157,7 +157,7 @@ module _ (memory : ℕ → Page) (x : ℕ) where
   pub descends-levels : (path : List ℕ) → descends memory x path ≡ true → (i : ℕ) → suc i < length path
       → memory (getD path i 0) .level ≡ memory (getD path (suc i) 0) .level + 1
   descends-levels path t i h =
-      below-level memory (λ (p : ℕ). route x (memory p)) (getD path i 0) (getD path (suc i) 0)
+      below-level memory (route x) (getD path i 0) (getD path (suc i) 0)
       (chain-at (leads memory x) path (sym (descends-chain path) ∙ t) i h)
 
   -- the last page does not depend on those above it

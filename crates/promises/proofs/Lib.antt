@@ -9,3 +9,4 @@ pub mod Room
 pub mod Demand3
 pub mod Regrading
 pub mod OneWord
+pub mod NextAbove

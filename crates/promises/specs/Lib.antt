@@ -8,6 +8,7 @@ pub mod Demand3
 pub mod MoreRows
 pub mod LongRun
 pub mod NextRows
+pub mod NextAbove
 pub mod RegradeRows
 pub mod WideRows
 pub mod DamageRows
