@@ -1,9 +1,8 @@
 -- The plain terms and the tests of the rules: one gives the other.
-use Prim.Native.Nat.{ℕ, _<_}
+use Prim.Native.Nat.{ℕ}
 use mathlib.Core.Bool.{true, false}
 use mathlib.Core.List.{List}
-use mathlib.Core.Path.{_≡_, refl, sym, ap, subst}
-use lib.ListN.{length, getD}
+use mathlib.Core.Path.{_≡_, refl, sym, subst}
 use Rattle.ground.specs.Tests.{member}
 use Rattle.ground.proofs.Bools.{not-both}
 use Rattle.ground.proofs.Tests.{member-from}
