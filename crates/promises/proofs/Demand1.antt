@@ -21,7 +21,7 @@ use Rattle.slots.specs.declared.Lock.{Lock}
 use Rattle.slots.specs.declared.Answer.{Answer}
 use Rattle.slots.specs.declared.Answer.the-variants.{Waiting, Begun, Made, Reported, BadState, BadPool, BadSlot, SlotBusy, SlotIdle, Damaged, BadPage}
 use Rattle.slots.specs.Heard.{numberOf, refuses, changesNothing}
-use Rattle.slots.specs.Parts.{isOpen, slotAt, openAt, holding, standOf}
+use Rattle.slots.specs.Parts.{isOpen, slotAt, openAt, pathOf, besideOf, holding, standOf}
 use Rattle.slots.specs.Sound.{sound}
 use Rattle.slots.specs.Grant.{grants}
 use Rattle.slots.specs.Begin.{begun}
@@ -36,9 +36,10 @@ use Rattle.index.specs.Make.{made}
 use Rattle.index.proofs.Refusals.{Answers, granted-answers, changes, step-refused, make-refused, step-length, make-length}
 use Rattle.promises.specs.Terms.{Exactly}
 use Rattle.promises.specs.Report.{Reports}
-use Rattle.promises.specs.Demand1.{BeginDemand, WordsFit, soundForTask, StepDemand, ReportDemand, MakingInRange, MakeDemand, Demand1}
+use Rattle.promises.specs.Demand1.{BeginDemand, WordsFit, PagesSound, StepDemand, ReportDemand, MakingInRange, MakeDemand, Demand1}
 use Rattle.promises.proofs.SoundState.{numbers, sound-is}
 use Rattle.promises.proofs.Report.{reports-so, reports-once}
+use Rattle.promises.proofs.NextWant.{sound-for-step}
 
 -- A row of a table: an answer, and what it tells. By its number an answer tells what stands beside it; one with no row tells `other`.
 record Row : Type 1 where
@@ -109,6 +110,18 @@ no-row (r ∷ rows) other a l h =
     differ e =
         not-both (and-first (changesNothing (r .answer)) (unchanging rows) l)
         (ap (λ (m : ℕ). leb m (numberOf Waiting)) (sym e) ∙ changes a h)
+
+-- "Pages are sound for a step if", by the rule's test, and that it passes exactly where they are in plain terms
+abbrev soundForTask : State → List ℕ → Slot → Task → Bool
+soundForTask st ws slot Closed = true
+soundForTask st ws slot (Open op) = soundForStep (st .k) (st .n) ws (standOf op slot)
+
+pages-sound : (st : State) (ws : List ℕ) (slot : Slot) (task : Task) → Exactly (soundForTask st ws slot task ≡ true) (PagesSound st ws slot task)
+pages-sound st ws slot Closed = ((λ _. tt), (λ _. refl))
+pages-sound st ws slot (Open op) = sound-for-step (st .k) (st .n) ws op (pathOf slot) (besideOf slot) (slot .want)
+
+pages-unsound : (st : State) (ws : List ℕ) (slot : Slot) (task : Task) → (PagesSound st ws slot task → ⊥) → soundForTask st ws slot task ≡ false
+pages-unsound st ws slot task never = false-if-not-true (soundForTask st ws slot task) (λ t. never (pages-sound st ws slot task .0 t))
 
 -- what step's answers tell, by the slot and its task
 abbrev stepRows : State → List ℕ → ℕ → Slot → Task → List Row
@@ -205,10 +218,15 @@ step-demand st ws s = record {
   badSlot = (told, λ h. rw (h .0, fits (h .1), le-ltb s slotCount (h .2)));
   slotIdle = (told, λ h. rw (h .0, fits (h .1), lt-ltb s slotCount (h .2)) (task-idle st ws s slot (slot .task) (h .3)));
   waiting = (told, λ h. rw (h .0, fits (h .1), lt-ltb s slotCount (h .2)) (task-waits st ws s slot (slot .task) (h .3) (h .4)));
-  damaged = (told, λ h. rw (h .0, fits (h .1), lt-ltb s slotCount (h .2)) (task-damaged st ws s slot (slot .task) (h .3) (h .4) (h .5)));
+  damaged = (
+    (λ e. let (a, b, c, d, g, p) = told e in (a, b, c, d, g, λ q. not-both (pages-sound st ws slot (slot .task) .1 q) p)),
+    λ h. rw (h .0, fits (h .1), lt-ltb s slotCount (h .2)) (task-damaged st ws s slot (slot .task) (h .3) (h .4) (pages-unsound st ws slot (slot .task) (h .5))),
+  );
   granted = (
-    λ h. transport (no-row (stepRows st ws s slot (slot .task)) (Goes st ws s slot (slot .task)) (stepped st ws s .answer) refl h) (step-tells st ws s),
-    λ h. rw (h .0, fits (h .1), lt-ltb s slotCount (h .2)) (task-goes st ws s slot (slot .task) (h .3) (h .4) (h .5)),
+    (λ h.
+        let (a, b, c, d, g, p) = transport (no-row (stepRows st ws s slot (slot .task)) (Goes st ws s slot (slot .task)) (stepped st ws s .answer) refl h) (step-tells st ws s) in
+        (a, b, c, d, g, pages-sound st ws slot (slot .task) .0 p)),
+    λ h. rw (h .0, fits (h .1), lt-ltb s slotCount (h .2)) (task-goes st ws s slot (slot .task) (h .3) (h .4) (pages-sound st ws slot (slot .task) .1 (h .5))),
   );
   noOther =
       by-test (sound st)

@@ -399,7 +399,7 @@ module _ (st : State) (ws : List ℕ) (inv : Invariant st ws) where
 
 -- ---- the words of the rules
 
-safe-is : (k : ℕ) (op : Op) (P : Page) → Exactly (isSafe op k P ≡ true) (Safe op k P)
+pub safe-is : (k : ℕ) (op : Op) (P : Page) → Exactly (isSafe op k P ≡ true) (Safe op k P)
 safe-is k (Search x) P = (λ _. tt, λ _. refl)
 safe-is k (Insert x v) P = (ltb-true (μ P) (2 * k), lt-ltb (μ P) (2 * k))
 safe-is k (Delete x) P = (ltb-true k (μ P), lt-ltb k (μ P))

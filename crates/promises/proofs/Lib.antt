@@ -4,6 +4,8 @@ pub mod SoundState
 pub mod Report
 pub mod Seen
 pub mod Demand2
+pub mod SoundPages
+pub mod NextWant
 pub mod Demand1
 pub mod Room
 pub mod Demand3

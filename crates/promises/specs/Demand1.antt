@@ -6,7 +6,7 @@
 -- `requires`.
 -- Each record has 01's table for its call, row by row in 01's order. A row is heard exactly if it applies and none before it does.
 use Prim.Native.Nat.{ℕ, _≤_, _<_}
-use mathlib.Core.Bool.{Bool, true, false}
+use mathlib.Core.Bool.{true, false}
 use mathlib.Core.List.{List}
 use mathlib.Core.Logic.{_⊎_, _≢_}
 use mathlib.Core.Path.{_≡_}
@@ -21,17 +21,17 @@ use Rattle.slots.specs.declared.State.{State}
 use Rattle.slots.specs.declared.Lock.{Lock}
 use Rattle.slots.specs.declared.Answer.the-variants.{Waiting, Begun, Made, Reported, BadState, BadPool, BadSlot, SlotBusy, SlotIdle, Damaged, BadPage}
 use Rattle.slots.specs.Heard.{refuses, changesNothing}
-use Rattle.slots.specs.Parts.{slotAt, openAt, standOf, idleState}
+use Rattle.slots.specs.Parts.{standOf, slotAt, openAt, idleState}
 use Rattle.slots.specs.Sound.{sound}
 use Rattle.slots.specs.Grant.{grants}
 use Rattle.slots.specs.Begin.{begun}
 use Rattle.slots.specs.Report.{reported}
-use Rattle.footing.specs.Fitting.{soundForStep}
 use Rattle.index.specs.Step.{ofGranted, stepped}
 use Rattle.index.specs.Make.{made}
 use Rattle.promises.specs.Terms.{Exactly}
 use Rattle.promises.specs.SoundState.{Numbers, IsSound}
 use Rattle.promises.specs.Report.{Reports}
+use Rattle.promises.specs.SoundPages.{SoundForStep}
 
 -- "Order. Begin: 1, 3, 4." Begin is handed no words, so it leaves them.
 pub record BeginDemand (st : State) (s : ℕ) (op : Op) : Type 0 where
@@ -52,12 +52,12 @@ abbrev pub WordsFit : State → List ℕ → Type 0
 WordsFit st ws = length ws ≡ poolLength (st .k) (st .n)
 
 -- "Pages are sound for a step if": of the step of a slot with this task. A closed slot meets no pages.
-abbrev pub soundForTask : State → List ℕ → Slot → Task → Bool
-soundForTask st ws slot Closed = true
-soundForTask st ws slot (Open op) = soundForStep (st .k) (st .n) ws (standOf op slot)
+abbrev pub PagesSound : State → List ℕ → Slot → Task → Type 0
+PagesSound st ws slot Closed = Unit {0}
+PagesSound st ws slot (Open op) = SoundForStep (st .k) (st .n) ws (standOf op slot)
 
-abbrev pub pagesSoundAt : State → List ℕ → ℕ → Bool
-pagesSoundAt st ws s = soundForTask st ws (slotAt st s) (slotAt st s .task)
+abbrev pub PagesSoundAt : State → List ℕ → ℕ → Type 0
+PagesSoundAt st ws s = PagesSound st ws (slotAt st s) (slotAt st s .task)
 
 -- "Step: 1, 2, 3, 5, Waiting, 6."
 pub record StepDemand (st : State) (ws : List ℕ) (s : ℕ) : Type 0 where
@@ -72,9 +72,9 @@ pub record StepDemand (st : State) (ws : List ℕ) (s : ℕ) : Type 0 where
   -- "A step grants the want when .. Otherwise it is answered Waiting"
   pub waiting : Exactly (stepped st ws s .answer ≡ Waiting) ((sound st ≡ true) × WordsFit st ws × (s < slotCount) × (openAt st s ≡ true) × (grants st s ≡ false))
   -- 6, "a granted step would meet pages that are not sound"
-  pub damaged : Exactly (stepped st ws s .answer ≡ Damaged) ((sound st ≡ true) × WordsFit st ws × (s < slotCount) × (openAt st s ≡ true) × (grants st s ≡ true) × (pagesSoundAt st ws s ≡ false))
+  pub damaged : Exactly (stepped st ws s .answer ≡ Damaged) ((sound st ≡ true) × WordsFit st ws × (s < slotCount) × (openAt st s ≡ true) × (grants st s ≡ true) × (PagesSoundAt st ws s → ⊥))
   -- otherwise Moved, or an answer that ends the operation
-  pub granted : Exactly (ofGranted (stepped st ws s .answer) ≡ true) ((sound st ≡ true) × WordsFit st ws × (s < slotCount) × (openAt st s ≡ true) × (grants st s ≡ true) × (pagesSoundAt st ws s ≡ true))
+  pub granted : Exactly (ofGranted (stepped st ws s .answer) ≡ true) ((sound st ≡ true) × WordsFit st ws × (s < slotCount) × (openAt st s ≡ true) × (grants st s ≡ true) × PagesSoundAt st ws s)
   pub noOther : (stepped st ws s .answer ≡ BadState) ⊎ (stepped st ws s .answer ≡ BadPool) ⊎ (stepped st ws s .answer ≡ BadSlot) ⊎ (stepped st ws s .answer ≡ SlotIdle) ⊎ (stepped st ws s .answer ≡ Waiting) ⊎ (stepped st ws s .answer ≡ Damaged) ⊎ (ofGranted (stepped st ws s .answer) ≡ true)
   -- "A refused call leaves pages, locks and waiting order exactly as found."; "Waiting and nothing changes"
   pub asGiven : changesNothing (stepped st ws s .answer) ≡ true → (stepped st ws s .state ≡ st) × (stepped st ws s .words ≡ ws)

@@ -2,6 +2,7 @@ pub mod Bench
 pub mod Terms
 pub mod SoundState
 pub mod Report
+pub mod SoundPages
 pub mod Demand1
 pub mod Demand2
 pub mod Demand3

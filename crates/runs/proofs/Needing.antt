@@ -35,12 +35,12 @@ use Rattle.runs.proofs.HeldPath.{page-least, held-way, way-pages}
 
 -- The page p, with its fathers upward, has these siblings, and needs one more: each page that a sibling was taken for is short
 -- and not page 0, each sibling is its page's neighbour and joins with it, and the next page wants its neighbour.
-record Course (k : ℕ) (memory : ℕ → Page) (x p : ℕ) (fathers siblings : List ℕ) (want : ℕ) : Type 0 where
-  short : (j : ℕ) → j ≤ length siblings → μ (memory (getD (p ∷ fathers) j 0)) ≤ k
-  notRoot : (j : ℕ) → j ≤ length siblings → getD (p ∷ fathers) j 0 ≢ 0
-  neighbours : (j : ℕ) → j < length siblings → getD siblings j 0 ≡ neighbour x (memory (getD fathers j 0))
-  joining : (j : ℕ) → j < length siblings → μ (memory (getD siblings j 0)) ≤ k
-  wantsNext : want ≡ neighbour x (memory (getD fathers (length siblings) 0))
+pub record Course (k : ℕ) (memory : ℕ → Page) (x p : ℕ) (fathers siblings : List ℕ) (want : ℕ) : Type 0 where
+  pub short : (j : ℕ) → j ≤ length siblings → μ (memory (getD (p ∷ fathers) j 0)) ≤ k
+  pub notRoot : (j : ℕ) → j ≤ length siblings → getD (p ∷ fathers) j 0 ≢ 0
+  pub neighbours : (j : ℕ) → j < length siblings → getD siblings j 0 ≡ neighbour x (memory (getD fathers j 0))
+  pub joining : (j : ℕ) → j < length siblings → μ (memory (getD siblings j 0)) ≤ k
+  pub wantsNext : want ≡ neighbour x (memory (getD fathers (length siblings) 0))
 
 -- choices that end in a sibling
 asks-here : (b : Bool) (r : ℕ) {s : ℕ} → cond b nothing (sibling r) ≡ sibling s → (b ≡ false) × (r ≡ s)
@@ -61,7 +61,7 @@ asks-further false ss n e = (refl, e)
 
 module _ (k : ℕ) (memory : ℕ → Page) (x : ℕ) where
   -- from the facts to the rule,
-  course-needs : (p : ℕ) (fathers siblings : List ℕ) (want : ℕ) → length siblings < length fathers
+  pub course-needs : (p : ℕ) (fathers siblings : List ℕ) (want : ℕ) → length siblings < length fathers
       → Course k memory x p fathers siblings want → needs k memory x p fathers siblings ≡ sibling want
   course-needs p [] siblings want h c = absurd (omega arith)
   course-needs p (f ∷ up) [] want h c =
@@ -79,7 +79,7 @@ module _ (k : ℕ) (memory : ℕ → Page) (x : ℕ) where
       })
 
   -- and back
-  needs-course : (p : ℕ) (fathers siblings : List ℕ) (want : ℕ) → needs k memory x p fathers siblings ≡ sibling want
+  pub needs-course : (p : ℕ) (fathers siblings : List ℕ) (want : ℕ) → needs k memory x p fathers siblings ≡ sibling want
       → Course k memory x p fathers siblings want
   unfolding needs
   needs-course p [] siblings want e = let short = needs-length k memory x p [] siblings want e in absurd (omega arith)

@@ -1,0 +1,474 @@
+-- The page that an operation would want next, by the rule and in plain terms: a granted step goes on just where there is one, and to it.
+use Prim.Native.Nat.{ℕ, suc, _+_, _≤_, _<_}
+use mathlib.Core.Bool.{Bool, true, false, cond, _&&_, _||_, false≢true}
+use mathlib.Core.List.{List, [], _∷_, _++_, reverse, append-nil, reverse-append}
+use mathlib.Core.Logic.{_⊎_, inl, inr, ⊎-elim, _≢_}
+use mathlib.Core.Path.{_≡_, refl, sym, ap, subst, _∙_}
+use native.Mathlib.Omega.{arith}
+use lib.Dec.{ltb, eqb}
+use lib.ListN.{length, getD, drop, length-drop, length-reverse}
+use lib.Seq.{getD-drop}
+use borrow.Author.Tests.{ltb-true, ltb-false, lt-ltb, le-ltb, eqb-true, eqb-false, eq-eqb, ne-eqb, not-true}
+use Rattle.ground.specs.Tests.{member}
+use Rattle.ground.proofs.Bools.{not-both, false-if-not-true, and-first, and-second, and-both, or-first, or-second, or-none, or-first-fails, or-second-fails, not-of-false}
+use Rattle.ground.proofs.Choice.{by-test, same-or-not, cond-ind, cond-true, cond-false}
+use Rattle.ground.proofs.Tests.{member-append, member-inside, member-last, member-from, member-at}
+use Rattle.page.specs.Words.{Entry, Page, μ, isLeaf}
+use Rattle.page.specs.Place.{place, pointer, route, has, information, atOrAbove}
+use Rattle.page.specs.Splits.{entryAt}
+use Rattle.page.specs.Sound.{rises}
+use Rattle.page.specs.Short.{neighbour}
+use Rattle.page.proofs.RiseLaws.{rises-from}
+use Rattle.page.proofs.PlaceLaws.{has-at, has-from}
+use Rattle.pool.specs.Pool.{Write, pageAt, freePages}
+use Rattle.change.specs.Insertion.{room}
+use Rattle.change.specs.Deletion.{Need, nothing, sibling, astray, satisfied, needs, deletion}
+use Rattle.slots.specs.declared.Op.{Op}
+use Rattle.slots.specs.declared.Op.the-variants.{Search, Insert, Delete, Next, Regrade}
+use Rattle.slots.specs.declared.Answer.{Answer}
+use Rattle.slots.specs.declared.Answer.the-variants.{Deleted, None as NoLot}
+use Rattle.slots.specs.Parts.{keyOf, isDelete, isNext, Stand, stand, holding}
+use Rattle.footing.specs.Granted.{Verdict, goes, ends, isSafe, kept, byNeed, deletes, crosses, byNearest, atLeaf, fromLeaf, comesDown, goesLeft, besides, atItsLeaf, granted}
+use Rattle.footing.specs.Fitting.{pagesSound, fitting, nextIsNew, soundForStep}
+use Rattle.tree.proofs.DeletionRule.{needs-ask, needs-next, needs-root}
+use Rattle.runs.specs.PlainFacts.{AllBelow}
+use Rattle.runs.specs.Stance.{Safe, StandsAtLeaf}
+use Rattle.runs.proofs.PlainLaws.{none-below, below-none}
+use Rattle.runs.proofs.Needing.{Course}
+use Rattle.runs.proofs.Across.{top-upward}
+use Rattle.promises.specs.Terms.{Exactly, In}
+use Rattle.promises.specs.SoundPages.{RoutesTo, KeptRightly, SiblingsSoFar, WouldWant, alone, lower, leafSibling, fatherSibling, across, onward, SoundForStep}
+use Rattle.promises.proofs.Terms.{in-member}
+use Rattle.promises.proofs.Demand2.{safe-is}
+use Rattle.promises.proofs.SoundPages.{Pages, pages-told, pages-from, Rising, Stands, place-told, route-same, at-leaf-told, at-leaf-from, fitting-told, fitting-from}
+
+-- What a granted step comes to: the operation ends and would want nothing; or it goes on to the one page that it would want.
+pub data Comes (k : ℕ) (memory : ℕ → Page) (z : Stand) (v : Verdict) : Type 0 where
+  ended : {a : Answer} {w : List Write} → v ≡ ends a w → ((h : List ℕ) (q : ℕ) → WouldWant k memory z h q → ⊥) → Comes k memory z v
+  further : (next : Stand) → v ≡ goes next → WouldWant k memory z (holding next) (next .want)
+      → ((h : List ℕ) (q : ℕ) → WouldWant k memory z h q → (h ≡ holding next) × (q ≡ next .want)) → Comes k memory z v
+
+-- so the rule's clause on the page wanted next is the plain one
+abbrev pub New : ℕ → (ℕ → Page) → Stand → Type 0
+New k memory z = (h : List ℕ) (q : ℕ) → WouldWant k memory z h q → In q h → ⊥
+
+pub new-told : {k : ℕ} {memory : ℕ → Page} {z : Stand} {v : Verdict} → Comes k memory z v → nextIsNew v ≡ true → New k memory z
+new-told (ended e none) t h q w i = none h q w
+new-told (further next e there only) t h q w i =
+    let (f, g) = only h q w in
+    not-both (in-member (next .want) (holding next) (subst (λ (r : ℕ). In r (holding next)) g (subst (λ (l : List ℕ). In q l) f i)))
+    (not-true (member (next .want) (holding next)) (ap nextIsNew (sym e) ∙ t))
+
+pub new-from : {k : ℕ} {memory : ℕ → Page} {z : Stand} {v : Verdict} → Comes k memory z v → New k memory z → nextIsNew v ≡ true
+new-from (ended e none) new = ap nextIsNew e
+new-from (further next e there only) new =
+    ap nextIsNew e ∙ not-of-false (false-if-not-true (member (next .want) (holding next)) (λ m. new (holding next) (next .want) there (member-at (next .want) (holding next) 0 m)))
+
+-- ---- what would be wanted, by where the operation stands
+
+never-both-kinds : (op : Op) → isDelete op ≡ true → isNext op ≡ true → ⊥
+never-both-kinds (Search x) d n = false≢true d
+never-both-kinds (Insert x v) d n = false≢true d
+never-both-kinds (Delete x) d n = false≢true n
+never-both-kinds (Next x) d n = false≢true d
+never-both-kinds (Regrade x v) d n = false≢true d
+
+deletion-safe : (op : Op) (k : ℕ) (P : Page) → isDelete op ≡ true → Safe op k P → k < μ P
+deletion-safe (Search x) k P d s = absurd (false≢true d)
+deletion-safe (Insert x v) k P d s = absurd (false≢true d)
+deletion-safe (Delete x) k P d s = s
+deletion-safe (Next x) k P d s = absurd (false≢true d)
+deletion-safe (Regrade x v) k P d s = absurd (false≢true d)
+
+-- coming down to a page above the leaves
+abbrev Downward : ℕ → (ℕ → Page) → Op → List ℕ → ℕ → List ℕ → ℕ → Type 0
+Downward k memory op path want h q =
+    RoutesTo (keyOf op) (memory want) q × ((Safe op k (memory want) × (h ≡ want ∷ [])) ⊎ ((Safe op k (memory want) → ⊥) × (h ≡ path ++ want ∷ [])))
+
+downward : {k : ℕ} {memory : ℕ → Page} {op : Op} {path beside : List ℕ} {want : ℕ} {h : List ℕ} {q : ℕ} → (StandsAtLeaf memory path → ⊥) → memory want .level ≢ 1
+    → WouldWant k memory (stand op path beside want) h q → Downward k memory op path want h q
+downward n l (alone a b s r e) = (r, inl (s, e))
+downward n l (lower a b s r e) = (r, inr (s, e))
+downward n l (leafSibling a b d t s r e f) = absurd (l b)
+downward n l (fatherSibling a d s t r e f) = absurd (n a)
+downward n l (across a b d t s r e f) = absurd (l b)
+downward n l (onward a d b e f) = absurd (n a)
+
+-- coming to the leaf
+abbrev LeafSibling : ℕ → (ℕ → Page) → Op → List ℕ → ℕ → List ℕ → ℕ → Type 0
+LeafSibling k memory op path want h q =
+    (isDelete op ≡ true) × ((i : ℕ) × (i < μ (memory want)) × (entryAt i (memory want .entries) .key ≡ keyOf op)) × (μ (memory want) ≤ k) × (want ≢ 0)
+    × (q ≡ neighbour (keyOf op) (memory (getD (reverse path) 0 0))) × (h ≡ path ++ want ∷ [])
+
+abbrev Crossed : ℕ → (ℕ → Page) → Op → List ℕ → ℕ → List ℕ → ℕ → Type 0
+Crossed k memory op path want h q =
+    (isNext op ≡ true) × AllBelow (keyOf op) (memory want .entries) × (1 ≤ length path) × Safe op k (memory (getD path 0 0))
+    × (q ≡ neighbour (keyOf op) (memory (getD path 0 0))) × (h ≡ path ++ want ∷ [])
+
+to-leaf : {k : ℕ} {memory : ℕ → Page} {op : Op} {path beside : List ℕ} {want : ℕ} {h : List ℕ} {q : ℕ} → (StandsAtLeaf memory path → ⊥) → memory want .level ≡ 1
+    → WouldWant k memory (stand op path beside want) h q → LeafSibling k memory op path want h q ⊎ Crossed k memory op path want h q
+to-leaf n l (alone a b s r e) = absurd (b l)
+to-leaf n l (lower a b s r e) = absurd (b l)
+to-leaf n l (leafSibling a b d t s r e f) = inl (d, t, s, r, e, f)
+to-leaf n l (fatherSibling a d s t r e f) = absurd (n a)
+to-leaf n l (across a b d t s r e f) = inr (d, t, s, r, e, f)
+to-leaf n l (onward a d b e f) = absurd (n a)
+
+-- at the leaf
+abbrev FatherSibling : ℕ → (ℕ → Page) → Op → List ℕ → List ℕ → ℕ → List ℕ → ℕ → Type 0
+FatherSibling k memory op path beside want h q =
+    (isDelete op ≡ true) × (μ (memory want) ≤ k) × (μ (memory (getD (reverse path) (suc (length beside)) 0)) ≤ k)
+    × (getD (reverse path) (suc (length beside)) 0 ≢ 0)
+    × (q ≡ neighbour (keyOf op) (memory (getD (reverse path) (suc (suc (length beside))) 0))) × (h ≡ path ++ (beside ++ want ∷ []))
+
+abbrev Leftward : (ℕ → Page) → Op → List ℕ → List ℕ → ℕ → List ℕ → ℕ → Type 0
+Leftward memory op path beside want h q = (isNext op ≡ true) × (memory want .level ≢ 1) × (q ≡ pointer 0 (memory want)) × (h ≡ path ++ (beside ++ want ∷ []))
+
+from-leaf : {k : ℕ} {memory : ℕ → Page} {op : Op} {path beside : List ℕ} {want : ℕ} {h : List ℕ} {q : ℕ} → StandsAtLeaf memory path
+    → WouldWant k memory (stand op path beside want) h q → FatherSibling k memory op path beside want h q ⊎ Leftward memory op path beside want h q
+from-leaf l (alone a b s r e) = absurd (a l)
+from-leaf l (lower a b s r e) = absurd (a l)
+from-leaf l (leafSibling a b d t s r e f) = absurd (a l)
+from-leaf l (fatherSibling a d s t r e f) = inl (d, s, t, r, e, f)
+from-leaf l (across a b d t s r e f) = absurd (a l)
+from-leaf l (onward a d b e f) = inr (d, b, e, f)
+
+-- ---- coming to the leaf
+
+module _ (k : ℕ) (memory : ℕ → Page) (free path beside : List ℕ) (want : ℕ) (n : StandsAtLeaf memory path → ⊥) (leaf : memory want .level ≡ 1) where
+  -- an operation that goes on from no leaf
+  stays : (op : Op) → isDelete op ≡ false → isNext op ≡ false → (h : List ℕ) (q : ℕ) → WouldWant k memory (stand op path beside want) h q → ⊥
+  stays op d e h q w = ⊎-elim (λ s. not-both (s .0) d) (λ s. not-both (s .0) e) (to-leaf n leaf w)
+
+  -- a deletion whose leaf has the key
+  module _ (x : ℕ) (begins : length path ≡ 0 → want ≡ 0) (there : has x (memory want .entries) ≡ true) where
+    abbrev whole : List ℕ → Verdict
+    whole fathers = ends (Deleted (information x (memory want .entries))) (deletion k memory x want fathers [])
+
+    -- it needs nothing more
+    enough : (path′ fathers : List ℕ) → needs k memory x want fathers [] ≡ nothing → ((μ (memory want) ≤ k) → (want ≢ 0) → ⊥)
+        → Comes k memory (stand (Delete x) path beside want) (deletes k memory x (stand (Delete x) path′ [] want) want fathers)
+    unfolding deletes
+    enough path′ fathers e never = ended (ap (byNeed (stand (Delete x) path′ [] want) (whole fathers)) e)
+        (λ h q w. ⊎-elim (λ s. never (s .2) (s .3)) (λ s. false≢true (s .0)) (to-leaf n leaf w))
+
+    deletes-alone : k < μ (memory want) → Comes k memory (stand (Delete x) path beside want) (deletes k memory x (stand (Delete x) (want ∷ []) [] want) want [])
+    unfolding needs
+    deletes-alone s = enough (want ∷ []) []
+        (cond-true (satisfied []) astray (or-second (eqb want 0) (lt-ltb k (μ (memory want)) s))) (λ m _. omega (arith, s, m))
+
+    deletes-kept : (up : List ℕ) → reverse path ≡ up → μ (memory want) ≤ k
+        → Comes k memory (stand (Delete x) path beside want) (deletes k memory x (stand (Delete x) (path ++ want ∷ []) [] want) want up)
+    unfolding needs deletes
+    deletes-kept [] e m =
+        let none : length path ≡ 0 = sym (length-reverse path) ∙ ap length e in
+        enough (path ++ want ∷ []) [] (needs-root k memory x want (begins none)) (λ _ r. r (begins none))
+    deletes-kept (f ∷ up) e m =
+        ⊎-elim
+        (λ root. enough (path ++ want ∷ []) (f ∷ up) (cond-true nothing (sibling (neighbour x (memory f))) (or-first (ltb k (μ (memory want))) (eq-eqb want 0 root))) (λ _ r. r root))
+        (λ other. further (stand (Delete x) (path ++ want ∷ []) [] (neighbour x (memory f)))
+        (ap (byNeed (stand (Delete x) (path ++ want ∷ []) [] want) (whole (f ∷ up))) (needs-ask k memory x want f up other m))
+        (leafSibling n leaf refl (has-at x (memory want .entries) there) m other (ap (λ (l : List ℕ). neighbour x (memory (getD l 0 0))) (sym e)) (append-nil (path ++ want ∷ [])))
+        (λ h q w. ⊎-elim
+        (λ s. (s .5 ∙ sym (append-nil (path ++ want ∷ [])), s .4 ∙ ap (λ (l : List ℕ). neighbour x (memory (getD l 0 0))) e))
+        (λ s. absurd (false≢true (s .0)))
+        (to-leaf n leaf w)))
+        (same-or-not want 0)
+
+-- a Next whose leaf has no key at or above
+crossed : (k : ℕ) (memory : ℕ → Page) (x : ℕ) (path beside : List ℕ) (want : ℕ) → (StandsAtLeaf memory path → ⊥) → memory want .level ≡ 1
+    → atOrAbove x (memory want .entries) ≡ [] → Comes k memory (stand (Next x) path beside want) (crosses x k memory (stand (Next x) (path ++ want ∷ []) [] want) (path ++ want ∷ []))
+crossed k memory x [] beside want n leaf none =
+    subst (Comes k memory (stand (Next x) [] beside want))
+    (sym (cond-false (goes (stand (Next x) (want ∷ []) [] (neighbour x (memory want)))) (ends NoLot []) (false-if-not-true (isSafe (Next x) k (memory want)) (λ s. safe-is k (Next x) (memory want) .0 s .0 leaf))))
+    (ended refl (λ h q w. ⊎-elim (λ s. false≢true (s .0)) (λ s. let some = s .2 in omega (arith, some)) (to-leaf n leaf w)))
+crossed k memory x (top ∷ below) beside want n leaf none =
+    cond-ind (Comes k memory (stand (Next x) (top ∷ below) beside want)) (isSafe (Next x) k (memory top))
+    (λ s. further (stand (Next x) (top ∷ (below ++ want ∷ [])) [] (neighbour x (memory top))) refl
+    (across n leaf refl (none-below x (memory want .entries) none) (omega arith) (safe-is k (Next x) (memory top) .0 s) refl (append-nil (top ∷ (below ++ want ∷ []))))
+    (λ h q w. ⊎-elim (λ t. absurd (false≢true (t .0))) (λ t. (t .5 ∙ sym (append-nil (top ∷ (below ++ want ∷ []))), t .4)) (to-leaf n leaf w)))
+    (λ s. ended refl (λ h q w. ⊎-elim (λ t. false≢true (t .0)) (λ t. not-both (safe-is k (Next x) (memory top) .1 (t .3)) s) (to-leaf n leaf w)))
+
+nearest-comes : (k : ℕ) (memory : ℕ → Page) (x : ℕ) (path beside : List ℕ) (want : ℕ) → (StandsAtLeaf memory path → ⊥) → memory want .level ≡ 1
+    → (es : List Entry) → atOrAbove x (memory want .entries) ≡ es
+    → Comes k memory (stand (Next x) path beside want) (byNearest (crosses x k memory (stand (Next x) (path ++ want ∷ []) [] want) (path ++ want ∷ [])) es)
+nearest-comes k memory x path beside want n leaf [] e = crossed k memory x path beside want n leaf e
+nearest-comes k memory x path beside want n leaf (f ∷ es) e =
+    ended refl (λ h q w. ⊎-elim (λ s. false≢true (s .0))
+    (λ s. let some : suc (length es) ≡ 0 = ap length (sym e ∙ below-none x (memory want .entries) (s .1)) in omega (arith, some)) (to-leaf n leaf w))
+
+-- where a page is granted that is a leaf: alone if it is safe, else behind the path
+abbrev Kept : Op → ℕ → (ℕ → Page) → List ℕ → ℕ → List ℕ → List ℕ → Type 0
+Kept op k memory path want path′ fathers =
+    (Safe op k (memory want) × (path′ ≡ want ∷ []) × (fathers ≡ []))
+    ⊎ ((Safe op k (memory want) → ⊥) × (path′ ≡ path ++ want ∷ []) × (fathers ≡ reverse path))
+
+leaf-comes : (op : Op) (k : ℕ) (memory : ℕ → Page) (free path beside : List ℕ) (want : ℕ) (path′ fathers : List ℕ) → (StandsAtLeaf memory path → ⊥)
+    → memory want .level ≡ 1 → (length path ≡ 0 → want ≡ 0) → Kept op k memory path want path′ fathers
+    → Comes k memory (stand op path beside want) (atLeaf op k memory free (stand op path′ [] want) want fathers)
+unfolding atLeaf
+leaf-comes (Search x) k memory free path beside want path′ fathers n leaf begins kept =
+    ended refl (stays k memory free path beside want n leaf (Search x) refl refl)
+leaf-comes (Insert x v) k memory free path beside want path′ fathers n leaf begins kept =
+    let none = stays k memory free path beside want n leaf (Insert x v) refl refl in
+    cond-ind (Comes k memory (stand (Insert x v) path beside want)) (has x (memory want .entries))
+    (λ _. ended refl none)
+    (λ _. cond-ind (Comes k memory (stand (Insert x v) path beside want)) (ltb (length free) (room k memory want path′)) (λ _. ended refl none) (λ _. ended refl none))
+leaf-comes (Delete x) k memory free path beside want path′ fathers n leaf begins kept =
+    cond-ind (Comes k memory (stand (Delete x) path beside want)) (has x (memory want .entries))
+    (λ there. ⊎-elim
+    (λ (s, p, f). subst (λ (l : List ℕ). Comes k memory (stand (Delete x) path beside want) (deletes k memory x (stand (Delete x) l [] want) want fathers)) (sym p)
+    (subst (λ (l : List ℕ). Comes k memory (stand (Delete x) path beside want) (deletes k memory x (stand (Delete x) (want ∷ []) [] want) want l)) (sym f)
+    (deletes-alone k memory free path beside want n leaf x begins there s)))
+    (λ (s, p, f). subst (λ (l : List ℕ). Comes k memory (stand (Delete x) path beside want) (deletes k memory x (stand (Delete x) l [] want) want fathers)) (sym p)
+    (deletes-kept k memory free path beside want n leaf x begins there fathers (sym f)
+    (ltb-false k (μ (memory want)) (false-if-not-true (ltb k (μ (memory want))) (λ t. s (ltb-true k (μ (memory want)) t))))))
+    kept)
+    (λ missing. ended refl (λ h q w. ⊎-elim
+    (λ s. let (i, b, key) = s .1 in not-both (has-from x (memory want .entries) i b key) missing)
+    (λ s. false≢true (s .0))
+    (to-leaf n leaf w)))
+leaf-comes (Next x) k memory free path beside want path′ fathers n leaf begins kept =
+    ⊎-elim
+    (λ (s, p, f). absurd (s .0 leaf))
+    (λ (s, p, f). subst (λ (l : List ℕ). Comes k memory (stand (Next x) path beside want) (byNearest (crosses x k memory (stand (Next x) l [] want) l) (atOrAbove x (memory want .entries)))) (sym p)
+    (nearest-comes k memory x path beside want n leaf (atOrAbove x (memory want .entries)) refl))
+    kept
+leaf-comes (Regrade x v) k memory free path beside want path′ fathers n leaf begins kept =
+    let none = stays k memory free path beside want n leaf (Regrade x v) refl refl in
+    cond-ind (Comes k memory (stand (Regrade x v) path beside want)) (has x (memory want .entries)) (λ _. ended refl none) (λ _. ended refl none)
+
+-- ---- coming down
+
+module _ (op : Op) (k : ℕ) (memory : ℕ → Page) (free path beside : List ℕ) (want : ℕ) (n : StandsAtLeaf memory path → ⊥)
+    (begins : length path ≡ 0 → want ≡ 0) (rising : rises (memory want .entries) ≡ true) where
+  abbrev x : ℕ
+  x = keyOf op
+
+  abbrev reached : List ℕ → Verdict
+  reached path′ = fromLeaf (λ (leaf : ℕ) (fathers : List ℕ). atLeaf op k memory free (stand op path′ [] want) leaf fathers) (reverse path′)
+
+  -- to a leaf
+  lands : memory want .level ≡ 1 → Comes k memory (stand op path beside want) (reached (kept k memory (stand op path beside want)))
+  lands leaf =
+      by-test (isSafe op k (memory want))
+      (λ s. subst (λ (l : List ℕ). Comes k memory (stand op path beside want) (reached l)) (sym (cond-true (want ∷ []) (path ++ want ∷ []) s))
+      (leaf-comes op k memory free path beside want (want ∷ []) [] n leaf begins (inl (safe-is k op (memory want) .0 s, refl, refl))))
+      (λ s. subst (λ (l : List ℕ). Comes k memory (stand op path beside want) (reached l)) (sym (cond-false (want ∷ []) (path ++ want ∷ []) s))
+      (subst (λ (l : List ℕ). Comes k memory (stand op path beside want) (fromLeaf (λ (leaf′ : ℕ) (fathers : List ℕ). atLeaf op k memory free (stand op (path ++ want ∷ []) [] want) leaf′ fathers) l))
+      (sym (reverse-append path (want ∷ [])))
+      (leaf-comes op k memory free path beside want (path ++ want ∷ []) (reverse path) n leaf begins
+      (inr ((λ t. not-both (safe-is k op (memory want) .1 t) s), refl, refl)))))
+
+  -- to a page above the leaves
+  goes-lower : memory want .level ≢ 1 → Comes k memory (stand op path beside want) (goes (stand op (kept k memory (stand op path beside want)) [] (route x (memory want))))
+  goes-lower l =
+      let led : RoutesTo x (memory want) (route x (memory want)) = (place x (memory want .entries), place-told x (memory want .entries) rising, refl) in
+      by-test (isSafe op k (memory want))
+      (λ s. further (stand op (want ∷ []) [] (route x (memory want))) (ap (λ (p : List ℕ). goes (stand op p [] (route x (memory want)))) (cond-true (want ∷ []) (path ++ want ∷ []) s))
+      (alone n l (safe-is k op (memory want) .0 s) led refl)
+      (λ h q w. let (r, c) = downward n l w in
+      (⊎-elim (λ t. t .1) (λ t. absurd (t .0 (safe-is k op (memory want) .0 s))) c, sym (route-same x (memory want) q r))))
+      (λ s. let unsafe : Safe op k (memory want) → ⊥ = λ t. not-both (safe-is k op (memory want) .1 t) s in
+      further (stand op (path ++ want ∷ []) [] (route x (memory want))) (ap (λ (p : List ℕ). goes (stand op p [] (route x (memory want)))) (cond-false (want ∷ []) (path ++ want ∷ []) s))
+      (lower n l unsafe led (append-nil (path ++ want ∷ [])))
+      (λ h q w. let (r, c) = downward n l w in
+      (⊎-elim (λ t. absurd (unsafe (t .0))) (λ t. t .1 ∙ sym (append-nil (path ++ want ∷ []))) c, sym (route-same x (memory want) q r))))
+
+  down-comes : Comes k memory (stand op path beside want) (comesDown k memory free (stand op path beside want))
+  unfolding comesDown
+  down-comes =
+      cond-ind (Comes k memory (stand op path beside want)) (isLeaf (memory want))
+      (λ l. lands (eqb-true (memory want .level) 1 l))
+      (λ l. goes-lower (eqb-false (memory want .level) 1 l))
+
+-- ---- at the leaf
+
+-- what is needed with one sibling more, the one that was needed
+needs-after : (k : ℕ) (memory : ℕ → Page) (x p : ℕ) (fathers siblings : List ℕ) (want : ℕ) → length siblings < length fathers
+    → Course k memory x p fathers siblings want
+    → needs k memory x p fathers (siblings ++ want ∷ [])
+    ≡ cond (ltb k (μ (memory want))) nothing (needs k memory x (getD fathers (length siblings) 0) (drop (suc (length siblings)) fathers) [])
+needs-after k memory x p [] siblings want b c = absurd (omega (arith, b))
+needs-after k memory x p (f ∷ up) [] want b c = needs-next k memory x p f up want [] (c .notRoot 0 (omega arith)) (c .short 0 (omega arith)) (c .wantsNext)
+needs-after k memory x p (f ∷ up) (s ∷ ss) want b c =
+    needs-next k memory x p f up s (ss ++ want ∷ []) (c .notRoot 0 (omega arith)) (c .short 0 (omega arith)) (c .neighbours 0 (omega arith))
+    ∙ cond-false (satisfied (ss ++ want ∷ [])) (needs k memory x f up (ss ++ want ∷ [])) (le-ltb k (μ (memory s)) (c .joining 0 (omega arith)))
+    ∙ needs-after k memory x f up ss want (omega (arith, b))
+    (record {
+      short = λ j l. c .short (suc j) (omega (arith, l));
+      notRoot = λ j l. c .notRoot (suc j) (omega (arith, l));
+      neighbours = λ j l. c .neighbours (suc j) (omega (arith, l));
+      joining = λ j l. c .joining (suc j) (omega (arith, l));
+      wantsNext = c .wantsNext;
+    })
+
+module _ (op : Op) (k : ℕ) (memory : ℕ → Page) (path beside : List ℕ) (want : ℕ) (at : StandsAtLeaf memory path) where
+  -- a Next on its second way
+  left-comes : isNext op ≡ true → Comes k memory (stand op path beside want) (goesLeft memory (stand op path beside want))
+  unfolding goesLeft
+  left-comes next =
+      cond-ind (Comes k memory (stand op path beside want)) (isLeaf (memory want))
+      (λ l. ended refl (λ h q w. ⊎-elim (λ s. never-both-kinds op (s .0) next) (λ s. s .1 (eqb-true (memory want .level) 1 l)) (from-leaf at w)))
+      (λ l. further (stand op path (beside ++ want ∷ []) (pointer 0 (memory want))) refl
+      (onward at next (eqb-false (memory want .level) 1 l) refl refl)
+      (λ h q w. ⊎-elim (λ s. absurd (never-both-kinds op (s .0) next)) (λ s. (s .3, s .2)) (from-leaf at w)))
+
+  -- a deletion that was granted the sibling it needed; `f` is the next page that may be short, `rest` are the pages above it
+  module _ (del : isDelete op ≡ true) (leaf : ℕ) (fathers : List ℕ) (up : reverse path ≡ leaf ∷ fathers)
+      (top : 1 ≤ length path → (getD path 0 0 ≡ 0) ⊎ Safe op k (memory (getD path 0 0)))
+      (so : SiblingsSoFar k memory (keyOf op) (leaf ∷ fathers) beside want) where
+    abbrev next : ℕ
+    next = getD fathers (length beside) 0
+
+    abbrev made : Verdict
+    made = ends (Deleted (information (keyOf op) (memory leaf .entries))) (deletion k memory (keyOf op) leaf fathers (beside ++ want ∷ []))
+
+    abbrev needed : List ℕ → Need
+    needed rest = cond (ltb k (μ (memory want))) nothing (needs k memory (keyOf op) next rest [])
+
+    -- the page of the path that it may be, in the upward path
+    here : getD (reverse path) (suc (length beside)) 0 ≡ next
+    here = ap (λ (l : List ℕ). getD l (suc (length beside)) 0) up
+
+    suffices : (d : Need) → d ≡ nothing → ((μ (memory want) ≤ k) → (μ (memory next) ≤ k) → (next ≢ 0) → ⊥)
+        → Comes k memory (stand op path beside want) (byNeed (stand op path (beside ++ want ∷ []) want) made d)
+    suffices d e never =
+        ended (ap (byNeed (stand op path (beside ++ want ∷ []) want) made) e)
+        (λ h q w. ⊎-elim
+        (λ s. never (s .1) (subst (λ (p : ℕ). μ (memory p) ≤ k) here (s .2)) (λ z. s .3 (here ∙ z)))
+        (λ s. never-both-kinds op del (s .0))
+        (from-leaf at w))
+
+    -- a page that is page 0 or can spare a key needs nothing
+    spare : (l : List ℕ) → eqb next 0 || ltb k (μ (memory next)) ≡ true → needs k memory (keyOf op) next l [] ≡ nothing
+    unfolding needs
+    spare [] u = cond-true (satisfied []) astray u
+    spare (g ∷ l) u = cond-true nothing (sibling (neighbour (keyOf op) (memory g))) u
+
+    -- with no page held above it, it is the top page, which is page 0 or safe
+    top-spares : drop (suc (length beside)) fathers ≡ [] → eqb next 0 || ltb k (μ (memory next)) ≡ true
+    top-spares e =
+        let j : ℕ = length beside in
+        let fewer : suc j < suc (length fathers) = so .fewer in
+        let last : length path ≡ suc (suc j) = omega (arith, fewer, length-drop (suc j) fathers, ap length e, length-reverse path, ap length up) in
+        let first : getD path 0 0 ≡ next = sym (top-upward path (suc j) last) ∙ here in
+        ⊎-elim
+        (λ z. or-first (ltb k (μ (memory next))) (eq-eqb next 0 (sym first ∙ z)))
+        (λ s. or-second (eqb next 0) (lt-ltb k (μ (memory next)) (subst (λ (p : ℕ). k < μ (memory p)) first (deletion-safe op k (memory (getD path 0 0)) del s))))
+        (top (omega (arith, last)))
+
+    above : (l : List ℕ) → drop (suc (length beside)) fathers ≡ l → ltb k (μ (memory want)) ≡ false → eqb next 0 || ltb k (μ (memory next)) ≡ false
+        → Comes k memory (stand op path beside want) (byNeed (stand op path (beside ++ want ∷ []) want) made (needed l))
+    unfolding needs
+    above [] e t u = not-both (top-spares e) u
+    above (g ∷ l) e t u =
+        let j : ℕ = length beside in
+        let plus : suc j ≡ suc j + 0 = omega arith in
+        let father : getD (reverse path) (suc (suc j)) 0 ≡ g
+        = ap (λ (r : List ℕ). getD r (suc (suc j)) 0) up ∙ ap (λ (i : ℕ). getD fathers i 0) plus ∙ sym (getD-drop (suc j) fathers 0 0) ∙ ap (λ (r : List ℕ). getD r 0 0) e in
+        let asks = cond-false nothing (needs k memory (keyOf op) next (g ∷ l) []) t ∙ cond-false nothing (sibling (neighbour (keyOf op) (memory g))) u in
+        let short : μ (memory next) ≤ k = ltb-false k (μ (memory next)) (or-second-fails (eqb next 0) (ltb k (μ (memory next))) u) in
+        let other : next ≢ 0 = eqb-false next 0 (or-first-fails (eqb next 0) (ltb k (μ (memory next))) u) in
+        further (stand op path (beside ++ want ∷ []) (neighbour (keyOf op) (memory g))) (ap (byNeed (stand op path (beside ++ want ∷ []) want) made) asks)
+        (fatherSibling at del (ltb-false k (μ (memory want)) t) (subst (λ (p : ℕ). μ (memory p) ≤ k) (sym here) short) (λ z. other (sym here ∙ z))
+        (ap (λ (p : ℕ). neighbour (keyOf op) (memory p)) (sym father)) refl)
+        (λ h q w. ⊎-elim
+        (λ s. (s .5, s .4 ∙ ap (λ (p : ℕ). neighbour (keyOf op) (memory p)) father))
+        (λ s. absurd (never-both-kinds op del (s .0)))
+        (from-leaf at w))
+
+    goes-up : (rest : List ℕ) → drop (suc (length beside)) fathers ≡ rest → Comes k memory (stand op path beside want) (byNeed (stand op path (beside ++ want ∷ []) want) made (needed rest))
+    goes-up rest r =
+        by-test (ltb k (μ (memory want)))
+        (λ t. suffices (needed rest) (cond-true nothing (needs k memory (keyOf op) next rest []) t) (λ m _ _. not-both t (le-ltb k (μ (memory want)) m)))
+        (λ t. by-test (eqb next 0 || ltb k (μ (memory next)))
+        (λ u. suffices (needed rest) (cond-false nothing (needs k memory (keyOf op) next rest []) t ∙ spare rest u)
+        (λ _ m o. not-both u (or-none (ne-eqb next 0 o) (le-ltb k (μ (memory next)) m))))
+        (λ u. above rest r t u))
+
+    deletes-comes : Comes k memory (stand op path beside want) (deletes k memory (keyOf op) (stand op path (beside ++ want ∷ []) want) leaf fathers)
+    unfolding deletes
+    deletes-comes =
+        let fewer : suc (length beside) < suc (length fathers) = so .fewer in
+        subst (λ (d : Need). Comes k memory (stand op path beside want) (byNeed (stand op path (beside ++ want ∷ []) want) made d))
+        (sym (needs-after k memory (keyOf op) leaf fathers beside want (omega (arith, fewer))
+        (record { short = so .short; notRoot = so .notRoot; neighbours = so .neighbours; joining = so .joining; wantsNext = so .wantsNext })))
+        (goes-up (drop (suc (length beside)) fathers) refl)
+
+  up-comes : isDelete op ≡ true → (1 ≤ length path → (getD path 0 0 ≡ 0) ⊎ Safe op k (memory (getD path 0 0))) → (up : List ℕ) → reverse path ≡ up
+      → SiblingsSoFar k memory (keyOf op) up beside want
+      → Comes k memory (stand op path beside want) (fromLeaf (λ (leaf : ℕ) (fathers : List ℕ). deletes k memory (keyOf op) (stand op path (beside ++ want ∷ []) want) leaf fathers) up)
+  up-comes del top [] e so = let none = so .fewer in absurd (omega (arith, none))
+  up-comes del top (leaf ∷ fathers) e so = deletes-comes del leaf fathers e top so
+
+-- ---- all of it
+
+module _ (op : Op) (k : ℕ) (memory : ℕ → Page) (free path beside : List ℕ) (want : ℕ) (kept-so : KeptRightly k memory (stand op path beside want))
+    (stands : Stands k memory (stand op path beside want)) (rising : rises (memory want .entries) ≡ true) where
+  beside-comes : StandsAtLeaf memory path → Comes k memory (stand op path beside want) (besides k memory (stand op path beside want))
+  unfolding besides
+  beside-comes at =
+      cond-ind (Comes k memory (stand op path beside want)) (isNext op)
+      (λ next. left-comes op k memory path beside want at next)
+      (λ other. ⊎-elim
+      (λ c. absurd (c .aboveLeaf at))
+      (⊎-elim (λ a. up-comes op k memory path beside want at (a .deletes) (kept-so .top) (reverse path) refl (a .siblings)) (λ a. not-both (a .asksNext) other))
+      stands)
+
+  pub granted-comes : Comes k memory (stand op path beside want) (granted k memory free (stand op path beside want))
+  unfolding granted
+  granted-comes =
+      cond-ind (Comes k memory (stand op path beside want)) (atItsLeaf memory (reverse path))
+      (λ l. beside-comes (at-leaf-told memory path l))
+      (λ l. down-comes op k memory free path beside want (λ a. not-both (at-leaf-from memory path a) l) (kept-so .begins) rising)
+
+-- the keys of every page that it holds or wants rise
+module _ (k n : ℕ) (ws path beside : List ℕ) (want : ℕ) (pages : Pages k n ws (path ++ beside ++ want ∷ [])) where
+  page-rises : (p : ℕ) → member p (path ++ beside ++ want ∷ []) ≡ true → rises (pageAt k ws p .entries) ≡ true
+  page-rises p m =
+      let sound = pages p (member-at p (path ++ beside ++ want ∷ []) 0 m) in
+      rises-from (pageAt k ws p .entries) (λ i b. sound .rising i (suc i) (omega arith) b)
+
+  on-path : (p : ℕ) → member p path ≡ true → rises (pageAt k ws p .entries) ≡ true
+  on-path p m =
+      page-rises p
+      (member-append p (path ++ beside) (want ∷ [])
+      ∙ or-first (member p (want ∷ [])) (member-append p path beside ∙ or-first (member p beside) m))
+
+  want-rises : rises (pageAt k ws want .entries) ≡ true
+  want-rises = page-rises want (member-inside want (path ++ beside) [])
+
+  path-rises : Rising (pageAt k ws) path
+  path-rises i b = on-path (getD path i 0) (member-from (getD path i 0) path i 0 b refl)
+
+  way-rises : Rising (pageAt k ws) (path ++ want ∷ [])
+  way-rises i b =
+      let p : ℕ = getD (path ++ want ∷ []) i 0 in
+      ⊎-elim (on-path p) (λ e. subst (λ (q : ℕ). rises (pageAt k ws q .entries) ≡ true) (sym e) want-rises)
+      (member-last p path want (member-from p (path ++ want ∷ []) i 0 b refl))
+
+-- The rule's test of the pages passes exactly where they are sound in plain terms.
+pub sound-for-step : (k n : ℕ) (ws : List ℕ) (op : Op) (path beside : List ℕ) (want : ℕ)
+    → Exactly (soundForStep k n ws (stand op path beside want) ≡ true) (SoundForStep k n ws (stand op path beside want))
+unfolding soundForStep
+sound-for-step k n ws op path beside want =
+    let memory : ℕ → Page = pageAt k ws in
+    let pagesTest : Bool = pagesSound k n ws (path ++ beside ++ want ∷ []) in
+    let fits : Bool = fitting k memory (stand op path beside want) in
+    let new : Bool = nextIsNew (granted k memory (freePages k n ws) (stand op path beside want)) in (
+      (λ h.
+          let rest = and-first (pagesTest && fits) new h in
+          let pages = pages-told k n ws (path ++ beside ++ want ∷ []) (and-first pagesTest fits rest) in
+          let (kept-so, stands) = fitting-told op k memory path beside want (way-rises k n ws path beside want pages) (path-rises k n ws path beside want pages) (and-second pagesTest fits rest) in
+          record {
+            pages = pages;
+            kept = kept-so;
+            stands = stands;
+            new = new-told (granted-comes op k memory (freePages k n ws) path beside want kept-so stands (want-rises k n ws path beside want pages)) (and-second (pagesTest && fits) new h);
+          }),
+      (λ s.
+          and-both
+          (and-both (pages-from k n ws (path ++ beside ++ want ∷ []) (s .pages)) (fitting-from op k memory path beside want (s .kept) (s .stands)))
+          (new-from (granted-comes op k memory (freePages k n ws) path beside want (s .kept) (s .stands) (want-rises k n ws path beside want (s .pages))) (s .new))),
+    )
