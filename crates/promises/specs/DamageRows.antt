@@ -186,13 +186,15 @@ deletionDamage =
     ∷ row (once (damaged (damaged deleteBefore5 0 11) 35 10) ++ once (damaged (damaged deleteBefore5 0 10) 35 9))
     (damagedStep ∷ onward ∷ [])
     -- "where its father is held, one less than the father's": the wanted page 5 has page 0's level; page 0 lies two above page 5. A sibling
-    -- has the level of the page beside it: page 2 is no leaf, page 6 has level 3.
+    -- has the level of the page beside it: page 2, wanted, is no leaf; page 6, wanted, has level 3; page 2, held, is no leaf.
     ∷ row (once (damaged deleteBefore5 35 3) ++ once deleteBefore5)
     (damagedStep ∷ onward ∷ [])
     ∷ row (once (damaged deleteBefore2 0 4) ++ once deleteBefore2)
     (damagedStep ∷ onward ∷ [])
-    ∷ row (once (withPage deleteBefore2 2 (2 ∷ 1 ∷ 3 ∷ 40 ∷ 4 ∷ 0 ∷ 0 ∷ [])) ++ once (damaged deleteBefore6 42 3))
-    (damagedStep ∷ damagedStep ∷ [])
+    ∷ row
+    (once (withPage deleteBefore2 2 (2 ∷ 1 ∷ 3 ∷ 40 ∷ 4 ∷ 0 ∷ 0 ∷ [])) ++ once (damaged deleteBefore6 42 3)
+    ++ once (withPage deleteBefore6 2 (2 ∷ 1 ∷ 3 ∷ 40 ∷ 4 ∷ 0 ∷ 0 ∷ [])))
+    (damagedStep ∷ damagedStep ∷ damagedStep ∷ [])
     -- "μ in range": page 0 has no key; the sibling wanted has none; the father's sibling is to have three.
     ∷ row
     (once (withPage deleteBefore5 0 (3 ∷ 0 ∷ 5 ∷ 0 ∷ 0 ∷ 0 ∷ 0 ∷ []))
@@ -219,9 +221,11 @@ deletionDamage =
     (damagedStep ∷ damagedStep ∷ damagedStep ∷ damagedStep ∷ damagedStep ∷ [])
     ∷ row (once (damaged deleteBefore6 27 9) ++ once (damaged deleteBefore6 34 9))
     (deleted ∷ deleted ∷ [])
-    -- The path is the key's way: page 5 leads to page 2, not to page 1; page 0 leads 10 to page 6, then, below 11, to page 5.
+    -- The path is the key's way: page 5 leads to page 2, not to page 1; page 0 leads 10 to page 6, then, below 11, to page 5; the same before the leaf.
     ∷ row (once (damaged (damaged deleteBefore6 37 2) 39 1) ++ once (damaged deleteBefore6 3 10) ++ once (damaged deleteBefore6 3 11))
     (damagedStep ∷ damagedStep ∷ deleted ∷ [])
+    ∷ row (once (damaged deleteBefore1 3 10) ++ once (damaged deleteBefore1 3 11))
+    (damagedStep ∷ onward ∷ [])
     -- The top page is page 0 or safe: page 5 has one key, then two; the leaf alone is held.
     ∷ row (once (deleting 2 (5 ∷ 1 ∷ []) []) ++ once (withPage (deleting 2 (5 ∷ 1 ∷ []) []) 5 threeLeaves))
     (damagedStep ∷ deleted ∷ [])

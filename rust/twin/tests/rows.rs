@@ -336,7 +336,7 @@ fn every_row_is_heard() {
         ("nextRows", 40),
         ("regradeRows", 15),
         ("wideRows", 29),
-        ("damageRows", 57),
+        ("damageRows", 58),
     ] {
         let rows = list(&defined(name).expect("it is there"));
         assert_eq!(rows.len(), length, "{name}");
