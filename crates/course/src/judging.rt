@@ -39,7 +39,7 @@ pub enum Course {
 }
 
 // The slot goes on, if the page it would want next is none that it holds.
-pub fn goes(stand: Slot, next: u32) -> Course
+fn goes(stand: Slot, next: u32) -> Course
     ensures { λ r. ⌜ r ≡ nextCourse stand next ⌝ }
 {
     if holds(stand, next) {
@@ -49,7 +49,7 @@ pub fn goes(stand: Slot, next: u32) -> Course
 }
 
 // A search at its leaf.
-pub fn found(lot: Lot) -> Course
+fn found(lot: Lot) -> Course
     ensures { λ r. ⌜ r ≡ searchCourse lot ⌝ }
 {
     match lot {
@@ -59,7 +59,7 @@ pub fn found(lot: Lot) -> Course
 }
 
 // An insertion at its leaf.
-pub fn inserts(lot: Lot, x: u32, v: u32) -> Course
+fn inserts(lot: Lot, x: u32, v: u32) -> Course
     ensures { λ r. ⌜ r ≡ insertCourse lot x v ⌝ }
 {
     match lot {
@@ -69,7 +69,7 @@ pub fn inserts(lot: Lot, x: u32, v: u32) -> Course
 }
 
 // A regrading at its leaf.
-pub fn regrades(lot: Lot, x: u32, v: u32) -> Course
+fn regrades(lot: Lot, x: u32, v: u32) -> Course
     ensures { λ r. ⌜ r ≡ regradeCourse lot x v ⌝ }
 {
     match lot {
@@ -79,7 +79,7 @@ pub fn regrades(lot: Lot, x: u32, v: u32) -> Course
 }
 
 // A deletion at its leaf.
-pub fn deletes(words: &[u32], k: usize, n: usize, x: u32, lot: Lot, stand: Slot) -> Course
+fn deletes(words: &[u32], k: usize, n: usize, x: u32, lot: Lot, stand: Slot) -> Course
     requires { ⌜ SlotStanding (Delete x) k n (now words) stand ⌝ }
     ensures { λ r. ⌜ r ≡ deleteCourse k (pageAt k (now (words .entry))) x lot stand ⌝ }
 {
@@ -96,7 +96,7 @@ pub fn deletes(words: &[u32], k: usize, n: usize, x: u32, lot: Lot, stand: Slot)
 }
 
 // A Next whose first leaf has no key at or above its own: on to the next child to the right of its top page, or there is none.
-pub fn crosses(words: &[u32], k: usize, n: usize, x: u32, stand: Slot) -> Course
+fn crosses(words: &[u32], k: usize, n: usize, x: u32, stand: Slot) -> Course
     requires { ⌜ SlotStanding (Next x) k n (now words) stand ⌝ }
     ensures { λ r. ⌜ r ≡ crossCourse k (pageAt k (now (words .entry))) x stand ⌝ }
 {
@@ -109,7 +109,7 @@ pub fn crosses(words: &[u32], k: usize, n: usize, x: u32, stand: Slot) -> Course
 }
 
 // A Next at its first leaf.
-pub fn nexts_first(words: &[u32], k: usize, n: usize, x: u32, stand: Slot) -> Course
+fn nexts_first(words: &[u32], k: usize, n: usize, x: u32, stand: Slot) -> Course
     requires { ⌜ SlotStanding (Next x) k n (now words) stand ⌝ }
     ensures { λ r. ⌜ r ≡ firstCourse k (pageAt k (now (words .entry))) x stand ⌝ }
 {
@@ -121,7 +121,7 @@ pub fn nexts_first(words: &[u32], k: usize, n: usize, x: u32, stand: Slot) -> Co
 }
 
 // A Next that was granted page p of its second way: down by p0, or, at the leaf, the first entry at or above its key.
-pub fn nexts_left(words: &[u32], k: usize, n: usize, x: u32, p: u32, stand: Slot) -> Course
+fn nexts_left(words: &[u32], k: usize, n: usize, x: u32, p: u32, stand: Slot) -> Course
     requires { ⌜ InPool k n p (now words) ⌝ }
     requires { ⌜ Readable (wordsOf k p (now words)) ⌝ }
     requires { ⌜ rises (pageAt k (now words) p .entries) ≡ true ⌝ }
@@ -137,7 +137,7 @@ pub fn nexts_left(words: &[u32], k: usize, n: usize, x: u32, p: u32, stand: Slot
 }
 
 // A Next at its leaf, by whether it holds pages of a second way.
-pub fn nexts(words: &[u32], k: usize, n: usize, x: u32, stand: Slot) -> Course
+fn nexts(words: &[u32], k: usize, n: usize, x: u32, stand: Slot) -> Course
     requires { ⌜ SlotStanding (Next x) k n (now words) stand ⌝ }
     ensures { λ r. ⌜ r ≡ nextsCourse k (pageAt k (now (words .entry))) x stand ⌝ }
 {

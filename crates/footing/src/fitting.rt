@@ -32,7 +32,7 @@ ghost use Rattle.footing.specs.Standing.{Asks, lastLeads};
 ghost use Rattle.footing.specs.Standing as asked;
 
 // Each page held and the one wanted is sound by itself.
-pub fn pages_sound(words: &[u32], k: usize, n: usize, op: Op, slot: Slot) -> bool
+fn pages_sound(words: &[u32], k: usize, n: usize, op: Op, slot: Slot) -> bool
     requires { ⌜ Asks k n (now words) op slot ⌝ }
     ensures { λ r. ⌜ r ≡ rule.pagesSound k n (now (words .entry)) (pathOf slot ++ besideOf slot ++ slot .want ∷ []) ⌝ }
 {
@@ -48,7 +48,7 @@ pub fn pages_sound(words: &[u32], k: usize, n: usize, op: Op, slot: Slot) -> boo
 }
 
 // Coming down: no siblings yet, and the last page of the path leads to the wanted one.
-pub fn fits_below(words: &[u32], k: usize, n: usize, x: u32, slot: Slot) -> bool
+fn fits_below(words: &[u32], k: usize, n: usize, x: u32, slot: Slot) -> bool
     requires { ⌜ (slot .depth ≤ pathHolds) × (slot .breadth ≤ pathHolds) × (Held k n (now words) (pathOf slot ++ besideOf slot ++ slot .want ∷ [])) ⌝ }
     ensures { λ r. ⌜ r ≡ lastLeads (pageAt k (now (words .entry))) x (reverse (pathOf slot)) (slot .want) && rule.isNone (besideOf slot) ⌝ }
 {
@@ -64,7 +64,7 @@ pub fn fits_below(words: &[u32], k: usize, n: usize, x: u32, slot: Slot) -> bool
 }
 
 // A deletion at its leaf: the key is there, and what it needs next is the page it wants, beside its own page.
-pub fn fits_beside(words: &[u32], k: usize, n: usize, op: Op, slot: Slot) -> bool
+fn fits_beside(words: &[u32], k: usize, n: usize, op: Op, slot: Slot) -> bool
     requires { ⌜ (slot .depth ≤ pathHolds) × (slot .breadth < pathHolds) × (Held k n (now words) (pathOf slot ++ besideOf slot ++ slot .want ∷ [])) ⌝ }
     requires { ⌜ rule.descends (pageAt k (now words)) (keyOf op) (pathOf slot) ≡ true ⌝ }
     requires { ⌜ atItsLeaf (pageAt k (now words)) (reverse (pathOf slot)) ≡ true ⌝ }
@@ -100,7 +100,7 @@ pub fn fits_beside(words: &[u32], k: usize, n: usize, op: Op, slot: Slot) -> boo
 
 // A Next on its second way: its leaf has no key at or above its own, the top page of its path has a child to the right, and what
 // it holds beside the path and wants is the way down from there.
-pub fn fits_across(words: &[u32], k: usize, n: usize, op: Op, slot: Slot) -> bool
+fn fits_across(words: &[u32], k: usize, n: usize, op: Op, slot: Slot) -> bool
     requires { ⌜ (slot .depth ≤ pathHolds) × (slot .breadth < pathHolds) × (Held k n (now words) (pathOf slot ++ besideOf slot ++ slot .want ∷ [])) ⌝ }
     requires { ⌜ atItsLeaf (pageAt k (now words)) (reverse (pathOf slot)) ≡ true ⌝ }
     ensures { λ r. ⌜ r ≡ rule.rightlyAcross k (pageAt k (now (words .entry))) (standOf op slot) (pathOf slot) ⌝ }

@@ -85,7 +85,7 @@ pub fn at_leaf(words: &[u32], k: usize, n: usize, path: [u32; HELD], depth: usiz
 }
 
 // Page q lies a level below page p.
-pub fn lies_below(words: &[u32], k: usize, n: usize, p: u32, q: u32) -> bool
+fn lies_below(words: &[u32], k: usize, n: usize, p: u32, q: u32) -> bool
     requires { ⌜ Held k n (now words) (p ∷ q ∷ []) ⌝ }
     ensures { λ r. ⌜ r ≡ eqb (pageAt k (now (words .entry)) p .level) (pageAt k (now (words .entry)) q .level + 1) ⌝ }
 {
@@ -175,7 +175,7 @@ pub fn same_levels(
 }
 
 // p0 of page p is page q, a level below.
-pub fn leads_left(words: &[u32], k: usize, n: usize, p: u32, q: u32) -> bool
+fn leads_left(words: &[u32], k: usize, n: usize, p: u32, q: u32) -> bool
     requires { ⌜ Held k n (now words) (p ∷ q ∷ []) ⌝ }
     ensures { λ r. ⌜ r ≡ rule.namesBelow (pageAt k (now (words .entry))) (pointer 0) p q ⌝ }
 {
@@ -186,7 +186,7 @@ pub fn leads_left(words: &[u32], k: usize, n: usize, p: u32, q: u32) -> bool
 }
 
 // Page q, a level below page p, is the neighbour of the page to which p routes x.
-pub fn leads_across(words: &[u32], k: usize, n: usize, x: u32, p: u32, q: u32) -> bool
+fn leads_across(words: &[u32], k: usize, n: usize, x: u32, p: u32, q: u32) -> bool
     requires { ⌜ Held k n (now words) (p ∷ q ∷ []) ⌝ }
     ensures { λ r. ⌜ r ≡ rule.namesBelow (pageAt k (now (words .entry))) (neighbour x) p q ⌝ }
 {
@@ -197,7 +197,7 @@ pub fn leads_across(words: &[u32], k: usize, n: usize, x: u32, p: u32, q: u32) -
 }
 
 // Each of the first `count` pages of a way leads to the one below it by p0.
-pub fn leftmost(words: &[u32], k: usize, n: usize, way: [u32; HELD], count: usize) -> bool
+fn leftmost(words: &[u32], k: usize, n: usize, way: [u32; HELD], count: usize) -> bool
     requires { ⌜ (count ≤ pathHolds) × (Held k n (now words) (take count way)) ⌝ }
     ensures { λ r. ⌜ r ≡ rule.leftmost (pageAt k (now (words .entry))) (take count way) ⌝ }
 {

@@ -35,7 +35,7 @@ ghost use Rattle.course.specs.Judged.{courseOf, ready};
 ghost use Rattle.index.specs.Acting.{Waits, Acts, Leaves, wanting, standLeaf, roomAnswer, afterInsertion, afterDeletion, afterRegrading};
 
 // The whole change of an insertion, if there is room. Room is counted before anything is written.
-pub fn insert_lot(words: &mut [u32], k: usize, n: usize, x: u32, v: u32, stand: Slot) -> Answer
+fn insert_lot(words: &mut [u32], k: usize, n: usize, x: u32, v: u32, stand: Slot) -> Answer
     requires { ⌜ SlotStanding (Insert x v) k n (now words) stand ⌝ }
     ensures { λ r. ⌜ r ≡ roomAnswer k n (now (words .entry)) stand ⌝ }
     ensures { λ _. ⌜ now (words .exit) ≡ afterInsertion k n (now (words .entry)) x v stand ⌝ }
@@ -53,7 +53,7 @@ pub fn insert_lot(words: &mut [u32], k: usize, n: usize, x: u32, v: u32, stand: 
 }
 
 // The whole change of a deletion.
-pub fn delete_lot(words: &mut [u32], k: usize, n: usize, x: u32, stand: Slot)
+fn delete_lot(words: &mut [u32], k: usize, n: usize, x: u32, stand: Slot)
     requires { ⌜ Deleting k n (now words) x (stand .path) (stand .depth) (stand .beside) (stand .breadth) ⌝ }
     ensures { λ _. ⌜ now (words .exit) ≡ afterDeletion k (now (words .entry)) x stand ⌝ }
 {
@@ -63,7 +63,7 @@ pub fn delete_lot(words: &mut [u32], k: usize, n: usize, x: u32, stand: Slot)
 }
 
 // The whole change of a regrading: one word of its leaf.
-pub fn regrade_lot(words: &mut [u32], k: usize, n: usize, x: u32, v: u32, stand: Slot)
+fn regrade_lot(words: &mut [u32], k: usize, n: usize, x: u32, v: u32, stand: Slot)
     requires { ⌜ Holding k n (now words) (stand .path) (stand .depth) ⌝ }
     requires { ⌜ has x (pageAt k (now words) (standLeaf stand) .entries) ≡ true ⌝ }
     ensures { λ _. ⌜ now (words .exit) ≡ afterRegrading k (now (words .entry)) x v stand ⌝ }
@@ -73,7 +73,7 @@ pub fn regrade_lot(words: &mut [u32], k: usize, n: usize, x: u32, v: u32, stand:
 }
 
 // The slot goes on from where it stands and wants this page.
-pub fn go_on(state: &mut [u32; STATE], s: usize, stand: Slot, next: u32)
+fn go_on(state: &mut [u32; STATE], s: usize, stand: Slot, next: u32)
     requires { ⌜ (Waits (asRead (now state)) s) × (stand .depth ≤ columnLength) × (stand .breadth ≤ columnLength) ⌝ }
     ensures { λ _. ⌜ now (state .exit) ≡ laidInto (now (state .entry)) s (requeued (asRead (now (state .entry))) s (wanting next stand)) ⌝ }
 {
@@ -83,7 +83,7 @@ pub fn go_on(state: &mut [u32; STATE], s: usize, stand: Slot, next: u32)
 }
 
 // Each course.
-pub fn act(
+fn act(
     state: &mut [u32; STATE],
     words: &mut [u32],
     s: usize,

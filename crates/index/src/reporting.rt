@@ -20,7 +20,7 @@ ghost use Rattle.lent.specs.Holds.{WithinRows};
 ghost use Rattle.index.specs.Statements.{ReportSays};
 
 // The slots that hold page p, one bit for each.
-pub fn holders(cells: &[u32; STATE], p: u32) -> u16
+fn holders(cells: &[u32; STATE], p: u32) -> u16
     requires { ⌜ WithinRows (now cells) ⌝ }
     ensures { λ r. ⌜ r ≡ holdersMask (asRead (now (cells .entry))) p ⌝ }
 {
@@ -36,7 +36,7 @@ pub fn holders(cells: &[u32; STATE], p: u32) -> u16
 }
 
 // The kind of lock under which slot s holds page p, none behind the last slot. Today it is one for all its pages.
-pub fn lock_at(cells: &[u32; STATE], s: u32, p: u32) -> Lock
+fn lock_at(cells: &[u32; STATE], s: u32, p: u32) -> Lock
     ensures { λ r. ⌜ r ≡ cond (ltb s slotCount) (lockHeldAt (asRead (now (cells .entry))) s p) Lock.None ⌝ }
 {
     let at = s as usize;

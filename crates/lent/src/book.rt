@@ -33,7 +33,7 @@ pub fn clear(cells: &mut [u32])
 }
 
 // Where slot s stands among the first `waiting` of the order.
-pub fn standing(order: &[u32], waiting: usize, s: u32) -> usize
+fn standing(order: &[u32], waiting: usize, s: u32) -> usize
     requires { ⌜ (waiting ≤ length (now order)) × (member s (take waiting (now order)) ≡ true) ⌝ }
     ensures { λ r. ⌜ (r < waiting) × (leaving s (take waiting (now (order .entry))) ≡ take r (now (order .entry)) ++ drop (r + 1) (take waiting (now (order .entry)))) ⌝ }
 {
@@ -48,7 +48,7 @@ pub fn standing(order: &[u32], waiting: usize, s: u32) -> usize
 }
 
 // Slot s leaves the first `waiting` of the order, and `last` stands in the cell left over.
-pub fn leave(order: &mut [u32], waiting: usize, s: u32, last: u32)
+fn leave(order: &mut [u32], waiting: usize, s: u32, last: u32)
     requires { ⌜ (waiting ≤ length (now order)) × (member s (take waiting (now order)) ≡ true) ⌝ }
     ensures { λ _. ⌜ now (order .exit) ≡ leaving s (take waiting (now (order .entry))) ++ last ∷ drop waiting (now (order .entry)) ⌝ }
 {
@@ -62,7 +62,7 @@ pub fn leave(order: &mut [u32], waiting: usize, s: u32, last: u32)
 }
 
 // The same in the words of a state.
-pub fn leave_order(cells: &mut [u32], waiting: usize, s: u32, last: u32)
+fn leave_order(cells: &mut [u32], waiting: usize, s: u32, last: u32)
     requires { ⌜ (length (now cells) ≡ stateLength) × (waiting ≤ rowLength) × (member s (take waiting (orderIn (now cells))) ≡ true) ⌝ }
     ensures { λ _. ⌜ now (cells .exit) ≡ orderLaid (now (cells .entry)) (getD (now (cells .entry)) waitingAt 0) (leaving s (take waiting (orderIn (now (cells .entry)))) ++ last ∷ drop waiting (orderIn (now (cells .entry)))) ⌝ }
 {
@@ -70,7 +70,7 @@ pub fn leave_order(cells: &mut [u32], waiting: usize, s: u32, last: u32)
 }
 
 // Slot s is the last that waits.
-pub fn join_order(cells: &mut [u32; STATE], waiting: usize, s: usize)
+fn join_order(cells: &mut [u32; STATE], waiting: usize, s: usize)
     requires { ⌜ (waiting < rowLength) × (s < rowLength) ⌝ }
     ensures { λ _. ⌜ now (cells .exit) ≡ orderLaid (now (cells .entry)) (waiting + 1) (set (orderIn (now (cells .entry))) waiting s) ⌝ }
 {

@@ -69,7 +69,7 @@ pub fn is_update(kind: u32) -> bool
 }
 
 // The number of the lock of an open slot of this kind: it holds each of its pages under it, and wants the next with it.
-pub fn kind_lock(kind: u32) -> u32
+fn kind_lock(kind: u32) -> u32
     ensures { λ r. ⌜ r ≡ kindLock kind ⌝ }
 {
     RHO + is_update(kind) as u32
@@ -77,21 +77,21 @@ pub fn kind_lock(kind: u32) -> u32
 
 // The table of two locks. Two ρ on a page go together, ξ goes with nothing. Asked of held locks and of older wants alike, and of every
 // two slots in the test of a sound state.
-pub fn clashes(held: u32, wanted: u32) -> bool
+fn clashes(held: u32, wanted: u32) -> bool
     ensures { λ r. ⌜ r ≡ numbersClash held wanted ⌝ }
 {
     (held == XI) | (wanted == XI)
 }
 
 // Slot t is another one than s, the lock under which it holds its pages clashes with this one, and page p is the top of its path.
-pub fn is_top(t: u32, s: u32, lock: u32, kind: u32, depth: u32, top: u32, p: u32) -> bool
+fn is_top(t: u32, s: u32, lock: u32, kind: u32, depth: u32, top: u32, p: u32) -> bool
     ensures { λ r. ⌜ r ≡ (not (eqb t s) && numbersClash (kindLock kind) lock) && (ltb 0 depth && eqb p top) ⌝ }
 {
     (t != s) & clashes(kind_lock(kind), lock) & ((0 < depth) & (p == top))
 }
 
 // Another slot than s has page p on top of its path, under a lock that clashes with this one.
-pub fn tops_hold(cells: &[u32; STATE], s: usize, lock: u32, p: u32) -> bool
+fn tops_hold(cells: &[u32; STATE], s: usize, lock: u32, p: u32) -> bool
     requires { ⌜ s < rowLength ⌝ }
     ensures { λ r. ⌜ r ≡ anyBelow rowLength (topHolds (now (cells .entry)) s lock p) ⌝ }
 {
@@ -135,7 +135,7 @@ pub fn some_deep(cells: &[u32; STATE]) -> bool
 }
 
 // Slot t is another one than s, its lock clashes with this one, it holds more than one page, and page p is among them.
-pub fn deep_holds(cells: &[u32; STATE], s: usize, lock: u32, p: u32, t: usize) -> bool
+fn deep_holds(cells: &[u32; STATE], s: usize, lock: u32, p: u32, t: usize) -> bool
     requires { ⌜ (t < rowLength) × WithinRows (now cells) ⌝ }
     ensures { λ r. ⌜ r ≡ deepHolds (now (cells .entry)) s lock p t ⌝ }
 {
@@ -152,7 +152,7 @@ pub fn deep_holds(cells: &[u32; STATE], s: usize, lock: u32, p: u32, t: usize) -
 }
 
 // Such a slot is there.
-pub fn some_deep_holds(cells: &[u32; STATE], s: usize, lock: u32, p: u32) -> bool
+fn some_deep_holds(cells: &[u32; STATE], s: usize, lock: u32, p: u32) -> bool
     requires { ⌜ WithinRows (now cells) ⌝ }
     ensures { λ r. ⌜ r ≡ anyBelow rowLength (deepHolds (now (cells .entry)) s lock p) ⌝ }
 {
@@ -181,7 +181,7 @@ pub fn others_hold(cells: &[u32; STATE], s: usize, lock: u32, p: u32) -> bool
 }
 
 // No other slot holds a clashing lock on the page that slot s wants. A closed slot has no lock, and holds no page either.
-pub fn no_clash(cells: &[u32; STATE], s: usize) -> bool
+fn no_clash(cells: &[u32; STATE], s: usize) -> bool
     requires { ⌜ (s < rowLength) × (known (now cells) ≡ true) × WithinRows (now cells) × (0 < cell (now cells) kindRow s) ⌝ }
     ensures { λ r. ⌜ r ≡ rule.noClash (asRead (now (cells .entry))) s ⌝ }
 {
@@ -190,7 +190,7 @@ pub fn no_clash(cells: &[u32; STATE], s: usize) -> bool
 }
 
 // Slot t wants page p, with a lock that clashes with this one.
-pub fn also_wants(cells: &[u32; STATE], lock: u32, p: u32, t: usize) -> bool
+fn also_wants(cells: &[u32; STATE], lock: u32, p: u32, t: usize) -> bool
     requires { ⌜ t < rowLength ⌝ }
     ensures { λ r. ⌜ r ≡ alsoWants (now (cells .entry)) lock p t ⌝ }
 {
@@ -201,7 +201,7 @@ pub fn also_wants(cells: &[u32; STATE], lock: u32, p: u32, t: usize) -> bool
 }
 
 // No older want clashes with that of slot s.
-pub fn no_older(cells: &[u32; STATE], s: usize) -> bool
+fn no_older(cells: &[u32; STATE], s: usize) -> bool
     requires { ⌜ (s < rowLength) × (known (now cells) ≡ true) × (0 < cell (now cells) kindRow s) × OpenOrder (now cells) ⌝ }
     ensures { λ r. ⌜ r ≡ rule.noOlder (asRead (now (cells .entry))) s ⌝ }
 {

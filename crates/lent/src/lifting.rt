@@ -31,7 +31,7 @@ ghost use Rattle.lent.specs.Layout.{rowLength, columnLength, besideRow};
 ghost use Rattle.lent.specs.Words.{column, taskFrom, slotIn, kindOf, keyIn, informationIn, spread, slotLaid};
 
 // The task of this kind.
-pub fn task_of(kind: u32, key: u32, information: u32) -> Task
+fn task_of(kind: u32, key: u32, information: u32) -> Task
     ensures { λ r. ⌜ r ≡ taskFrom kind key information ⌝ }
 {
     match asked_by(kind, key, information) {
@@ -41,7 +41,7 @@ pub fn task_of(kind: u32, key: u32, information: u32) -> Task
 }
 
 // Ten rows of slot s.
-pub fn column_of(cells: &[u32; STATE], row: usize, s: usize) -> [u32; HELD]
+fn column_of(cells: &[u32; STATE], row: usize, s: usize) -> [u32; HELD]
     requires { ⌜ (row ≤ besideRow) × (s < rowLength) ⌝ }
     ensures { λ r. ⌜ r ≡ column (now (cells .entry)) row s ⌝ }
 {
@@ -84,7 +84,7 @@ pub fn slot_at(cells: &[u32; STATE], s: usize) -> Slot
 }
 
 // The numbers of a task: its kind, its key, its information.
-pub fn kind_of(task: Task) -> u32
+fn kind_of(task: Task) -> u32
     ensures { λ r. ⌜ r ≡ kindOf task ⌝ }
 {
     match task {
@@ -93,7 +93,7 @@ pub fn kind_of(task: Task) -> u32
     }
 }
 
-pub fn key_of(task: Task) -> u32
+fn key_of(task: Task) -> u32
     ensures { λ r. ⌜ r ≡ keyIn task ⌝ }
 {
     match task {
@@ -102,7 +102,7 @@ pub fn key_of(task: Task) -> u32
     }
 }
 
-pub fn information_of(task: Task) -> u32
+fn information_of(task: Task) -> u32
     ensures { λ r. ⌜ r ≡ informationIn task ⌝ }
 {
     match task {
@@ -112,7 +112,7 @@ pub fn information_of(task: Task) -> u32
 }
 
 // The three numbers of a task, down the column of slot s.
-pub fn lay_task(cells: &mut [u32; STATE], s: usize, task: Task)
+fn lay_task(cells: &mut [u32; STATE], s: usize, task: Task)
     requires { ⌜ s < rowLength ⌝ }
     ensures { λ _. ⌜ now (cells .exit) ≡ spread (now (cells .entry)) 0 s (kindOf task ∷ keyIn task ∷ informationIn task ∷ []) ⌝ }
 {
@@ -125,7 +125,7 @@ pub fn lay_task(cells: &mut [u32; STATE], s: usize, task: Task)
 }
 
 // Ten pages, down the column of slot s.
-pub fn lay_column(cells: &mut [u32; STATE], row: usize, s: usize, pages: [u32; HELD])
+fn lay_column(cells: &mut [u32; STATE], row: usize, s: usize, pages: [u32; HELD])
     requires { ⌜ (row ≤ besideRow) × (s < rowLength) ⌝ }
     ensures { λ _. ⌜ now (cells .exit) ≡ spread (now (cells .entry)) row s pages ⌝ }
 {

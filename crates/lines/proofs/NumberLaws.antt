@@ -11,7 +11,7 @@ use Rattle.ground.proofs.Bools.{and-both, and-first-fails, and-second-fails}
 use Rattle.ground.proofs.Choice.{cond-true, cond-false}
 use Rattle.lines.specs.declared.reading.Number.{Number}
 use Rattle.lines.specs.declared.reading.Number.the-variants.{Read}
-use Rattle.lines.specs.declared.reading.Lot.{Lot}
+use Rattle.lines.specs.declared.reading.LotRead.{LotRead}
 use Rattle.lines.specs.declared.Command.{Command}
 use Rattle.lines.specs.Meaning.{digits, value, largest, Front, noNumber, number, front, alone, keying}
 use Rattle.lines.specs.Positions.{Counted, frontOf, behind, lotMeans, IsLot}
@@ -58,5 +58,5 @@ pub told-within : {r : Number} {n end m : ℕ} → behind r ≤ m → r ≡ Read
 told-within {m = m} h t = subst (λ (x : Number). behind x ≤ m) t h
 
 -- what an answer tells of a key and information
-pub lot-told : (bs : List ℕ) {r x : Lot} → IsLot bs r → r ≡ x → (means : ℕ → ℕ → Command) → lotMeans x means ≡ keying means bs
-lot-told bs is t means = sym (ap (λ (lot : Lot). lotMeans lot means) t) ∙ is means
+pub lot-told : (bs : List ℕ) {r x : LotRead} → IsLot bs r → r ≡ x → (means : ℕ → ℕ → Command) → lotMeans x means ≡ keying means bs
+lot-told bs is t means = sym (ap (λ (lot : LotRead). lotMeans lot means) t) ∙ is means

@@ -5,8 +5,8 @@ use mathlib.Core.List.{List}
 use lib.ListN.{length, drop}
 use Rattle.lines.specs.declared.reading.Number.{Number}
 use Rattle.lines.specs.declared.reading.Number.the-variants.{Read, None}
-use Rattle.lines.specs.declared.reading.Lot.{Lot}
-use Rattle.lines.specs.declared.reading.Lot.the-variants.{Read as ReadLot, None as NoLot}
+use Rattle.lines.specs.declared.reading.LotRead.{LotRead}
+use Rattle.lines.specs.declared.reading.LotRead.the-variants.{Read as ReadLot, None as NoLot}
 use Rattle.lines.specs.declared.Command.{Command}
 use Rattle.lines.specs.declared.Command.the-variants.{Bad}
 use Rattle.lines.specs.Meaning.{Front, noNumber, number, digits, value, largest, keying}
@@ -22,12 +22,12 @@ behind None = 0
 behind (Read n end) = end
 
 -- what a key and information mean; where there are none, the line is bad
-abbrev pub lotMeans : Lot → (ℕ → ℕ → Command) → Command
+abbrev pub lotMeans : LotRead → (ℕ → ℕ → Command) → Command
 lotMeans NoLot means = Bad
 lotMeans (ReadLot key information) means = means key information
 
 -- an answer stands for these bytes, whatever a key and information mean
-abbrev pub IsLot : List ℕ → Lot → Type 0
+abbrev pub IsLot : List ℕ → LotRead → Type 0
 IsLot bs r = (means : ℕ → ℕ → Command) → lotMeans r means ≡ keying means bs
 
 -- two numbers are the same, or both above the largest

@@ -20,7 +20,7 @@ pub enum Number {
 }
 
 // A key and information, or none.
-pub enum Lot {
+pub enum LotRead {
     Read(u32, u32),
     None,
 }
@@ -174,20 +174,20 @@ fn read_next(line: &[u8], at: usize, slot: u32) -> Command
 }
 
 // `KEY INFO`, if the line ends behind it
-fn read_lot(line: &[u8], at: usize) -> Lot
+fn read_lot(line: &[u8], at: usize) -> LotRead
     requires { ⌜ at ≤ length (now line) ⌝ }
     ensures { λ r. ⌜ IsLot (drop at (now (line .entry))) r ⌝ }
 {
     let Number::Read(key, end) = read_number(line, at) else {
-        return Lot::None;
+        return LotRead::None;
     };
     if !goes_on(line, end, b" ") {
-        return Lot::None;
+        return LotRead::None;
     }
     let Number::Read(information, _) = read_last(line, end + 1) else {
-        return Lot::None;
+        return LotRead::None;
     };
-    Lot::Read(key, information)
+    LotRead::Read(key, information)
 }
 
 // `b SLOT i KEY INFO`
@@ -195,7 +195,7 @@ fn read_insert(line: &[u8], at: usize, slot: u32) -> Command
     requires { ⌜ at ≤ length (now line) ⌝ }
     ensures { λ r. ⌜ r ≡ inserting slot (drop at (now (line .entry))) ⌝ }
 {
-    let Lot::Read(key, information) = read_lot(line, at) else {
+    let LotRead::Read(key, information) = read_lot(line, at) else {
         return Command::Bad;
     };
     Command::Begin(slot, Op::Insert(key, information))
@@ -206,7 +206,7 @@ fn read_regrade(line: &[u8], at: usize, slot: u32) -> Command
     requires { ⌜ at ≤ length (now line) ⌝ }
     ensures { λ r. ⌜ r ≡ askingRegrade slot (drop at (now (line .entry))) ⌝ }
 {
-    let Lot::Read(key, information) = read_lot(line, at) else {
+    let LotRead::Read(key, information) = read_lot(line, at) else {
         return Command::Bad;
     };
     Command::Begin(slot, Op::Regrade(key, information))

@@ -26,7 +26,7 @@ pub fn start_of(k: usize, p: usize) -> usize
 }
 
 // The lowest-numbered free page that is not below `from`, or n where there is none.
-pub fn next_free(words: &[u32], k: usize, n: usize, from: usize) -> usize
+fn next_free(words: &[u32], k: usize, n: usize, from: usize) -> usize
     requires { ⌜ (k ≤ largestK) × (n ≤ largestN) × (length (now words) ≡ poolLength k n) × (1 ≤ from) × (from ≤ n) ⌝ }
     ensures { λ r. ⌜ r ≡ firstBelow n (freeFrom k (now (words .entry)) from) ⌝ }
 {

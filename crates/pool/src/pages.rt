@@ -31,7 +31,7 @@ pub struct Stretch {
 }
 
 // Where page p lies.
-pub fn stretch_of(k: usize, n: usize, p: u32) -> Stretch
+fn stretch_of(k: usize, n: usize, p: u32) -> Stretch
     requires { ⌜ (k ≤ largestK) × (n ≤ largestN) × (p < n) ⌝ }
     ensures { λ r. ⌜ Lies k n p r ⌝ }
 {
@@ -43,7 +43,7 @@ pub fn stretch_of(k: usize, n: usize, p: u32) -> Stretch
 }
 
 // Its words.
-pub fn page_words(words: &[u32], k: usize, n: usize, p: u32) -> &[u32]
+fn page_words(words: &[u32], k: usize, n: usize, p: u32) -> &[u32]
     requires { ⌜ InPool k n p (now words) ⌝ }
     ensures { λ r. ⌜ now r ≡ wordsOf k p (now (words .entry)) ⌝ }
 {

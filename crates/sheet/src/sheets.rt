@@ -24,7 +24,7 @@ pub struct Sheet {
 }
 
 // p0, and 0 in a leaf, which has none.
-pub fn first_of(w: &[u32]) -> u32
+fn first_of(w: &[u32]) -> u32
     requires { ⌜ 3 ≤ length (now w) ⌝ }
     ensures { λ r. ⌜ r ≡ view (now (w .entry)) .first ⌝ }
 {
@@ -86,15 +86,7 @@ pub fn join(l: &[u32], r: u32, w: &[u32], k: usize) -> Sheet
 }
 
 // A page written whole: level, first pointer, and a run of n pairs of the buffer, from pair c on. Unused words are 0.
-pub fn lay_run(
-    w: &mut [u32],
-    k: usize,
-    level: u32,
-    first: u32,
-    words: &[u32; 100],
-    c: usize,
-    n: usize,
-)
+fn lay_run(w: &mut [u32], k: usize, level: u32, first: u32, words: &[u32; 100], c: usize, n: usize)
     requires { ⌜ (length (now w) ≡ size k) × (n ≤ 2 * k) × (c + n ≤ 50) ⌝ }
     ensures { λ _. ⌜ now (w .exit) ≡ encode k (page level first (pairs n (drop (2 * c) (now (words .entry))))) ⌝ }
 {

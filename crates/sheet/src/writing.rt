@@ -43,7 +43,7 @@ pub fn wipe(w: &mut [u32], a: usize)
 }
 
 // x and v put in at word a. The words from there up to word e move on by two, the last first in hand.
-pub fn push_two(w: &mut [u32], a: usize, e: usize, x: u32, v: u32)
+fn push_two(w: &mut [u32], a: usize, e: usize, x: u32, v: u32)
     requires { ⌜ (a ≤ e) × (e + 2 ≤ length (now w)) ⌝ }
     ensures { λ _. ⌜ now (w .exit) ≡ paste (now (w .entry)) a (x ∷ v ∷ drop a (now (w .entry))) (e + 2 - a) ⌝ }
 {
@@ -61,7 +61,7 @@ pub fn push_two(w: &mut [u32], a: usize, e: usize, x: u32, v: u32)
 }
 
 // The two words at word a taken out. The words behind them up to word e move down by two, and two zeros follow them.
-pub fn pull_two(w: &mut [u32], a: usize, e: usize)
+fn pull_two(w: &mut [u32], a: usize, e: usize)
     requires { ⌜ (a + 2 ≤ e) × (e ≤ length (now w)) ⌝ }
     ensures { λ _. ⌜ now (w .exit) ≡ take a (now (w .entry)) ++ take (e - 2 - a) (drop (a + 2) (now (w .entry))) ++ 0 ∷ 0 ∷ drop e (now (w .entry)) ⌝ }
 {

@@ -27,7 +27,7 @@ pub fn lock_of(task: Task) -> Lock
 }
 
 // Page p stands in one of the first `count` cells.
-pub fn among(cells: [u32; HELD], count: usize, p: u32) -> bool
+fn among(cells: [u32; HELD], count: usize, p: u32) -> bool
     ensures { λ r. ⌜ r ≡ member p (take count cells) ⌝ }
 {
     let mut i = 0;

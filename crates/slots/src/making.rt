@@ -26,7 +26,7 @@ pub fn closed_slot() -> Slot
 }
 
 // The first `count` cells, and 0 behind them.
-pub fn tidy(cells: [u32; HELD], count: usize) -> [u32; HELD]
+fn tidy(cells: [u32; HELD], count: usize) -> [u32; HELD]
     requires { ⌜ count ≤ pathHolds ⌝ }
     ensures { λ r. ⌜ r ≡ padded pathHolds (take count cells) ⌝ }
 {
