@@ -32,7 +32,7 @@ use Rattle.runs.proofs.Invariant.{Invariant}
 use Rattle.runs.proofs.Calls.{StepOf, noSlot, idle, waits, onward, over, step-of, same-op}
 use Rattle.runs.proofs.Runs.{call-keeps, call-numbers, forms-with, words-before, words-behind, holds-after}
 use Rattle.runs.proofs.Rounds.{run-append}
-use Rattle.runs.proofs.Agreement.{entriesIn, same-entries, ended-entries}
+use Rattle.runs.proofs.Agreement.{entriesIn, same-entries, ended-entries, StepDoes, keeps as nothingEnds, ends as endsPlainly, step-does}
 use Rattle.runs.proofs.PlainLaws.{plain-facts, among-has, among-information, clashes}
 use Rattle.promises.specs.Regrading.{IsThere, EndsAmong, PutBy, NotDeleted, NeverNowhere, RegradingHolds}
 use Rattle.promises.proofs.Demand3.{run-before, tree-rises}
@@ -98,12 +98,6 @@ module _ (st : State) (ws : List ℕ) (inv : Invariant st ws) where
   abbrev es : List Entry
   es = entriesIn st ws inv
 
-  -- words that stay form the same entries
-  same-words : (after : Left) (a : Answer) (next : State) → after ≡ left a next ws → (l : ℕ) (t : Tr l) → PoolForms (st .k) (st .n) (after .words) l t
-      → entriesOf l t ≡ es
-  same-words after a next e l t f =
-      same-entries (st .k) (st .n) ws l t (inv .height) (inv .tree) (subst (λ (r : Left). PoolForms (st .k) (st .n) (r .words) l t) e f) (inv .forms)
-
   module _ (s : ℕ) (op : Op) (a : Answer) (writes : List Write) (e : stepped st ws s ≡ left a (closes st s) (applied (st .k) writes ws))
       (ended : Ended (st .k) (st .n) ws (inv .height) (inv .tree) (standOf op (slotAt st s)) a writes) where
     -- the entries behind a step that ends an operation
@@ -115,22 +109,15 @@ module _ (st : State) (ws : List ℕ) (inv : Invariant st ws) where
     answer-after : stepped st ws s .answer ≡ a
     answer-after = ap (λ (r : Left). r .answer) e
 
-  step-does : (s : ℕ) → StepOf st ws inv s → (l : ℕ) (t : Tr l) → PoolForms (st .k) (st .n) (stepped st ws s .words) l t
+  on-step : (s : ℕ) → StepDoes st ws inv s → (l : ℕ) (t : Tr l) → PoolForms (st .k) (st .n) (stepped st ws s .words) l t
       → OnEntries st ws inv (step s) (entriesOf l t)
-  step-does s (noSlot b e) l t f = keeps (same-words (stepped st ws s) BadSlot st e l t f)
-  step-does s (idle b c e) l t f = keeps (same-words (stepped st ws s) SlotIdle st e l t f)
-  step-does s (waits op b runs g e) l t f = keeps (same-words (stepped st ws s) Waiting st e l t f)
-  step-does s (onward op z b runs g e same stance takes) l t f = keeps (same-words (stepped st ws s) Moved _ e l t f)
-  step-does s (over op a writes b runs g e ended) l t f =
-      ⊎-elim
-      (λ p. ends s op refl runs (answer-after s op a writes e ended ∙ p .answer) (entries-after s op a writes e ended l t f ∙ p .entries))
-      (λ none. keeps (entries-after s op a writes e ended l t f ∙ none .1))
-      (ended .how)
+  on-step s (nothingEnds uncounted same) l t f = keeps (same l t f)
+  on-step s (endsPlainly op b runs answer entries) l t f = ends s op refl runs answer (entries l t f)
 
   call-does : (c : Call) (l : ℕ) (t : Tr l) → PoolForms (st .k) (st .n) (called st ws c .words) l t → OnEntries st ws inv c (entriesOf l t)
   unfolding called
   call-does (begin s op) l t f = keeps (same-entries (st .k) (st .n) ws l t (inv .height) (inv .tree) f (inv .forms))
-  call-does (step s) l t f = step-does s (step-of st ws inv s) l t f
+  call-does (step s) l t f = on-step s (step-does st ws inv s) l t f
   call-does (report p) l t f = keeps (same-entries (st .k) (st .n) ws l t (inv .height) (inv .tree) f (inv .forms))
 
   -- the tree that stands after a call, with the numbers from before

@@ -112,6 +112,41 @@ module _ (st : State) (ws : List ℕ) (inv : Invariant st ws) (s : ℕ) (b : s <
 
 -- ---- one call
 
+-- What a step does to the entries of the tree: nothing, and its answer counts for nothing; or it ends an operation as the plain list has it.
+pub data StepDoes (st : State) (ws : List ℕ) (inv : Invariant st ws) (s : ℕ) : Type 0 where
+  keeps : isOneOf (stepped st ws s .answer) countedAnswers ≡ false
+      → ((l : ℕ) (t : Tr l) → PoolForms (st .k) (st .n) (stepped st ws s .words) l t → entriesOf l t ≡ entriesIn st ws inv)
+      → StepDoes st ws inv s
+  ends : (op : Op) → s < slotCount → Opened st s op
+      → stepped st ws s .answer ≡ plain op (entriesIn st ws inv) .answer
+      → ((l : ℕ) (t : Tr l) → PoolForms (st .k) (st .n) (stepped st ws s .words) l t → entriesOf l t ≡ plain op (entriesIn st ws inv) .entries)
+      → StepDoes st ws inv s
+
+module _ (st : State) (ws : List ℕ) (inv : Invariant st ws) (s : ℕ) where
+  -- the words stay
+  still : (a : Answer) (next : State) → isOneOf a countedAnswers ≡ false → stepped st ws s ≡ left a next ws → StepDoes st ws inv s
+  still a next uncounted e =
+      keeps (ap (λ (r : Left). isOneOf (r .answer) countedAnswers) e ∙ uncounted)
+      (λ l t f. same-entries (st .k) (st .n) ws l t (inv .height) (inv .tree) (subst (λ (r : Left). PoolForms (st .k) (st .n) (r .words) l t) e f) (inv .forms))
+
+  by-step : StepOf st ws inv s → StepDoes st ws inv s
+  unfolding member
+  by-step (noSlot b e) = still BadSlot st refl e
+  by-step (idle b c e) = still SlotIdle st refl e
+  by-step (waits op b runs g e) = still Waiting st refl e
+  by-step (onward op z b runs g e same stance takes) = still Moved (goesOn st s z) refl e
+  by-step (over op a writes b runs g e ended) =
+      let answer : stepped st ws s .answer ≡ a = ap (λ (r : Left). r .answer) e in
+      let entries : (l : ℕ) (t : Tr l) → PoolForms (st .k) (st .n) (stepped st ws s .words) l t → entriesOf l t ≡ ended .entries
+      = λ l t f. ended-entries st ws inv (standOf op (slotAt st s)) a writes ended l t (subst (λ (r : Left). PoolForms (st .k) (st .n) (r .words) l t) e f) in
+      ⊎-elim
+      (λ p. ends op b runs (answer ∙ p .answer) (λ l t f. entries l t f ∙ p .entries))
+      (λ none. keeps (ap (λ (x : Answer). isOneOf x countedAnswers) (answer ∙ none .0 .answer)) (λ l t f. entries l t f ∙ none .1))
+      (ended .how)
+
+  pub step-does : StepDoes st ws inv s
+  step-does = by-step (step-of st ws inv s)
+
 -- What one call that answers a adds to the list: nothing, and the entries stay; or the operation that ended, as the plain list has it.
 pub record Adds (es : List Entry) (c : Call) (asked : ℕ → Op) (after : Left) (es′ : List Entry) : Type 0 where
   pub asked′ : ℕ → Op
@@ -147,65 +182,42 @@ module _ (st : State) (ws : List ℕ) (inv : Invariant st ws) (asked : ℕ → O
       subst (λ (r : Outcome). Adds (entriesIn st ws inv) (begin s op) asked (left (r .answer) (r .state) ws) (entriesIn st ws inv)) (sym e)
       (same-so (begin s op) (left Begun (begins st s op) ws) (asks s op asked) (knows-begun st ws inv s b asked knows op) (λ cs heard. refl))
 
-  -- an operation that ends: as the plain list has it, or for want of room
-  ended-adds : (s : ℕ) (op : Op) (a : Answer) (writes : List Write) (b : s < slotCount) → Opened st s op
-      → (e : Ended (st .k) (st .n) ws (inv .height) (inv .tree) (standOf op (slotAt st s)) a writes)
-      → Adds (entriesIn st ws inv) (step s) asked (left a (closes st s) (applied (st .k) writes ws)) (e .entries)
-  unfolding done plainAnswers plainEntries member
-  ended-adds s op a writes b runs e = ⊎-elim plainly (λ none. roomless (none .0) (none .1)) (e .how)
-    where
-      after : Left
-      after = left a (closes st s) (applied (st .k) writes ws)
+  -- what is asked is known after a step
+  step-knows : (s : ℕ) → StepOf st ws inv s → Knows (stepped st ws s .state) asked
+  step-knows s (noSlot b e) = subst (λ (r : Left). Knows (r .state) asked) (sym e) knows
+  step-knows s (idle b c e) = subst (λ (r : Left). Knows (r .state) asked) (sym e) knows
+  step-knows s (waits op b runs g e) = subst (λ (r : Left). Knows (r .state) asked) (sym e) knows
+  step-knows s (onward op z b runs g e same stance takes) =
+      subst (λ (r : Left). Knows (r .state) asked) (sym e) (knows-onward st ws inv s b asked knows z (runs ∙ ap Open (sym same)))
+  step-knows s (over op a writes b runs g e how) = subst (λ (r : Left). Knows (r .state) asked) (sym e) (knows-closed st ws inv s b asked knows)
 
-      known : op ≡ asked s
-      known = sym (knows s op b runs)
-
-      next : AsPlain op (st .k) (st .n) ws (inv .height) (inv .tree) a (e .entries) → e .entries ≡ plain (asked s) (entriesIn st ws inv) .entries
-      next p = p .entries ∙ ap (λ (o : Op). plain o (entriesIn st ws inv) .entries) known
-
-      plainly : AsPlain op (st .k) (st .n) ws (inv .height) (inv .tree) a (e .entries) → Adds (entriesIn st ws inv) (step s) asked after (e .entries)
-      plainly p = record {
-        asked′ = asked;
-        knows = knows-closed st ws inv s b asked knows;
-        adds = ended s (asked s) a ∷ [];
-        done-so = λ cs heard. cond-true (ended s (asked s) a ∷ done cs heard asked) (done cs heard asked)
-            (ap (λ (x : Answer). isOneOf x countedAnswers) (p .answer) ∙ plain-counted op (entriesIn st ws inv));
-        answers = λ ds h. ap₂ _∷_ (p .answer ∙ ap (λ (o : Op). plain o (entriesIn st ws inv) .answer) known) (h ∙ ap (plainAnswers (opsOf ds)) (next p));
-        entries = λ ds. ap (plainEntries (opsOf ds)) (sym (next p));
-      }
-
-      roomless : NoRoomLeft op (st .k) (st .n) ws (inv .height) (inv .tree) a writes → e .entries ≡ entriesIn st ws inv → Adds (entriesIn st ws inv) (step s) asked after (e .entries)
-      roomless r same =
-          subst (Adds (entriesIn st ws inv) (step s) asked after) (sym same)
-          (same-so (step s) after asked (knows-closed st ws inv s b asked knows)
-          (λ cs heard. cond-false (ended s (asked s) a ∷ done cs heard asked) (done cs heard asked) (ap (λ (x : Answer). isOneOf x countedAnswers) (r .answer))))
-
-  -- the tree after a step that ends an operation has the entries that the plain list has
+  -- a step adds what it does to the entries
   abbrev After : ℕ → Type 0
   After s = (es : List Entry) × Adds (entriesIn st ws inv) (step s) asked (stepped st ws s) es
       × ((l : ℕ) (t : Tr l) → PoolForms (st .k) (st .n) (stepped st ws s .words) l t → entriesOf l t ≡ es)
 
-  still : (s : ℕ) (a : Answer) (next : State) → Knows next asked → isOneOf a countedAnswers ≡ false → stepped st ws s ≡ left a next ws → After s
-  unfolding done
-  still s a next known uncounted e =
-      subst (λ (r : Left). (es : List Entry) × Adds (entriesIn st ws inv) (step s) asked r es × ((l : ℕ) (t : Tr l) → PoolForms (st .k) (st .n) (r .words) l t → entriesOf l t ≡ es)) (sym e) (
-        entriesIn st ws inv,
-        same-so (step s) (left a next ws) asked known (λ cs heard. cond-false (ended s (asked s) a ∷ done cs heard asked) (done cs heard asked) uncounted),
-        λ l t f. same-entries (st .k) (st .n) ws l t (inv .height) (inv .tree) f (inv .forms),
-      )
-
-  step-adds : (s : ℕ) → StepOf st ws inv s → After s
-  unfolding member
-  step-adds s (noSlot b e) = still s BadSlot st knows refl e
-  step-adds s (idle b c e) = still s SlotIdle st knows refl e
-  step-adds s (waits op b runs g e) = still s Waiting st knows refl e
-  step-adds s (onward op z b runs g e same stance takes) =
-      still s Moved (goesOn st s z) (knows-onward st ws inv s b asked knows z (runs ∙ ap Open (sym same))) refl e
-  step-adds s (over op a writes b runs g e ends) =
-      subst (λ (r : Left). (es : List Entry) × Adds (entriesIn st ws inv) (step s) asked r es × ((l : ℕ) (t : Tr l) → PoolForms (st .k) (st .n) (r .words) l t → entriesOf l t ≡ es)) (sym e) (
-        ends .entries,
-        ended-adds s op a writes b runs ends,
-        ended-entries st ws inv (standOf op (slotAt st s)) a writes ends,
+  step-adds : (s : ℕ) → Knows (stepped st ws s .state) asked → StepDoes st ws inv s → After s
+  unfolding done plainAnswers plainEntries
+  step-adds s known (keeps uncounted same) = (
+    entriesIn st ws inv,
+    same-so (step s) (stepped st ws s) asked known
+        (λ cs heard. cond-false (ended s (asked s) (stepped st ws s .answer) ∷ done cs heard asked) (done cs heard asked) uncounted),
+    same,
+  )
+  step-adds s known (ends op b runs answer entries) =
+      let so : op ≡ asked s = sym (knows s op b runs) in
+      let next = ap (λ (o : Op). plain o (entriesIn st ws inv) .entries) so in (
+        plain op (entriesIn st ws inv) .entries,
+        record {
+          asked′ = asked;
+          knows = known;
+          adds = ended s (asked s) (stepped st ws s .answer) ∷ [];
+          done-so = λ cs heard. cond-true (ended s (asked s) (stepped st ws s .answer) ∷ done cs heard asked) (done cs heard asked)
+              (ap (λ (x : Answer). isOneOf x countedAnswers) answer ∙ plain-counted op (entriesIn st ws inv));
+          answers = λ ds h. ap₂ _∷_ (answer ∙ ap (λ (o : Op). plain o (entriesIn st ws inv) .answer) so) (h ∙ ap (plainAnswers (opsOf ds)) next);
+          entries = λ ds. ap (plainEntries (opsOf ds)) (sym next);
+        },
+        entries,
       )
 
   -- every call
@@ -214,7 +226,7 @@ module _ (st : State) (ws : List ℕ) (inv : Invariant st ws) (asked : ℕ → O
   unfolding called done
   call-adds (begin s op) =
       (entriesIn st ws inv, begin-adds s op (begin-of st ws inv s op), λ l t f. same-entries (st .k) (st .n) ws l t (inv .height) (inv .tree) f (inv .forms))
-  call-adds (step s) = step-adds s (step-of st ws inv s)
+  call-adds (step s) = step-adds s (step-knows s (step-of st ws inv s)) (step-does st ws inv s)
   call-adds (report p) =
       (entriesIn st ws inv, same-so (report p) (called st ws (report p)) asked knows (λ cs heard. refl), λ l t f. same-entries (st .k) (st .n) ws l t (inv .height) (inv .tree) f (inv .forms))
 
