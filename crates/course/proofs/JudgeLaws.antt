@@ -14,7 +14,7 @@ use Rattle.ground.specs.Tests.{member}
 use Rattle.ground.proofs.Bools.{not-both, and-first, and-second, or-cases}
 use Rattle.ground.proofs.Choice.{cond-ind, cond-true, cond-false}
 use Rattle.ground.proofs.Padded.{length-padded}
-use Rattle.page.specs.Words.{Page, isLeaf}
+use Rattle.page.specs.Words.{Page, Entry, isLeaf}
 use Rattle.page.specs.Place.{route, has, information}
 use Rattle.page.specs.Reading.{looked}
 use Rattle.page.specs.declared.reading.Lot.{Lot}
@@ -32,12 +32,12 @@ use Rattle.slots.specs.declared.Answer.the-variants.{Found, NotFound, Inserted,
 use Rattle.slots.specs.declared.Slot.{Slot}
 use Rattle.slots.specs.Parts.{keyOf, isNext, pathOf, besideOf, held, Stand, onPages, wantBeside, wantsNext, withOp, standOf}
 use Rattle.course.specs.declared.judging.Course.{Course}
-use Rattle.course.specs.declared.judging.Course.the-variants.{Broken, Goes}
+use Rattle.course.specs.declared.judging.Course.the-variants.{Broken, Goes, Regrades}
 use Rattle.footing.specs.Granted.{Verdict, broken, goes, ends, isSafe, kept, deletes, byNeed, atLeaf, fromLeaf, comesDown, goesLeft, besides, atItsLeaf, granted}
 use Rattle.footing.specs.Fitting.{descends, rightlyKept, rightlyBeside, sameLevels, isSibling, isNone, rightlyAcross, fitting}
 use Rattle.footing.specs.Standing.{SlotStanding, stood}
 use Rattle.footing.proofs.AcrossLaws.{across-idle}
-use Rattle.course.specs.Judged.{onSecond, judgedAt, judged, ifNew, courseOf, ready, nextCourse, searchCourse, insertCourse, regradeCourse, needCourse, deleteCourse, standsLast}
+use Rattle.course.specs.Judged.{onSecond, judgedAt, judged, ifNew, courseOf, ready, nextCourse, searchCourse, insertCourse, needCourse, deleteCourse, standsLast}
 
 -- ---- the rule of a granted step
 
@@ -253,6 +253,23 @@ module _ (k : ℕ) (memory : ℕ → Page) (free : List ℕ) (stand : Slot) wher
         subst (λ (q : Op). Judges q k memory free stand course) (sym told)
         (subst (Judges o k memory free stand) (sym r) (h .0 ∙ sym (ap ifNew (judged-leaf o low)), h .1))
 
+    -- a regrading makes its change there, or finds its key missing
+    pub regrade-judges : isLeaf (memory (lowest stand)) ≡ true → (op : Op) (x v : ℕ) (course : Course) → op ≡ Regrade x v → course ≡ Regrades x v
+        → Judges op k memory free stand course
+    unfolding judgedAt atLeaf
+    regrade-judges low op x v course told r =
+        leaf-judges low op (Regrade x v) course (Regrades x v) told r (
+          ap (fromLeaf change) up
+              ∙ ends-new (has x (entries (lowest stand))) (Regraded (information x (entries (lowest stand)))) NoSuchKey (regrading memory x v (lowest stand)) [],
+          tt,
+        )
+      where
+        entries : ℕ → List Entry
+        entries leaf = memory leaf .entries
+
+        change : ℕ → List ℕ → Verdict
+        change leaf fathers = cond (has x (entries leaf)) (ends (Regraded (information x (entries leaf))) (regrading memory x v leaf)) (ends NoSuchKey [])
+
     -- ---- at a leaf, by what stands there under the key
 
     module _ (low : isLeaf (memory (lowest stand)) ≡ true) (op : Op) (lot : Lot) (course : Course) where
@@ -292,23 +309,6 @@ module _ (k : ℕ) (memory : ℕ → Page) (free : List ℕ) (stand : Slot) wher
                 ∙ ends-new (ltb (length free) (room k memory (lowest stand) (pathOf stand))) NoRoom Inserted [] (insertion k memory x v free (lowest stand) (above stand)),
             refl,
           )
-
-      pub regrade-judges : (x v : ℕ) → lot ≡ looked x (memory (lowest stand) .entries) → op ≡ Regrade x v → course ≡ regradeCourse lot x v → Judges op k memory free stand course
-      unfolding judgedAt atLeaf
-      regrade-judges x v read told r =
-          judges-at (Regrade x v) (λ (l : Lot). regradeCourse l x v) read told r (split (has x (memory (lowest stand) .entries)) refl)
-        where
-          old : ℕ
-          old = information x (memory (lowest stand) .entries)
-
-          split : (b : Bool) → has x (memory (lowest stand) .entries) ≡ b
-              → (said (Regrade x v) (regradeCourse (cond b (There old) Missing) x v) ≡ ifNew (cond b (ends (Regraded old) (regrading memory x v (lowest stand))) (ends NoSuchKey [])))
-              × ready (Regrade x v) memory (pathOf stand) (regradeCourse (cond b (There old) Missing) x v)
-          split true there = (
-            ap (fromLeaf (λ (leaf : ℕ) (fathers : List ℕ). ends (Regraded old) (regrading memory x v leaf))) up,
-            subst (standsLast memory x) (sym up) there,
-          )
-          split false missing = (refl, tt)
 
       pub delete-judges : (x : ℕ) → lot ≡ looked x (memory (lowest stand) .entries) → op ≡ Delete x → course ≡ deleteCourse k memory x lot stand → Judges op k memory free stand course
       unfolding judgedAt atLeaf deletes

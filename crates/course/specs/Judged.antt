@@ -8,7 +8,7 @@ use lib.Dec.{ltb, eqb}
 use lib.ListN.{length, getD}
 use Rattle.ground.specs.Tests.{member}
 use Rattle.page.specs.Words.{Page, isLeaf}
-use Rattle.page.specs.Place.{pointer, route, has, atOrAbove}
+use Rattle.page.specs.Place.{pointer, route, has, information, atOrAbove}
 use Rattle.page.specs.Short.{neighbour}
 use Rattle.page.specs.Reading.{nearest}
 use Rattle.page.specs.declared.reading.Lot.{Lot}
@@ -76,22 +76,27 @@ courseOf k memory free z (Deletes x v) =
     fromLeaf
     (λ (leaf : ℕ) (fathers : List ℕ). ends (Deleted v) (deletion k memory x leaf fathers (z .beside)))
     (reverse (z .path))
-courseOf k memory free z (Regrades x v old) =
-    fromLeaf (λ (leaf : ℕ) (fathers : List ℕ). ends (Regraded old) (regrading memory x v leaf)) (reverse (z .path))
+courseOf k memory free z (Regrades x v) =
+    fromLeaf
+    (λ (leaf : ℕ) (fathers : List ℕ).
+    cond (has x (memory leaf .entries))
+    (ends (Regraded (information x (memory leaf .entries))) (regrading memory x v leaf))
+    (ends NoSuchKey []))
+    (reverse (z .path))
 
 -- the key stands in the last page of a path, given upward
 abbrev pub standsLast : (ℕ → Page) → ℕ → List ℕ → Type 0
 standsLast memory x [] = ⊥
 standsLast memory x (leaf ∷ fathers) = has x (memory leaf .entries) ≡ true
 
--- what a change may count on: an insertion comes of an insertion, a deletion of a deletion, and what is taken out or regraded is there
+-- what a change may count on: an insertion comes of an insertion, a deletion of a deletion, and what is taken out is there
 abbrev pub ready : Op → (ℕ → Page) → List ℕ → Course → Type 0
 ready op memory path Broken = Unit {0}
 ready op memory path (Goes next) = Unit {0}
 ready op memory path (Ends a) = Unit {0}
 ready op memory path (Inserts x v) = op ≡ Insert x v
 ready op memory path (Deletes x v) = (isDelete op ≡ true) × standsLast memory x (reverse path)
-ready op memory path (Regrades x v old) = standsLast memory x (reverse path)
+ready op memory path (Regrades x v) = Unit {0}
 
 -- The courses by what was read: on to this page, if it is not held; and, at the leaf, by what stands there under the key.
 abbrev pub nextCourse : Slot → ℕ → Course
@@ -104,10 +109,6 @@ searchCourse Missing = Ends NotFound
 abbrev pub insertCourse : Lot → ℕ → ℕ → Course
 insertCourse (There v′) x v = Ends (AlreadyThere v′)
 insertCourse Missing x v = Inserts x v
-
-abbrev pub regradeCourse : Lot → ℕ → ℕ → Course
-regradeCourse (There old) x v = Regrades x v old
-regradeCourse Missing x v = Ends NoSuchKey
 
 abbrev pub needCourse : Slot → ℕ → ℕ → Need → Course
 needCourse stand x v nothing = Deletes x v

@@ -24,18 +24,18 @@ ghost use Rattle.pool.specs.Wrapped.{InPool};
 ghost use Rattle.slots.specs.declared.Op.the-variants.{Delete, Next};
 ghost use Rattle.slots.specs.Parts.{pathOf, standOf};
 ghost use Rattle.footing.specs.Standing.{SlotStanding};
-ghost use Rattle.course.specs.Judged.{judged, ifNew, courseOf, ready, nextCourse, searchCourse, insertCourse, regradeCourse, deleteCourse, crossCourse, firstCourse, leftCourse, nextsCourse};
+ghost use Rattle.course.specs.Judged.{judged, ifNew, courseOf, ready, nextCourse, searchCourse, insertCourse, deleteCourse, crossCourse, firstCourse, leftCourse, nextsCourse};
 
 // The pages are not sound for the step; the slot goes on and wants this page; the operation ends, and no page is written; or it
-// makes the whole change of an insertion (key, information), of a deletion (key, information that it answers) or of a regrading (key,
-// new information, old information that it answers).
+// makes the whole change of an insertion (key, information) or of a deletion (key, information that it answers). A regrading (key, new
+// information) looks its key up where it writes, and changes nothing if it is missing.
 pub enum Course {
     Broken,
     Goes(u32),
     Ends(Answer),
     Inserts(u32, u32),
     Deletes(u32, u32),
-    Regrades(u32, u32, u32),
+    Regrades(u32, u32),
 }
 
 // The slot goes on, if the page it would want next is none that it holds.
@@ -65,16 +65,6 @@ fn inserts(lot: Lot, x: u32, v: u32) -> Course
     match lot {
         Lot::There(there) => Course::Ends(Answer::AlreadyThere(there)),
         Lot::Missing => Course::Inserts(x, v),
-    }
-}
-
-// A regrading at its leaf.
-fn regrades(lot: Lot, x: u32, v: u32) -> Course
-    ensures { λ r. ⌜ r ≡ regradeCourse lot x v ⌝ }
-{
-    match lot {
-        Lot::There(old) => Course::Regrades(x, v, old),
-        Lot::Missing => Course::Ends(Answer::NoSuchKey),
     }
 }
 
@@ -165,6 +155,6 @@ pub fn judge(words: &[u32], k: usize, n: usize, op: Op, stand: Slot) -> Course
         Op::Insert(x, v) => inserts(look_of(words, k, n, leaf, x), x, v),
         Op::Delete(x) => deletes(words, k, n, x, look_of(words, k, n, leaf, x), stand),
         Op::Next(x) => nexts(words, k, n, x, stand),
-        Op::Regrade(x, v) => regrades(look_of(words, k, n, leaf, x), x, v),
+        Op::Regrade(x, v) => Course::Regrades(x, v),
     }
 }

@@ -15,17 +15,21 @@ use Rattle.ground.specs.Tests.{member, distinct, padded}
 use Rattle.ground.proofs.Bools.{or-first, false-if-not-true}
 use Rattle.ground.proofs.Choice.{cond-true, cond-false}
 use Rattle.ground.proofs.Tests.{member-append, member-from, not-member-at, distinct-front, distinct-back, distinct-apart, distinct-at, distinct-join, apart-member, apart-from, listBelow-distinct}
-use Rattle.page.specs.Words.{μ}
-use Rattle.page.specs.Place.{has}
-use Rattle.pool.specs.Pool.{Write, pageAt, freePages, isFree, applied}
+use Rattle.page.specs.Words.{Page, Entry, μ}
+use Rattle.page.specs.Place.{has, information}
+use Rattle.page.specs.Reading.{looked}
+use Rattle.page.specs.Splits.{withEntries}
+use Rattle.page.specs.declared.reading.Lot.the-variants.{There, Missing}
+use Rattle.page.proofs.RegradeLaws.{regraded-none}
+use Rattle.pool.specs.Pool.{Write, write, written, pageAt, freePages, isFree, applied}
 use Rattle.pool.specs.Scan.{Scanned}
 use Rattle.pool.specs.declared.lying.Taken.{Taken}
 use Rattle.pool.proofs.LyingLaws.{scanned-at}
+use Rattle.pool.proofs.PagesLaws.{written-same}
 use Rattle.pool.proofs.FreeLaws.{Free, freePages-at, freePages-free}
 use Rattle.change.specs.Insertion.{room, insertion}
 use Rattle.change.specs.Deletion.{deletion}
 use Rattle.change.specs.Regrading.{regrading}
-use Rattle.change.specs.Held.{Holding}
 use Rattle.change.proofs.HeldLaws.{held-known}
 use Rattle.insertion.specs.Inserting.{Inserting}
 use Rattle.insertion.proofs.InsertLaws.{insertion-same}
@@ -35,7 +39,7 @@ use Rattle.slots.specs.declared.Op.the-variants.{Insert}
 use Rattle.slots.specs.declared.Slot.{Slot}
 use Rattle.slots.specs.declared.State.{State}
 use Rattle.slots.specs.declared.Answer.{Answer}
-use Rattle.slots.specs.declared.Answer.the-variants.{Moved, Inserted, Deleted, NoRoom, Damaged, Regraded}
+use Rattle.slots.specs.declared.Answer.the-variants.{Moved, Inserted, Deleted, NoSuchKey, NoRoom, Damaged, Regraded}
 use Rattle.slots.specs.Parts.{isDelete, pathOf, besideOf, wantsNext, standOf, closedSlot, waitingOrder}
 use Rattle.slots.specs.Book.{leaving, requeued, goesOn, closes}
 use Rattle.slots.proofs.OrderLaws.{length-leaving, length-waiting}
@@ -47,8 +51,8 @@ use Rattle.course.specs.declared.judging.Course.the-variants.{Broken, Goes, End
 use Rattle.footing.specs.Granted.{Verdict, ends, fromLeaf}
 use Rattle.footing.specs.Standing.{SlotStanding}
 use Rattle.course.specs.Judged.{courseOf, ready, standsLast}
-use Rattle.course.proofs.JudgeLaws.{path-long, siblings-long, standing-needing, standing-holding, stand-upward}
-use Rattle.index.specs.Acting.{Leaves, Acts, wanting, standLeaf, standFathers, lacksRoom, roomAnswer, afterInsertion, afterDeletion, afterRegrading}
+use Rattle.course.proofs.JudgeLaws.{path-long, siblings-long, standing-needing, standing-holding, stand-upward, stand-known}
+use Rattle.index.specs.Acting.{Leaves, Acts, wanting, standLeaf, standFathers, lacksRoom, roomAnswer, afterInsertion, afterDeletion, regradeAnswer, afterRegrading}
 
 -- ---- an operation that stands somewhere
 
@@ -188,6 +192,18 @@ module _
           made ∙ sym (ap (λ (ws′ : List Write). applied k ws′ ws) same) ∙ sym (cond-false ws (changed (freePages k n ws)) room-is),
         )
 
+-- ---- a regrading
+
+-- where its key is not there, the leaf is written as it is
+regraded-nothing : {op : Op} {k n : ℕ} {ws : List ℕ} {stand : Slot} → SlotStanding op k n ws stand → (x v : ℕ)
+    → has x (pageAt k ws (standLeaf stand) .entries) ≡ false → afterRegrading k ws x v stand ≡ ws
+unfolding regrading applied
+regraded-nothing {k = k} {ws = ws} {stand = stand} h x v missing =
+    let leaf : ℕ = standLeaf stand in
+    let known = stand-known h in
+    ap (λ (es : List Entry). written k (write leaf (withEntries (pageAt k ws leaf) es)) ws) (regraded-none x v (pageAt k ws leaf .entries) missing)
+    ∙ written-same (known .inPool) (known .exact)
+
 -- ---- each course, carried out
 
 -- an array of pages is as long as every other
@@ -295,17 +311,6 @@ module _ (cells : List ℕ) {ws : List ℕ} {s : ℕ} {op : Op} {stand : Slot} (
       split true h w = record { answer = h; state = ap stateOf e ∙ closed-state; all = e; words = w }
       split false h w = record { answer = h; state = ap stateOf e ∙ closed-state; all = e; words = w }
 
-  -- a change that is made at once, by its writes at the leaf
-  acts-change : (answer : Answer) (writes : ℕ → List ℕ → List Write) {cells′ words : List ℕ}
-      → words ≡ applied (st .k) (writes (standLeaf stand) (standFathers stand)) ws
-      → cells′ ≡ laidInto cells s (closes st s)
-      → Leaves cells ws s (fromLeaf (λ (leaf : ℕ) (fathers : List ℕ). ends answer (writes leaf fathers)) (reverse (pathOf stand))) answer cells′ words
-  acts-change answer writes {cells′} {words} made e =
-      subst
-      (λ (up : List ℕ). Leaves cells ws s (fromLeaf (λ (leaf : ℕ) (fathers : List ℕ). ends answer (writes leaf fathers)) up) answer cells′ words)
-      (sym (stand-upward (a .stands)))
-      (record { answer = refl; state = ap stateOf e ∙ closed-state; all = e; words = made })
-
   -- a deletion
   pub acts-deletes : {course : Course} {x v : ℕ} {cells′ words : List ℕ} → course ≡ Deletes x v
       → words ≡ afterDeletion (st .k) ws x stand
@@ -313,16 +318,40 @@ module _ (cells : List ℕ) {ws : List ℕ} {s : ℕ} {op : Op} {stand : Slot} (
       → leaves course (Deleted v) cells′ words
   acts-deletes {x = x} {v = v} {cells′ = cells′} {words = words} is made e =
       subst (λ (c : Course). leaves c (Deleted v) cells′ words) (sym is)
-      (acts-change (Deleted v) (λ leaf fathers. deletion (st .k) (pageAt (st .k) ws) x leaf fathers (besideOf stand)) made e)
+      (subst (λ (up : List ℕ). Leaves cells ws s (fromLeaf change up) (Deleted v) cells′ words) (sym (stand-upward (a .stands)))
+      (record { answer = refl; state = ap stateOf e ∙ closed-state; all = e; words = made }))
+    where
+      change : ℕ → List ℕ → Verdict
+      change leaf fathers = ends (Deleted v) (deletion (st .k) (pageAt (st .k) ws) x leaf fathers (besideOf stand))
 
-  -- a regrading
-  pub acts-regrades : {course : Course} {x v old : ℕ} {cells′ words : List ℕ} → course ≡ Regrades x v old
+  -- a regrading: its key is there, or the page is written as it is
+  pub acts-regrades : {course : Course} {x v : ℕ} {answer : Answer} {cells′ words : List ℕ} → course ≡ Regrades x v
+      → answer ≡ regradeAnswer (looked x (pageAt (st .k) ws (standLeaf stand) .entries))
       → words ≡ afterRegrading (st .k) ws x v stand
       → cells′ ≡ laidInto cells s (closes st s)
-      → leaves course (Regraded old) cells′ words
-  acts-regrades {x = x} {v = v} {old = old} {cells′ = cells′} {words = words} is made e =
-      subst (λ (c : Course). leaves c (Regraded old) cells′ words) (sym is)
-      (acts-change (Regraded old) (λ leaf fathers. regrading (pageAt (st .k) ws) x v leaf) made e)
+      → leaves course answer cells′ words
+  unfolding applied
+  acts-regrades {x = x} {v = v} {answer = answer} {cells′ = cells′} {words = words} is heard made e =
+      subst (λ (c : Course). leaves c answer cells′ words) (sym is)
+      (subst (λ (up : List ℕ). Leaves cells ws s (fromLeaf change up) answer cells′ words) (sym (stand-upward (a .stands)))
+      (split (has x es) refl heard))
+    where
+      memory : ℕ → Page
+      memory = pageAt (st .k) ws
+
+      es : List Entry
+      es = memory (standLeaf stand) .entries
+
+      change : ℕ → List ℕ → Verdict
+      change leaf fathers = cond (has x (memory leaf .entries)) (ends (Regraded (information x (memory leaf .entries))) (regrading memory x v leaf)) (ends NoSuchKey [])
+
+      writes : List Write
+      writes = regrading memory x v (standLeaf stand)
+
+      split : (b : Bool) → has x es ≡ b → answer ≡ regradeAnswer (cond b (There (information x es)) Missing)
+          → Leaves cells ws s (cond b (ends (Regraded (information x es)) writes) (ends NoSuchKey [])) answer cells′ words
+      split true there h = record { answer = h; state = ap stateOf e ∙ closed-state; all = e; words = made }
+      split false missing h = record { answer = h; state = ap stateOf e ∙ closed-state; all = e; words = made ∙ regraded-nothing (a .stands) x v missing }
 
 -- what a change may count on
 module _ {st : State} {ws : List ℕ} {s : ℕ} {op : Op} {stand : Slot} (a : Acts st ws s op stand) where
@@ -337,9 +366,3 @@ module _ {st : State} {ws : List ℕ} {s : ℕ} {op : Op} {stand : Slot} (a : Ac
     deletes-stands {x = x} is =
         let sure = subst (ready op (pageAt (st .k) ws) (pathOf stand)) is fit in
         stand-deleting (a .stands) x (sure .0) (sure .1)
-
-    pub regrades-stands : {x v old : ℕ} → course ≡ Regrades x v old
-        → Holding (st .k) (st .n) ws (stand .path) (stand .depth) × (has x (pageAt (st .k) ws (standLeaf stand) .entries) ≡ true)
-    regrades-stands {x = x} is =
-        let there = subst (ready op (pageAt (st .k) ws) (pathOf stand)) is fit in
-        (standing-holding (a .stands), subst (standsLast (pageAt (st .k) ws) x) (stand-upward (a .stands)) there)

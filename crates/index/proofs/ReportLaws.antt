@@ -19,19 +19,10 @@ use Rattle.slots.specs.Heard.{lockNumber}
 use Rattle.slots.specs.Report.{lowestHolder, heldUnder, lockKind}
 use Rattle.slots.proofs.SoundFacts.{SoundState}
 use Rattle.slots.proofs.OrderLaws.{same-or-not}
-use Rattle.slots.proofs.LockLaws.{isLock, held-lock}
+use Rattle.slots.proofs.LockLaws.{isLock, held-lock, is-xi, rho-not-xi}
 use Rattle.slots.proofs.Clashes.{update-alone}
 use Rattle.slots.proofs.GrantLaws.{holder-open}
 use Rattle.slots.proofs.Holders.{nobody-holds, lowest-holds, held-under, update-holds}
-
--- the kind whose number is that of ξ
-is-xi : (l : Lock) → eqb (lockNumber l) (lockNumber Xi) ≡ true → l ≡ Xi
-is-xi None e = not-both e refl
-is-xi Rho e = not-both e refl
-is-xi Xi e = refl
-
-rho-not-xi : Rho ≡ Xi → ⊥
-rho-not-xi e = let z : _≡_ {A = ℕ} 1 2 = ap lockNumber e in absurd (omega arith)
 
 module _ (st : State) (f : SoundState st) (p : ℕ) where
   module _ (b : lowestHolder st p < slotCount) where

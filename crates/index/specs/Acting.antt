@@ -7,6 +7,8 @@ use lib.Dec.{ltb}
 use lib.ListN.{length}
 use Rattle.ground.specs.Limits.{slotCount}
 use Rattle.ground.specs.Tests.{member}
+use Rattle.page.specs.declared.reading.Lot.{Lot}
+use Rattle.page.specs.declared.reading.Lot.the-variants.{There, Missing}
 use Rattle.pool.specs.Pool.{pageAt, freePages, applied}
 use Rattle.change.specs.Insertion.{room, insertion}
 use Rattle.change.specs.Deletion.{deletion}
@@ -16,7 +18,7 @@ use Rattle.slots.specs.declared.Op.{Op}
 use Rattle.slots.specs.declared.Slot.{Slot}
 use Rattle.slots.specs.declared.State.{State}
 use Rattle.slots.specs.declared.Answer.{Answer}
-use Rattle.slots.specs.declared.Answer.the-variants.{Inserted, NoRoom}
+use Rattle.slots.specs.declared.Answer.the-variants.{Inserted, NoRoom, Regraded, NoSuchKey}
 use Rattle.slots.specs.Parts.{pathOf, besideOf, waitingOrder}
 use Rattle.lent.specs.Words.{asRead, stateOf, laidInto}
 use Rattle.footing.specs.Granted.{Verdict, broken, goes, ends}
@@ -76,6 +78,10 @@ afterInsertion k n ws x v stand =
 abbrev pub afterDeletion : ℕ → List ℕ → ℕ → Slot → List ℕ
 afterDeletion k ws x stand = applied k (deletion k (pageAt k ws) x (standLeaf stand) (standFathers stand) (besideOf stand)) ws
 
--- the words that a regrading leaves
+-- what a regrading answers, by what stood under its key, and the words that it leaves
+abbrev pub regradeAnswer : Lot → Answer
+regradeAnswer (There old) = Regraded old
+regradeAnswer Missing = NoSuchKey
+
 abbrev pub afterRegrading : ℕ → List ℕ → ℕ → ℕ → Slot → List ℕ
 afterRegrading k ws x v stand = applied k (regrading (pageAt k ws) x v (standLeaf stand)) ws

@@ -12,6 +12,7 @@ use lent::WIDTH;
 use lent::book::closes;
 use lent::book::requeues;
 use lent::cells::sized;
+use page::reading::Lot;
 use pool::lying::take_pages;
 use pool::pages::regrade_at;
 use slots::Answer;
@@ -20,7 +21,7 @@ use slots::Slot;
 ghost use mathlib.Core.Path.{_≡_};
 ghost use mathlib.Core.Bool.{true};
 ghost use Prim.Native.Nat.{_≤_};
-ghost use Rattle.page.specs.Place.{has};
+ghost use Rattle.page.specs.Reading.{looked};
 ghost use Rattle.pool.specs.Pool.{pageAt, freePages};
 ghost use Rattle.change.specs.Held.{Holding};
 ghost use Rattle.deletion.specs.Deleting.{Deleting};
@@ -32,7 +33,7 @@ ghost use Rattle.lent.specs.Words.{asRead, known, laidInto};
 ghost use Rattle.footing.specs.Fitting.{verdict};
 ghost use Rattle.footing.specs.Standing.{Asks, SlotStanding};
 ghost use Rattle.course.specs.Judged.{courseOf, ready};
-ghost use Rattle.index.specs.Acting.{Waits, Acts, Leaves, wanting, standLeaf, roomAnswer, afterInsertion, afterDeletion, afterRegrading};
+ghost use Rattle.index.specs.Acting.{Waits, Acts, Leaves, wanting, standLeaf, roomAnswer, afterInsertion, afterDeletion, regradeAnswer, afterRegrading};
 
 // The whole change of an insertion, if there is room. Room is counted before anything is written.
 fn insert_lot(words: &mut [u32], k: usize, n: usize, x: u32, v: u32, stand: Slot) -> Answer
@@ -62,14 +63,17 @@ fn delete_lot(words: &mut [u32], k: usize, n: usize, x: u32, stand: Slot)
     delete(words, k, n, x, &path, stand.depth, &beside, stand.breadth);
 }
 
-// The whole change of a regrading: one word of its leaf.
-fn regrade_lot(words: &mut [u32], k: usize, n: usize, x: u32, v: u32, stand: Slot)
+// The whole change of a regrading: one word of its leaf, if its key is there.
+fn regrade_lot(words: &mut [u32], k: usize, n: usize, x: u32, v: u32, stand: Slot) -> Answer
     requires { ⌜ Holding k n (now words) (stand .path) (stand .depth) ⌝ }
-    requires { ⌜ has x (pageAt k (now words) (standLeaf stand) .entries) ≡ true ⌝ }
+    ensures { λ r. ⌜ r ≡ regradeAnswer (looked x (pageAt k (now (words .entry)) (standLeaf stand) .entries)) ⌝ }
     ensures { λ _. ⌜ now (words .exit) ≡ afterRegrading k (now (words .entry)) x v stand ⌝ }
 {
     let path = stand.path;
-    regrade_at(words, k, n, path[stand.depth - 1], x, v);
+    match regrade_at(words, k, n, path[stand.depth - 1], x, v) {
+        Lot::There(old) => Answer::Regraded(old),
+        Lot::Missing => Answer::NoSuchKey,
+    }
 }
 
 // The slot goes on from where it stands and wants this page.
@@ -118,10 +122,10 @@ fn act(
             closes(state, s);
             Answer::Deleted(v)
         }
-        Course::Regrades(x, v, old) => {
-            regrade_lot(words, k, n, x, v, stand);
+        Course::Regrades(x, v) => {
+            let answer = regrade_lot(words, k, n, x, v, stand);
             closes(state, s);
-            Answer::Regraded(old)
+            answer
         }
     }
 }

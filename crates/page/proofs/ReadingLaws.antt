@@ -121,26 +121,31 @@ sound-readable k n p ws len test =
 
 module _ (x i : ℕ) (es : List Entry) (e : i ≡ place x es) (t : rises es ≡ true) where
   -- there is no entry before it
+  pub none-before : i ≡ 0 → has x es ≡ false
+  none-before z = false-if-not-true (has x es) (λ y. let some = has-place x es t y .0 in absurd (omega arith))
+
   pub look-none : i ≡ 0 → Missing ≡ looked x es
-  look-none z =
-      sym
-      (cond-false (There (information x es)) Missing
-      (false-if-not-true (has x es) (λ y. let some = has-place x es t y .0 in absurd (omega arith))))
+  look-none z = sym (cond-false (There (information x es)) Missing (none-before z))
 
   -- another key stands there
+  pub other-before : (keyAt (i - 1) es ≡ x → ⊥) → has x es ≡ false
+  other-before d = false-if-not-true (has x es) (λ y. d (ap (λ (j : ℕ). keyAt (j - 1) es) e ∙ has-place x es t y .1))
+
   pub look-other : (keyAt (i - 1) es ≡ x → ⊥) → Missing ≡ looked x es
-  look-other d =
-      sym
-      (cond-false (There (information x es)) Missing
-      (false-if-not-true (has x es) (λ y. d (ap (λ (j : ℕ). keyAt (j - 1) es) e ∙ has-place x es t y .1))))
+  look-other d = sym (cond-false (There (information x es)) Missing (other-before d))
 
   -- x stands there, and behind it its information
-  pub look-there : (i ≡ 0 → ⊥) → keyAt (i - 1) es ≡ x → There (entryAt (i - 1) es .value) ≡ looked x es
-  look-there some same =
-      let most = place-most x es in
-      let within : i - 1 < length es = omega arith in
-      ap There (sym (information-at x es t (i - 1) within same))
-      ∙ sym (cond-true (There (information x es)) Missing (has-from x es (i - 1) within same))
+  module _ (some : i ≡ 0 → ⊥) (same : keyAt (i - 1) es ≡ x) where
+    within : i - 1 < length es
+    within = omega (arith, place-most x es)
+
+    pub key-before : has x es ≡ true
+    key-before = has-from x es (i - 1) within same
+
+    pub look-there : There (entryAt (i - 1) es .value) ≡ looked x es
+    look-there =
+        ap There (sym (information-at x es t (i - 1) within same))
+        ∙ sym (cond-true (There (information x es)) Missing key-before)
 
 -- ---- the first entry at or above x
 

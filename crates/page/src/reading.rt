@@ -72,7 +72,7 @@ pub fn key_at(w: &[u32], i: usize) -> u32
 }
 
 // What stands behind the key of pair i.
-fn value_at(w: &[u32], i: usize) -> u32
+pub fn value_at(w: &[u32], i: usize) -> u32
     requires { ⌜ Readable (now w) ⌝ }
     requires { ⌜ i < getD (now w) 1 0 ⌝ }
     ensures { λ r. ⌜ r ≡ entryAt i (view (now (w .entry)) .entries) .value ⌝ }

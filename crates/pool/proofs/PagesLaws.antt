@@ -3,15 +3,16 @@ use Prim.Native.Nat.{ℕ, _+_, _-_}
 use mathlib.Core.List.{List, _++_, append-assoc}
 use mathlib.Core.Path.{_≡_, sym, ap, ap₂, _∙_}
 use native.Mathlib.Omega.{arith}
-use lib.ListN.{length, getD, take, drop}
-use lib.Seq.{sets-eq, drop-drop}
+use lib.ListN.{length, getD, take, drop, take-append-drop}
+use lib.Seq.{sets, sets-eq, drop-drop}
 use Rattle.page.specs.Words.{Page, size, μ, encode, view}
 use Rattle.page.specs.Reading.{Readable}
+use Rattle.page.specs.Exact.{Exact}
 use Rattle.page.proofs.ReadingLaws.{readable-μ}
 use Rattle.pool.specs.Pool.{start, wordsOf, pageAt, Write, write, written}
 use Rattle.pool.specs.Wrapped.{InPool, Lies}
 use Rattle.pool.specs.declared.pages.Stretch.{Stretch}
-use Rattle.pool.proofs.StretchLaws.{length-wordsOf}
+use Rattle.pool.proofs.StretchLaws.{length-wordsOf, ends-in-pool}
 use Rattle.pool.proofs.WriteLaws.{length-written}
 
 -- the part where page p lies is the page's words
@@ -57,3 +58,16 @@ part-written {k} {n} {p} {s} f ws part h lies value kept =
     (ap₂ (λ (i : ℕ) (l : List ℕ). take i ws ++ l) (lies .from) same)
     (ap (λ (i : ℕ). drop i ws) end)
     ∙ sym (sets-eq new ws (start k p) (omega arith))
+
+-- A page written as it is leaves all words as they are.
+pub written-same : {k n p : ℕ} {ws : List ℕ} → InPool k n p ws → Exact k (wordsOf k p ws) → written k (write p (pageAt k ws p)) ws ≡ ws
+unfolding written pageAt wordsOf
+written-same {k} {n} {p} {ws} h exact =
+    let i : ℕ = start k p in
+    let part : List ℕ = take (size k) (drop i ws) in
+    ap (sets ws i) (sym (exact .words))
+    ∙ sets-eq part ws i (omega (arith, ends-in-pool k n p (h .inside), h .whole, exact .whole))
+    ∙ append-assoc (take i ws) part (drop (i + length part) ws)
+    ∙ ap (λ (l : List ℕ). take i ws ++ (part ++ l)) (ap (λ (m : ℕ). drop (i + m) ws) (exact .whole) ∙ sym (drop-drop (size k) i ws))
+    ∙ ap (λ (l : List ℕ). take i ws ++ l) (take-append-drop (size k) (drop i ws))
+    ∙ take-append-drop i ws

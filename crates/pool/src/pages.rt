@@ -14,7 +14,7 @@ ghost use mathlib.Core.Bool.{true, false};
 ghost use Prim.Native.Nat.{_+_, _*_, _≤_, _<_};
 ghost use Rattle.ground.specs.Limits.{largestK, largestN, wordRange};
 ghost use Rattle.page.specs.Words.{entry, page, μ, isLeaf, freePage};
-ghost use Rattle.page.specs.Place.{place, pointer, route, has, atOrAbove, regraded};
+ghost use Rattle.page.specs.Place.{place, pointer, route, atOrAbove, regraded};
 ghost use Rattle.page.specs.Sound.{rises, soundByItself};
 ghost use Rattle.page.specs.Splits.{withEntries, entryAt, put, split};
 ghost use Rattle.page.specs.Short.{hasRight, neighbour, betweenAt, joined, lessKey, rekeyed};
@@ -243,17 +243,18 @@ pub fn rekey_at(words: &mut [u32], k: usize, n: usize, p: u32, i: usize, r: u32)
     writing::rekey(&mut words[a..e], k, i, r);
 }
 
-// New information under key x.
-pub fn regrade_at(words: &mut [u32], k: usize, n: usize, p: u32, x: u32, v: u32)
+// New information under key x, if it is there. Returns what stood under it.
+pub fn regrade_at(words: &mut [u32], k: usize, n: usize, p: u32, x: u32, v: u32) -> Lot
     requires { ⌜ InPool k n p (now words) ⌝ }
     requires { ⌜ Exact k (wordsOf k p (now words)) ⌝ }
-    requires { ⌜ (rises (pageAt k (now words) p .entries) ≡ true) × (has x (pageAt k (now words) p .entries) ≡ true) ⌝ }
+    requires { ⌜ rises (pageAt k (now words) p .entries) ≡ true ⌝ }
+    ensures { λ r. ⌜ r ≡ looked x (pageAt k (now (words .entry)) p .entries) ⌝ }
     ensures { λ _. ⌜ now (words .exit) ≡ written k (write p (withEntries (pageAt k (now (words .entry)) p) (regraded x v (pageAt k (now (words .entry)) p .entries)))) (now (words .entry)) ⌝ }
 {
     let at = stretch_of(k, n, p);
     let a = at.from;
     let e = at.to;
-    writing::regrade(&mut words[a..e], k, x, v);
+    writing::regrade(&mut words[a..e], k, x, v)
 }
 
 // A page laid out from a buffer.

@@ -7,11 +7,11 @@ use mathlib.Core.Path.{_≡_, refl, sym, ap, subst, _∙_}
 use native.Mathlib.Omega.{arith}
 use lib.Arith.{lt-of-le-ne}
 use lib.Dec.{eqb, ltb}
-use lib.ListN.{length, getD}
+use lib.ListN.{length}
 use borrow.Author.Tests.{eq-eqb, ltb-true, ltb-false}
 use Rattle.ground.specs.Limits.{slotCount}
 use Rattle.ground.specs.Tests.{member, listBelow}
-use Rattle.ground.proofs.Bools.{not-both, false-if-not-true, same-if-true-together, and-first, and-second, and-both}
+use Rattle.ground.proofs.Bools.{not-both, same-if-true-together, and-first, and-second, and-both}
 use Rattle.ground.proofs.Choice.{by-test, same-or-not, cond-true, cond-false}
 use Rattle.ground.proofs.Tests.{member-at, distinct-at, distinct-from, anyBelow-at, anyBelow-false-at, countBelow-same, length-listBelow, listBelow-at, listBelow-from, listBelow-distinct, firstBelow-passes, firstBelow-before, firstBelow-most, firstBelow-all-fail}
 use Rattle.slots.specs.declared.Lock.{Lock}
@@ -22,19 +22,13 @@ use Rattle.slots.specs.Locks.{lockHeldAt}
 use Rattle.slots.specs.Heard.{lockNumber}
 use Rattle.slots.specs.Report.{holders, lowestHolder, heldUnder, lockKind}
 use Rattle.slots.proofs.SoundFacts.{SoundState}
-use Rattle.slots.proofs.LockLaws.{isLock, held-lock}
+use Rattle.slots.proofs.LockLaws.{isLock, held-lock, is-xi}
 use Rattle.slots.proofs.Clashes.{update-alone}
 use Rattle.slots.proofs.GrantLaws.{holder-open}
 use Rattle.slots.proofs.OrderLaws.{length-counted}
 use Rattle.promises.specs.Terms.{Holds, Reads}
 use Rattle.promises.specs.Report.{Holders, Nobody, Lowest, KindIs, Reports}
 use Rattle.promises.proofs.Terms.{in-member, xi-updates, shares-reads, never-both}
-
--- the kind whose number is that of ξ
-is-xi : (l : Lock) → eqb (lockNumber l) (lockNumber Xi) ≡ true → l ≡ Xi
-is-xi None e = not-both e refl
-is-xi Rho e = not-both e refl
-is-xi Xi e = refl
 
 module _ (st : State) (p : ℕ) where
   -- the slots that hold the page, by the rule's test

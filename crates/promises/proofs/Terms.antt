@@ -1,10 +1,9 @@
 -- The plain terms and the tests of the rules: one gives the other.
 use Prim.Native.Nat.{ℕ}
-use mathlib.Core.Bool.{true, false}
+use mathlib.Core.Bool.{true}
 use mathlib.Core.List.{List}
 use mathlib.Core.Logic.{_⊎_, inl, inr}
 use mathlib.Core.Path.{_≡_, refl, sym, ap, subst, _∙_}
-use native.Mathlib.Omega.{arith}
 use Rattle.ground.specs.Tests.{member}
 use Rattle.ground.proofs.Bools.{not-both}
 use Rattle.ground.proofs.Tests.{member-from}
@@ -16,19 +15,12 @@ use Rattle.slots.specs.declared.Lock.{Lock}
 use Rattle.slots.specs.declared.Lock.the-variants.{None, Rho, Xi}
 use Rattle.slots.specs.Parts.{isOpen}
 use Rattle.slots.specs.Locks.{lockOf, clash}
-use Rattle.slots.specs.Heard.{lockNumber}
+use Rattle.slots.proofs.LockLaws.{none-not-xi, rho-not-xi}
 use Rattle.promises.specs.Terms.{In, Reader}
 
 -- what stands in a list is a member of it (`member-at` is the way back)
 pub in-member : (x : ℕ) (xs : List ℕ) → In x xs → member x xs ≡ true
 in-member x xs (i, b, e) = member-from x xs i 0 b e
-
--- ξ is another kind than ρ and none
-none-not-xi : None ≡ Xi → ⊥
-none-not-xi e = let z : _≡_ {A = ℕ} 0 2 = ap lockNumber e in omega arith
-
-rho-not-xi : Rho ≡ Xi → ⊥
-rho-not-xi e = let z : _≡_ {A = ℕ} 1 2 = ap lockNumber e in omega arith
 
 -- an open task is that of an operation
 pub open-with : (task : Task) → isOpen task ≡ true → (op : Op) × (task ≡ Open op)

@@ -19,7 +19,7 @@ use Rattle.page.specs.Exact.{Exact}
 use Rattle.sheet.specs.Sheets.{beforePairs}
 use Rattle.page.proofs.WordLaws.{length-flat, pairsFrom-most, view-μ}
 use Rattle.page.proofs.PlaceLaws.{place-most, has-place}
-use Rattle.page.proofs.RegradeLaws.{regraded-at}
+use Rattle.page.proofs.RegradeLaws.{regraded-none, regraded-at}
 use Rattle.page.proofs.ReadingLaws.{view-level}
 use Rattle.sheet.proofs.FlatLaws.{flat-append, length-front, pairsFrom-least, encode-front}
 
@@ -265,6 +265,12 @@ regrade-exact {k} {ws} exact x v {behind} {at} place from up there =
     (ap (λ (z : ℕ). z + 1) (place-exact exact i from inside))
     ∙ ap (λ (l : List Entry). encode k (withEntries P l))
     (ap (λ (z : ℕ). take i es ++ entry z v ∷ drop (suc i) es) key ∙ sym (regraded-at x v es up i inside key))
+
+-- where the key does not stand, they are the words as they are
+pub regrade-none : {k : ℕ} {ws : List ℕ} → Exact k ws → (x v : ℕ) → has x (view ws .entries) ≡ false
+    → ws ≡ encode k (withEntries (view ws) (regraded x v (view ws .entries)))
+regrade-none {k} {ws} exact x v none =
+    exact .words ∙ ap (λ (l : List Entry). encode k (withEntries (view ws) l)) (sym (regraded-none x v (view ws .entries) none))
 
 -- the words before a leaf's pairs
 pub leaf-front : (l m f : ℕ) (ws : List ℕ) → 3 ≤ length ws → l ≡ 1

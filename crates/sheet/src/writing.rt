@@ -1,7 +1,10 @@
 // How the words of one page change where they lie: runs of words are moved, copied and zeroed, a pair is put in or taken
 // out with only what lies behind it moving, and a key or information alone is written over.
+use page::reading::Lot;
+use page::reading::key_at;
 use page::reading::pairs_from;
 use page::reading::place;
+use page::reading::value_at;
 use page::reading::wide;
 ghost use mathlib.Core.Bool.{true};
 ghost use mathlib.Core.Path.{_≡_};
@@ -11,7 +14,8 @@ ghost use lib.ListN.{length, take, drop, replicate};
 ghost use lib.Seq.{paste};
 ghost use Rattle.ground.specs.Limits.{largestK, wordRange};
 ghost use Rattle.page.specs.Words.{size, entry, page, μ, pairsFrom, encode, view};
-ghost use Rattle.page.specs.Place.{has, regraded};
+ghost use Rattle.page.specs.Place.{regraded};
+ghost use Rattle.page.specs.Reading.{looked};
 ghost use Rattle.page.specs.Sound.{rises};
 ghost use Rattle.page.specs.Splits.{put, withEntries};
 ghost use Rattle.page.specs.Short.{lessKey, rekeyed};
@@ -123,15 +127,24 @@ pub fn rekey(w: &mut [u32], k: usize, i: usize, r: u32)
     w[at + 2 * i] = r;
 }
 
-// New information under key x: of the pair just before the place of x.
-pub fn regrade(w: &mut [u32], k: usize, x: u32, v: u32)
+// New information under key x, if it is there: then it stands just before its place. Returns what stood under it.
+pub fn regrade(w: &mut [u32], k: usize, x: u32, v: u32) -> Lot
     requires { ⌜ Exact k (now w) ⌝ }
-    requires { ⌜ (rises (view (now w) .entries) ≡ true) × (has x (view (now w) .entries) ≡ true) ⌝ }
+    requires { ⌜ rises (view (now w) .entries) ≡ true ⌝ }
+    ensures { λ r. ⌜ r ≡ looked x (view (now (w .entry)) .entries) ⌝ }
     ensures { λ _. ⌜ now (w .exit) ≡ encode k (withEntries (view (now (w .entry))) (regraded x v (view (now (w .entry)) .entries))) ⌝ }
 {
     let behind = place(w, x);
+    if behind == 0 {
+        return Lot::Missing;
+    }
+    if key_at(w, behind - 1) != x {
+        return Lot::Missing;
+    }
+    let old = value_at(w, behind - 1);
     let at = pairs_from(w[0]);
     w[at + 2 * behind - 1] = v;
+    Lot::There(old)
 }
 
 // A root over the pages a and b, with the reference key r between them, a level above theirs.

@@ -3,6 +3,7 @@ use Prim.Native.Nat.{ℕ, _<_}
 use mathlib.Core.Bool.{Bool, true, false, not, _&&_, _||_}
 use mathlib.Core.Logic.{_≢_, ⊎-elim}
 use mathlib.Core.Path.{_≡_, refl, ap}
+use native.Mathlib.Omega.{arith}
 use lib.Dec.{eqb}
 use borrow.Author.Tests.{eqb-false, ne-eqb, not-true}
 use Rattle.ground.specs.Limits.{slotCount}
@@ -18,6 +19,7 @@ use Rattle.slots.specs.declared.Slot.{Slot}
 use Rattle.slots.specs.declared.State.{State}
 use Rattle.slots.specs.Parts.{isOpen, holdsAt}
 use Rattle.slots.specs.Locks.{lockOf, lockHeld, lockWanted, lockHeldAt, clash, noClashOn}
+use Rattle.slots.specs.Heard.{lockNumber}
 
 -- ---- the table
 
@@ -67,6 +69,21 @@ module _ (next was : Slot) (same : next .task ≡ was .task) (p : ℕ) where
 
   pub taken-lock : lockHeld next p ≡ lockWanted was
   taken-lock = ap lockOf same
+
+-- ---- the kinds apart
+
+-- the kind whose number is that of ξ
+pub is-xi : (l : Lock) → eqb (lockNumber l) (lockNumber Xi) ≡ true → l ≡ Xi
+is-xi None e = not-both e refl
+is-xi Rho e = not-both e refl
+is-xi Xi e = refl
+
+-- ξ is another kind than ρ and none
+pub none-not-xi : None ≡ Xi → ⊥
+none-not-xi e = let z : _≡_ {A = ℕ} 0 2 = ap lockNumber e in omega arith
+
+pub rho-not-xi : Rho ≡ Xi → ⊥
+rho-not-xi e = let z : _≡_ {A = ℕ} 1 2 = ap lockNumber e in omega arith
 
 -- ---- one page and the other slots
 

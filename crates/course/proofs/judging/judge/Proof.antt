@@ -1,5 +1,5 @@
 -- What is read off the last page of the path, above the leaves or at a leaf, tells the course, and the rule says the same of it.
-use mathlib.Core.Path.{sym, _∙_, subst}
+use mathlib.Core.Path.{refl, sym, _∙_, subst}
 use native.Mathlib.Omega.{arith}
 use borrow.Author.Needs.{needs}
 use borrow.Author.Tests.{not-true, not-false}
@@ -87,12 +87,6 @@ nexts-requires c κs =
 enum-known-op-5 : tie.Need-enum-known-op-5
 enum-known-op-5 c = search needs
 
-look-of-requires-4 : tie.Need-look-of-requires-4
-look-of-requires-4 c κs = let known = stand-known (c .before .before .before .before .before .before .before .before .pre) in (known .inPool, (known .readable, known .facts .rising))
-
-regrades-requires : tie.Need-regrades-requires
-regrades-requires c κs = search needs
-
 returns-2 : tie.Need-returns-2
 returns-2 c =
     let was = c .before .before .before .before .before .before .before .before .before .before .args in
@@ -123,10 +117,10 @@ returns-5 c =
 
 returns-6 : tie.Need-returns-6
 returns-6 c =
-    let was = c .before .before .before .before .before .before .before .before .before .before .args in
-    regrade-judges (was .k) (pageAt (was .k) (was .words .now)) (freePages (was .k) (was .n) (was .words .now)) (was .stand) (stand-upward (c .before .before .before .before .before .before .before .before .before .before .pre))
-    (sym (c .before .before .before .before .before .before .is-leaf-of .ensures) ∙ not-false (c .before .before .before .before .before .before .is-leaf-of .result) (c .before .before .before .before .before .if1 .left))
-    (was .op) (c .before .look-of4 .result) (c .regrades .result) _ _ (c .before .look-of4 .ensures) (c .before .before .before .op5 .given .1) (c .regrades .ensures)
+    let was = c .before .before .before .before .before .before .before .before .args in
+    regrade-judges (was .k) (pageAt (was .k) (was .words .now)) (freePages (was .k) (was .n) (was .words .now)) (was .stand) (stand-upward (c .before .before .before .before .before .before .before .before .pre))
+    (sym (c .before .before .before .before .is-leaf-of .ensures) ∙ not-false (c .before .before .before .before .is-leaf-of .result) (c .before .before .before .if1 .left))
+    (was .op) _ _ _ (c .before .op5 .given .1) refl
 
 pub judge-spec : {M : Type 1} → statement M
 judge-spec =
@@ -152,8 +146,6 @@ judge-spec =
     enum-known-op-4
     nexts-requires
     enum-known-op-5
-    look-of-requires-4
-    regrades-requires
     returns-2
     returns-3
     returns-4

@@ -1,6 +1,7 @@
 -- Each course is carried out as the rule's word for it.
 use Rattle.ground.specs.Limits.{largestK, largestN}
-use Rattle.index.proofs.ActLaws.{stand-short, acts-broken, acts-goes, acts-ends, acts-inserts, acts-deletes, acts-regrades, inserts-stands, deletes-stands, regrades-stands}
+use Rattle.course.proofs.JudgeLaws.{standing-holding}
+use Rattle.index.proofs.ActLaws.{stand-short, acts-broken, acts-goes, acts-ends, acts-inserts, acts-deletes, acts-regrades, inserts-stands, deletes-stands}
 use Rattle.ground.specs.Limits.{slotCount}
 use native.Mathlib.Omega.{arith}
 use borrow.Author.Needs.{needs}
@@ -67,7 +68,7 @@ enum-known-course-5 : tie.Need-enum-known-course-5
 enum-known-course-5 c = search needs
 
 regrade-lot-requires : tie.Need-regrade-lot-requires
-regrade-lot-requires c κs = regrades-stands (c .before .before .before .before .before .before .before .before .before .before .pre .0 .1) (c .before .before .before .before .before .before .before .before .before .before .args .course) (c .before .before .before .before .before .before .before .before .before .before .pre .1) (c .before .before .course5 .given .1)
+regrade-lot-requires c κs = standing-holding (c .before .before .before .before .before .before .before .before .before .before .pre .0 .1 .stands)
 
 closes-requires-4 : tie.Need-closes-requires-4
 unfolding slotCount
@@ -104,7 +105,7 @@ same-length-3 c = search needs
 returns-6 : tie.Need-returns-6
 returns-6 c =
     acts-regrades (c .before .before .before .before .before .before .before .before .before .before .before .before .before .before .before .args .state .now) (c .before .before .before .before .before .before .before .before .before .before .before .sized .ensures) (c .before .before .before .before .before .before .before .before .before .before .before .before .before .before .before .pre .0 .0) (c .before .before .before .before .before .before .before .before .before .before .before .before .before .before .before .pre .0 .1) (c .before .before .before .before .before .before .before .course5 .given .1)
-    (c .before .before .before .before .regrade-lot .ensures) (c .closes4 .ensures)
+    (c .before .before .before .before .regrade-lot .ensures .0) (c .before .before .before .before .regrade-lot .ensures .1) (c .closes4 .ensures)
 
 pub act-spec : {M : Type 1} → statement M
 act-spec =

@@ -1,8 +1,12 @@
 -- The part where the page lies is lent to the function that writes it, and comes back as the page written.
+use Prim.Native.Nat.{ℕ}
+use mathlib.Core.List.{List}
+use mathlib.Core.Path.{ap, _∙_}
 use native.Mathlib.Omega.{arith}
 use borrow.Author.Needs.{needs}
-use Rattle.page.specs.Words.{Page}
+use Rattle.page.specs.Words.{Page, view}
 use Rattle.page.specs.Place.{regraded}
+use Rattle.page.specs.Reading.{looked}
 use Rattle.page.specs.Splits.{withEntries}
 use Rattle.pool.specs.Pool.{pageAt}
 use Rattle.pool.proofs.PagesLaws.{lies-words, part-written}
@@ -34,16 +38,21 @@ same-length : tie.Need-same-length
 same-length c = search needs
 
 returns : tie.Need-returns
+unfolding pageAt
 returns c =
     let outset = c .before .before .before .before .before .before in
-    part-written
-    (λ (P : Page). withEntries P (regraded (outset .args .x) (outset .args .v) (P .entries)))
-    (outset .args .words .now)
-    (c .before .before .regrade .last .0)
-    (outset .pre .0)
-    (c .before .before .before .before .stretch-of .ensures)
-    (c .before .before .regrade .ensures)
-    (c .before .before .regrade .kept .0)
+    let lies = c .before .before .before .before .stretch-of .ensures in
+    let regrade = c .before .before .regrade in (
+      regrade .ensures .0 ∙ ap (λ (l : List ℕ). looked (outset .args .x) (view l .entries)) (lies-words (outset .args .words .now) lies),
+      part-written
+          (λ (P : Page). withEntries P (regraded (outset .args .x) (outset .args .v) (P .entries)))
+          (outset .args .words .now)
+          (regrade .last .0)
+          (outset .pre .0)
+          lies
+          (regrade .ensures .1)
+          (regrade .kept .0),
+    )
 
 pub regrade-at-spec : {M : Type 1} → statement M
 regrade-at-spec =
