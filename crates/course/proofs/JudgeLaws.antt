@@ -258,17 +258,12 @@ module _ (k : ℕ) (memory : ℕ → Page) (free : List ℕ) (stand : Slot) wher
         → Judges op k memory free stand course
     unfolding judgedAt atLeaf
     regrade-judges low op x v course told r =
+        let es : List Entry = memory (lowest stand) .entries in
         leaf-judges low op (Regrade x v) course (Regrades x v) told r (
-          ap (fromLeaf change) up
-              ∙ ends-new (has x (entries (lowest stand))) (Regraded (information x (entries (lowest stand)))) NoSuchKey (regrading memory x v (lowest stand)) [],
+          ap (fromLeaf (atLeaf (Regrade x v) k memory free (standOf (Regrade x v) stand))) up
+              ∙ ends-new (has x es) (Regraded (information x es)) NoSuchKey (regrading memory x v (lowest stand)) [],
           tt,
         )
-      where
-        entries : ℕ → List Entry
-        entries leaf = memory leaf .entries
-
-        change : ℕ → List ℕ → Verdict
-        change leaf fathers = cond (has x (entries leaf)) (ends (Regraded (information x (entries leaf))) (regrading memory x v leaf)) (ends NoSuchKey [])
 
     -- ---- at a leaf, by what stands there under the key
 

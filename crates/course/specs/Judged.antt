@@ -8,7 +8,7 @@ use lib.Dec.{ltb, eqb}
 use lib.ListN.{length, getD}
 use Rattle.ground.specs.Tests.{member}
 use Rattle.page.specs.Words.{Page, isLeaf}
-use Rattle.page.specs.Place.{pointer, route, has, information, atOrAbove}
+use Rattle.page.specs.Place.{pointer, route, has, atOrAbove}
 use Rattle.page.specs.Short.{neighbour}
 use Rattle.page.specs.Reading.{nearest}
 use Rattle.page.specs.declared.reading.Lot.{Lot}
@@ -17,11 +17,10 @@ use Rattle.page.specs.declared.reading.Nearest.{Nearest}
 use Rattle.page.specs.declared.reading.Nearest.the-variants.{Lot as TheLot, Nothing}
 use Rattle.change.specs.Insertion.{room, insertion}
 use Rattle.change.specs.Deletion.{Need, nothing, sibling, astray, needs, deletion}
-use Rattle.change.specs.Regrading.{regrading}
 use Rattle.change.specs.Held.{leafOf, fathersOf}
 use Rattle.slots.specs.declared.Op.{Op}
 use Rattle.slots.specs.declared.Op.the-variants.{Search, Insert, Delete, Next, Regrade}
-use Rattle.slots.specs.declared.Answer.the-variants.{Found, NotFound, Inserted, AlreadyThere, Deleted, NoSuchKey, NoRoom, Next as NextLot, None as NoLot, Regraded}
+use Rattle.slots.specs.declared.Answer.the-variants.{Found, NotFound, Inserted, AlreadyThere, Deleted, NoSuchKey, NoRoom, Next as NextLot, None as NoLot}
 use Rattle.slots.specs.declared.Slot.{Slot}
 use Rattle.slots.specs.Parts.{keyOf, isDelete, besideOf, held, Stand, wantsNext}
 use Rattle.course.specs.declared.judging.Course.{Course}
@@ -76,13 +75,7 @@ courseOf k memory free z (Deletes x v) =
     fromLeaf
     (λ (leaf : ℕ) (fathers : List ℕ). ends (Deleted v) (deletion k memory x leaf fathers (z .beside)))
     (reverse (z .path))
-courseOf k memory free z (Regrades x v) =
-    fromLeaf
-    (λ (leaf : ℕ) (fathers : List ℕ).
-    cond (has x (memory leaf .entries))
-    (ends (Regraded (information x (memory leaf .entries))) (regrading memory x v leaf))
-    (ends NoSuchKey []))
-    (reverse (z .path))
+courseOf k memory free z (Regrades x v) = fromLeaf (atLeaf (Regrade x v) k memory free z) (reverse (z .path))
 
 -- the key stands in the last page of a path, given upward
 abbrev pub standsLast : (ℕ → Page) → ℕ → List ℕ → Type 0

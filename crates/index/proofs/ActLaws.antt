@@ -35,7 +35,7 @@ use Rattle.insertion.specs.Inserting.{Inserting}
 use Rattle.insertion.proofs.InsertLaws.{insertion-same}
 use Rattle.deletion.specs.Deleting.{Deleting}
 use Rattle.slots.specs.declared.Op.{Op}
-use Rattle.slots.specs.declared.Op.the-variants.{Insert}
+use Rattle.slots.specs.declared.Op.the-variants.{Insert, Regrade}
 use Rattle.slots.specs.declared.Slot.{Slot}
 use Rattle.slots.specs.declared.State.{State}
 use Rattle.slots.specs.declared.Answer.{Answer}
@@ -48,7 +48,7 @@ use Rattle.lent.specs.Words.{orderIn, asRead, known, stateOf, laidInto}
 use Rattle.lent.proofs.StateLaws.{length-order, state-known, state-written}
 use Rattle.course.specs.declared.judging.Course.{Course}
 use Rattle.course.specs.declared.judging.Course.the-variants.{Broken, Goes, Ends, Inserts, Deletes, Regrades}
-use Rattle.footing.specs.Granted.{Verdict, ends, fromLeaf}
+use Rattle.footing.specs.Granted.{Verdict, ends, atLeaf, fromLeaf}
 use Rattle.footing.specs.Standing.{SlotStanding}
 use Rattle.course.specs.Judged.{courseOf, ready, standsLast}
 use Rattle.course.proofs.JudgeLaws.{path-long, siblings-long, standing-needing, standing-holding, stand-upward, stand-known}
@@ -330,10 +330,11 @@ module _ (cells : List ℕ) {ws : List ℕ} {s : ℕ} {op : Op} {stand : Slot} (
       → words ≡ afterRegrading (st .k) ws x v stand
       → cells′ ≡ laidInto cells s (closes st s)
       → leaves course answer cells′ words
-  unfolding applied
+  unfolding applied atLeaf
   acts-regrades {x = x} {v = v} {answer = answer} {cells′ = cells′} {words = words} is heard made e =
       subst (λ (c : Course). leaves c answer cells′ words) (sym is)
-      (subst (λ (up : List ℕ). Leaves cells ws s (fromLeaf change up) answer cells′ words) (sym (stand-upward (a .stands)))
+      (subst (λ (up : List ℕ). Leaves cells ws s (fromLeaf (atLeaf (Regrade x v) (st .k) memory (freePages (st .k) (st .n) ws) (standOf op stand)) up) answer cells′ words)
+      (sym (stand-upward (a .stands)))
       (split (has x es) refl heard))
     where
       memory : ℕ → Page
@@ -341,9 +342,6 @@ module _ (cells : List ℕ) {ws : List ℕ} {s : ℕ} {op : Op} {stand : Slot} (
 
       es : List Entry
       es = memory (standLeaf stand) .entries
-
-      change : ℕ → List ℕ → Verdict
-      change leaf fathers = cond (has x (memory leaf .entries)) (ends (Regraded (information x (memory leaf .entries))) (regrading memory x v leaf)) (ends NoSuchKey [])
 
       writes : List Write
       writes = regrading memory x v (standLeaf stand)

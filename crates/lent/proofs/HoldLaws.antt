@@ -25,7 +25,7 @@ use Rattle.slots.specs.Grant.{clashingWant, noClash, noOlder}
 use Rattle.slots.proofs.HoldingLaws.{noOlderFrom, older-end, older-here, older-stops, older-more, order-names}
 use Rattle.lent.specs.Layout.{waitingAt, orderFrom, rowLength, columnLength, kindRow, keyRow, informationRow, wantRow, depthRow, breadthRow, pathRow, besideRow, stateLength}
 use Rattle.lent.specs.Words.{cell, column, highestKind, taskFrom, slotIn, orderIn, asRead, known}
-use Rattle.lent.specs.Holds.{WithinRows, OpenOrder, kindLock, lockHeldIn, lockWantedIn, lockNamed, numbersClash, counts, otherHolds, topHolds, isDeep, deepHolds, othersHold, alsoWants}
+use Rattle.lent.specs.Holds.{WithinRows, OpenOrder, kindLock, lockHeldIn, lockWantedIn, openLock, numbersClash, counts, otherHolds, topHolds, isDeep, deepHolds, othersHold, alsoWants}
 use Rattle.lent.proofs.StateLaws.{slot-read, length-column, column-cell, length-order, order-cell}
 
 -- ---- some number below a bound
@@ -185,7 +185,7 @@ kind-of-open kind key information e = kind-if-open kind key information (ap isOp
 
 -- the lock of a slot by its kind: none if it is closed
 abbrev kindsLock : ℕ → Lock
-kindsLock kind = cond (eqb kind 0) None (lockNamed (kindLock kind))
+kindsLock kind = cond (eqb kind 0) None (openLock (kindLock kind))
 
 lock-kind : (key information kind : ℕ) → kind ≤ highestKind → lockOf (taskFrom kind key information) ≡ kindsLock kind
 lock-kind key information = by-kind (λ (k : ℕ). lockOf (taskFrom k key information) ≡ kindsLock k) refl refl refl refl refl refl
@@ -214,15 +214,15 @@ module _ (ws : List ℕ) (e : known ws ≡ true) (t : ℕ) (b : t < rowLength) w
   task-lock : lockOf (slotAt (asRead ws) t .task) ≡ kindsLock (cell ws kindRow t)
   task-lock = ap (λ (x : Slot). lockOf (x .task)) (slot-read ws t b) ∙ lock-kind (cell ws keyRow t) (cell ws informationRow t) (cell ws kindRow t) (kind-known ws e t b)
 
-  pub held-read : (p : ℕ) → lockHeldAt (asRead ws) t p ≡ cond (eqb (cell ws kindRow t) 0) None (lockNamed (lockHeldIn ws t p))
+  pub held-read : (p : ℕ) → lockHeldAt (asRead ws) t p ≡ cond (eqb (cell ws kindRow t) 0) None (openLock (lockHeldIn ws t p))
   held-read p = task-lock
 
-  wanted-read : lockWantedAt (asRead ws) t ≡ cond (eqb (cell ws kindRow t) 0) None (lockNamed (lockWantedIn ws t))
+  wanted-read : lockWantedAt (asRead ws) t ≡ cond (eqb (cell ws kindRow t) 0) None (openLock (lockWantedIn ws t))
   wanted-read = task-lock
 
   -- an open slot wants with a lock
-  wanted-open : 0 < cell ws kindRow t → lockWantedAt (asRead ws) t ≡ lockNamed (lockWantedIn ws t)
-  wanted-open o = wanted-read ∙ cond-false None (lockNamed (lockWantedIn ws t)) (ne-eqb (cell ws kindRow t) 0 (λ z. omega arith))
+  wanted-open : 0 < cell ws kindRow t → lockWantedAt (asRead ws) t ≡ openLock (lockWantedIn ws t)
+  wanted-open o = wanted-read ∙ cond-false None (openLock (lockWantedIn ws t)) (ne-eqb (cell ws kindRow t) 0 (λ z. omega arith))
 
 -- A page held against the locks of the other slots, by the rule and on the words.
 module _ (ws : List ℕ) (e : known ws ≡ true) (short : WithinRows ws) (s p lock : ℕ) where
@@ -232,14 +232,14 @@ module _ (ws : List ℕ) (e : known ws ≡ true) (short : WithinRows ws) (s p lo
       let none = short .closed t b (eqb-true (cell ws kindRow t) 0 z) in
       ap₂ (λ (d n : ℕ). member p (take d (column ws pathRow t) ++ take n (column ws besideRow t))) (none .0) (none .1) ∙ member-none p
 
-  each : (t : ℕ) → t < rowLength → eqb t s || not (holdsAt (asRead ws) t p && clash (lockHeldAt (asRead ws) t p) (lockNamed lock)) ≡ not (otherHolds ws s lock p t)
+  each : (t : ℕ) → t < rowLength → eqb t s || not (holdsAt (asRead ws) t p && clash (lockHeldAt (asRead ws) t p) (openLock lock)) ≡ not (otherHolds ws s lock p t)
   each t b =
       let shut : Bool = eqb (cell ws kindRow t) 0 in
-      ap₂ (λ (x : Slot) (l : Lock). eqb t s || not (member p (held x) && clash l (lockNamed lock))) (slot-read ws t b) (held-read ws e t b p)
-      ∙ ap (λ (c : Bool). eqb t s || not (member p (held (slotIn ws t)) && c)) (clash-there shut (lockNamed (lockHeldIn ws t p)) (lockNamed lock))
+      ap₂ (λ (x : Slot) (l : Lock). eqb t s || not (member p (held x) && clash l (openLock lock))) (slot-read ws t b) (held-read ws e t b p)
+      ∙ ap (λ (c : Bool). eqb t s || not (member p (held (slotIn ws t)) && c)) (clash-there shut (openLock (lockHeldIn ws t p)) (openLock lock))
       ∙ swap (eqb t s) shut (numbersClash (lockHeldIn ws t p) lock) (member p (held (slotIn ws t))) (shut-holds t b)
 
-  pub others-words : noClashOn (asRead ws) s p (lockNamed lock) ≡ not (othersHold ws s lock p)
+  pub others-words : noClashOn (asRead ws) s p (openLock lock) ≡ not (othersHold ws s lock p)
   unfolding slotCount othersHold
   others-words = allBelow-same _ _ rowLength each ∙ any-not (otherHolds ws s lock p) rowLength
 
@@ -252,7 +252,7 @@ no-clash-words ws s e h short opened {lock} {want} a w said =
     ∙ sym (others-words ws e short s want lock)
     ∙ ap₂ (λ (p : ℕ) (l : Lock). noClashOn (asRead ws) s p l)
     (w ∙ sym (ap (λ (x : Slot). x .want) (slot-read ws s h)))
-    (ap lockNamed a ∙ sym (wanted-open ws e s h opened))
+    (ap openLock a ∙ sym (wanted-open ws e s h opened))
 
 -- ---- the walk over older wants, on the words
 

@@ -42,12 +42,12 @@ lockHeldIn ws t p = kindLock (cell ws kindRow t)
 abbrev pub lockWantedIn : List ℕ → ℕ → ℕ
 lockWantedIn ws t = kindLock (cell ws kindRow t)
 
--- the lock of a number, and the rule's table of two numbers
-abbrev pub lockNamed : ℕ → Lock
-lockNamed number = cond (eqb number (lockNumber Xi)) Xi Rho
+-- the lock that such a number stands for (an open slot has one), and the rule's table of two numbers
+abbrev pub openLock : ℕ → Lock
+openLock number = cond (eqb number (lockNumber Xi)) Xi Rho
 
 abbrev pub numbersClash : ℕ → ℕ → Bool
-numbersClash held wanted = clash (lockNamed held) (lockNamed wanted)
+numbersClash held wanted = clash (openLock held) (openLock wanted)
 
 -- slot t is another one than s, and the lock under which it would hold page p clashes with this one
 abbrev pub counts : List ℕ → ℕ → ℕ → ℕ → ℕ → Bool

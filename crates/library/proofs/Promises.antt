@@ -13,13 +13,14 @@ use Rattle.ground.proofs.Bools.{and-first, and-both}
 use Rattle.ground.proofs.Choice.{cond-ind}
 use Rattle.ground.proofs.Tests.{all-member}
 use Rattle.pool.specs.Pool.{poolLength}
+use Rattle.slots.specs.declared.Op.{Op}
 use Rattle.slots.specs.declared.State.{State}
 use Rattle.slots.specs.declared.Answer.{Answer}
 use Rattle.slots.specs.declared.Answer.the-variants.{Made}
 use Rattle.slots.specs.declared.operations.Asked.{Asked}
 use Rattle.slots.specs.declared.operations.Asked.the-variants.{Known, Unknown}
 use Rattle.slots.specs.Heard.{numberOf, isOneOf}
-use Rattle.slots.specs.Operations.{askedBy}
+use Rattle.slots.specs.Operations.{kindNumber, operations, ofKind, askedBy}
 use Rattle.lent.specs.Words.{stateOf}
 use Rattle.index.specs.Make.{made}
 use Rattle.embed.specs.Told.{told}
@@ -85,18 +86,18 @@ follow-goes (reports p four ∷ rest) cells ws last lastWs h =
 
 -- ---- it is a run
 
--- keys and informations are words
+-- keys and informations are words: of each operation that a kind may name
+each-in-words : (s kind : ℕ) (cs : List Call) → InWords cs → (ops : List Op) → InWords (map (begin s) ops) → InWords (beginsWith s (ofKind kind ops) cs)
+each-in-words s kind cs h [] none = h
+each-in-words s kind cs h (op ∷ ops) (first, others) =
+    cond-ind (λ (a : Asked). InWords (beginsWith s a cs)) (eqb kind (kindNumber op)) (λ _. (first, h)) (λ _. each-in-words s kind cs h ops others)
+
 asked-in-words : (s kind key information : ℕ) (cs : List Call) → key < wordRange → information < wordRange → InWords cs
     → InWords (beginsWith s (askedBy kind key information) cs)
+unfolding wordRange
 asked-in-words s kind key information cs hk hi h =
-    let In : Asked → Type 0 = λ (a : Asked). InWords (beginsWith s a cs) in
-    cond-ind In (eqb kind 1)
-    (λ _. (hk, h))
-    (λ _. cond-ind In (eqb kind 2)
-    (λ _. ((hk, hi), h))
-    (λ _. cond-ind In (eqb kind 3)
-    (λ _. (hk, h))
-    (λ _. cond-ind In (eqb kind 4) (λ _. (hk, h)) (λ _. cond-ind In (eqb kind 5) (λ _. ((hk, hi), h)) (λ _. h)))))
+    let no : 0 < wordRange = omega arith in
+    each-in-words s kind cs h (operations key information) ((hk, no), ((hk, hi), ((hk, no), ((hk, no), ((hk, hi), tt)))))
 
 follow-in-words : (calls : List Went) (cells ws last lastWs : List ℕ) → Follow cells ws calls last lastWs → InWords (callsIn calls)
 unfolding callsIn

@@ -36,11 +36,12 @@ use Rattle.runs.specs.Stance.{Safe, StandsAtLeaf}
 use Rattle.runs.proofs.PlainLaws.{none-below, below-none}
 use Rattle.runs.proofs.Needing.{Course}
 use Rattle.runs.proofs.Across.{top-upward}
+use Rattle.runs.proofs.Stepping.{at-leaf-test, test-at-leaf}
 use Rattle.promises.specs.Terms.{Exactly, In}
 use Rattle.promises.specs.SoundPages.{RoutesTo, KeptRightly, SiblingsSoFar, WouldWant, alone, lower, leafSibling, fatherSibling, across, onward, SoundForStep}
 use Rattle.promises.proofs.Terms.{in-member}
 use Rattle.promises.proofs.Demand2.{safe-is}
-use Rattle.promises.proofs.SoundPages.{Pages, pages-told, pages-from, Rising, Stands, place-told, route-same, at-leaf-told, at-leaf-from, fitting-told, fitting-from}
+use Rattle.promises.proofs.SoundPages.{Pages, pages-told, pages-from, Rising, Stands, place-told, route-same, fitting-told, fitting-from}
 
 -- What a granted step comes to: the operation ends and would want nothing; or it goes on to the one page that it would want.
 pub data Comes (k : ℕ) (memory : ℕ → Page) (z : Stand) (v : Verdict) : Type 0 where
@@ -420,8 +421,8 @@ module _ (op : Op) (k : ℕ) (memory : ℕ → Page) (free path beside : List �
   unfolding granted
   granted-comes =
       cond-ind (Comes k memory (stand op path beside want)) (atItsLeaf memory (reverse path))
-      (λ l. beside-comes (at-leaf-told memory path l))
-      (λ l. down-comes op k memory free path beside want (λ a. not-both (at-leaf-from memory path a) l) (kept-so .begins) rising)
+      (λ l. beside-comes (test-at-leaf memory path l))
+      (λ l. down-comes op k memory free path beside want (λ a. not-both (at-leaf-test memory path a) l) (kept-so .begins) rising)
 
 -- the keys of every page that it holds or wants rise
 module _ (k n : ℕ) (ws path beside : List ℕ) (want : ℕ) (pages : Pages k n ws (path ++ beside ++ want ∷ [])) where

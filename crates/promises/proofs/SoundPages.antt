@@ -6,7 +6,7 @@ use mathlib.Core.Logic.{_⊎_, inl, inr, ⊎-elim, _≢_}
 use mathlib.Core.Path.{_≡_, refl, sym, ap, subst, _∙_}
 use native.Mathlib.Omega.{arith}
 use lib.Dec.{leb, ltb, eqb}
-use lib.ListN.{length, getD, drop, length-append, length-drop, length-reverse}
+use lib.ListN.{length, getD, drop, length-append, length-drop}
 use lib.Seq.{getD-drop}
 use borrow.Author.Tests.{leb-true, le-leb, ltb-true, lt-ltb, eqb-true, eqb-false, eq-eqb, ne-eqb, not-true}
 use Rattle.ground.specs.Limits.{tallest}
@@ -30,6 +30,7 @@ use Rattle.tree.proofs.DeletionRule.{needs-length}
 use Rattle.runs.specs.Stance.{StandsAtLeaf}
 use Rattle.runs.proofs.PlainLaws.{none-below, below-none}
 use Rattle.runs.proofs.Needing.{course-needs, needs-course}
+use Rattle.runs.proofs.Stepping.{at-leaf-test, test-at-leaf}
 use Rattle.promises.specs.Terms.{In}
 use Rattle.promises.specs.SoundPages.{PageSound, PlaceIs, RoutesTo, Way, KeptRightly, ComesDown, SiblingsSoFar, AsksSibling, LeftmostWay, GoesAcross}
 use Rattle.promises.proofs.Terms.{in-member}
@@ -364,20 +365,6 @@ across-from op k memory (top ∷ below) second want g =
 
 -- ---- the pages that the rules would have it hold and want
 
-at-leaf-up : (memory : ℕ → Page) (up : List ℕ) → atItsLeaf memory up ≡ true → (1 ≤ length up) × (memory (getD up 0 0) .level ≡ 1)
-at-leaf-up memory [] h = absurd (false≢true h)
-at-leaf-up memory (p ∷ up) h = (omega arith, eqb-true (memory p .level) 1 h)
-
-up-at-leaf : (memory : ℕ → Page) (up : List ℕ) → (1 ≤ length up) × (memory (getD up 0 0) .level ≡ 1) → atItsLeaf memory up ≡ true
-up-at-leaf memory [] (b, e) = absurd (omega (arith, b))
-up-at-leaf memory (p ∷ up) (b, e) = eq-eqb (memory p .level) 1 e
-
-pub at-leaf-told : (memory : ℕ → Page) (path : List ℕ) → atItsLeaf memory (reverse path) ≡ true → StandsAtLeaf memory path
-at-leaf-told memory path h = let (b, e) = at-leaf-up memory (reverse path) h in (omega (arith, b, length-reverse path), e)
-
-pub at-leaf-from : (memory : ℕ → Page) (path : List ℕ) → StandsAtLeaf memory path → atItsLeaf memory (reverse path) ≡ true
-at-leaf-from memory path (b, e) = up-at-leaf memory (reverse path) (omega (arith, b, length-reverse path), e)
-
 abbrev pub Stands : ℕ → (ℕ → Page) → Stand → Type 0
 Stands k memory z = ComesDown memory z ⊎ (AsksSibling k memory z ⊎ GoesAcross k memory z)
 
@@ -396,8 +383,8 @@ module _ (op : Op) (k : ℕ) (memory : ℕ → Page) (path beside : List ℕ) (w
       let rest = cond (atItsLeaf memory (reverse path)) atIt above in (
         kept-told op k memory path beside want (and-first keep rest h),
         by-test (atItsLeaf memory (reverse path))
-            (λ l. at-it (at-leaf-told memory path l) (sym (cond-true atIt above l) ∙ and-second keep rest h))
-            (λ l. inl (down (λ a. not-both (at-leaf-from memory path a) l) (sym (cond-false atIt above l) ∙ and-second keep rest h))),
+            (λ l. at-it (test-at-leaf memory path l) (sym (cond-true atIt above l) ∙ and-second keep rest h))
+            (λ l. inl (down (λ a. not-both (at-leaf-test memory path a) l) (sym (cond-false atIt above l) ∙ and-second keep rest h))),
       )
     where
       at-it : StandsAtLeaf memory path → atIt ≡ true → Stands k memory (stand op path beside want)
@@ -421,13 +408,13 @@ module _ (op : Op) (k : ℕ) (memory : ℕ → Page) (path beside : List ℕ) (w
   fitting-from f s =
       and-both (kept-from op k memory path beside want f)
       (⊎-elim
-      (λ c. cond-false atIt above (false-if-not-true (atItsLeaf memory (reverse path)) (λ l. c .aboveLeaf (at-leaf-told memory path l)))
+      (λ c. cond-false atIt above (false-if-not-true (atItsLeaf memory (reverse path)) (λ l. c .aboveLeaf (test-at-leaf memory path l)))
       ∙ and-both (way-from memory (keyOf op) (path ++ want ∷ []) (c .way)) (ap isNone (c .nothingBeside)))
       (⊎-elim
-      (λ a. cond-true atIt above (at-leaf-from memory path (a .atLeaf))
+      (λ a. cond-true atIt above (at-leaf-test memory path (a .atLeaf))
       ∙ and-both (way-from memory (keyOf op) path (a .way))
       (or-first (rightlyAcross k memory (stand op path beside want) path) (so-far-from op k memory path (reverse path) beside want (a .deletes) (a .siblings))))
-      (λ a. cond-true atIt above (at-leaf-from memory path (a .atLeaf))
+      (λ a. cond-true atIt above (at-leaf-test memory path (a .atLeaf))
       ∙ and-both (way-from memory (keyOf op) path (a .way))
       (or-second (rightlyBeside k memory (stand op path beside want) (reverse path)) (across-from op k memory path beside want a))))
       s)

@@ -19,9 +19,10 @@ use Rattle.slots.specs.Locks.{lockHeldAt, clash}
 use Rattle.slots.specs.Sound.{withinLimits, sound}
 use Rattle.slots.proofs.SoundFacts.{SoundState, sound-facts, facts-sound}
 use Rattle.slots.proofs.Clashes.{update-alone}
+use Rattle.runs.proofs.Progress.{opened}
 use Rattle.promises.specs.Terms.{Exactly}
 use Rattle.promises.specs.SoundState.{Numbers, InLimits, IsSound}
-use Rattle.promises.proofs.Terms.{in-member, open-with, xi-updates, updates-xi, clash-xi}
+use Rattle.promises.proofs.Terms.{in-member, xi-updates, updates-xi, clash-xi}
 
 pub numbers : Numbers
 unfolding largestK largestN tallest slotCount searchHolds regradeHolds pathHolds siblingHolds
@@ -83,7 +84,7 @@ told st f = record {
   orderFits = f .waits;
   orderOnce = distinct-at (waitingOrder st) 0 (f .orderOnce);
   orderNames = λ s. (
-    (λ i. let m = in-member s (waitingOrder st) i in (f .orderBelow s m, open-with (slotAt st s .task) (f .orderOpen s m))),
+    (λ i. let m = in-member s (waitingOrder st) i in (f .orderBelow s m, opened (slotAt st s .task) (f .orderOpen s m))),
     (λ o. member-at s (waitingOrder st) 0 (f .orderNames s (o .0) (ap isOpen (o .1 .1)))),
   );
   below = λ s p b o i. f .slot s b .below (ap isOpen (o .1)) p (in-member p (wantAt st s ∷ held (slotAt st s)) i);
@@ -104,11 +105,11 @@ from st g = record {
   orderBelow = λ s m. g .orderNames s .0 (member-at s (waitingOrder st) 0 m) .0;
   orderOpen = λ s m. ap isOpen (g .orderNames s .0 (member-at s (waitingOrder st) 0 m) .1 .1);
   orderOnce = distinct-from (waitingOrder st) 0 (g .orderOnce);
-  orderNames = λ s b o. in-member s (waitingOrder st) (g .orderNames s .1 (b, open-with (slotAt st s .task) o));
+  orderNames = λ s b o. in-member s (waitingOrder st) (g .orderNames s .1 (b, opened (slotAt st s .task) o));
   slot = λ s b. record {
     limits = limits-from (slotAt st s .task) (slotAt st s .depth) (slotAt st s .breadth) (g .limits s b);
-    below = λ o p m. g .below s p b (open-with (slotAt st s .task) o) (member-at p (wantAt st s ∷ held (slotAt st s)) 0 m);
-    different = λ o. distinct-from (wantAt st s ∷ held (slotAt st s)) 0 (g .different s b (open-with (slotAt st s .task) o));
+    below = λ o p m. g .below s p b (opened (slotAt st s .task) o) (member-at p (wantAt st s ∷ held (slotAt st s)) 0 m);
+    different = λ o. distinct-from (wantAt st s ∷ held (slotAt st s)) 0 (g .different s b (opened (slotAt st s .task) o));
   };
   locks = λ s t b c n p h m. false-if-not-true (clash (lockHeldAt st s p) (lockHeldAt st t p)) (λ e.
       let mine = member-at p (held (slotAt st s)) 0 h in

@@ -22,11 +22,6 @@ use Rattle.promises.specs.Terms.{In, Reader}
 pub in-member : (x : ℕ) (xs : List ℕ) → In x xs → member x xs ≡ true
 in-member x xs (i, b, e) = member-from x xs i 0 b e
 
--- an open task is that of an operation
-pub open-with : (task : Task) → isOpen task ≡ true → (op : Op) × (task ≡ Open op)
-open-with Closed o = not-both o refl
-open-with (Open op) o = (op, refl)
-
 -- a ξ-lock is that of an operation that does not only read,
 pub xi-updates : (task : Task) → lockOf task ≡ Xi → (op : Op) × (task ≡ Open op) × (Reader op → ⊥)
 xi-updates Closed x = absurd (none-not-xi x)

@@ -12,7 +12,6 @@ use Rattle.ground.proofs.Bools.{true-or-false, and-first, and-second, and-both,
 use Rattle.ground.proofs.Choice.{cond-true, cond-false}
 use Rattle.pool.specs.Pool.{poolLength, fresh}
 use Rattle.slots.specs.declared.Op.{Op}
-use Rattle.slots.specs.declared.Op.the-variants.{Search, Insert, Delete, Next, Regrade}
 use Rattle.slots.specs.declared.Slot.{Slot}
 use Rattle.slots.specs.declared.State.{State}
 use Rattle.slots.specs.declared.Outcome.{Outcome}
@@ -29,16 +28,9 @@ use Rattle.index.specs.Make.{made}
 use Rattle.tree.specs.Tree.{Tr, entriesOf, PoolForms}
 use Rattle.tree.specs.Facts.{emptyTree}
 use Rattle.tree.proofs.Words.{fresh-forms}
-use Rattle.runs.specs.Run.{Call, begin, step, report, called, run, Start, IsStart, freshPool, runFrom, OpInWords, CallInWords, InWords, Run}
+use Rattle.runs.specs.Run.{Call, begin, step, report, called, run, Start, IsStart, freshPool, runFrom, CallInWords, InWords, Run}
 use Rattle.runs.proofs.Invariant.{Invariant}
 use Rattle.runs.proofs.Calls.{StepOf, noSlot, idle, waits, onward, over, step-of, step-keeps, begin-keeps}
-
-pub key-in-words : (op : Op) → OpInWords op → keyOf op < wordRange
-key-in-words (Search x) h = h
-key-in-words (Insert x v) h = h .0
-key-in-words (Delete x) h = h
-key-in-words (Next x) h = h
-key-in-words (Regrade x v) h = h .0
 
 -- What a begin comes to in a run.
 pub data BeginOf (st : State) (s : ℕ) (op : Op) : Type 0 where
@@ -85,7 +77,7 @@ module _ (st : State) (ws : List ℕ) (inv : Invariant st ws) where
   -- Every call keeps what holds of a run.
   pub call-keeps : (c : Call) → CallInWords c → Invariant (called st ws c .state) (called st ws c .words)
   unfolding called
-  call-keeps (begin s op) h = begun-keeps s op (key-in-words op h) (begin-of s op)
+  call-keeps (begin s op) h = begun-keeps s op (h .0) (begin-of s op)
   call-keeps (step s) h = step-keeps st ws inv s (step-of st ws inv s)
   call-keeps (report p) h = inv
 

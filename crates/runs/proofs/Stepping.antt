@@ -118,10 +118,10 @@ leaf-first : (memory : ℕ → Page) (up : List ℕ) → atItsLeaf memory up ≡
 leaf-first memory [] test = absurd (false≢true test)
 leaf-first memory (p ∷ up) test = (omega arith, eqb-true (memory p .level) 1 test)
 
-at-leaf-test : (memory : ℕ → Page) (path : List ℕ) → StandsAtLeaf memory path → atItsLeaf memory (reverse path) ≡ true
+pub at-leaf-test : (memory : ℕ → Page) (path : List ℕ) → StandsAtLeaf memory path → atItsLeaf memory (reverse path) ≡ true
 at-leaf-test memory path at = first-leaf memory (reverse path) (omega (arith, at .0, length-reverse path)) (at .1)
 
-test-at-leaf : (memory : ℕ → Page) (path : List ℕ) → atItsLeaf memory (reverse path) ≡ true → StandsAtLeaf memory path
+pub test-at-leaf : (memory : ℕ → Page) (path : List ℕ) → atItsLeaf memory (reverse path) ≡ true → StandsAtLeaf memory path
 test-at-leaf memory path test =
     let (some, level) = leaf-first memory (reverse path) test in
     (omega (arith, some, length-reverse path), level)

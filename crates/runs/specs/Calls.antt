@@ -6,11 +6,11 @@ use mathlib.Core.List.{List, [], _∷_}
 use lib.Dec.{eqb}
 use Rattle.ground.specs.Limits.{wordRange}
 use Rattle.slots.specs.declared.Op.{Op}
-use Rattle.slots.specs.declared.Op.the-variants.{Search, Insert, Delete, Next, Regrade}
 use Rattle.slots.specs.declared.Lock.the-variants.{None}
 use Rattle.slots.specs.declared.Answer.{Answer}
 use Rattle.slots.specs.declared.Answer.the-variants.{Waiting, Moved, Begun, Reported, BadSlot, SlotBusy, SlotIdle, BadPage}
 use Rattle.slots.specs.declared.State.{State}
+use Rattle.slots.specs.Operations.{keyOf, informationOf}
 use Rattle.slots.specs.Heard.{ending}
 use Rattle.slots.specs.Begin.{begun}
 use Rattle.slots.specs.Report.{reported}
@@ -28,17 +28,10 @@ called st ws (begin s op) = left (begun st s op .answer) (begun st s op .state) 
 called st ws (step s) = stepped st ws s
 called st ws (report p) = left (reported st p) st ws
 
--- "Keys and information are any 32-bit unsigned numbers."
-abbrev pub OpInWords : Op → Type 0
-OpInWords (Search x) = x < wordRange
-OpInWords (Insert x v) = (x < wordRange) × (v < wordRange)
-OpInWords (Delete x) = x < wordRange
-OpInWords (Next x) = x < wordRange
-OpInWords (Regrade x v) = (x < wordRange) × (v < wordRange)
-
--- a call as a caller can make it: slots and pages are any numbers
+-- A call as a caller can make it. "Keys and information are any 32-bit unsigned numbers." (An operation without information has 0 for it.)
+-- Slots and pages are any numbers.
 abbrev pub CallInWords : Call → Type 0
-CallInWords (begin s op) = OpInWords op
+CallInWords (begin s op) = (keyOf op < wordRange) × (informationOf op < wordRange)
 CallInWords (step s) = Unit {0}
 CallInWords (report p) = Unit {0}
 

@@ -10,7 +10,7 @@ use Rattle.pool.specs.Pool.{poolLength}
 use Rattle.slots.specs.declared.Answer.{Answer}
 use Rattle.slots.specs.declared.State.{State}
 use Rattle.index.specs.Make.{made}
-pub use Rattle.runs.specs.Calls.{Call, begin, step, report, OpInWords, CallInWords}
+pub use Rattle.runs.specs.Calls.{Call, begin, step, report, CallInWords}
 unfoldable pub use Rattle.runs.specs.Calls.{called}
 
 -- What is answered, call by call, and what the last call left.

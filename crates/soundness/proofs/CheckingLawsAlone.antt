@@ -24,7 +24,7 @@ use Rattle.slots.specs.Sound.{noClashingHolds}
 use Rattle.slots.proofs.LockLaws.{clash-swap, others-go, others-go-from}
 use Rattle.lent.specs.Layout.{rowLength, kindRow, depthRow, breadthRow, pathRow, besideRow}
 use Rattle.lent.specs.Words.{cell, column, slotIn, asRead, known}
-use Rattle.lent.specs.Holds.{WithinRows, updatesKind, lockNamed, othersHold}
+use Rattle.lent.specs.Holds.{WithinRows, updatesKind, openLock, othersHold}
 use Rattle.lent.proofs.StateLaws.{slot-read}
 use Rattle.lent.proofs.HoldLaws.{held-read, others-words}
 use Rattle.soundness.specs.Checking.{updates, aloneIn, xiAlone}
@@ -53,7 +53,7 @@ open-updates zero x = not-both x refl
 open-updates (suc kind) x = ne-eqb (suc kind) 0 (λ z. absurd (omega arith))
 
 -- the lock of that number
-named : (xi : Bool) → lockNamed (cond xi (lockNumber Xi) (lockNumber Rho)) ≡ cond xi Xi Rho
+named : (xi : Bool) → openLock (cond xi (lockNumber Xi) (lockNumber Rho)) ≡ cond xi Xi Rho
 named true = refl
 named false = refl
 

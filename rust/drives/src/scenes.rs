@@ -3,7 +3,7 @@
 
 use draw::Random;
 use moments::{built, draw, limits, next_call, operation, Call, Draw, Moment};
-use twin::{is_sound, kind, page_words, state_of, Op, State, STATE};
+use twin::{at, is_sound, kind, page_words, row, state_of, Op, State, FRONT, SLOTS, STATE};
 use versus::spoiled;
 
 use crate::scene::{call_line, Scene};
@@ -257,21 +257,21 @@ fn pool_place(random: &mut Random, draw: &Draw, scene: &mut Scene) -> usize {
 
 /// A word of the state, best one of an open slot.
 fn state_place(random: &mut Random, scene: &Scene) -> usize {
-    let open: Vec<usize> = (0..16)
-        .filter(|slot| scene.drive.state[19 + slot] != kind::CLOSED)
+    let open: Vec<usize> = (0..SLOTS)
+        .filter(|&slot| scene.drive.state[at(row::KIND, slot)] != kind::CLOSED)
         .collect();
     let slot = if open.is_empty() || random.percent(20) {
-        random.below(16) as usize
+        random.below(SLOTS as u64) as usize
     } else {
         random.one(&open)
     };
     match random.below(12) {
         0 => random.below(3) as usize,
-        1 | 2 => random.below(19) as usize,
+        1 | 2 => random.below(FRONT as u64) as usize,
         3 => random.below(STATE as u64 + 1) as usize,
-        4 | 5 => 19 + 16 * random.below(8) as usize + slot,
-        6 | 7 => 19 + 16 * (16 + random.below(3) as usize) + slot,
-        _ => 19 + 16 * random.below(6) as usize + slot,
+        4 | 5 => at(random.below(row::PATH as u64 + 2) as usize, slot),
+        6 | 7 => at(row::SIBLINGS + random.below(3) as usize, slot),
+        _ => at(random.below(row::PATH as u64) as usize, slot),
     }
 }
 
@@ -329,18 +329,19 @@ fn raw_scene(random: &mut Random, scene: &mut Scene) {
     let mut state = [0; STATE];
     state[0] = k;
     state[1] = n;
-    for slot in 0..16 {
+    for slot in 0..SLOTS {
         if random.percent(open) {
             state[3 + state[2] as usize] = slot as u32;
             state[2] += 1;
-            for row in 0..26 {
-                state[19 + 16 * row + slot] = random.below(most) as u32;
+            for row in 0..row::COUNT {
+                state[at(row, slot)] = random.below(most) as u32;
             }
-            state[19 + slot] =
+            state[at(row::KIND, slot)] =
                 random.from(u64::from(kind::SEARCH), u64::from(kind::REGRADE)) as u32;
         } else if random.percent(20) {
-            // a closed slot's key and information are not looked at
-            state[19 + 16 * random.from(1, 3) as usize + slot] = 7;
+            // a closed slot's key, information and want are not looked at
+            let any = random.from(row::KEY as u64, row::WANT as u64) as usize;
+            state[at(any, slot)] = 7;
         }
     }
     if random.percent(50) {

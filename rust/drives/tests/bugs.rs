@@ -3,9 +3,10 @@
 use draw::Random;
 use drive_twin::{Calls, Twin};
 use drives::{cases, compare, draw_scene, smallest, Scene, KINDS};
+use twin::row::{BESIDE, DEPTH, INFORMATION, KEY, KIND, PATH, WANT};
 use twin::{
-    begin_lent, free_pages, kind, make_lent, page_words, report_lent, step_lent, words_of, Answer,
-    Op, State, STATE,
+    at, begin_lent, free_pages, kind, make_lent, page_words, report_lent, step_lent, words_of,
+    Answer, Op, State, STATE,
 };
 
 /// A call that something is wrong with.
@@ -126,19 +127,6 @@ fn request_bugs() -> impl Iterator<Item = Bug> {
         .chain(REGRADE_BUGS)
 }
 
-/// Where a row has the word of a slot.
-fn at(row: usize, slot: usize) -> usize {
-    19 + 16 * row + slot
-}
-
-const KIND: usize = 0;
-const KEY: usize = 1;
-const INFORMATION: usize = 2;
-const WANT: usize = 3;
-const DEPTH: usize = 4;
-const SIBLINGS: usize = 5;
-const PATH: usize = 6;
-
 impl Calls for Bug {
     fn make(&self, k: u32, n: u32, state: &mut [u32; STATE], words: &mut [u32]) -> Answer {
         let answer = make_lent(k, n, state, words);
@@ -196,7 +184,7 @@ impl Calls for Bug {
                 }
                 answer
             }
-            (Bug::SiblingUnlocked, Answer::Moved) if state[at(SIBLINGS, slot)] > 0 => {
+            (Bug::SiblingUnlocked, Answer::Moved) if state[at(BESIDE, slot)] > 0 => {
                 step_lent(state, words, slot)
             }
             (Bug::FreedNotZeroed, Answer::Deleted(_)) => {
@@ -279,7 +267,7 @@ impl Bug {
         slot: usize,
         answer: Answer,
     ) -> Answer {
-        let (depth, beside) = (state[at(DEPTH, slot)], state[at(SIBLINGS, slot)]);
+        let (depth, beside) = (state[at(DEPTH, slot)], state[at(BESIDE, slot)]);
         let key = before[at(KEY, slot)];
         match (self, answer) {
             (Bug::NextGivesUp, Answer::Moved) if depth > 1 && beside == 0 => {
@@ -300,9 +288,9 @@ impl Bug {
                 let entry = page_start(before, before[at(WANT, slot)]) + 2;
                 return Answer::Next(words[entry], words[entry + 1]);
             }
-            (Bug::NextForgetsBeside, Answer::Moved) if beside > 0 => state[at(SIBLINGS, slot)] = 0,
+            (Bug::NextForgetsBeside, Answer::Moved) if beside > 0 => state[at(BESIDE, slot)] = 0,
             (Bug::NextBesideUnsound, Answer::Moved | Answer::Next(..))
-                if before[at(SIBLINGS, slot)] > 0 =>
+                if before[at(BESIDE, slot)] > 0 =>
             {
                 *state = *before;
                 return Answer::BadState;

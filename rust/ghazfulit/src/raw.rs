@@ -9,7 +9,8 @@ pub const ANSWER: usize = 4;
 /// An answer: its number and its values.
 pub type Answer = [u32; ANSWER];
 
-mod archive {
+/// The functions as they are, for the functions below and for a test that makes calls as a C program does.
+pub mod archive {
     extern "C" {
         pub fn ghazfulit_make(
             k: u32,

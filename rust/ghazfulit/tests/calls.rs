@@ -7,6 +7,11 @@ use std::process::Command;
 
 use draw::Random;
 use ghazfulit::{numbers, ANSWER, SLOTS, STATE};
+use raw::archive;
+
+#[allow(dead_code)]
+#[path = "../src/raw.rs"]
+mod raw;
 
 const TABLE: &str = include_str!("../../../docs/CALLS.md");
 const HEADER: &str = include_str!("../../../include/ghazfulit.h");
@@ -92,27 +97,6 @@ fn a_c_compiler_reads_the_header_so() {
     assert!(status.expect("there is a C compiler").success());
 }
 
-extern "C" {
-    fn ghazfulit_make(
-        k: u32,
-        n: u32,
-        state: *mut u32,
-        words: *mut u32,
-        length: usize,
-        answer: *mut u32,
-    );
-    fn ghazfulit_begin(
-        state: *mut u32,
-        slot: u32,
-        kind: u32,
-        key: u32,
-        information: u32,
-        answer: *mut u32,
-    );
-    fn ghazfulit_step(state: *mut u32, words: *mut u32, length: usize, slot: u32, answer: *mut u32);
-    fn ghazfulit_report(state: *const u32, page: u32, answer: *mut u32);
-}
-
 /// A call as a C program makes it.
 #[derive(Clone, Copy)]
 enum Call {
@@ -167,12 +151,12 @@ impl Met {
         // SAFETY: as many words are there as the calls ask for or are told, and nobody else has them.
         unsafe {
             match call {
-                Call::Make(k, n) => ghazfulit_make(k, n, state, words, length, out),
+                Call::Make(k, n) => archive::ghazfulit_make(k, n, state, words, length, out),
                 Call::Begin(slot, kind, key) => {
-                    ghazfulit_begin(state, slot, kind, key, key + 1, out)
+                    archive::ghazfulit_begin(state, slot, kind, key, key + 1, out)
                 }
-                Call::Step(slot) => ghazfulit_step(state, words, length, slot, out),
-                Call::Report(page) => ghazfulit_report(state, page, out),
+                Call::Step(slot) => archive::ghazfulit_step(state, words, length, slot, out),
+                Call::Report(page) => archive::ghazfulit_report(state, page, out),
             }
         }
         answer

@@ -12,19 +12,38 @@
 use crate::answer::Answer;
 use crate::calls;
 use crate::op::{kind, Op};
-use crate::state::{Slot, State, PATH, SIBLINGS, SLOTS};
+use crate::state::{Slot, State, SLOTS};
 
 /// Words before the rows: k, N, how many wait, and the waiting order.
-const FRONT: usize = 3 + SLOTS;
-/// Rows before those of the path.
-const SINGLE: usize = 6;
-/// Rows in all.
-const ROWS: usize = SINGLE + PATH + SIBLINGS;
+pub const FRONT: usize = 3 + SLOTS;
+
+/// Rows by what they say of a slot.
+pub mod row {
+    /// Its kind; 0 of a closed one.
+    pub const KIND: usize = 0;
+    /// Its key.
+    pub const KEY: usize = 1;
+    /// Its information.
+    pub const INFORMATION: usize = 2;
+    /// The page that it wants.
+    pub const WANT: usize = 3;
+    /// How long its path is.
+    pub const DEPTH: usize = 4;
+    /// How many pages stand beside it.
+    pub const BESIDE: usize = 5;
+    /// From here on the path.
+    pub const PATH: usize = 6;
+    /// From here on the pages beside it.
+    pub const SIBLINGS: usize = PATH + crate::state::PATH;
+    /// Rows in all.
+    pub const COUNT: usize = SIBLINGS + crate::state::SIBLINGS;
+}
+
 /// How many words a state has.
-pub const STATE: usize = FRONT + SLOTS * ROWS;
+pub const STATE: usize = FRONT + SLOTS * row::COUNT;
 
 /// Where a row has the word of a slot.
-fn at(row: usize, slot: usize) -> usize {
+pub fn at(row: usize, slot: usize) -> usize {
     FRONT + SLOTS * row + slot
 }
 
@@ -44,17 +63,17 @@ pub fn state_of(words: &[u32; STATE]) -> Option<State> {
 /// One slot of the words.
 fn slot_of(words: &[u32; STATE], number: usize) -> Option<Slot> {
     let word = |row: usize| words[at(row, number)];
-    let op = match word(0) {
+    let op = match word(row::KIND) {
         kind::CLOSED => None,
-        kind => Some(Op::of(kind, word(1), word(2))?),
+        kind => Some(Op::of(kind, word(row::KEY), word(row::INFORMATION))?),
     };
     Some(Slot {
         op,
-        want: word(3),
-        depth: word(4) as usize,
-        beside: word(5) as usize,
-        path: std::array::from_fn(|i| word(SINGLE + i)),
-        siblings: std::array::from_fn(|i| word(SINGLE + PATH + i)),
+        want: word(row::WANT),
+        depth: word(row::DEPTH) as usize,
+        beside: word(row::BESIDE) as usize,
+        path: std::array::from_fn(|i| word(row::PATH + i)),
+        siblings: std::array::from_fn(|i| word(row::SIBLINGS + i)),
     })
 }
 
@@ -82,17 +101,18 @@ fn write_order(words: &mut [u32; STATE], state: &State) {
 fn write_slot(words: &mut [u32; STATE], state: &State, number: usize) {
     let slot = &state.slots[number];
     let (kind, key, information) = slot.op.map_or((kind::CLOSED, 0, 0), Op::numbers);
-    let single = [
-        kind,
-        key,
-        information,
-        slot.want,
-        slot.depth as u32,
-        slot.beside as u32,
-    ];
-    let cells = single.iter().chain(&slot.path).chain(&slot.siblings);
-    for (row, &cell) in cells.enumerate() {
-        words[at(row, number)] = cell;
+    let mut write = |row: usize, cell: u32| words[at(row, number)] = cell;
+    write(row::KIND, kind);
+    write(row::KEY, key);
+    write(row::INFORMATION, information);
+    write(row::WANT, slot.want);
+    write(row::DEPTH, slot.depth as u32);
+    write(row::BESIDE, slot.beside as u32);
+    for (i, &page) in slot.path.iter().enumerate() {
+        write(row::PATH + i, page);
+    }
+    for (i, &page) in slot.siblings.iter().enumerate() {
+        write(row::SIBLINGS + i, page);
     }
 }
 

@@ -28,7 +28,9 @@ mod state;
 
 pub use answer::Answer;
 pub use calls::{begin, make, report, step};
-pub use lent::{begin_lent, make_lent, report_lent, state_of, step_lent, words_of, STATE};
+pub use lent::{
+    at, begin_lent, make_lent, report_lent, row, state_of, step_lent, words_of, FRONT, STATE,
+};
 pub use locks::must_wait;
 pub use op::{kind, Op};
 pub use page::{free_pages, page_words, read_page, Page};
