@@ -1,5 +1,6 @@
-/* Two buyers on one list: the house enters a lot while a buyer looks for it, and then downgrades it while one does. At the end all lots
- * are listed, each by a question of its own. Writes each answer by its number. */
+/* Two buyers on one list: the house enters a lot while a buyer looks for it, and then downgrades it while one does. Then all lots are listed,
+ * each by a question of its own. At the end the house enters a lot by the second way, and a buyer is on the top page with it. Writes each
+ * answer by its number. */
 #include <stdio.h>
 
 #include "ghazfulit.h"
@@ -32,6 +33,7 @@ static void say(const char *what, const uint32_t *answer) {
 static const char *asked(uint32_t kind) {
     switch (kind) {
     case GHAZFULIT_INSERT: return "the house enters a lot";
+    case GHAZFULIT_INSERT_SECOND: return "the house enters a lot by the second way";
     case GHAZFULIT_REGRADE: return "the house downgrades a lot";
     default: return "a buyer looks for a lot";
     }
@@ -105,5 +107,13 @@ int main(void) {
         finish(0, answer);
     }
     list(11);
+    begin(0, GHAZFULIT_INSERT_SECOND, 35, 4);
+    begin(1, GHAZFULIT_SEARCH, 12, 0);
+    step(0);
+    step(1);
+    ghazfulit_report(state, 0, answer);
+    say("page 0", answer);
+    step(0);
+    step(1);
     return 0;
 }

@@ -3,7 +3,7 @@
 
 use std::collections::VecDeque;
 
-use ghazfulit::{Index, Op, Refusal, Stop, SLOTS};
+use ghazfulit::{Index, Op, Refusal, Stop, Way, SLOTS};
 
 /// Who asks, and what for.
 struct Request {
@@ -67,16 +67,16 @@ impl Server {
     }
 }
 
-/// The house enters fourteen lots; then it enters one more while buyers look for the last of them, and one for what follows. At
-/// last it downgrades that lot while two look for it: one finds it as it was, one as it is, and nobody misses it. Then all lots from 120 on
-/// are listed.
+/// The house enters fourteen lots; then it enters one more while buyers look for the last of them, and one for what follows: they wait for it
+/// at the top page. At last it downgrades that lot while two look for it, and goes the second way, so that they meet it on the leaf alone: one
+/// finds the lot as it was, one as it is, and nobody misses it. Then all lots from 120 on are listed.
 fn main() -> Result<(), Stop> {
     let house = |op| Request { who: "house", op };
-    let enter = |key, information| house(Op::Insert { key, information });
-    let regrade = |key, information| house(Op::Regrade { key, information });
+    let enter = |key, information| house(Op::insert(key, information));
+    let regrade = |key, information| house(Op::regrade(key, information).by(Way::Second));
     let look = |who, key| Request {
         who,
-        op: Op::Search { key },
+        op: Op::search(key),
     };
     let mut server = Server::new((1..15).map(|i| enter(10 * i, 5)))?;
     server.run(1)?;
@@ -88,7 +88,7 @@ fn main() -> Result<(), Stop> {
         look("third buyer", 999),
         Request {
             who: "fourth buyer",
-            op: Op::Next { key: 141 },
+            op: Op::next(141),
         },
     ]);
     server.run(5)?;

@@ -20,11 +20,12 @@ extern "C" {
 #endif
 
 /* Raised with every change of a number, of an answer's values or of what the words of the state mean. 2: AlreadyThere has a value,
- * and Next never tells a key below the one asked for. ghazfulit_version() gives the archive's own. */
-#define GHAZFULIT_VERSION 2
+ * and Next never tells a key below the one asked for. 3: updates by the second way, and for them a row more of the state.
+ * ghazfulit_version() gives the archive's own. */
+#define GHAZFULIT_VERSION 3
 
 /* Words of a state, words of an answer, slots, and the largest k and n. */
-#define GHAZFULIT_STATE 435
+#define GHAZFULIT_STATE 451
 #define GHAZFULIT_ANSWER 4
 #define GHAZFULIT_SLOTS 16
 #define GHAZFULIT_LARGEST_K 16
@@ -33,13 +34,19 @@ extern "C" {
 /* Words of a pool of n pages of width k. */
 #define GHAZFULIT_WORDS(k, n) ((size_t)(n) * (4 * (size_t)(k) + 3))
 
-/* Kinds of operation. */
+/* Kinds of operation. An update has two ways, and does the same by both. By the first it takes xi-locks from page 0 on: what it holds
+ * nobody else can read. By the second it goes down with rho-locks, beside all who read, and wants xi on its leaf alone. Where the
+ * change would reach beyond the leaf, and where page 0 is a leaf, it gives up what it holds and begins again by the first way; that is
+ * answered Moved. */
 enum {
     GHAZFULIT_SEARCH = 1,
     GHAZFULIT_INSERT = 2,
     GHAZFULIT_DELETE = 3,
     GHAZFULIT_NEXT = 4,           /* the first lot at or above a key */
-    GHAZFULIT_REGRADE = 5         /* new information under a key that is there */
+    GHAZFULIT_REGRADE = 5,        /* new information under a key that is there */
+    GHAZFULIT_INSERT_SECOND = 6,  /* the same three updates by the second way */
+    GHAZFULIT_DELETE_SECOND = 7,
+    GHAZFULIT_REGRADE_SECOND = 8
 };
 
 /* Answers. Below 32 are refusals. */
@@ -53,7 +60,7 @@ enum {
     GHAZFULIT_BAD_PAGE = 7,       /* a report for a page n or above */
     GHAZFULIT_BAD_KIND = 31,      /* a kind of operation that does not exist */
     GHAZFULIT_WAITING = 32,       /* the lock is not to be had yet */
-    GHAZFULIT_MOVED = 33,         /* one lock more */
+    GHAZFULIT_MOVED = 33,         /* one lock more; or all given up, and the update begins again */
     GHAZFULIT_FOUND = 34,         /* with the information */
     GHAZFULIT_NOT_FOUND = 35,
     GHAZFULIT_INSERTED = 36,
@@ -76,7 +83,7 @@ enum {
     (((number) >= GHAZFULIT_FOUND && (number) <= GHAZFULIT_NO_ROOM) || \
      ((number) >= GHAZFULIT_NEXT_LOT && (number) <= GHAZFULIT_REGRADED))
 
-/* Kinds of lock, as a report has them. */
+/* Kinds of lock, as a report has them: rho of a search, a Next or an update by the second way, xi of an update by the first. */
 enum {
     GHAZFULIT_LOCK_NONE = 0,
     GHAZFULIT_LOCK_RHO = 1,

@@ -4,7 +4,7 @@ use Prim.Native.Nat.{ℕ, suc, _+_, _-_}
 use mathlib.Core.Bool.{Bool, true, false, cond, not, _&&_, _||_, false≢true}
 use mathlib.Core.List.{List, [], _∷_, _++_, reverse, reverse-append}
 use mathlib.Core.Logic.{⊎-elim}
-use mathlib.Core.Path.{_≡_, refl, sym, ap, _∙_, subst}
+use mathlib.Core.Path.{_≡_, refl, sym, ap, ap₂, _∙_, subst}
 use native.Mathlib.Omega.{arith}
 use lib.Dec.{ltb}
 use lib.ListN.{length, take}
@@ -27,25 +27,36 @@ use Rattle.change.specs.Held.{Needing, Holding, leafOf, fathersOf}
 use Rattle.change.proofs.HeldLaws.{Known, held-front, upward-reverse, upward-father, holding-known}
 use Rattle.slots.specs.declared.Op.{Op}
 use Rattle.slots.specs.declared.Op.the-variants.{Search, Insert, Delete, Next, Regrade}
+use Rattle.slots.specs.declared.Way.{Way}
+use Rattle.slots.specs.declared.Way.the-variants.{First, Second}
+use Rattle.slots.specs.declared.Lock.{Lock}
 use Rattle.slots.specs.declared.Answer.{Answer}
 use Rattle.slots.specs.declared.Answer.the-variants.{Found, NotFound, Inserted, AlreadyThere, Deleted, NoSuchKey, NoRoom, Regraded}
 use Rattle.slots.specs.declared.Slot.{Slot}
-use Rattle.slots.specs.Parts.{keyOf, isNext, pathOf, besideOf, held, Stand, onPages, wantBeside, wantsNext, withOp, standOf}
+use Rattle.slots.specs.Locks.{sameLock}
+use Rattle.slots.specs.Parts.{keyOf, isNext, heldLock, pathOf, besideOf, held, Stand, onPages, wantBeside, wantsNext, withOp, standOf}
 use Rattle.course.specs.declared.judging.Course.{Course}
-use Rattle.course.specs.declared.judging.Course.the-variants.{Broken, Goes, Regrades}
-use Rattle.footing.specs.Granted.{Verdict, broken, goes, ends, isSafe, kept, deletes, byNeed, atLeaf, fromLeaf, comesDown, goesLeft, besides, atItsLeaf, granted}
-use Rattle.footing.specs.Fitting.{descends, rightlyKept, rightlyBeside, sameLevels, isSibling, isNone, rightlyAcross, fitting}
+use Rattle.course.specs.declared.judging.Course.the-variants.{Broken, Goes, Regrades, Again}
+use Rattle.footing.specs.Granted.{Verdict, broken, goes, ends, isSafe, lockBelow, kept, deletes, byNeed, again, atLeaf, fromLeaf, byWayAtLeaf, comesDown, goesLeft, besides, atItsLeaf, granted}
+use Rattle.footing.specs.Fitting.{descends, rightlyKept, rightlyBeside, sameLevels, isSibling, isNone, rightlyAcross, lockDue, fitting}
 use Rattle.footing.specs.Standing.{SlotStanding, stood}
 use Rattle.footing.proofs.AcrossLaws.{across-idle}
-use Rattle.course.specs.Judged.{onSecond, judgedAt, judged, ifNew, courseOf, ready, nextCourse, searchCourse, insertCourse, needCourse, deleteCourse, standsLast}
+use Rattle.course.specs.Judged.{onSecond, judgedAt, beginsAgain, judged, ifNew, courseOf, ready, nextCourse, searchCourse, insertCourse, needCourse, deleteCourse, standsLast}
+use Rattle.course.proofs.StandLaws.{Topped}
 
 -- ---- the rule of a granted step
 
+-- on from page p of its way
+abbrev onward : (ℕ → Page) → Stand → ℕ → Verdict
+onward memory z p = goes (wantsNext z (route (keyOf (z .op)) (memory p)) (lockBelow (z .op) (memory p)))
+
 module _ (k : ℕ) (memory : ℕ → Page) (free : List ℕ) where
-  -- what an operation does that stands at this leaf below these fathers
+  -- what an operation does that stands at this leaf below these fathers, or at a page above the leaves
+  leafAct : Stand → ℕ → List ℕ → Verdict
+  leafAct z leaf fathers = cond (beginsAgain (z .op) k memory leaf) (again (z .op)) (judgedAt (z .op) k memory free z leaf fathers)
+
   act : Stand → ℕ → List ℕ → Verdict
-  act z leaf fathers =
-      cond (isLeaf (memory leaf)) (judgedAt (z .op) k memory free z leaf fathers) (goes (wantsNext z (route (keyOf (z .op)) (memory leaf))))
+  act z leaf fathers = cond (isLeaf (memory leaf)) (leafAct z leaf fathers) (onward memory z leaf)
 
   -- a deletion that stands rightly at its leaf goes on with its siblings, a Next with its second way
   beside-acts : (op : Op) (z : Stand) (up : List ℕ) → atItsLeaf memory up ≡ true
@@ -54,64 +65,64 @@ module _ (k : ℕ) (memory : ℕ → Page) (free : List ℕ) where
       (goesLeft memory (withOp op z))
       (fromLeaf (λ (leaf : ℕ) (fathers : List ℕ). deletes k memory (keyOf op) (wantBeside (withOp op z)) leaf fathers) up)
       ≡ fromLeaf (act (wantBeside (withOp op z))) up
-  unfolding act judgedAt atLeaf goesLeft
+  unfolding act leafAct judgedAt atLeaf goesLeft
   beside-acts op z [] leaf right = absurd (false≢true leaf)
   beside-acts (Search x) z (p ∷ up) leaf right = not-both right (sym (across-idle k memory (withOp (Search x) z) (z .path) refl))
-  beside-acts (Insert x v) z (p ∷ up) leaf right = not-both right (sym (across-idle k memory (withOp (Insert x v) z) (z .path) refl))
-  beside-acts (Delete x) z (p ∷ up) leaf right =
-      let more : Stand = wantBeside (withOp (Delete x) z) in
+  beside-acts (Insert x v First) z (p ∷ up) leaf right = not-both right (sym (across-idle k memory (withOp (Insert x v First) z) (z .path) refl))
+  beside-acts (Insert x v Second) z (p ∷ up) leaf right = not-both right (sym (across-idle k memory (withOp (Insert x v Second) z) (z .path) refl))
+  beside-acts (Delete x Second) z (p ∷ up) leaf right = not-both right (sym (across-idle k memory (withOp (Delete x Second) z) (z .path) refl))
+  beside-acts (Delete x First) z (p ∷ up) leaf right =
+      let more : Stand = wantBeside (withOp (Delete x First) z) in
       let found : Bool = has x (memory p .entries) in
       let next : Bool = isSibling (needs k memory x p up (z .beside)) (z .want) in
       let levels : Bool = sameLevels memory (p ∷ up) (more .beside) in
       let there : found ≡ true =
       ⊎-elim (λ beside. and-first found next (and-first (found && next) levels beside))
-      (λ across. not-both across (sym (across-idle k memory (withOp (Delete x) z) (z .path) refl)))
-      (or-cases (found && next && levels) (rightlyAcross k memory (withOp (Delete x) z) (z .path)) right) in
+      (λ across. not-both across (sym (across-idle k memory (withOp (Delete x First) z) (z .path) refl)))
+      (or-cases (found && next && levels) (rightlyAcross k memory (withOp (Delete x First) z) (z .path)) right) in
       sym
-      (cond-true (judgedAt (Delete x) k memory free more p up) (goes (wantsNext more (route x (memory p)))) leaf
+      (cond-true (judgedAt (Delete x First) k memory free more p up) (onward memory more p) leaf
       ∙ cond-true (deletes k memory x more p up) (ends NoSuchKey []) there)
   beside-acts (Next x) z (p ∷ up) leaf right =
       let more : Stand = wantBeside (withOp (Next x) z) in
       sym
-      (cond-true (judgedAt (Next x) k memory free more p up) (goes (wantsNext more (route x (memory p)))) leaf
+      (cond-true (judgedAt (Next x) k memory free more p up) (onward memory more p) leaf
       ∙ ap (onSecond (atLeaf (Next x) k memory free more p up) memory more) (reverse-append (z .beside) (z .want ∷ [])))
-  beside-acts (Regrade x v) z (p ∷ up) leaf right = not-both right (sym (across-idle k memory (withOp (Regrade x v) z) (z .path) refl))
+  beside-acts (Regrade x v First) z (p ∷ up) leaf right = not-both right (sym (across-idle k memory (withOp (Regrade x v First) z) (z .path) refl))
+  beside-acts (Regrade x v Second) z (p ∷ up) leaf right = not-both right (sym (across-idle k memory (withOp (Regrade x v Second) z) (z .path) refl))
 
   -- without siblings the rule at a leaf is the one for an operation that comes down
   alone-acts : (op : Op) (z : Stand) (path : List ℕ) (leaf : ℕ) (fathers : List ℕ)
       → atLeaf op k memory free (onPages z path []) leaf fathers ≡ judgedAt op k memory free (onPages z path []) leaf fathers
   unfolding judgedAt
   alone-acts (Search x) z path leaf fathers = refl
-  alone-acts (Insert x v) z path leaf fathers = refl
-  alone-acts (Delete x) z path leaf fathers = refl
+  alone-acts (Insert x v way) z path leaf fathers = refl
+  alone-acts (Delete x way) z path leaf fathers = refl
   alone-acts (Next x) z path leaf fathers = refl
-  alone-acts (Regrade x v) z path leaf fathers = refl
+  alone-acts (Regrade x v way) z path leaf fathers = refl
 
   -- an operation that comes down to page p stands at a path that ends there
   down-acts : (z : Stand) (path : List ℕ) (p : ℕ) (fathers : List ℕ) → reverse path ≡ p ∷ fathers
-      → cond (isLeaf (memory p))
-      (fromLeaf (λ (leaf : ℕ) (up : List ℕ). atLeaf (z .op) k memory free (onPages z path []) leaf up) (reverse path))
-      (goes (wantsNext (onPages z path []) (route (keyOf (z .op)) (memory p))))
+      → cond (isLeaf (memory p)) (fromLeaf (byWayAtLeaf k memory free (onPages z path [])) (reverse path)) (onward memory (onPages z path []) p)
       ≡ fromLeaf (act (onPages z path [])) (reverse path)
-  unfolding act
+  unfolding act leafAct
   down-acts z path p fathers e =
       let down : Stand = onPages z path [] in
       subst
-      (λ (ups : List ℕ).
-      cond (isLeaf (memory p)) (fromLeaf (λ (leaf : ℕ) (up : List ℕ). atLeaf (z .op) k memory free down leaf up) ups) (goes (wantsNext down (route (keyOf (z .op)) (memory p))))
-      ≡ fromLeaf (act down) ups)
+      (λ (ups : List ℕ). cond (isLeaf (memory p)) (fromLeaf (byWayAtLeaf k memory free down) ups) (onward memory down p) ≡ fromLeaf (act down) ups)
       (sym e)
-      (ap (λ (v : Verdict). cond (isLeaf (memory p)) v (goes (wantsNext down (route (keyOf (z .op)) (memory p))))) (alone-acts (z .op) z path p fathers))
+      (ap (λ (v : Verdict). cond (isLeaf (memory p)) (cond (beginsAgain (z .op) k memory p) (again (z .op)) v) (onward memory down p)) (alone-acts (z .op) z path p fathers))
 
 -- What a step comes to that is granted to an operation with the right pages is what the operation does from where it then stands.
 pub granted-judged : (k : ℕ) (memory : ℕ → Page) (free : List ℕ) (z : Stand) → fitting k memory z ≡ true
     → granted k memory free z ≡ judged k memory free (stood k memory z)
-unfolding granted judged fitting besides comesDown act stood
+unfolding granted judged fitting besides comesDown act leafAct stood
 granted-judged k memory free z h =
     let leaf : Bool = atItsLeaf memory (reverse (z .path)) in
     let below : Bool = descends memory (keyOf (z .op)) (z .path ++ z .want ∷ []) && isNone (z .beside) in
     let beside : Bool = descends memory (keyOf (z .op)) (z .path) && (rightlyBeside k memory z (reverse (z .path)) || rightlyAcross k memory z (z .path)) in
-    let right : cond leaf beside below ≡ true = and-second (rightlyKept (z .op) k memory (z .path) (z .want)) (cond leaf beside below) h in
+    let fit : Bool = rightlyKept (z .op) k memory (z .path) (z .want) && sameLock (z .lock) (lockDue (z .op) memory (reverse (z .path))) in
+    let right : cond leaf beside below ≡ true = and-second fit (cond leaf beside below) h in
     split leaf refl right
   where
     split : (b : Bool) → atItsLeaf memory (reverse (z .path)) ≡ b
@@ -125,8 +136,8 @@ granted-judged k memory free z h =
         cond-ind
         (λ (l : List ℕ).
         cond (isLeaf (memory (z .want)))
-        (fromLeaf (λ (p : ℕ) (up : List ℕ). atLeaf (z .op) k memory free (onPages z l []) p up) (reverse l))
-        (goes (wantsNext (onPages z l []) (route (keyOf (z .op)) (memory (z .want)))))
+        (fromLeaf (byWayAtLeaf k memory free (onPages z l [])) (reverse l))
+        (onward memory (onPages z l []) (z .want))
         ≡ judged k memory free (onPages z l []))
         (isSafe (z .op) k (memory (z .want)))
         (λ safe. down-acts k memory free z (z .want ∷ []) (z .want) [] refl)
@@ -200,133 +211,162 @@ above stand = fathersOf (stand .depth) (stand .path)
 abbrev pub Judges : Op → ℕ → (ℕ → Page) → List ℕ → Slot → Course → Type 0
 Judges op k memory free stand course =
     (courseOf k memory free (standOf op stand) course ≡ ifNew (judged k memory free (standOf op stand)))
-    × ready op memory (pathOf stand) course
+    × ready op k memory (pathOf stand) course
 
 -- an answer, or the whole change, is no page to want next
 ends-new : (b : Bool) (a a′ : Answer) (ws ws′ : List Write) → cond b (ends a ws) (ends a′ ws′) ≡ ifNew (cond b (ends a ws) (ends a′ ws′))
 ends-new true a a′ ws ws′ = refl
 ends-new false a a′ ws ws′ = refl
 
+-- who begins again holds nothing, and so wants no page that it holds
+again-new : (op : Op) → again op ≡ ifNew (again op)
+unfolding member
+again-new op = refl
+
+-- by either way a deletion is no Next
+delete-no-next : (x : ℕ) (way : Way) → isNext (Delete x way) ≡ false
+delete-no-next x First = refl
+delete-no-next x Second = refl
+
 module _ (k : ℕ) (memory : ℕ → Page) (free : List ℕ) (stand : Slot) where
   -- the rule's word for a course
   abbrev said : Op → Course → Verdict
   said op = courseOf k memory free (standOf op stand)
 
+  -- the rule's word for an operation that stands at this leaf
+  abbrev toldAt : Op → Verdict
+  toldAt op = judgedAt op k memory free (standOf op stand) (lowest stand) (above stand)
+
   -- on to a page that is none of those held
-  pub next-judges : (op : Op) (next : ℕ) → (said op (nextCourse stand next) ≡ ifNew (goes (wantsNext (standOf op stand) next))) × ready op memory (pathOf stand) (nextCourse stand next)
-  next-judges op next = split (member next (held stand))
+  pub next-judges : (op : Op) (next : ℕ) (lock : Lock)
+      → (said op (nextCourse stand next lock) ≡ ifNew (goes (wantsNext (standOf op stand) next lock))) × ready op k memory (pathOf stand) (nextCourse stand next lock)
+  next-judges op next lock = split (member next (held stand))
     where
-      split : (b : Bool) → (said op (cond b Broken (Goes next)) ≡ cond (not b) (goes (wantsNext (standOf op stand) next)) broken) × ready op memory (pathOf stand) (cond b Broken (Goes next))
+      split : (b : Bool) → (said op (cond b Broken (Goes next lock)) ≡ cond (not b) (goes (wantsNext (standOf op stand) next lock)) broken)
+          × ready op k memory (pathOf stand) (cond b Broken (Goes next lock))
       split true = (refl, tt)
       split false = (refl, tt)
 
   module _ (up : reverse (pathOf stand) ≡ lowest stand ∷ above stand) where
     -- what the rule says above the leaves, and at a leaf
-    judged-above : (op : Op) → isLeaf (memory (lowest stand)) ≡ false
-        → judged k memory free (standOf op stand) ≡ goes (wantsNext (standOf op stand) (route (keyOf op) (memory (lowest stand))))
-    unfolding judged act
+    judged-above : (op : Op) → isLeaf (memory (lowest stand)) ≡ false → judged k memory free (standOf op stand) ≡ onward memory (standOf op stand) (lowest stand)
+    unfolding judged act leafAct
     judged-above op high =
         ap (fromLeaf (act k memory free (standOf op stand))) up
-        ∙ cond-false (judgedAt op k memory free (standOf op stand) (lowest stand) (above stand)) (goes (wantsNext (standOf op stand) (route (keyOf op) (memory (lowest stand))))) high
+        ∙ cond-false (leafAct k memory free (standOf op stand) (lowest stand) (above stand)) (onward memory (standOf op stand) (lowest stand)) high
 
-    pub judged-leaf : (op : Op) → isLeaf (memory (lowest stand)) ≡ true
-        → judged k memory free (standOf op stand) ≡ judgedAt op k memory free (standOf op stand) (lowest stand) (above stand)
-    unfolding judged act
+    judged-leaf : (op : Op) → isLeaf (memory (lowest stand)) ≡ true
+        → judged k memory free (standOf op stand) ≡ cond (beginsAgain op k memory (lowest stand)) (again op) (toldAt op)
+    unfolding judged act leafAct
     judged-leaf op low =
         ap (fromLeaf (act k memory free (standOf op stand))) up
-        ∙ cond-true (judgedAt op k memory free (standOf op stand) (lowest stand) (above stand)) (goes (wantsNext (standOf op stand) (route (keyOf op) (memory (lowest stand))))) low
+        ∙ cond-true (leafAct k memory free (standOf op stand) (lowest stand) (above stand)) (onward memory (standOf op stand) (lowest stand)) low
 
     -- above the leaves the operation goes on to where its key leads
-    pub goes-judges : (op : Op) (key next : ℕ) (course : Course) → isLeaf (memory (lowest stand)) ≡ false → key ≡ keyOf op
-        → next ≡ route key (memory (lowest stand)) → course ≡ nextCourse stand next → Judges op k memory free stand course
-    goes-judges op key next course high asked read r =
-        let on = next-judges op next in
+    pub goes-judges : (op : Op) (key next : ℕ) (lock : Lock) (course : Course) → isLeaf (memory (lowest stand)) ≡ false → key ≡ keyOf op
+        → next ≡ route key (memory (lowest stand)) → lock ≡ lockBelow op (memory (lowest stand)) → course ≡ nextCourse stand next lock
+        → Judges op k memory free stand course
+    goes-judges op key next lock course high asked read due r =
+        let wants = next-judges op next lock in
         let leads : next ≡ route (keyOf op) (memory (lowest stand)) = read ∙ ap (λ (y : ℕ). route y (memory (lowest stand))) asked in
         subst (Judges op k memory free stand) (sym r)
-        (on .0 ∙ ap (λ (p : ℕ). ifNew (goes (wantsNext (standOf op stand) p))) leads ∙ sym (ap ifNew (judged-above op high)), on .1)
+        (wants .0 ∙ ap₂ (λ (p : ℕ) (l : Lock). ifNew (goes (wantsNext (standOf op stand) p l))) leads due ∙ sym (ap ifNew (judged-above op high)), wants .1)
 
-    -- at a leaf the operation does this
-    pub leaf-judges : isLeaf (memory (lowest stand)) ≡ true → (op o : Op) (course done : Course) → op ≡ o → course ≡ done
-        → (said o done ≡ ifNew (judgedAt o k memory free (standOf o stand) (lowest stand) (above stand))) × ready o memory (pathOf stand) done
-        → Judges op k memory free stand course
-    leaf-judges low op o course done told r h =
-        subst (λ (q : Op). Judges q k memory free stand course) (sym told)
-        (subst (Judges o k memory free stand) (sym r) (h .0 ∙ sym (ap ifNew (judged-leaf o low)), h .1))
+    module _ (low : isLeaf (memory (lowest stand)) ≡ true) where
+      -- at a leaf where it does not stay, an operation begins again
+      pub again-judges : (op : Op) (course : Course) → beginsAgain op k memory (lowest stand) ≡ true → course ≡ Again → Judges op k memory free stand course
+      again-judges op course leaves r =
+          subst (Judges op k memory free stand) (sym r)
+          (again-new op ∙ sym (ap ifNew (judged-leaf op low ∙ cond-true (again op) (toldAt op) leaves)), tt)
 
-    -- a regrading makes its change there, or finds its key missing
-    pub regrade-judges : isLeaf (memory (lowest stand)) ≡ true → (op : Op) (x v : ℕ) (course : Course) → op ≡ Regrade x v → course ≡ Regrades x v
-        → Judges op k memory free stand course
-    unfolding judgedAt atLeaf
-    regrade-judges low op x v course told r =
-        let es : List Entry = memory (lowest stand) .entries in
-        leaf-judges low op (Regrade x v) course (Regrades x v) told r (
-          ap (fromLeaf (atLeaf (Regrade x v) k memory free (standOf (Regrade x v) stand))) up
-              ∙ ends-new (has x es) (Regraded (information x es)) NoSuchKey (regrading memory x v (lowest stand)) [],
-          tt,
-        )
-
-    -- ---- at a leaf, by what stands there under the key
-
-    module _ (low : isLeaf (memory (lowest stand)) ≡ true) (op : Op) (lot : Lot) (course : Course) where
-      judges-at : (o : Op) (known : Lot → Course) → lot ≡ looked (keyOf o) (memory (lowest stand) .entries) → op ≡ o → course ≡ known lot
-          → (said o (known (looked (keyOf o) (memory (lowest stand) .entries))) ≡ ifNew (judgedAt o k memory free (standOf o stand) (lowest stand) (above stand)))
-          × ready o memory (pathOf stand) (known (looked (keyOf o) (memory (lowest stand) .entries)))
+      -- where it stays, it does this
+      pub leaf-judges : (op o : Op) (course done : Course) → beginsAgain op k memory (lowest stand) ≡ false → op ≡ o → course ≡ done
+          → (said o done ≡ ifNew (toldAt o)) × ready o k memory (pathOf stand) done
           → Judges op k memory free stand course
-      judges-at o known read told r h =
-          leaf-judges low op o course (known (looked (keyOf o) (memory (lowest stand) .entries))) told (r ∙ ap known read) h
+      leaf-judges op o course done stays told r h =
+          let here : beginsAgain o k memory (lowest stand) ≡ false = subst (λ (q : Op). beginsAgain q k memory (lowest stand) ≡ false) told stays in
+          subst (λ (q : Op). Judges q k memory free stand course) (sym told)
+          (subst (Judges o k memory free stand) (sym r) (h .0 ∙ sym (ap ifNew (judged-leaf o low ∙ cond-false (again o) (toldAt o) here)), h .1))
 
-      pub search-judges : (x : ℕ) → lot ≡ looked x (memory (lowest stand) .entries) → op ≡ Search x → course ≡ searchCourse lot → Judges op k memory free stand course
+      -- a regrading makes its change there, or finds its key missing
+      pub regrade-judges : (op : Op) (x v : ℕ) (way : Way) (course : Course) → beginsAgain op k memory (lowest stand) ≡ false → op ≡ Regrade x v way → course ≡ Regrades x v
+          → Judges op k memory free stand course
       unfolding judgedAt atLeaf
-      search-judges x read told r =
-          judges-at (Search x) searchCourse read told r
-          (split (has x (memory (lowest stand) .entries)) (information x (memory (lowest stand) .entries)))
-        where
-          split : (b : Bool) (v : ℕ) → (said (Search x) (searchCourse (cond b (There v) Missing)) ≡ ends (cond b (Found v) NotFound) [])
-              × ready (Search x) memory (pathOf stand) (searchCourse (cond b (There v) Missing))
-          split true v = (refl, tt)
-          split false v = (refl, tt)
-
-      pub insert-judges : (x v : ℕ) → lot ≡ looked x (memory (lowest stand) .entries) → op ≡ Insert x v → course ≡ insertCourse lot x v → Judges op k memory free stand course
-      unfolding judgedAt atLeaf
-      insert-judges x v read told r =
-          judges-at (Insert x v) (λ (l : Lot). insertCourse l x v) read told r
-          (split (has x (memory (lowest stand) .entries)) (information x (memory (lowest stand) .entries)))
-        where
-          -- once the key is known to be new
-          change : ℕ → List ℕ → Verdict
-          change leaf fathers = cond (ltb (length free) (room k memory leaf (pathOf stand))) (ends NoRoom []) (ends Inserted (insertion k memory x v free leaf fathers))
-
-          split : (b : Bool) (v′ : ℕ) → (said (Insert x v) (insertCourse (cond b (There v′) Missing) x v) ≡ ifNew (cond b (ends (AlreadyThere v′) []) (change (lowest stand) (above stand))))
-              × ready (Insert x v) memory (pathOf stand) (insertCourse (cond b (There v′) Missing) x v)
-          split true v′ = (refl, tt)
-          split false v′ = (
-            ap (fromLeaf change) up
-                ∙ ends-new (ltb (length free) (room k memory (lowest stand) (pathOf stand))) NoRoom Inserted [] (insertion k memory x v free (lowest stand) (above stand)),
-            refl,
+      regrade-judges op x v way course stays told r =
+          let es : List Entry = memory (lowest stand) .entries in
+          leaf-judges op (Regrade x v way) course (Regrades x v) stays told r (
+            ap (fromLeaf (atLeaf (Regrade x v First) k memory free (standOf (Regrade x v way) stand))) up
+                ∙ ends-new (has x es) (Regraded (information x es)) NoSuchKey (regrading memory x v (lowest stand)) [],
+            tt,
           )
 
-      pub delete-judges : (x : ℕ) → lot ≡ looked x (memory (lowest stand) .entries) → op ≡ Delete x → course ≡ deleteCourse k memory x lot stand → Judges op k memory free stand course
-      unfolding judgedAt atLeaf deletes
-      delete-judges x read told r =
-          judges-at (Delete x) (λ (l : Lot). deleteCourse k memory x l stand) read told r (split (has x (memory (lowest stand) .entries)) refl)
-        where
-          found : ℕ
-          found = information x (memory (lowest stand) .entries)
+      -- ---- at a leaf, by what stands there under the key
 
-          -- by what is needed, once the key is known to be there
-          byNeeds : (need : Need) → has x (memory (lowest stand) .entries) ≡ true
-              → (said (Delete x) (needCourse stand x found need) ≡ ifNew (byNeed (standOf (Delete x) stand) (ends (Deleted found) (deletion k memory x (lowest stand) (above stand) (besideOf stand))) need))
-              × ready (Delete x) memory (pathOf stand) (needCourse stand x found need)
-          byNeeds nothing there = (
-            ap (fromLeaf (λ (leaf : ℕ) (fathers : List ℕ). ends (Deleted found) (deletion k memory x leaf fathers (besideOf stand)))) up,
-            (refl, subst (standsLast memory x) (sym up) there),
-          )
-          byNeeds (sibling s) there = next-judges (Delete x) s
-          byNeeds astray there = (refl, tt)
+      module _ (op : Op) (lot : Lot) (course : Course) (stays : beginsAgain op k memory (lowest stand) ≡ false) where
+        judges-at : (o : Op) (known : Lot → Course) → lot ≡ looked (keyOf o) (memory (lowest stand) .entries) → op ≡ o → course ≡ known lot
+            → (said o (known (looked (keyOf o) (memory (lowest stand) .entries))) ≡ ifNew (toldAt o))
+            × ready o k memory (pathOf stand) (known (looked (keyOf o) (memory (lowest stand) .entries)))
+            → Judges op k memory free stand course
+        judges-at o known read told r h =
+            leaf-judges op o course (known (looked (keyOf o) (memory (lowest stand) .entries))) stays told (r ∙ ap known read) h
 
-          split : (b : Bool) → has x (memory (lowest stand) .entries) ≡ b
-              → (said (Delete x) (deleteCourse k memory x (cond b (There found) Missing) stand)
-              ≡ ifNew (cond b (deletes k memory x (standOf (Delete x) stand) (lowest stand) (above stand)) (ends NoSuchKey [])))
-              × ready (Delete x) memory (pathOf stand) (deleteCourse k memory x (cond b (There found) Missing) stand)
-          split true there = byNeeds (needs k memory x (lowest stand) (above stand) (besideOf stand)) there
-          split false missing = (refl, tt)
+        pub search-judges : (x : ℕ) → lot ≡ looked x (memory (lowest stand) .entries) → op ≡ Search x → course ≡ searchCourse lot → Judges op k memory free stand course
+        unfolding judgedAt atLeaf
+        search-judges x read told r =
+            judges-at (Search x) searchCourse read told r
+            (split (has x (memory (lowest stand) .entries)) (information x (memory (lowest stand) .entries)))
+          where
+            split : (b : Bool) (v : ℕ) → (said (Search x) (searchCourse (cond b (There v) Missing)) ≡ ends (cond b (Found v) NotFound) [])
+                × ready (Search x) k memory (pathOf stand) (searchCourse (cond b (There v) Missing))
+            split true v = (refl, tt)
+            split false v = (refl, tt)
+
+        -- an insertion of a key that is missing may count on the top page of its path
+        pub insert-judges : (x v : ℕ) (way : Way) → lot ≡ looked x (memory (lowest stand) .entries) → op ≡ Insert x v way → course ≡ insertCourse lot x v
+            → (has x (memory (lowest stand) .entries) ≡ false → Topped (Insert x v First) k memory (pathOf stand))
+            → Judges op k memory free stand course
+        unfolding judgedAt atLeaf
+        insert-judges x v way read told r top =
+            judges-at (Insert x v way) (λ (l : Lot). insertCourse l x v) read told r
+            (split (has x (memory (lowest stand) .entries)) (information x (memory (lowest stand) .entries)) top)
+          where
+            -- once the key is known to be new
+            change : ℕ → List ℕ → Verdict
+            change leaf fathers = cond (ltb (length free) (room k memory leaf (pathOf stand))) (ends NoRoom []) (ends Inserted (insertion k memory x v free leaf fathers))
+
+            split : (b : Bool) (v′ : ℕ) → (b ≡ false → Topped (Insert x v First) k memory (pathOf stand))
+                → (said (Insert x v way) (insertCourse (cond b (There v′) Missing) x v) ≡ ifNew (cond b (ends (AlreadyThere v′) []) (change (lowest stand) (above stand))))
+                × ready (Insert x v way) k memory (pathOf stand) (insertCourse (cond b (There v′) Missing) x v)
+            split true v′ top = (refl, tt)
+            split false v′ top = (
+              ap (fromLeaf change) up
+                  ∙ ends-new (ltb (length free) (room k memory (lowest stand) (pathOf stand))) NoRoom Inserted [] (insertion k memory x v free (lowest stand) (above stand)),
+              top refl,
+            )
+
+        pub delete-judges : (x : ℕ) (way : Way) → lot ≡ looked x (memory (lowest stand) .entries) → op ≡ Delete x way → course ≡ deleteCourse k memory x way lot stand
+            → Judges op k memory free stand course
+        unfolding judgedAt atLeaf deletes
+        delete-judges x way read told r =
+            judges-at (Delete x way) (λ (l : Lot). deleteCourse k memory x way l stand) read told r (split (has x (memory (lowest stand) .entries)) refl)
+          where
+            found : ℕ
+            found = information x (memory (lowest stand) .entries)
+
+            -- by what is needed, once the key is known to be there
+            byNeeds : (need : Need) → has x (memory (lowest stand) .entries) ≡ true
+                → (said (Delete x way) (needCourse stand x way found need) ≡ ifNew (byNeed (standOf (Delete x way) stand) (ends (Deleted found) (deletion k memory x (lowest stand) (above stand) (besideOf stand))) need))
+                × ready (Delete x way) k memory (pathOf stand) (needCourse stand x way found need)
+            byNeeds nothing there = (
+              ap (fromLeaf (λ (leaf : ℕ) (fathers : List ℕ). ends (Deleted found) (deletion k memory x leaf fathers (besideOf stand)))) up,
+              (delete-no-next x way, subst (standsLast memory x) (sym up) there),
+            )
+            byNeeds (sibling s) there = next-judges (Delete x way) s (heldLock (Delete x way))
+            byNeeds astray there = (refl, tt)
+
+            split : (b : Bool) → has x (memory (lowest stand) .entries) ≡ b
+                → (said (Delete x way) (deleteCourse k memory x way (cond b (There found) Missing) stand)
+                ≡ ifNew (cond b (deletes k memory x (standOf (Delete x way) stand) (lowest stand) (above stand)) (ends NoSuchKey [])))
+                × ready (Delete x way) k memory (pathOf stand) (deleteCourse k memory x way (cond b (There found) Missing) stand)
+            split true there = byNeeds (needs k memory x (lowest stand) (above stand) (besideOf stand)) there
+            split false missing = (refl, tt)

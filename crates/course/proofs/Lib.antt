@@ -1,3 +1,4 @@
 pub mod StandLaws
 pub mod JudgeLaws
+pub mod AgainLaws
 pub mod NextLaws

@@ -17,6 +17,7 @@ use Rattle.change.specs.Held.{leafOf, fathersOf}
 use Rattle.change.proofs.HeldLaws.{Known, held-known, among-siblings, upward-reverse, upward-father, holding-known}
 use Rattle.slots.specs.declared.Op.{Op}
 use Rattle.slots.specs.declared.Op.the-variants.{Next}
+use Rattle.slots.specs.declared.Lock.the-variants.{Rho}
 use Rattle.slots.specs.declared.Answer.the-variants.{None as NoLot}
 use Rattle.slots.specs.declared.Slot.{Slot}
 use Rattle.slots.specs.Parts.{pathOf, besideOf, Stand, wantsNext, standOf}
@@ -24,7 +25,7 @@ use Rattle.course.specs.declared.judging.Course.{Course}
 use Rattle.course.specs.declared.judging.Course.the-variants.{Ends}
 use Rattle.footing.specs.Granted.{Verdict, goes, ends, isSafe, nextAnswer, crosses, byNearest, atLeaf}
 use Rattle.footing.specs.Standing.{SlotStanding}
-use Rattle.course.specs.Judged.{onSecond, judgedAt, ifNew, courseOf, ready, nextCourse, nearCourse, crossCourse, firstCourse, leftCourse, nextsCourse}
+use Rattle.course.specs.Judged.{onSecond, judgedAt, beginsAgain, ifNew, courseOf, ready, nextCourse, nearCourse, crossCourse, firstCourse, leftCourse, nextsCourse}
 use Rattle.course.proofs.JudgeLaws.{standing-needing, standing-holding, stand-upward, lowest, above, Judges, next-judges, leaf-judges}
 
 -- ---- what is known where it stands
@@ -67,7 +68,7 @@ module _ (k : ℕ) (memory : ℕ → Page) (free : List ℕ) (x : ℕ) (stand : 
   -- the course is the rule's word, and nothing is to be counted on
   abbrev Says : Verdict → Course → Type 0
   Says verdict course =
-      (courseOf k memory free z course ≡ ifNew verdict) × ready (Next x) memory (pathOf stand) course
+      (courseOf k memory free z course ≡ ifNew verdict) × ready (Next x) k memory (pathOf stand) course
 
   -- ---- at its first leaf
 
@@ -81,8 +82,8 @@ module _ (k : ℕ) (memory : ℕ → Page) (free : List ℕ) (x : ℕ) (stand : 
         next : ℕ
         next = neighbour x (memory (getD (stand .path) 0 0))
 
-        split : (b : Bool) → Says (cond b (goes (wantsNext z next)) (ends NoLot [])) (cond b (nextCourse stand next) (Ends NoLot))
-        split true = next-judges k memory free stand (Next x) next
+        split : (b : Bool) → Says (cond b (goes (wantsNext z next Rho)) (ends NoLot [])) (cond b (nextCourse stand next Rho) (Ends NoLot))
+        split true = next-judges k memory free stand (Next x) next Rho
         split false = (refl, tt)
 
     -- by the leaf's entries at or above the key
@@ -97,7 +98,7 @@ module _ (k : ℕ) (memory : ℕ → Page) (free : List ℕ) (x : ℕ) (stand : 
   -- ---- on its second way, at page p
 
   left-says : (p : ℕ)
-      → Says (cond (isLeaf (memory p)) (ends (nextAnswer (atOrAbove x (memory p .entries))) []) (goes (wantsNext z (pointer 0 (memory p)))))
+      → Says (cond (isLeaf (memory p)) (ends (nextAnswer (atOrAbove x (memory p .entries))) []) (goes (wantsNext z (pointer 0 (memory p)) Rho)))
       (leftCourse memory x stand p)
   left-says p = split (isLeaf (memory p))
     where
@@ -106,18 +107,19 @@ module _ (k : ℕ) (memory : ℕ → Page) (free : List ℕ) (x : ℕ) (stand : 
       first (e ∷ es) = (refl, tt)
 
       split : (b : Bool)
-          → Says (cond b (ends (nextAnswer (atOrAbove x (memory p .entries))) []) (goes (wantsNext z (pointer 0 (memory p)))))
-          (cond b (nearCourse (Ends NoLot) (nearest (atOrAbove x (memory p .entries)))) (nextCourse stand (pointer 0 (memory p))))
+          → Says (cond b (ends (nextAnswer (atOrAbove x (memory p .entries))) []) (goes (wantsNext z (pointer 0 (memory p)) Rho)))
+          (cond b (nearCourse (Ends NoLot) (nearest (atOrAbove x (memory p .entries)))) (nextCourse stand (pointer 0 (memory p)) Rho))
       split true = first (atOrAbove x (memory p .entries))
-      split false = next-judges k memory free stand (Next x) (pointer 0 (memory p))
+      split false = next-judges k memory free stand (Next x) (pointer 0 (memory p)) Rho
 
 -- A Next at its leaf does what the rule says.
 pub next-does : {k n : ℕ} {ws : List ℕ} {stand : Slot} (op : Op) (x : ℕ) (memory : ℕ → Page) (free : List ℕ) (course : Course)
-    → SlotStanding op k n ws stand → isLeaf (memory (lowest stand)) ≡ true → op ≡ Next x → course ≡ nextsCourse k memory x stand
+    → SlotStanding op k n ws stand → isLeaf (memory (lowest stand)) ≡ true → beginsAgain op k memory (lowest stand) ≡ false → op ≡ Next x
+    → course ≡ nextsCourse k memory x stand
     → Judges op k memory free stand course
 unfolding judgedAt
-next-does {k} {stand = stand} op x memory free course h low told r =
-    leaf-judges k memory free stand (stand-upward h) low op (Next x) course (nextsCourse k memory x stand) told r (split (eqb (stand .breadth) 0) refl)
+next-does {k} {stand = stand} op x memory free course h low stays told r =
+    leaf-judges k memory free stand (stand-upward h) low op (Next x) course (nextsCourse k memory x stand) stays told r (split (eqb (stand .breadth) 0) refl)
   where
     whole : Verdict
     whole = atLeaf (Next x) k memory free (standOf (Next x) stand) (lowest stand) (above stand)

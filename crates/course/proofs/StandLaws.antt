@@ -13,7 +13,7 @@ use lib.ListN.{length, getD, take, length-append, length-take, length-reverse}
 use lib.Seq.{take-length}
 use Rattle.ground.specs.Limits.{pathHolds}
 use Rattle.ground.specs.Tests.{all, member, distinct}
-use Rattle.ground.proofs.Bools.{not-both, and-first, and-second, and-both, or-cases}
+use Rattle.ground.proofs.Bools.{not-both, not-of-true, and-first, and-second, and-both, or-cases}
 use Rattle.ground.proofs.Choice.{cond-ind, cond-true, cond-false}
 use Rattle.ground.proofs.Limits.{path-is-way}
 use Rattle.ground.proofs.Tests.{member-from, distinct-back, distinct-snoc}
@@ -27,15 +27,16 @@ use Rattle.change.specs.Deletion.{Need, satisfied, needs}
 use Rattle.change.specs.Held.{Held, upward}
 use Rattle.change.proofs.HeldLaws.{Known, held-known, held-front, held-back, held-upper, upward-reverse, upward-father}
 use Rattle.slots.specs.declared.Op.{Op}
-use Rattle.slots.specs.declared.Op.the-variants.{Search, Insert, Delete, Next, Regrade}
 use Rattle.slots.specs.declared.Slot.{Slot}
-use Rattle.slots.specs.Parts.{keyOf, isDelete, isNext, isOpen, openSlot, pathOf, besideOf, held, Stand, holding, onPages, wantBeside, standOf, slotOf}
+use Rattle.slots.specs.Locks.{sameLock}
+use Rattle.slots.specs.Parts.{keyOf, isDelete, isNext, isSecond, isOpen, pathOf, besideOf, held, Stand, holding, onPages, wantBeside, standOf, slotOf}
 use Rattle.slots.proofs.SoundFacts.{sound-slot}
 use Rattle.slots.proofs.Keeping.{stand-new}
 use Rattle.footing.specs.Granted.{isSafe, kept, atItsLeaf}
-use Rattle.footing.specs.Fitting.{descends, pagesSound, rightlyKept, sameLevels, isSibling, rightlyBeside, isNone, leftmost, turnsRight, rightlyAcross, fitting}
+use Rattle.footing.specs.Fitting.{descends, pagesSound, rightlyKept, sameLevels, isSibling, rightlyBeside, isNone, leftmost, turnsRight, rightlyAcross, lockDue, fitting}
 use Rattle.footing.specs.Standing.{Asks, fits, stood, standPath, standBeside, Standing, SlotStanding}
 use Rattle.footing.proofs.LookLaws.{descends-levels, leftmost-levels, pagesOf, asks-held}
+use Rattle.footing.proofs.KeepLaws.{second-safe}
 
 -- ---- a way down
 
@@ -69,7 +70,7 @@ way-short {k} {ws = ws} {path = top ∷ below} held falls =
 -- ---- the top of a path
 
 -- it is page 0 or safe
-abbrev Topped : Op → ℕ → (ℕ → Page) → List ℕ → Type 0
+abbrev pub Topped : Op → ℕ → (ℕ → Page) → List ℕ → Type 0
 Topped op k memory path = (getD path 0 0 ≡ 0) ⊎ (isSafe op k (memory (getD path 0 0)) ≡ true)
 
 kept-top : (op : Op) (k : ℕ) (memory : ℕ → Page) (path : List ℕ) (want : ℕ) → 1 ≤ length path
@@ -86,6 +87,18 @@ longer-top : (op : Op) (k : ℕ) (memory : ℕ → Page) (path : List ℕ) (want
 longer-top op k memory [] want t = inl (eqb-true want 0 t)
 longer-top op k memory (top ∷ below) want t = kept-top op k memory (top ∷ below) want (omega arith) t
 
+-- who goes by the second way holds one page: no page below the top is unsafe for it
+kept-alone : (op : Op) (k : ℕ) (memory : ℕ → Page) (path : List ℕ) (want : ℕ) → 1 ≤ length path
+    → rightlyKept op k memory path want ≡ true → isSecond op ≡ true → length path ≡ 1
+unfolding all
+kept-alone op k memory [] want some t second = absurd (not-suc-le-zero some)
+kept-alone op k memory (top ∷ []) want some t second = refl
+kept-alone op k memory (top ∷ (p ∷ below)) want some t second =
+    let safe = eqb top 0 || isSafe op k (memory top) in
+    let rest = all (λ (q : ℕ). not (isSafe op k (memory q))) below in
+    let unsafe = not (isSafe op k (memory p)) in
+    not-both (and-first unsafe rest (and-second safe (unsafe && rest) t)) (not-of-true (second-safe op k (memory p) second))
+
 -- a page that is not in a list, behind it
 distinct-last : (xs : List ℕ) (a : ℕ) → distinct (a ∷ xs) ≡ true → distinct (xs ++ a ∷ []) ≡ true
 unfolding distinct
@@ -96,8 +109,8 @@ distinct-last xs a t =
 
 -- a path without siblings
 stands-alone : (z : Stand) {k n : ℕ} {ws path : List ℕ} → 1 ≤ length path → Held k n ws path → Falls (pageAt k ws) path
-    → distinct path ≡ true → Topped (z .op) k (pageAt k ws) path → Standing k n ws (onPages z path [])
-stands-alone z {k} {n} {ws} {path} some held falls different top =
+    → distinct path ≡ true → Topped (z .op) k (pageAt k ws) path → (isSecond (z .op) ≡ true → length path ≡ 1) → Standing k n ws (onPages z path [])
+stands-alone z {k} {n} {ws} {path} some held falls different top alone =
     record {
       some = some;
       deep = way-short held falls;
@@ -106,6 +119,7 @@ stands-alone z {k} {n} {ws} {path} some held falls different top =
       descends = falls;
       different = subst (λ (ps : List ℕ). distinct ps ≡ true) (sym (append-nil path)) different;
       top = top;
+      alone = alone;
       levels = λ _ i j h. absurd (not-suc-le-zero h);
       others = λ _ j h. absurd (not-suc-le-zero h);
     }
@@ -118,8 +132,9 @@ stands-below {k} {n} {ws} z held different falls right =
     let last = distinct-last (z .path) (z .want) different in
     cond-ind (λ (now : List ℕ). Standing k n ws (onPages z now [])) (isSafe (z .op) k (pageAt k ws (z .want)))
     (λ safe. stands-alone z (omega arith) (held-back (z .path) (z .want ∷ []) held) (λ i h. absurd (not-suc-le-zero (le-of-suc-le-suc h)))
-    (distinct-back (z .path) (z .want ∷ []) last) (inr safe))
-    (λ unsafe. stands-alone z (omega (arith, length-append (z .path) (z .want ∷ []))) held falls last (longer-top (z .op) k (pageAt k ws) (z .path) (z .want) right))
+    (distinct-back (z .path) (z .want ∷ []) last) (inr safe) (λ _. refl))
+    (λ unsafe. stands-alone z (omega (arith, length-append (z .path) (z .want ∷ []))) held falls last (longer-top (z .op) k (pageAt k ws) (z .path) (z .want) right)
+    (λ second. not-both (second-safe (z .op) k (pageAt k ws (z .want)) second) unsafe))
 
 -- ---- at its leaf
 
@@ -236,9 +251,9 @@ stands-with : {k n : ℕ} {ws : List ℕ} (z : Stand) → 1 ≤ length (z .path)
     → distinct (z .want ∷ holding z) ≡ true
     → rightlyKept (z .op) k (pageAt k ws) (z .path) (z .want) ≡ true
     → length (z .beside ++ z .want ∷ []) ≤ length (z .path)
-    → (isDelete (z .op) ≡ true → (i j : ℕ) → j < length (z .beside ++ z .want ∷ []) → i + j + 1 ≡ length (z .path)
+    → (isNext (z .op) ≡ false → (i j : ℕ) → j < length (z .beside ++ z .want ∷ []) → i + j + 1 ≡ length (z .path)
     → pageAt k ws (getD (z .path) i 0) .level ≡ pageAt k ws (getD (z .beside ++ z .want ∷ []) j 0) .level)
-    → (isDelete (z .op) ≡ true → Others (z .beside ++ z .want ∷ []))
+    → (isNext (z .op) ≡ false → Others (z .beside ++ z .want ∷ []))
     → Standing k n ws (wantBeside z)
 stands-with {k} {n} {ws} z some falls held different above few levels others =
     let together = append-assoc (z .path) (z .beside) (z .want ∷ []) in
@@ -251,6 +266,7 @@ stands-with {k} {n} {ws} z some falls held different above few levels others =
       descends = falls;
       different = subst (λ (ps : List ℕ). distinct ps ≡ true) together (distinct-last (holding z) (z .want) different);
       top = kept-top (z .op) k (pageAt k ws) (z .path) (z .want) some above;
+      alone = kept-alone (z .op) k (pageAt k ws) (z .path) (z .want) some above;
       levels = levels;
       others = others;
     }
@@ -298,7 +314,7 @@ module _ {k n : ℕ} {ws : List ℕ} (z : Stand) (some : 1 ≤ length (z .path))
 
 -- ---- on a second way
 
--- what a Next on its second way tells: it is no deletion, and its way turns right at its top page
+-- what a Next on its second way tells: it is a Next, and its way turns right at its top page
 across-told : (k : ℕ) (memory : ℕ → Page) (z : Stand) (path : List ℕ) → rightlyAcross k memory z path ≡ true
     → (isNext (z .op) ≡ true) × (turnsRight memory (keyOf (z .op)) (getD path 0 0) (z .beside ++ z .want ∷ []) ≡ true)
 across-told k memory z [] t = absurd (false≢true t)
@@ -310,13 +326,6 @@ across-told k memory z (top ∷ below) t =
       and-first nexts none (and-first (nexts && none) safe (and-first (nexts && none && safe) turns t)),
       and-second (nexts && none && safe) turns t,
     )
-
-no-deletion : (op : Op) → isNext op ≡ true → isDelete op ≡ true → ⊥
-no-deletion (Search x) t d = absurd (false≢true t)
-no-deletion (Insert x v) t d = absurd (false≢true t)
-no-deletion (Delete x) t d = absurd (false≢true t)
-no-deletion (Next x) t d = absurd (false≢true d)
-no-deletion (Regrade x v) t d = absurd (false≢true t)
 
 -- below the top page each page of the way lies a level above the next one
 turn-falls : (memory : ℕ → Page) (x top : ℕ) (way : List ℕ) → turnsRight memory x top way ≡ true → Falls memory (top ∷ way)
@@ -363,8 +372,8 @@ module _ {k n : ℕ} {ws : List ℕ} (z : Stand) (some : 1 ≤ length (z .path))
       let next = across-told k (pageAt k ws) z (z .path) right .0 in
       stands-with z some falls held different above
       (across-few (subst (Held k n ws) (append-assoc (z .path) (z .beside) (z .want ∷ [])) held))
-      (λ d. absurd (no-deletion (z .op) next d))
-      (λ d. absurd (no-deletion (z .op) next d))
+      (λ other. not-both next other)
+      (λ other. not-both next other)
 
 -- ---- the slot
 
@@ -421,16 +430,22 @@ module _ {op : Op} {k n : ℕ} {ws : List ℕ} {slot : Slot} (asks : Asks k n ws
   abbrev keptTest : Bool
   keptTest = rightlyKept op k (pageAt k ws) (pathOf slot) (slot .want)
 
-  fits-fitting : keptTest && cond (atItsLeaf (pageAt k ws) (reverse (pathOf slot))) atLeafTest belowTest ≡ true
+  abbrev lockTest : Bool
+  lockTest = sameLock (slot .lock) (lockDue op (pageAt k ws) (reverse (pathOf slot)))
+
+  abbrev wayTest : Bool
+  wayTest = cond (atItsLeaf (pageAt k ws) (reverse (pathOf slot))) atLeafTest belowTest
+
+  fits-fitting : keptTest && lockTest && wayTest ≡ true
   unfolding fits fitting
   fits-fitting =
       and-second (pagesSound k n ws (pagesOf slot)) (fitting k (pageAt k ws) z) fit
 
   fits-kept : keptTest ≡ true
-  fits-kept = and-first keptTest (cond (atItsLeaf (pageAt k ws) (reverse (pathOf slot))) atLeafTest belowTest) fits-fitting
+  fits-kept = and-first keptTest lockTest (and-first (keptTest && lockTest) wayTest fits-fitting)
 
-  fits-way : cond (atItsLeaf (pageAt k ws) (reverse (pathOf slot))) atLeafTest belowTest ≡ true
-  fits-way = and-second keptTest (cond (atItsLeaf (pageAt k ws) (reverse (pathOf slot))) atLeafTest belowTest) fits-fitting
+  fits-way : wayTest ≡ true
+  fits-way = and-second (keptTest && lockTest) wayTest fits-fitting
 
   module _ (leaf : atItsLeaf (pageAt k ws) (reverse (pathOf slot)) ≡ true) where
     leaf-told : atLeafTest ≡ true
@@ -501,7 +516,7 @@ module _ (op : Op) (k : ℕ) (memory : ℕ → Page) (slot : Slot) {leaf : Bool}
   standsAt path beside = slotOf (onPages here path beside)
 
   -- the last page of the path is a leaf
-  pub stood-at-leaf : {r : Slot} → leaf ≡ true → r ≡ openSlot op (slot .want) (pathOf slot) (besideOf slot ++ slot .want ∷ [])
+  pub stood-at-leaf : {r : Slot} → leaf ≡ true → r ≡ standsAt (pathOf slot) (besideOf slot ++ slot .want ∷ [])
       → r ≡ slotOf (stood k memory here)
   unfolding stood
   stood-at-leaf t e =
@@ -523,7 +538,7 @@ module _ (op : Op) (k : ℕ) (memory : ℕ → Page) (slot : Slot) {leaf : Bool}
 
   module _ {safe : Bool} (tested : safe ≡ isSafe op k (memory (slot .want))) where
     -- coming down to a safe page
-    pub stood-on-safe : {r : Slot} → leaf ≡ false → safe ≡ true → r ≡ openSlot op (slot .want) (slot .want ∷ []) []
+    pub stood-on-safe : {r : Slot} → leaf ≡ false → safe ≡ true → r ≡ standsAt (slot .want ∷ []) []
         → r ≡ slotOf (stood k memory here)
     stood-on-safe f t e =
         stood-coming f
@@ -532,7 +547,7 @@ module _ (op : Op) (k : ℕ) (memory : ℕ → Page) (slot : Slot) {leaf : Bool}
         (sym (cond-true (slot .want ∷ []) (pathOf slot ++ slot .want ∷ []) (sym tested ∙ t))))
 
     -- and to another
-    pub stood-on-other : {r : Slot} → leaf ≡ false → safe ≡ false → r ≡ openSlot op (slot .want) (pathOf slot ++ slot .want ∷ []) []
+    pub stood-on-other : {r : Slot} → leaf ≡ false → safe ≡ false → r ≡ standsAt (pathOf slot ++ slot .want ∷ []) []
         → r ≡ slotOf (stood k memory here)
     stood-on-other f u e =
         stood-coming f

@@ -1,8 +1,9 @@
 -- What a granted step comes to, said of the pages that the operation stands at: one rule, whether it came down or stood at its
 -- leaf. `proofs/JudgeLaws.antt` shows that it is the rule of a granted step.
 use Prim.Native.Nat.{ℕ, _-_}
-use mathlib.Core.Bool.{true, cond}
+use mathlib.Core.Bool.{Bool, true, false, cond, not, _&&_}
 use mathlib.Core.List.{List, [], _∷_, reverse}
+use mathlib.Core.Logic.{_⊎_}
 use mathlib.Core.Path.{_≡_}
 use lib.Dec.{ltb, eqb}
 use lib.ListN.{length, getD}
@@ -20,12 +21,16 @@ use Rattle.change.specs.Deletion.{Need, nothing, sibling, astray, needs, deleti
 use Rattle.change.specs.Held.{leafOf, fathersOf}
 use Rattle.slots.specs.declared.Op.{Op}
 use Rattle.slots.specs.declared.Op.the-variants.{Search, Insert, Delete, Next, Regrade}
+use Rattle.slots.specs.declared.Way.{Way}
+use Rattle.slots.specs.declared.Way.the-variants.{First}
+use Rattle.slots.specs.declared.Lock.{Lock}
+use Rattle.slots.specs.declared.Lock.the-variants.{Rho}
 use Rattle.slots.specs.declared.Answer.the-variants.{Found, NotFound, Inserted, AlreadyThere, Deleted, NoSuchKey, NoRoom, Next as NextLot, None as NoLot}
 use Rattle.slots.specs.declared.Slot.{Slot}
-use Rattle.slots.specs.Parts.{keyOf, isDelete, besideOf, held, Stand, wantsNext}
+use Rattle.slots.specs.Parts.{keyOf, isNext, isSecond, heldLock, besideOf, held, Stand, wantsNext}
 use Rattle.course.specs.declared.judging.Course.{Course}
-use Rattle.course.specs.declared.judging.Course.the-variants.{Broken, Goes, Ends, Inserts, Deletes, Regrades}
-use Rattle.footing.specs.Granted.{Verdict, broken, goes, ends, isSafe, nextAnswer, atLeaf, fromLeaf}
+use Rattle.course.specs.declared.judging.Course.the-variants.{Broken, Goes, Ends, Inserts, Deletes, Regrades, Again}
+use Rattle.footing.specs.Granted.{Verdict, broken, goes, ends, isSafe, lockBelow, nextAnswer, again, staysSecond, atLeaf, fromLeaf}
 use Rattle.footing.specs.Fitting.{nextIsNew}
 
 -- A Next at its first leaf, or on its second way, given upward: there the last page of it tells.
@@ -34,16 +39,20 @@ onSecond first memory z [] = first
 onSecond first memory z (p ∷ up) =
     cond (isLeaf (memory p))
     (ends (nextAnswer (atOrAbove (keyOf (z .op)) (memory p .entries))) [])
-    (goes (wantsNext z (pointer 0 (memory p))))
+    (goes (wantsNext z (pointer 0 (memory p)) (heldLock (z .op))))
 
 -- at the leaf, with the pages beside the path held: by the operation of the slot that stands there
 unfoldable pub judgedAt : Op → ℕ → (ℕ → Page) → List ℕ → Stand → ℕ → List ℕ → Verdict
 judgedAt (Search x) k memory free z leaf fathers = atLeaf (Search x) k memory free z leaf fathers
-judgedAt (Insert x v) k memory free z leaf fathers = atLeaf (Insert x v) k memory free z leaf fathers
-judgedAt (Delete x) k memory free z leaf fathers = atLeaf (Delete x) k memory free z leaf fathers
+judgedAt (Insert x v way) k memory free z leaf fathers = atLeaf (Insert x v way) k memory free z leaf fathers
+judgedAt (Delete x way) k memory free z leaf fathers = atLeaf (Delete x way) k memory free z leaf fathers
 judgedAt (Next x) k memory free z leaf fathers =
     onSecond (atLeaf (Next x) k memory free z leaf fathers) memory z (reverse (z .beside))
-judgedAt (Regrade x v) k memory free z leaf fathers = atLeaf (Regrade x v) k memory free z leaf fathers
+judgedAt (Regrade x v way) k memory free z leaf fathers = atLeaf (Regrade x v way) k memory free z leaf fathers
+
+-- an update by the second way does not stay at this leaf
+abbrev pub beginsAgain : Op → ℕ → (ℕ → Page) → ℕ → Bool
+beginsAgain op k memory leaf = isSecond op && not (staysSecond op k memory leaf)
 
 -- the operation stands here
 unfoldable pub judged : ℕ → (ℕ → Page) → List ℕ → Stand → Verdict
@@ -51,8 +60,8 @@ judged k memory free z =
     fromLeaf
     (λ (leaf : ℕ) (fathers : List ℕ).
     cond (isLeaf (memory leaf))
-    (judgedAt (z .op) k memory free z leaf fathers)
-    (goes (wantsNext z (route (keyOf (z .op)) (memory leaf)))))
+    (cond (beginsAgain (z .op) k memory leaf) (again (z .op)) (judgedAt (z .op) k memory free z leaf fathers))
+    (goes (wantsNext z (route (keyOf (z .op)) (memory leaf)) (lockBelow (z .op) (memory leaf)))))
     (reverse (z .path))
 
 -- "and the page it would want next is none that it would then hold"
@@ -62,7 +71,7 @@ ifNew v = cond (nextIsNew v) v broken
 -- the rule's word for a course, for an operation that stands here
 abbrev pub courseOf : ℕ → (ℕ → Page) → List ℕ → Stand → Course → Verdict
 courseOf k memory free z Broken = broken
-courseOf k memory free z (Goes next) = goes (wantsNext z next)
+courseOf k memory free z (Goes next lock) = goes (wantsNext z next lock)
 courseOf k memory free z (Ends a) = ends a []
 courseOf k memory free z (Inserts x v) =
     fromLeaf
@@ -75,25 +84,40 @@ courseOf k memory free z (Deletes x v) =
     fromLeaf
     (λ (leaf : ℕ) (fathers : List ℕ). ends (Deleted v) (deletion k memory x leaf fathers (z .beside)))
     (reverse (z .path))
-courseOf k memory free z (Regrades x v) = fromLeaf (atLeaf (Regrade x v) k memory free z) (reverse (z .path))
+courseOf k memory free z (Regrades x v) = fromLeaf (atLeaf (Regrade x v First) k memory free z) (reverse (z .path))
+courseOf k memory free z Again = again (z .op)
 
 -- the key stands in the last page of a path, given upward
 abbrev pub standsLast : (ℕ → Page) → ℕ → List ℕ → Type 0
 standsLast memory x [] = ⊥
 standsLast memory x (leaf ∷ fathers) = has x (memory leaf .entries) ≡ true
 
--- what a change may count on: an insertion comes of an insertion, a deletion of a deletion, and what is taken out is there
-abbrev pub ready : Op → (ℕ → Page) → List ℕ → Course → Type 0
-ready op memory path Broken = Unit {0}
-ready op memory path (Goes next) = Unit {0}
-ready op memory path (Ends a) = Unit {0}
-ready op memory path (Inserts x v) = op ≡ Insert x v
-ready op memory path (Deletes x v) = (isDelete op ≡ true) × standsLast memory x (reverse path)
-ready op memory path (Regrades x v) = Unit {0}
+-- What a change may count on. An insertion, by whichever way: the top page of its path is page 0 or safe for it by the first way. A deletion:
+-- what is taken out is there, and what is held beside the path is no second way of a Next.
+abbrev pub ready : Op → ℕ → (ℕ → Page) → List ℕ → Course → Type 0
+ready op k memory path Broken = Unit {0}
+ready op k memory path (Goes next lock) = Unit {0}
+ready op k memory path (Ends a) = Unit {0}
+ready op k memory path (Inserts x v) = (getD path 0 0 ≡ 0) ⊎ (isSafe (Insert x v First) k (memory (getD path 0 0)) ≡ true)
+ready op k memory path (Deletes x v) = (isNext op ≡ false) × standsLast memory x (reverse path)
+ready op k memory path (Regrades x v) = Unit {0}
+ready op k memory path Again = Unit {0}
 
--- The courses by what was read: on to this page, if it is not held; and, at the leaf, by what stands there under the key.
-abbrev pub nextCourse : Slot → ℕ → Course
-nextCourse stand next = cond (member next (held stand)) Broken (Goes next)
+-- what was read under a key tells whether it is there, and whether that is answered at once
+abbrev pub isThere : Lot → Bool
+isThere (There v) = true
+isThere Missing = false
+
+abbrev pub atOnce : Op → Lot → Bool
+atOnce (Search x) lot = true
+atOnce (Insert x v way) lot = isThere lot
+atOnce (Delete x way) lot = not (isThere lot)
+atOnce (Next x) lot = true
+atOnce (Regrade x v way) lot = not (isThere lot)
+
+-- The courses by what was read: on to this page with this lock, if it is not held; and, at the leaf, by what stands there under the key.
+abbrev pub nextCourse : Slot → ℕ → Lock → Course
+nextCourse stand next lock = cond (member next (held stand)) Broken (Goes next lock)
 
 abbrev pub searchCourse : Lot → Course
 searchCourse (There v) = Ends (Found v)
@@ -103,15 +127,15 @@ abbrev pub insertCourse : Lot → ℕ → ℕ → Course
 insertCourse (There v′) x v = Ends (AlreadyThere v′)
 insertCourse Missing x v = Inserts x v
 
-abbrev pub needCourse : Slot → ℕ → ℕ → Need → Course
-needCourse stand x v nothing = Deletes x v
-needCourse stand x v (sibling s) = nextCourse stand s
-needCourse stand x v astray = Broken
+abbrev pub needCourse : Slot → ℕ → Way → ℕ → Need → Course
+needCourse stand x way v nothing = Deletes x v
+needCourse stand x way v (sibling s) = nextCourse stand s (heldLock (Delete x way))
+needCourse stand x way v astray = Broken
 
-abbrev pub deleteCourse : ℕ → (ℕ → Page) → ℕ → Lot → Slot → Course
-deleteCourse k memory x Missing stand = Ends NoSuchKey
-deleteCourse k memory x (There v) stand =
-    needCourse stand x v (needs k memory x (leafOf (stand .depth) (stand .path)) (fathersOf (stand .depth) (stand .path)) (besideOf stand))
+abbrev pub deleteCourse : ℕ → (ℕ → Page) → ℕ → Way → Lot → Slot → Course
+deleteCourse k memory x way Missing stand = Ends NoSuchKey
+deleteCourse k memory x way (There v) stand =
+    needCourse stand x way v (needs k memory x (leafOf (stand .depth) (stand .path)) (fathersOf (stand .depth) (stand .path)) (besideOf stand))
 
 -- A Next by the first entry that was read; without one it goes this further.
 abbrev pub nearCourse : Course → Nearest → Course
@@ -121,7 +145,7 @@ nearCourse further Nothing = further
 -- its first leaf has none: by the top page of its path
 abbrev pub crossCourse : ℕ → (ℕ → Page) → ℕ → Slot → Course
 crossCourse k memory x stand =
-    cond (isSafe (Next x) k (memory (getD (stand .path) 0 0))) (nextCourse stand (neighbour x (memory (getD (stand .path) 0 0)))) (Ends NoLot)
+    cond (isSafe (Next x) k (memory (getD (stand .path) 0 0))) (nextCourse stand (neighbour x (memory (getD (stand .path) 0 0))) Rho) (Ends NoLot)
 
 abbrev pub firstCourse : ℕ → (ℕ → Page) → ℕ → Slot → Course
 firstCourse k memory x stand =
@@ -130,7 +154,7 @@ firstCourse k memory x stand =
 -- it was granted page p of its second way
 abbrev pub leftCourse : (ℕ → Page) → ℕ → Slot → ℕ → Course
 leftCourse memory x stand p =
-    cond (isLeaf (memory p)) (nearCourse (Ends NoLot) (nearest (atOrAbove x (memory p .entries)))) (nextCourse stand (pointer 0 (memory p)))
+    cond (isLeaf (memory p)) (nearCourse (Ends NoLot) (nearest (atOrAbove x (memory p .entries)))) (nextCourse stand (pointer 0 (memory p)) Rho)
 
 -- at its leaf, by whether it holds pages of a second way
 abbrev pub nextsCourse : ℕ → (ℕ → Page) → ℕ → Slot → Course

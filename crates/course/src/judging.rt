@@ -2,6 +2,8 @@
 use change::needing::Need;
 use change::needing::needs;
 use footing::looking::has_child_right;
+use footing::looking::is_safe;
+use footing::looking::lock_below;
 use page::reading::Lot;
 use page::reading::Nearest;
 use pool::pages::at_or_above_of;
@@ -11,9 +13,14 @@ use pool::pages::neighbour_of;
 use pool::pages::pointer_of;
 use pool::pages::route_of;
 use slots::Answer;
+use slots::Lock;
 use slots::Op;
 use slots::Slot;
+use slots::Way;
 use slots::holding::holds;
+use slots::operations::first_way;
+use slots::operations::held_lock;
+use slots::operations::is_second;
 use slots::operations::key_asked;
 ghost use mathlib.Core.Path.{_≡_};
 ghost use mathlib.Core.Bool.{true};
@@ -24,28 +31,29 @@ ghost use Rattle.pool.specs.Wrapped.{InPool};
 ghost use Rattle.slots.specs.declared.Op.the-variants.{Delete, Next};
 ghost use Rattle.slots.specs.Parts.{pathOf, standOf};
 ghost use Rattle.footing.specs.Standing.{SlotStanding};
-ghost use Rattle.course.specs.Judged.{judged, ifNew, courseOf, ready, nextCourse, searchCourse, insertCourse, deleteCourse, crossCourse, firstCourse, leftCourse, nextsCourse};
+ghost use Rattle.course.specs.Judged.{isThere, atOnce, beginsAgain, judged, ifNew, courseOf, ready, nextCourse, searchCourse, insertCourse, deleteCourse, crossCourse, firstCourse, leftCourse, nextsCourse};
 
-// The pages are not sound for the step; the slot goes on and wants this page; the operation ends, and no page is written; or it
-// makes the whole change of an insertion (key, information) or of a deletion (key, information that it answers). A regrading (key, new
-// information) looks its key up where it writes, and changes nothing if it is missing.
+// The pages are not sound for the step; the slot goes on and wants this page with this lock; the operation ends, and no page is written; or
+// it makes the whole change of an insertion (key, information) or of a deletion (key, information that it answers). A regrading (key, new
+// information) looks its key up where it writes, and changes nothing if it is missing. An update by the second way may begin again.
 pub enum Course {
     Broken,
-    Goes(u32),
+    Goes(u32, Lock),
     Ends(Answer),
     Inserts(u32, u32),
     Deletes(u32, u32),
     Regrades(u32, u32),
+    Again,
 }
 
 // The slot goes on, if the page it would want next is none that it holds.
-fn goes(stand: Slot, next: u32) -> Course
-    ensures { λ r. ⌜ r ≡ nextCourse stand next ⌝ }
+fn goes(stand: Slot, next: u32, lock: Lock) -> Course
+    ensures { λ r. ⌜ r ≡ nextCourse stand next lock ⌝ }
 {
     if holds(stand, next) {
         return Course::Broken;
     }
-    Course::Goes(next)
+    Course::Goes(next, lock)
 }
 
 // A search at its leaf.
@@ -68,10 +76,10 @@ fn inserts(lot: Lot, x: u32, v: u32) -> Course
     }
 }
 
-// A deletion at its leaf.
-fn deletes(words: &[u32], k: usize, n: usize, x: u32, lot: Lot, stand: Slot) -> Course
-    requires { ⌜ SlotStanding (Delete x) k n (now words) stand ⌝ }
-    ensures { λ r. ⌜ r ≡ deleteCourse k (pageAt k (now (words .entry))) x lot stand ⌝ }
+// A deletion at its leaf. By the second way it needs no sibling: the leaf has one to spare.
+fn deletes(words: &[u32], k: usize, n: usize, x: u32, way: Way, lot: Lot, stand: Slot) -> Course
+    requires { ⌜ SlotStanding (Delete x way) k n (now words) stand ⌝ }
+    ensures { λ r. ⌜ r ≡ deleteCourse k (pageAt k (now (words .entry))) x way lot stand ⌝ }
 {
     let Lot::There(v) = lot else {
         return Course::Ends(Answer::NoSuchKey);
@@ -80,7 +88,7 @@ fn deletes(words: &[u32], k: usize, n: usize, x: u32, lot: Lot, stand: Slot) -> 
     let beside = stand.beside;
     match needs(words, k, n, x, &path, stand.depth, &beside, stand.breadth) {
         Need::Nothing => Course::Deletes(x, v),
-        Need::Sibling(s) => goes(stand, s),
+        Need::Sibling(s) => goes(stand, s, held_lock(Op::Delete(x, way))),
         Need::Astray => Course::Broken,
     }
 }
@@ -95,7 +103,7 @@ fn crosses(words: &[u32], k: usize, n: usize, x: u32, stand: Slot) -> Course
     if !has_child_right(words, k, n, x, top) {
         return Course::Ends(Answer::None);
     }
-    goes(stand, neighbour_of(words, k, n, top, x))
+    goes(stand, neighbour_of(words, k, n, top, x), Lock::Rho)
 }
 
 // A Next at its first leaf.
@@ -118,7 +126,7 @@ fn nexts_left(words: &[u32], k: usize, n: usize, x: u32, p: u32, stand: Slot) ->
     ensures { λ r. ⌜ r ≡ leftCourse (pageAt k (now (words .entry))) x stand p ⌝ }
 {
     if !is_leaf_of(words, k, n, p) {
-        return goes(stand, pointer_of(words, k, n, p, 0));
+        return goes(stand, pointer_of(words, k, n, p, 0), Lock::Rho);
     }
     match at_or_above_of(words, k, n, p, x) {
         Nearest::Lot(y, v) => Course::Ends(Answer::Next(y, v)),
@@ -139,22 +147,69 @@ fn nexts(words: &[u32], k: usize, n: usize, x: u32, stand: Slot) -> Course
     nexts_left(words, k, n, x, second[breadth - 1], stand)
 }
 
+fn is_there(lot: Lot) -> bool
+    ensures { λ r. ⌜ r ≡ isThere lot ⌝ }
+{
+    match lot {
+        Lot::There(_) => true,
+        Lot::Missing => false,
+    }
+}
+
+// What stands under the key of an update is answered at once: an insertion's key is there, another one's is missing.
+fn at_once(op: Op, lot: Lot) -> bool
+    ensures { λ r. ⌜ r ≡ atOnce op lot ⌝ }
+{
+    match op {
+        Op::Search(_) => true,
+        Op::Insert(_, _, _) => is_there(lot),
+        Op::Delete(_, _) => !is_there(lot),
+        Op::Next(_) => true,
+        Op::Regrade(_, _, _) => !is_there(lot),
+    }
+}
+
+// An update by the second way begins again at this leaf: it is page 0, or it is not safe and the key has to be changed. The count of a
+// leaf tells most of it; the key is looked up last.
+fn begins_again(words: &[u32], k: usize, n: usize, op: Op, leaf: u32) -> bool
+    requires { ⌜ InPool k n leaf (now words) ⌝ }
+    requires { ⌜ Readable (wordsOf k leaf (now words)) ⌝ }
+    requires { ⌜ rises (pageAt k (now words) leaf .entries) ≡ true ⌝ }
+    ensures { λ r. ⌜ r ≡ beginsAgain op k (pageAt k (now (words .entry))) leaf ⌝ }
+{
+    if !is_second(op) {
+        return false;
+    }
+    if leaf == 0 {
+        return true;
+    }
+    let first = first_way(op);
+    if is_safe(words, k, n, first, leaf) {
+        return false;
+    }
+    !at_once(op, look_of(words, k, n, leaf, key_asked(op)))
+}
+
 // What the operation does from where it stands.
 pub fn judge(words: &[u32], k: usize, n: usize, op: Op, stand: Slot) -> Course
     requires { ⌜ SlotStanding op k n (now words) stand ⌝ }
     ensures { λ r. ⌜ courseOf k (pageAt k (now (words .entry))) (freePages k n (now (words .entry))) (standOf op stand) r ≡ ifNew (judged k (pageAt k (now (words .entry))) (freePages k n (now (words .entry))) (standOf op stand)) ⌝ }
-    ensures { λ r. ⌜ ready op (pageAt k (now (words .entry))) (pathOf stand) r ⌝ }
+    ensures { λ r. ⌜ ready op k (pageAt k (now (words .entry))) (pathOf stand) r ⌝ }
 {
     let path = stand.path;
     let leaf = path[stand.depth - 1];
     if !is_leaf_of(words, k, n, leaf) {
-        return goes(stand, route_of(words, k, n, leaf, key_asked(op)));
+        let next = route_of(words, k, n, leaf, key_asked(op));
+        return goes(stand, next, lock_below(words, k, n, op, leaf));
+    }
+    if begins_again(words, k, n, op, leaf) {
+        return Course::Again;
     }
     match op {
         Op::Search(x) => found(look_of(words, k, n, leaf, x)),
-        Op::Insert(x, v) => inserts(look_of(words, k, n, leaf, x), x, v),
-        Op::Delete(x) => deletes(words, k, n, x, look_of(words, k, n, leaf, x), stand),
+        Op::Insert(x, v, _) => inserts(look_of(words, k, n, leaf, x), x, v),
+        Op::Delete(x, way) => deletes(words, k, n, x, way, look_of(words, k, n, leaf, x), stand),
         Op::Next(x) => nexts(words, k, n, x, stand),
-        Op::Regrade(x, v) => Course::Regrades(x, v),
+        Op::Regrade(x, v, _) => Course::Regrades(x, v),
     }
 }

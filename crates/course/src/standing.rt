@@ -21,10 +21,10 @@ pub fn stands(words: &[u32], k: usize, n: usize, op: Op, slot: Slot) -> Slot
     let path = slot.path;
     let want = slot.want;
     if at_leaf(words, k, n, path, slot.depth) {
-        return holding_beside(op, want, slot, want);
+        return holding_beside(op, slot, want);
     }
     if is_safe(words, k, n, op, want) {
-        return holding_one(op, want, want);
+        return holding_one(op, slot, want);
     }
-    holding_more(op, want, slot, want)
+    holding_more(op, slot, want)
 }

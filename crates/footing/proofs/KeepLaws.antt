@@ -13,7 +13,7 @@ use lib.ListN.{length, getD, take, drop, replicate, length-reverse}
 use lib.Seq.{length-take-le, getD-take, take-at}
 use Rattle.ground.specs.Limits.{pathHolds}
 use Rattle.ground.specs.Tests.{all, padded}
-use Rattle.ground.proofs.Bools.{and-both, and-first-fails, and-second-fails, not-of-false, not-of-true}
+use Rattle.ground.proofs.Bools.{not-both, and-both, and-first-fails, and-second-fails, not-of-false, not-of-true}
 use Rattle.ground.proofs.Tests.{member-from}
 use Rattle.ground.proofs.Padded.{next-cell, no-cell}
 use Rattle.page.specs.Words.{Entry, Page}
@@ -26,8 +26,11 @@ use Rattle.change.specs.Deletion.{Need, needs}
 use Rattle.change.specs.Held.{Held, Needing, upward, leafOf, fathersOf}
 use Rattle.change.proofs.HeldLaws.{Known, held-known, held-front, upward-father, upward-reverse}
 use Rattle.slots.specs.declared.Op.{Op}
-use Rattle.slots.specs.declared.Op.the-variants.{Delete}
-use Rattle.slots.specs.Parts.{keyOf, isDelete, Stand, stand, withOp}
+use Rattle.slots.specs.declared.Op.the-variants.{Search, Insert, Delete, Next, Regrade}
+use Rattle.slots.specs.declared.Way.{Way}
+use Rattle.slots.specs.declared.Way.the-variants.{First, Second}
+use Rattle.slots.specs.declared.Lock.{Lock}
+use Rattle.slots.specs.Parts.{keyOf, isDelete, isSecond, Stand, stand, withOp}
 use Rattle.slots.proofs.MakingLaws.{length-add}
 use Rattle.footing.specs.Granted.{isSafe, atItsLeaf}
 use Rattle.footing.specs.Fitting.{descends, rightlyKept, sameLevels, isSibling, rightlyBeside}
@@ -52,6 +55,27 @@ none-last path e = ap (λ (d : ℕ). reverse (take d path)) e
 pub last-first : (path : List ℕ) (depth : ℕ) → depth ≤ length path → 0 < depth
     → reverse (take depth path) ≡ leafOf depth path ∷ fathersOf depth path
 last-first path depth long some = sym (upward-reverse depth path long) ∙ upward-father depth path some
+
+-- ---- safe pages
+
+-- every page is safe for who goes by the second way: it holds no other
+pub second-safe : (op : Op) (k : ℕ) (P : Page) → isSecond op ≡ true → isSafe op k P ≡ true
+second-safe (Search x) k P e = refl
+second-safe (Insert x v First) k P e = not-both e refl
+second-safe (Insert x v Second) k P e = refl
+second-safe (Delete x First) k P e = not-both e refl
+second-safe (Delete x Second) k P e = refl
+second-safe (Next x) k P e = not-both e refl
+second-safe (Regrade x v First) k P e = refl
+second-safe (Regrade x v Second) k P e = refl
+
+-- and for a regrading
+pub regrade-safe : (k : ℕ) (P : Page) {op : Op} {x v : ℕ} {way : Way} → op ≡ Regrade x v way → isSafe op k P ≡ true
+regrade-safe k P {x = x} {v} {way} e = ap (λ (o : Op). isSafe o k P) e ∙ by-way way
+  where
+    by-way : (w : Way) → isSafe (Regrade x v w) k P ≡ true
+    by-way First = refl
+    by-way Second = refl
 
 -- ---- the pages below the top
 
@@ -237,14 +261,14 @@ looked-has x es e = ap isThere e ∙ by-test (has x es) (information x es)
     by-test true v = refl
     by-test false v = refl
 
--- The rule for a deletion of x that stands at its leaf, a test at a time.
+-- The rule for a deletion of x by the first way that stands at its leaf, a test at a time.
 module _ {k n : ℕ} {ws path : List ℕ} {depth : ℕ} {siblings : List ℕ} {beside : ℕ} (needing : Needing k n ws path depth siblings beside)
-    (want : ℕ) {op : Op} {x : ℕ} (deletes : op ≡ Delete x) where
+    (want : ℕ) (lock : Lock) {op : Op} {x : ℕ} {way : Way} (deletes : op ≡ Delete x way) (first : way ≡ First) where
   abbrev memory : ℕ → Page
   memory = pageAt k ws
 
   abbrev z : Stand
-  z = stand op (take depth path) (take beside siblings) want
+  z = stand op (take depth path) (take beside siblings) want lock
 
   abbrev answer : Bool
   answer = rightlyBeside k memory z (reverse (take depth path))
@@ -261,7 +285,7 @@ module _ {k n : ℕ} {ws path : List ℕ} {depth : ℕ} {siblings : List ℕ} {b
   by-leaf : answer ≡ there && isSibling next want && levelled
   by-leaf =
       let turned = last-first path depth (omega (arith, needing .deep, needing .pathCells)) (needing .some) in
-      ap₂ (λ (o : Op) (up : List ℕ). rightlyBeside k memory (withOp o z) up) deletes turned
+      ap₂ (λ (o : Op) (up : List ℕ). rightlyBeside k memory (withOp o z) up) (deletes ∙ ap (Delete x) first) turned
       ∙ ap (λ (up : List ℕ). there && isSibling next want && sameLevels memory up (take beside siblings ++ want ∷ [])) (sym turned)
 
   -- the key is not there

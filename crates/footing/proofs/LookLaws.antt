@@ -12,7 +12,7 @@ use borrow.Author.Tests.{eqb-true, eq-eqb, ne-eqb, leb-true, not-true, not-false
 use lib.Dec.{eqb, leb, ltb}
 use lib.ListN.{length, getD, take}
 use lib.Seq.{length-take-le, getD-take}
-use Rattle.ground.specs.Limits.{pathHolds, searchHolds, regradeHolds, siblingHolds}
+use Rattle.ground.specs.Limits.{pathHolds, searchHolds, regradeHolds, secondHolds, siblingHolds}
 use Rattle.ground.specs.Tests.{all, member}
 use Rattle.ground.proofs.Bools.{not-both, and-first, and-second, and-both, and-first-fails, and-second-fails, or-first, or-second, or-cases, false-if-not-true}
 use Rattle.ground.proofs.Choice.{cond-ind, cond-true, cond-false}
@@ -25,14 +25,18 @@ use Rattle.change.specs.Held.{Held}
 use Rattle.change.proofs.HeldLaws.{Known, held-known, held-some, held-front, on-path, among-siblings, upward-father, upward-reverse}
 use Rattle.slots.specs.declared.Op.{Op}
 use Rattle.slots.specs.declared.Op.the-variants.{Search, Insert, Delete, Next, Regrade}
+use Rattle.slots.specs.declared.Way.the-variants.{First, Second}
 use Rattle.slots.specs.declared.Task.{Task}
 use Rattle.slots.specs.declared.Task.the-variants.{Open}
 use Rattle.slots.specs.declared.Slot.{Slot}
-use Rattle.slots.specs.Parts.{keyOf, isOpen, pathOf, besideOf, held, Stand, standOf}
-use Rattle.slots.specs.Sound.{limitsOf, withinLimits}
+use Rattle.slots.specs.declared.Lock.the-variants.{Xi}
+use Rattle.slots.specs.Parts.{keyOf, heldLock, isSecond, isOpen, pathOf, besideOf, held, Stand, standOf}
+use Rattle.slots.specs.Locks.{sameLock}
+use Rattle.slots.specs.Sound.{limitsOf, withinLimits, wantsRightly}
 use Rattle.slots.proofs.SoundFacts.{SoundSlot, sound-slot}
-use Rattle.footing.specs.Granted.{atItsLeaf}
-use Rattle.footing.specs.Fitting.{namesBelow, pagesSound, leads, descends, rightlyKept, rightlyBeside, isNone, leftmost, rightlyAcross, fitting}
+use Rattle.slots.proofs.LockLaws.{lock-same, wants-held}
+use Rattle.footing.specs.Granted.{lockBelow, atItsLeaf}
+use Rattle.footing.specs.Fitting.{namesBelow, pagesSound, leads, descends, rightlyKept, rightlyBeside, isNone, leftmost, rightlyAcross, lockDue, fitting}
 use Rattle.footing.specs.Standing.{Asks, fits, lastLeads}
 
 -- what a branch on a test's opposite tells of the test
@@ -269,12 +273,15 @@ module _ (k n : ℕ) (ws : List ℕ) where
 
 -- how many pages it holds
 within-table : (op : Op) → (limitsOf (Open op) .onPath ≤ pathHolds) × (limitsOf (Open op) .beside < pathHolds)
-unfolding searchHolds regradeHolds pathHolds siblingHolds
+unfolding searchHolds regradeHolds secondHolds pathHolds siblingHolds
 within-table (Search x) = (omega arith, omega arith)
-within-table (Insert x v) = (omega arith, omega arith)
-within-table (Delete x) = (omega arith, omega arith)
+within-table (Insert x v First) = (omega arith, omega arith)
+within-table (Insert x v Second) = (omega arith, omega arith)
+within-table (Delete x First) = (omega arith, omega arith)
+within-table (Delete x Second) = (omega arith, omega arith)
 within-table (Next x) = (omega arith, omega arith)
-within-table (Regrade x v) = (omega arith, omega arith)
+within-table (Regrade x v First) = (omega arith, omega arith)
+within-table (Regrade x v Second) = (omega arith, omega arith)
 
 limits : (op : Op) (depth beside : ℕ) → withinLimits (Open op) depth beside ≡ true → (depth ≤ pathHolds) × (beside < pathHolds)
 limits op depth beside t =
@@ -361,6 +368,32 @@ module _ {k n : ℕ} {ws : List ℕ} {op : Op} {slot : Slot} (h : Asks k n ws op
   asks-path-held said t =
       held-front (pathOf slot) (besideOf slot) (held-front (held slot) (slot .want ∷ []) (asks-held said t))
 
+-- ---- the kind of lock that is due
+
+-- ξ is due to who goes by the second way, from level 2
+pub below-leaf : (op : Op) (P : Page) {level : ℕ} → isSecond op ≡ true → level ≡ P .level → eqb level 2 ≡ true → lockBelow op P ≡ Xi
+below-leaf op P second read two = cond-true Xi (heldLock op) (and-both second (ap (λ (l : ℕ). eqb l 2) (sym read) ∙ two))
+
+-- from another level, and to everybody else, the kind under which the operation holds
+pub below-higher : (op : Op) (P : Page) {level : ℕ} → level ≡ P .level → eqb level 2 ≡ false → lockBelow op P ≡ heldLock op
+below-higher op P read other = cond-false Xi (heldLock op) (and-second-fails (isSecond op) (ap (λ (l : ℕ). eqb l 2) (sym read) ∙ other))
+
+pub below-first : (op : Op) (P : Page) → isSecond op ≡ false → lockBelow op P ≡ heldLock op
+below-first op P f = cond-false Xi (heldLock op) (and-first-fails (eqb (P .level) 2) f)
+
+-- who does not go by the second way is due that kind everywhere, and a sound slot wants it
+first-due : (op : Op) (memory : ℕ → Page) (up : List ℕ) → isSecond op ≡ false → lockDue op memory up ≡ heldLock op
+first-due op memory [] f = refl
+first-due op memory (p ∷ up) f = below-first op (memory p) f
+
+pub first-wants : {k n : ℕ} {ws : List ℕ} {op : Op} {slot : Slot} {second : Bool} (h : Asks k n ws op slot) (memory : ℕ → Page) (up : List ℕ)
+    → second ≡ isSecond op → not second ≡ true → true ≡ sameLock (slot .lock) (lockDue op memory up)
+first-wants {op = op} {slot} h memory up said f =
+    let first : isSecond op ≡ false = told-false said f in
+    let wanted : slot .lock ≡ heldLock op =
+    wants-held op (slot .lock) first (subst (λ (task : Task). wantsRightly task (slot .lock) ≡ true) (h .task) (facts h .rightly)) in
+    sym (ap₂ sameLock wanted (first-due op memory up first) ∙ lock-same (heldLock op))
+
 -- ---- coming down
 
 -- some sibling is held
@@ -402,9 +435,9 @@ module _ (memory : ℕ → Page) (x : ℕ) (slot : Slot) where
 
 -- ---- all of it together
 
--- what is left where two tests hold
-both-hold : {a b : Bool} (c : Bool) → a ≡ true → b ≡ true → a && (b && c) ≡ c
-both-hold {b = b} c p q = ap (λ (t : Bool). t && (b && c)) p ∙ ap (λ (t : Bool). t && c) q
+-- what is left where three tests hold
+all-hold : {a b c : Bool} (d : Bool) → a ≡ true → b ≡ true → c ≡ true → a && (b && c && d) ≡ d
+all-hold {b = b} {c} d p q r = ap (λ (t : Bool). t && (b && c && d)) p ∙ ap (λ (t : Bool). t && d) (and-both q r)
 
 module _ (op : Op) (k n : ℕ) (ws : List ℕ) (slot : Slot) where
   abbrev memory : ℕ → Page
@@ -415,6 +448,9 @@ module _ (op : Op) (k n : ℕ) (ws : List ℕ) (slot : Slot) where
 
   abbrev keptTest : Bool
   keptTest = rightlyKept op k memory (pathOf slot) (slot .want)
+
+  abbrev lockTest : Bool
+  lockTest = sameLock (slot .lock) (lockDue op memory (reverse (pathOf slot)))
 
   abbrev wayTest : ℕ → Bool
   wayTest x = descends memory x (pathOf slot)
@@ -442,7 +478,11 @@ module _ (op : Op) (k n : ℕ) (ws : List ℕ) (slot : Slot) where
 
   pub fits-not-kept : {answer : Bool} → answer ≡ keptTest → not answer ≡ true → fits k n ws z ≡ false
   unfolding fits fitting
-  fits-not-kept said f = and-second-fails (pagesSound k n ws (pagesOf slot)) (and-first-fails _ (told-false said f))
+  fits-not-kept said f = and-second-fails (pagesSound k n ws (pagesOf slot)) (and-first-fails _ (and-first-fails lockTest (told-false said f)))
+
+  pub fits-not-due : {answer : Bool} → answer ≡ lockTest → not answer ≡ true → fits k n ws z ≡ false
+  unfolding fits fitting
+  fits-not-due said f = and-second-fails (pagesSound k n ws (pagesOf slot)) (and-first-fails _ (and-second-fails keptTest (told-false said f)))
 
   module _ {x : ℕ} {down : Bool} (key : x ≡ keyOf op) (way : down ≡ wayTest x) where
     pub fits-no-way : not down ≡ true → fits k n ws z ≡ false
@@ -450,7 +490,7 @@ module _ (op : Op) (k n : ℕ) (ws : List ℕ) (slot : Slot) where
     fits-no-way f =
         let none : wayTest (keyOf op) ≡ false = sym (ap wayTest key) ∙ told-false way f in
         and-second-fails (pagesSound k n ws (pagesOf slot))
-        (and-second-fails keptTest
+        (and-second-fails (keptTest && lockTest)
         (cond-ind (λ (b : Bool). b ≡ false) (atItsLeaf memory (reverse (pathOf slot))) (λ leaf. and-first-fails (besideTest || acrossTest) none)
         (λ upper. and-first-fails (isNone (besideOf slot))
         (descends-snoc memory (keyOf op) (pathOf slot) (slot .want) ∙ and-first-fails (lastTest (keyOf op)) none))))
@@ -459,11 +499,11 @@ module _ (op : Op) (k n : ℕ) (ws : List ℕ) (slot : Slot) where
     pub way-down : not down ≡ false → wayTest (keyOf op) ≡ true
     way-down t = sym (ap wayTest key) ∙ told-true way t
 
-    module _ {sound kept : Bool} (pages : sound ≡ pagesSound k n ws (pagesOf slot)) (p : not sound ≡ false) (rightly : kept ≡ keptTest)
-        (q : not kept ≡ false) (d : not down ≡ false) {leaf : Bool} (at : leaf ≡ atItsLeaf memory (reverse (pathOf slot))) where
+    module _ {sound kept due : Bool} (pages : sound ≡ pagesSound k n ws (pagesOf slot)) (p : not sound ≡ false) (rightly : kept ≡ keptTest)
+        (q : not kept ≡ false) (lock : due ≡ lockTest) (l : not due ≡ false) (d : not down ≡ false) {leaf : Bool} (at : leaf ≡ atItsLeaf memory (reverse (pathOf slot))) where
       whichever : fits k n ws z ≡ cond (atItsLeaf memory (reverse (pathOf slot))) atLeafTest comingTest
       unfolding fits fitting
-      whichever = both-hold (cond (atItsLeaf memory (reverse (pathOf slot))) atLeafTest comingTest) (told-true pages p) (told-true rightly q)
+      whichever = all-hold (cond (atItsLeaf memory (reverse (pathOf slot))) atLeafTest comingTest) (told-true pages p) (told-true rightly q) (told-true lock l)
 
       -- where they hold, it is the pages beside the path that count at the leaf: a deletion's siblings, or a second way
       at-the-leaf : leaf ≡ true → fits k n ws z ≡ besideTest || acrossTest

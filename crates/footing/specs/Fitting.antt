@@ -12,8 +12,10 @@ use Rattle.page.specs.Sound.{soundByItself}
 use Rattle.pool.specs.Pool.{wordsOf, pageAt, freePages}
 use Rattle.change.specs.Deletion.{Need, nothing, sibling, astray, needs}
 use Rattle.slots.specs.declared.Op.{Op}
-use Rattle.slots.specs.Parts.{keyOf, isDelete, isNext, Stand, holding}
-use Rattle.footing.specs.Granted.{Verdict, broken, goes, ends, isSafe, granted, atItsLeaf}
+use Rattle.slots.specs.declared.Lock.{Lock}
+use Rattle.slots.specs.Parts.{keyOf, isDelete, isNext, heldLock, Stand, holding}
+use Rattle.slots.specs.Locks.{sameLock}
+use Rattle.footing.specs.Granted.{Verdict, broken, goes, ends, isSafe, lockBelow, granted, atItsLeaf}
 
 -- "each held page and the wanted one has level 1 to 10 .., μ in range, rising keys, pointers all different and from 1 to
 -- N-1, unused words 0"
@@ -89,10 +91,17 @@ rightlyAcross k memory z (top ∷ below) =
     && isSafe (z .op) k (memory top)
     && turnsRight memory (keyOf (z .op)) top (z .beside ++ z .want ∷ [])
 
+-- The kind of lock with which the rules would have an operation want its next page, coming down: by the lowest page of its path, which
+-- is given upward. (At its leaf an operation wants with the kind under which it holds, and so it does from a leaf.)
+abbrev pub lockDue : Op → (ℕ → Page) → List ℕ → Lock
+lockDue op memory [] = heldLock op
+lockDue op memory (p ∷ up) = lockBelow op (memory p)
+
 -- "and if these pages, read again, are the ones the rules would have this operation hold and want at this point"
 unfoldable pub fitting : ℕ → (ℕ → Page) → Stand → Bool
 fitting k memory z =
     rightlyKept (z .op) k memory (z .path) (z .want)
+    && sameLock (z .lock) (lockDue (z .op) memory (reverse (z .path)))
     && cond (atItsLeaf memory (reverse (z .path)))
     (descends memory (keyOf (z .op)) (z .path) && (rightlyBeside k memory z (reverse (z .path)) || rightlyAcross k memory z (z .path)))
     (descends memory (keyOf (z .op)) (z .path ++ z .want ∷ []) && isNone (z .beside))

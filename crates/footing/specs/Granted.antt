@@ -2,9 +2,9 @@
 -- A slot's path is given from the top downward, its siblings from the leaf's upward, the second way of a Next from the top
 -- downward.
 use Prim.Native.Nat.{ℕ, _*_}
-use mathlib.Core.Bool.{Bool, true, false, cond, not, _&&_}
+use mathlib.Core.Bool.{Bool, true, false, cond, not, _&&_, _||_}
 use mathlib.Core.List.{List, [], _∷_, _++_, reverse}
-use lib.Dec.{ltb}
+use lib.Dec.{eqb, ltb}
 use lib.ListN.{length}
 use Rattle.page.specs.Words.{Entry, Page, μ, isLeaf}
 use Rattle.page.specs.Place.{pointer, route, has, information, atOrAbove}
@@ -15,9 +15,12 @@ use Rattle.change.specs.Deletion.{Need, nothing, sibling, astray, needs, deleti
 use Rattle.change.specs.Regrading.{regrading}
 use Rattle.slots.specs.declared.Op.{Op}
 use Rattle.slots.specs.declared.Op.the-variants.{Search, Insert, Delete, Next, Regrade}
+use Rattle.slots.specs.declared.Way.the-variants.{First, Second}
+use Rattle.slots.specs.declared.Lock.{Lock}
+use Rattle.slots.specs.declared.Lock.the-variants.{Xi}
 use Rattle.slots.specs.declared.Answer.{Answer}
 use Rattle.slots.specs.declared.Answer.the-variants.{Found, NotFound, Inserted, AlreadyThere, Deleted, NoSuchKey, NoRoom, Next as NextLot, None as NoLot, Regraded}
-use Rattle.slots.specs.Parts.{keyOf, isNext, Stand, onPages, wantBeside, wantsNext}
+use Rattle.slots.specs.Parts.{keyOf, isNext, isSecond, firstWay, heldLock, Stand, freshStand, onPages, wantBeside, wantsNext}
 
 -- What a granted step comes to: the pages are not sound for it; the slot goes on and stands here; or the operation ends with this
 -- answer, and these pages are written.
@@ -29,13 +32,22 @@ pub data Verdict : Type 0 where
 -- "Search gives up the father." "Insertion: if the page has μ < 2k, all its ancestors are given up." "Deletion: the
 -- same with μ > k, for pages other than 0": page 0 has no ancestors. Next keeps its locks "from the lowest page on its way that
 -- still has a child to the right of the route (from page 0 if none has)": a leaf has no children. Regrading: "every page is safe for it".
+-- By the second way an update gives up the father as a search does.
 -- On such a page an operation holds that page alone.
 abbrev pub isSafe : Op → ℕ → Page → Bool
 isSafe (Search x) k P = true
-isSafe (Insert x v) k P = ltb (μ P) (2 * k)
-isSafe (Delete x) k P = ltb k (μ P)
+isSafe (Insert x v First) k P = ltb (μ P) (2 * k)
+isSafe (Insert x v Second) k P = true
+isSafe (Delete x First) k P = ltb k (μ P)
+isSafe (Delete x Second) k P = true
 isSafe (Next x) k P = not (isLeaf P) && hasRight x P
-isSafe (Regrade x v) k P = true
+isSafe (Regrade x v First) k P = true
+isSafe (Regrade x v Second) k P = true
+
+-- The kind of lock that an operation wants the next page with, from page P of its way. 02 (v): "ρ-locks down, a ξ-lock wanted on the leaf":
+-- the leaf is what a page on level 2 leads to.
+abbrev pub lockBelow : Op → Page → Lock
+lockBelow op P = cond (isSecond op && eqb (P .level) 2) Xi (heldLock op)
 
 -- the path after the wanted page is granted
 abbrev pub kept : ℕ → (ℕ → Page) → Stand → List ℕ
@@ -44,7 +56,7 @@ kept k memory z = cond (isSafe (z .op) k (memory (z .want))) (z .want ∷ []) (z
 -- what a deletion does by what it needs: the whole change, one more page wanted, or nothing at all
 abbrev pub byNeed : Stand → Verdict → Need → Verdict
 byNeed z whole nothing = whole
-byNeed z whole (sibling s) = goes (wantsNext z s)
+byNeed z whole (sibling s) = goes (wantsNext z s (heldLock (z .op)))
 byNeed z whole astray = broken
 
 -- A deletion of x that stands at its leaf, with the siblings that it holds. "If the leaf would be short, and is not page 0, the
@@ -66,31 +78,49 @@ nextAnswer (e ∷ es) = NextLot (e .key) (e .value)
 abbrev pub crosses : ℕ → ℕ → (ℕ → Page) → Stand → List ℕ → Verdict
 crosses x k memory z [] = broken
 crosses x k memory z (top ∷ below) =
-    cond (isSafe (Next x) k (memory top)) (goes (wantsNext z (neighbour x (memory top)))) (ends NoLot [])
+    cond (isSafe (Next x) k (memory top)) (goes (wantsNext z (neighbour x (memory top)) (heldLock (z .op)))) (ends NoLot [])
 
 -- a Next at its leaf, by the leaf's entries at or above the key
 abbrev pub byNearest : Verdict → List Entry → Verdict
 byNearest further [] = further
 byNearest further (e ∷ es) = ends (nextAnswer (e ∷ es)) []
 
--- At the leaf, with its path upward held: the leaf and its fathers. By the operation of the slot that stands there.
+-- 02 (v): "A key already there or missing is answered at once; a safe leaf is changed; otherwise all locks are given up and the operation
+-- begins again by the first way. If page 0 is a leaf, it begins again in any case." Beginning again is a begin without a call.
+abbrev pub again : Op → Verdict
+again op = goes (freshStand (firstWay op))
+
+-- a key already there, of an insertion, or missing, of another update: by the leaf's entries
+abbrev pub answeredAtOnce : Op → List Entry → Bool
+answeredAtOnce (Search x) es = true
+answeredAtOnce (Insert x v way) es = has x es
+answeredAtOnce (Delete x way) es = not (has x es)
+answeredAtOnce (Next x) es = true
+answeredAtOnce (Regrade x v way) es = not (has x es)
+
+-- an update by the second way does at this leaf what it does by the first way; otherwise it begins again
+abbrev pub staysSecond : Op → ℕ → (ℕ → Page) → ℕ → Bool
+staysSecond op k memory leaf =
+    not (eqb leaf 0) && (answeredAtOnce op (memory leaf .entries) || isSafe (firstWay op) k (memory leaf))
+
+-- At the leaf, with its path upward held: the leaf and its fathers. By the operation of the slot that stands there, an update by the first way.
 -- "Search .. At a leaf it answers". "Insertion .. At the leaf: a key already there is answered so; then room is counted;
 -- then the whole change is made." "Deletion .. At the leaf: a missing key is answered so." Next: a key at or above is answered
 -- at once. 02 (iv): "AlreadyThere shall now carry the information there." Regrading "puts new information under a key that is there
--- and answers Regraded with the old information, or NoSuchKey".
+-- and answers Regraded with the old information, or NoSuchKey". That an update by the second way comes this far is said below.
 unfoldable pub atLeaf : Op → ℕ → (ℕ → Page) → List ℕ → Stand → ℕ → List ℕ → Verdict
 atLeaf (Search x) k memory free z leaf fathers =
     ends (cond (has x (memory leaf .entries)) (Found (information x (memory leaf .entries))) NotFound) []
-atLeaf (Insert x v) k memory free z leaf fathers =
+atLeaf (Insert x v way) k memory free z leaf fathers =
     cond (has x (memory leaf .entries))
     (ends (AlreadyThere (information x (memory leaf .entries))) [])
     (cond (ltb (length free) (room k memory leaf (z .path)))
     (ends NoRoom [])
     (ends Inserted (insertion k memory x v free leaf fathers)))
-atLeaf (Delete x) k memory free z leaf fathers =
+atLeaf (Delete x way) k memory free z leaf fathers =
     cond (has x (memory leaf .entries)) (deletes k memory x z leaf fathers) (ends NoSuchKey [])
 atLeaf (Next x) k memory free z leaf fathers = byNearest (crosses x k memory z (z .path)) (atOrAbove x (memory leaf .entries))
-atLeaf (Regrade x v) k memory free z leaf fathers =
+atLeaf (Regrade x v way) k memory free z leaf fathers =
     cond (has x (memory leaf .entries))
     (ends (Regraded (information x (memory leaf .entries))) (regrading memory x v leaf))
     (ends NoSuchKey [])
@@ -100,13 +130,18 @@ abbrev pub fromLeaf : (ℕ → List ℕ → Verdict) → List ℕ → Verdict
 fromLeaf act [] = broken
 fromLeaf act (leaf ∷ fathers) = act leaf fathers
 
+-- an operation at its leaf, by its way
+abbrev pub byWayAtLeaf : ℕ → (ℕ → Page) → List ℕ → Stand → ℕ → List ℕ → Verdict
+byWayAtLeaf k memory free z leaf fathers =
+    cond (isSecond (z .op) && not (staysSecond (z .op) k memory leaf)) (again (z .op)) (atLeaf (z .op) k memory free z leaf fathers)
+
 -- Coming down, the wanted page is granted: above the leaves the next want is the route from it.
 unfoldable pub comesDown : ℕ → (ℕ → Page) → List ℕ → Stand → Verdict
 comesDown k memory free z =
     let down = onPages z (kept k memory z) [] in
     cond (isLeaf (memory (z .want)))
-    (fromLeaf (λ (leaf : ℕ) (fathers : List ℕ). atLeaf (z .op) k memory free down leaf fathers) (reverse (down .path)))
-    (goes (wantsNext down (route (keyOf (z .op)) (memory (z .want)))))
+    (fromLeaf (byWayAtLeaf k memory free down) (reverse (down .path)))
+    (goes (wantsNext down (route (keyOf (z .op)) (memory (z .want))) (lockBelow (z .op) (memory (z .want)))))
 
 -- Standing at its leaf, a Next is granted the wanted page of its second way: "goes down the leftmost way .., giving nothing up until
 -- its answer". At the second leaf as at the first it answers the first entry at or above its key, or None.
@@ -114,7 +149,7 @@ unfoldable pub goesLeft : (ℕ → Page) → Stand → Verdict
 goesLeft memory z =
     cond (isLeaf (memory (z .want)))
     (ends (nextAnswer (atOrAbove (keyOf (z .op)) (memory (z .want) .entries))) [])
-    (goes (wantsNext (wantBeside z) (pointer 0 (memory (z .want)))))
+    (goes (wantsNext (wantBeside z) (pointer 0 (memory (z .want))) (heldLock (z .op))))
 
 -- Standing at its leaf, a deletion is granted the sibling that it wants, or a Next a page of its second way.
 unfoldable pub besides : ℕ → (ℕ → Page) → Stand → Verdict

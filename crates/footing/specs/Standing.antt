@@ -1,7 +1,7 @@
 -- What a granted step asks of its arguments, where the operation stands once its want is granted, and what is then known of
 -- the pages that it holds.
 use Prim.Native.Nat.{ℕ, suc, _+_, _≤_, _<_}
-use mathlib.Core.Bool.{Bool, true, cond, _&&_}
+use mathlib.Core.Bool.{Bool, true, false, cond, _&&_}
 use mathlib.Core.List.{List, [], _∷_, _++_, reverse}
 use mathlib.Core.Logic.{_⊎_, _≢_}
 use mathlib.Core.Path.{_≡_}
@@ -14,7 +14,7 @@ use Rattle.change.specs.Held.{Held}
 use Rattle.slots.specs.declared.Op.{Op}
 use Rattle.slots.specs.declared.Task.the-variants.{Open}
 use Rattle.slots.specs.declared.Slot.{Slot}
-use Rattle.slots.specs.Parts.{isDelete, Stand, holding, onPages, standOf, slotOf}
+use Rattle.slots.specs.Parts.{isNext, isSecond, Stand, holding, onPages, standOf, slotOf}
 use Rattle.slots.specs.Sound.{slotSound}
 use Rattle.footing.specs.Granted.{isSafe, kept, atItsLeaf}
 use Rattle.footing.specs.Fitting.{leads, pagesSound, fitting}
@@ -49,8 +49,8 @@ unfoldable pub stood : ℕ → (ℕ → Page) → Stand → Stand
 stood k memory z = onPages z (standPath k memory z) (standBeside memory z)
 
 -- What is known of the pages held once a want is granted: they are sound by themselves and all different; each page of the
--- path lies a level above the next one, and the top one is page 0 or safe; a deletion's sibling lies beside its page, and is not
--- page 0.
+-- path lies a level above the next one, and the top one is page 0 or safe; by the second way there is one page on the path; where no Next
+-- goes down a second way, a page beside the path is a sibling: it lies beside its page, and is not page 0.
 pub record Standing (k n : ℕ) (ws : List ℕ) (z : Stand) : Type 0 where
   pub some : 1 ≤ length (z .path)
   pub deep : length (z .path) ≤ pathHolds
@@ -59,9 +59,10 @@ pub record Standing (k n : ℕ) (ws : List ℕ) (z : Stand) : Type 0 where
   pub descends : (i : ℕ) → suc i < length (z .path) → pageAt k ws (getD (z .path) i 0) .level ≡ pageAt k ws (getD (z .path) (suc i) 0) .level + 1
   pub different : distinct (holding z) ≡ true
   pub top : (getD (z .path) 0 0 ≡ 0) ⊎ (isSafe (z .op) k (pageAt k ws (getD (z .path) 0 0)) ≡ true)
-  pub levels : isDelete (z .op) ≡ true → (i j : ℕ) → j < length (z .beside) → i + j + 1 ≡ length (z .path)
+  pub alone : isSecond (z .op) ≡ true → length (z .path) ≡ 1
+  pub levels : isNext (z .op) ≡ false → (i j : ℕ) → j < length (z .beside) → i + j + 1 ≡ length (z .path)
       → pageAt k ws (getD (z .path) i 0) .level ≡ pageAt k ws (getD (z .beside) j 0) .level
-  pub others : isDelete (z .op) ≡ true → (j : ℕ) → j < length (z .beside) → getD (z .beside) j 0 ≢ 0
+  pub others : isNext (z .op) ≡ false → (j : ℕ) → j < length (z .beside) → getD (z .beside) j 0 ≢ 0
 
 -- The slot holds just these pages, and so much is known of them.
 pub record SlotStanding (op : Op) (k n : ℕ) (ws : List ℕ) (stand : Slot) : Type 0 where

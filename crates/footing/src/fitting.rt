@@ -4,6 +4,7 @@ use crate::looking::at_leaf;
 use crate::looking::descends;
 use crate::looking::has_child_right;
 use crate::looking::leads;
+use crate::looking::lock_due;
 use crate::looking::rightly_kept;
 use crate::looking::same_levels;
 use crate::looking::turns_right;
@@ -16,7 +17,10 @@ use pool::pages::look_of;
 use pool::pages::sound_of;
 use slots::Op;
 use slots::Slot;
+use slots::Way;
+use slots::hearing::lock_number;
 use slots::making::with_page;
+use slots::operations::is_second;
 use slots::operations::key_asked;
 ghost use mathlib.Core.Path.{_≡_};
 ghost use mathlib.Core.Bool.{true, _&&_};
@@ -26,6 +30,7 @@ ghost use Rattle.ground.specs.Limits.{pathHolds};
 ghost use Rattle.pool.specs.Pool.{pageAt};
 ghost use Rattle.change.specs.Held.{Held};
 ghost use Rattle.slots.specs.Parts.{keyOf, pathOf, besideOf, standOf};
+ghost use Rattle.slots.specs.Locks.{sameLock};
 ghost use Rattle.footing.specs.Granted.{atItsLeaf};
 ghost use Rattle.footing.specs.Fitting as rule;
 ghost use Rattle.footing.specs.Standing.{Asks, lastLeads};
@@ -70,7 +75,10 @@ fn fits_beside(words: &[u32], k: usize, n: usize, op: Op, slot: Slot) -> bool
     requires { ⌜ atItsLeaf (pageAt k (now words)) (reverse (pathOf slot)) ≡ true ⌝ }
     ensures { λ r. ⌜ r ≡ rule.rightlyBeside k (pageAt k (now (words .entry))) (standOf op slot) (reverse (pathOf slot)) ⌝ }
 {
-    let Op::Delete(x) = op else {
+    let Op::Delete(x, way) = op else {
+        return false;
+    };
+    let Way::First = way else {
         return false;
     };
     let path = slot.path;
@@ -129,6 +137,19 @@ fn fits_across(words: &[u32], k: usize, n: usize, op: Op, slot: Slot) -> bool
     )
 }
 
+// The slot wants its next page with the kind of lock that is due. Who does not go by the second way can want no other: the slot is sound.
+fn wants_due(words: &[u32], k: usize, n: usize, op: Op, slot: Slot) -> bool
+    requires { ⌜ (Asks k n (now words) op slot) × (Held k n (now words) (pathOf slot)) ⌝ }
+    ensures { λ r. ⌜ r ≡ sameLock (slot .lock) (rule.lockDue op (pageAt k (now (words .entry))) (reverse (pathOf slot))) ⌝ }
+{
+    if !is_second(op) {
+        return true;
+    }
+    let lock = slot.lock;
+    let path = slot.path;
+    lock_number(lock) == lock_number(lock_due(words, k, n, op, path, slot.depth))
+}
+
 // All of these together.
 pub fn fits(words: &[u32], k: usize, n: usize, op: Op, slot: Slot) -> bool
     requires { ⌜ Asks k n (now words) op slot ⌝ }
@@ -140,6 +161,9 @@ pub fn fits(words: &[u32], k: usize, n: usize, op: Op, slot: Slot) -> bool
     let path = slot.path;
     let depth = slot.depth;
     if !rightly_kept(words, k, n, op, path, depth, slot.want) {
+        return false;
+    }
+    if !wants_due(words, k, n, op, slot) {
         return false;
     }
     if !descends(words, k, n, key_asked(op), path, depth) {

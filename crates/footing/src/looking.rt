@@ -9,7 +9,11 @@ use pool::pages::neighbour_of;
 use pool::pages::pointer_of;
 use pool::pages::route_of;
 use pool::pages::sound_of;
+use slots::Lock;
 use slots::Op;
+use slots::Way;
+use slots::operations::held_lock;
+use slots::operations::is_second;
 ghost use mathlib.Core.Path.{_≡_};
 ghost use mathlib.Core.Bool.{true, not, _&&_};
 ghost use mathlib.Core.List.{[], _∷_, _++_, reverse};
@@ -25,7 +29,7 @@ ghost use Rattle.page.specs.Reading.{Readable};
 ghost use Rattle.pool.specs.Pool.{poolLength, wordsOf, pageAt};
 ghost use Rattle.pool.specs.Wrapped.{InPool};
 ghost use Rattle.change.specs.Held.{Held};
-ghost use Rattle.footing.specs.Granted.{isSafe, atItsLeaf};
+ghost use Rattle.footing.specs.Granted.{isSafe, lockBelow, atItsLeaf};
 ghost use Rattle.footing.specs.Fitting as rule;
 
 // Page p is above the leaves and has a child to the right of the route of x.
@@ -41,7 +45,8 @@ pub fn has_child_right(words: &[u32], k: usize, n: usize, x: u32, p: u32) -> boo
     has_right_of(words, k, n, p, x)
 }
 
-// On page p the operation gives up all others on its path. A search and a regrading do so on every page: they read nothing.
+// On page p the operation gives up all others on its path. A search, a regrading and who goes by the second way do so on every page:
+// they read nothing.
 pub fn is_safe(words: &[u32], k: usize, n: usize, op: Op, p: u32) -> bool
     requires { ⌜ InPool k n p (now words) ⌝ }
     requires { ⌜ Readable (wordsOf k p (now words)) ⌝ }
@@ -50,11 +55,29 @@ pub fn is_safe(words: &[u32], k: usize, n: usize, op: Op, p: u32) -> bool
 {
     match op {
         Op::Search(_) => true,
-        Op::Insert(_, _) => count_of(words, k, n, p) < 2 * k,
-        Op::Delete(_) => k < count_of(words, k, n, p),
+        Op::Insert(_, _, way) => match way {
+            Way::First => count_of(words, k, n, p) < 2 * k,
+            Way::Second => true,
+        },
+        Op::Delete(_, way) => match way {
+            Way::First => k < count_of(words, k, n, p),
+            Way::Second => true,
+        },
         Op::Next(x) => has_child_right(words, k, n, x, p),
-        Op::Regrade(_, _) => true,
+        Op::Regrade(_, _, _) => true,
     }
+}
+
+// The kind of lock that the operation wants the next page with, from page p of its way. By the second way that is ξ if the next page is
+// the leaf: nobody else looks at the page.
+pub fn lock_below(words: &[u32], k: usize, n: usize, op: Op, p: u32) -> Lock
+    requires { ⌜ InPool k n p (now words) ⌝ }
+    ensures { λ r. ⌜ r ≡ lockBelow op (pageAt k (now (words .entry)) p) ⌝ }
+{
+    if is_second(op) && level_of(words, k, n, p) == 2 {
+        return Lock::Xi;
+    }
+    held_lock(op)
 }
 
 // Each of the first `count` cells names a page that is sound by itself.
@@ -82,6 +105,17 @@ pub fn at_leaf(words: &[u32], k: usize, n: usize, path: [u32; HELD], depth: usiz
         return false;
     }
     is_leaf_of(words, k, n, path[depth - 1])
+}
+
+// The kind of lock that the rules would have the operation want: by the last page of its path.
+pub fn lock_due(words: &[u32], k: usize, n: usize, op: Op, path: [u32; HELD], depth: usize) -> Lock
+    requires { ⌜ (depth ≤ pathHolds) × (Held k n (now words) (take depth path)) ⌝ }
+    ensures { λ r. ⌜ r ≡ rule.lockDue op (pageAt k (now (words .entry))) (reverse (take depth path)) ⌝ }
+{
+    if depth == 0 {
+        return held_lock(op);
+    }
+    lock_below(words, k, n, op, path[depth - 1])
 }
 
 // Page q lies a level below page p.

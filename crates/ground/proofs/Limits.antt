@@ -3,7 +3,7 @@
 use Prim.Native.Nat.{_+_, _-_, _*_, _^_, _<_}
 use mathlib.Core.Path.{_≡_, refl}
 use lib.Dec.{lit<}
-use Rattle.ground.specs.Limits.{largestN, tallest, slotCount, pathHolds, siblingHolds, wordRange, slotGrants, roundsEnough}
+use Rattle.ground.specs.Limits.{largestN, tallest, slotCount, pathHolds, siblingHolds, wordRange, wayGrants, slotGrants, roundsEnough}
 
 -- there are words
 pub range-rises : 0 < wordRange
@@ -24,12 +24,17 @@ pub siblings-below-top : siblingHolds + 1 ≡ tallest
 unfolding siblingHolds tallest
 siblings-below-top = refl
 
--- "deletion h to 2h-1. So at most 19 a slot"
-pub grants-of-height : slotGrants ≡ 2 * tallest - 1
-unfolding slotGrants tallest
+-- "deletion h to 2h-1. So at most 19"
+pub grants-of-height : wayGrants ≡ 2 * tallest - 1
+unfolding wayGrants tallest
 grants-of-height = refl
 
--- "16 × 19 = 304"
+-- "At most 10 + 19 grants"
+pub grants-of-ways : slotGrants ≡ tallest + wayGrants
+unfolding slotGrants tallest wayGrants
+grants-of-ways = refl
+
+-- "16 × 29 = 464"
 pub rounds-of-slots : roundsEnough ≡ slotCount * slotGrants
 unfolding roundsEnough slotCount slotGrants
 rounds-of-slots = refl

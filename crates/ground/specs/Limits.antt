@@ -41,6 +41,10 @@ pathHolds = 10
 unfoldable pub siblingHolds : ℕ
 siblingHolds = 9
 
+-- 02 (v): an update by the second way goes "ρ-locks down", and gives up the father as a search does
+unfoldable pub secondHolds : ℕ
+secondHolds = 1
+
 -- "one page for each page it holds with μ = 2k, and one more"
 unfoldable pub mostNew : ℕ
 mostNew = 11
@@ -49,9 +53,13 @@ mostNew = 11
 unfoldable pub wordRange : ℕ
 wordRange = 4294967296
 
--- "So at most 19 a slot, and 16 × 19 = 304."
+-- 01: "deletion h to 2h-1. So at most 19": by the first way
+unfoldable pub wayGrants : ℕ
+wayGrants = 19
+
+-- 02 (v): "At most 10 + 19 grants, so the rounds in demand 3 become 16 × 29 = 464."
 unfoldable pub slotGrants : ℕ
-slotGrants = 19
+slotGrants = 29
 
 unfoldable pub roundsEnough : ℕ
-roundsEnough = 304
+roundsEnough = 464

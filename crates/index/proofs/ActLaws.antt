@@ -36,23 +36,26 @@ use Rattle.insertion.proofs.InsertLaws.{insertion-same}
 use Rattle.deletion.specs.Deleting.{Deleting}
 use Rattle.slots.specs.declared.Op.{Op}
 use Rattle.slots.specs.declared.Op.the-variants.{Insert, Regrade}
+use Rattle.slots.specs.declared.Way.the-variants.{First}
+use Rattle.slots.specs.declared.Lock.{Lock}
 use Rattle.slots.specs.declared.Slot.{Slot}
 use Rattle.slots.specs.declared.State.{State}
 use Rattle.slots.specs.declared.Answer.{Answer}
 use Rattle.slots.specs.declared.Answer.the-variants.{Moved, Inserted, Deleted, NoSuchKey, NoRoom, Damaged, Regraded}
-use Rattle.slots.specs.Parts.{isDelete, pathOf, besideOf, wantsNext, standOf, closedSlot, waitingOrder}
+use Rattle.slots.specs.Parts.{isNext, firstWay, pathOf, besideOf, freshStand, wantsNext, standOf, slotOf, closedSlot, waitingOrder}
 use Rattle.slots.specs.Book.{leaving, requeued, goesOn, closes}
 use Rattle.slots.proofs.OrderLaws.{length-leaving, length-waiting}
 use Rattle.lent.specs.Layout.{rowLength, columnLength, stateLength}
 use Rattle.lent.specs.Words.{orderIn, asRead, known, stateOf, laidInto}
 use Rattle.lent.proofs.StateLaws.{length-order, state-known, state-written}
 use Rattle.course.specs.declared.judging.Course.{Course}
-use Rattle.course.specs.declared.judging.Course.the-variants.{Broken, Goes, Ends, Inserts, Deletes, Regrades}
+use Rattle.course.specs.declared.judging.Course.the-variants.{Broken, Goes, Ends, Inserts, Deletes, Regrades, Again}
 use Rattle.footing.specs.Granted.{Verdict, ends, atLeaf, fromLeaf}
 use Rattle.footing.specs.Standing.{SlotStanding}
 use Rattle.course.specs.Judged.{courseOf, ready, standsLast}
+use Rattle.course.proofs.StandLaws.{Topped}
 use Rattle.course.proofs.JudgeLaws.{path-long, siblings-long, standing-needing, standing-holding, stand-upward, stand-known}
-use Rattle.index.specs.Acting.{Leaves, Acts, wanting, standLeaf, standFathers, lacksRoom, roomAnswer, afterInsertion, afterDeletion, regradeAnswer, afterRegrading}
+use Rattle.index.specs.Acting.{Leaves, Acts, MayInsert, wanting, standLeaf, standFathers, lacksRoom, roomAnswer, afterInsertion, afterDeletion, regradeAnswer, afterRegrading}
 
 -- ---- an operation that stands somewhere
 
@@ -67,9 +70,9 @@ module _ {op : Op} {k n : ℕ} {ws : List ℕ} {stand : Slot} (h : SlotStanding 
   sibling-cell j l = getD-take (stand .breadth) (stand .beside) j 0 l
 
   -- a deletion may be made of the key that stands at its leaf
-  stand-deleting : (x : ℕ) → isDelete op ≡ true → standsLast (pageAt k ws) x (reverse (pathOf stand))
+  stand-deleting : (x : ℕ) → isNext op ≡ false → standsLast (pageAt k ws) x (reverse (pathOf stand))
       → Deleting k n ws x (stand .path) (stand .depth) (stand .beside) (stand .breadth)
-  stand-deleting x is there =
+  stand-deleting x no-next there =
       let s = h .standing in
       let longPath = path-long h in
       let longSiblings = siblings-long h in
@@ -78,9 +81,9 @@ module _ {op : Op} {k n : ℕ} {ws : List ℕ} {stand : Slot} (h : SlotStanding 
         stands = subst (standsLast (pageAt k ws) x) (stand-upward h) there;
         levels = λ i j l e.
             ap (λ (p : ℕ). pageAt k ws p .level) (sym (path-cell i (omega arith)))
-            ∙ s .levels is i j (omega arith) (omega arith)
+            ∙ s .levels no-next i j (omega arith) (omega arith)
             ∙ ap (λ (p : ℕ). pageAt k ws p .level) (sibling-cell j l);
-        others = λ j l e. s .others is j (omega arith) (sibling-cell j l ∙ e);
+        others = λ j l e. s .others no-next j (omega arith) (sibling-cell j l ∙ e);
         pathApart = λ i t l u e. distinct-at (pathOf stand) 0 (distinct-front (pathOf stand) (besideOf stand) (s .different)) i t l (omega arith)
             (path-cell i (omega arith) ∙ e ∙ sym (path-cell t u));
         besideApart = λ j t l u e. distinct-at (besideOf stand) 0 (distinct-back (pathOf stand) (besideOf stand) (s .different)) j t l (omega arith)
@@ -131,27 +134,28 @@ module _ (k n : ℕ) (ws : List ℕ) {need : ℕ} {r : Taken} (found : Scanned n
 
 -- ---- an insertion
 
--- the top of the path is page 0 or has space
-stand-top : {x v k n : ℕ} {ws : List ℕ} {stand : Slot} → SlotStanding (Insert x v) k n ws stand
-    → (getD (stand .path) 0 0 ≡ 0) ⊎ (μ (pageAt k ws (getD (stand .path) 0 0)) < 2 * k)
-stand-top {k = k} {ws = ws} {stand = stand} h =
+-- An operation whose top page is page 0 or safe for an insertion may make one where it stands.
+stand-inserting : {op : Op} {k n : ℕ} {ws : List ℕ} {stand : Slot} (x v : ℕ) → SlotStanding op k n ws stand
+    → Topped (Insert x v First) k (pageAt k ws) (pathOf stand) → MayInsert k n ws stand
+stand-inserting {k = k} {ws = ws} {stand = stand} x v h top =
     let some : 0 < stand .depth = omega (arith, h .standing .some, path-long h) in
-    subst (λ (p : ℕ). (p ≡ 0) ⊎ (μ (pageAt k ws p) < 2 * k)) (path-cell h 0 some)
-    (⊎-elim inl (λ e. inr (ltb-true (μ (pageAt k ws (getD (pathOf stand) 0 0))) (2 * k) e)) (h .standing .top))
+    record {
+      holding = standing-holding h;
+      different = distinct-front (pathOf stand) (besideOf stand) (h .standing .different);
+      top = subst (λ (p : ℕ). (p ≡ 0) ⊎ (μ (pageAt k ws p) < 2 * k)) (path-cell h 0 some)
+          (⊎-elim inl (λ e. inr (ltb-true (μ (pageAt k ws (getD (pathOf stand) 0 0))) (2 * k) e)) top);
+    }
 
 -- The pages that the count of room asks for are found.
 module _
-    {x v k n : ℕ} {ws : List ℕ} {stand : Slot} (h : SlotStanding (Insert x v) k n ws stand)
+    {k n : ℕ} {ws : List ℕ} {stand : Slot} (h : MayInsert k n ws stand)
     {need : ℕ} {r : Taken} (found : Scanned need (freePages k n ws) r) (count : need ≡ room k (pageAt k ws) (standLeaf stand) (pathOf stand))
   where
-    -- the words after the change with new pages from this list
-    abbrev changed : List ℕ → List ℕ
-    changed free = applied k (insertion k (pageAt k ws) x v free (standLeaf stand) (standFathers stand)) ws
-
     -- no page held is free
     held-taken : r .enough ≡ true → (p : ℕ) → member p (pathOf stand) ≡ true → member p (take need (r .pages)) ≡ false
+    unfolding pathOf
     held-taken all p m =
-        let known = held-known (h .standing .held) p (member-append p (pathOf stand) (besideOf stand) ∙ or-first (member p (besideOf stand)) m) in
+        let known = held-known (h .holding .held) p m in
         false-if-not-true (member p (take need (r .pages)))
         (λ t. let low = taken-free k n ws found all p t .level in
         let high = known .facts .lowest in
@@ -161,36 +165,42 @@ module _
     pub taken-inserting : need ≤ stand .depth + 1 → r .enough ≡ true → Inserting k n ws (stand .path) (stand .depth) (r .pages)
     unfolding pathOf pathHolds mostNew
     taken-inserting few all =
-        let deep = standing-holding h .deep in
+        let deep = h .holding .deep in
         let here : List ℕ = pathOf stand in
         subst (λ (m : ℕ). m ≤ mostNew → ((t : ℕ) → t < m → getD (r .pages) t 0 < n) → distinct (here ++ take m (r .pages)) ≡ true → Inserting k n ws (stand .path) (stand .depth) (r .pages))
         (sym count)
-        (λ most inside apart. record { holding = standing-holding h; top = stand-top h; cells = found .cells; enough = most; inside = inside; apart = apart })
+        (λ most inside apart. record { holding = h .holding; top = h .top; cells = found .cells; enough = most; inside = inside; apart = apart })
         (omega arith)
         (taken-inside k n ws found all)
-        (distinct-join here (take need (r .pages)) (distinct-front here (besideOf stand) (h .standing .different)) (taken-distinct k n ws found all)
+        (distinct-join here (take need (r .pages)) (h .different) (taken-distinct k n ws found all)
         (apart-from here (take need (r .pages)) (held-taken all)))
 
-    -- too few pages are free
-    pub room-lacks : r .enough ≡ false → (NoRoom ≡ roomAnswer k n ws stand) × (ws ≡ afterInsertion k n ws x v stand)
-    room-lacks none =
-        let few = leb-false need (length (freePages k n ws)) (sym (found .enough) ∙ none) in
-        let lacks : lacksRoom k n ws stand ≡ true = lt-ltb (length (freePages k n ws)) (room k (pageAt k ws) (standLeaf stand) (pathOf stand)) (omega arith) in
-        (sym (cond-true NoRoom Inserted lacks), sym (cond-true ws (changed (freePages k n ws)) lacks))
+    -- for this key and information
+    module _ (x v : ℕ) where
+      -- the words after the change with new pages from this list
+      abbrev changed : List ℕ → List ℕ
+      changed free = applied k (insertion k (pageAt k ws) x v free (standLeaf stand) (standFathers stand)) ws
 
-    -- the change was made with the pages found, which are those that the rule takes
-    pub room-enough : need ≤ stand .depth + 1 → r .enough ≡ true → {after : List ℕ} → after ≡ changed (r .pages)
-        → (Inserted ≡ roomAnswer k n ws stand) × (after ≡ afterInsertion k n ws x v stand)
-    unfolding pathOf
-    room-enough few all made =
-        let many = free-enough k n ws found all in
-        let room-is : lacksRoom k n ws stand ≡ false = le-ltb (length (freePages k n ws)) (room k (pageAt k ws) (standLeaf stand) (pathOf stand)) (omega arith) in
-        let agree : (t : ℕ) → t < room k (pageAt k ws) (standLeaf stand) (pathOf stand) → getD (freePages k n ws) t 0 ≡ getD (r .pages) t 0
-        = λ t l. sym (scanned-at found all t (omega arith)) in
-        let same = insertion-same x v (taken-inserting few all) (freePages k n ws) agree in (
-          sym (cond-false NoRoom Inserted room-is),
-          made ∙ sym (ap (λ (ws′ : List Write). applied k ws′ ws) same) ∙ sym (cond-false ws (changed (freePages k n ws)) room-is),
-        )
+      -- too few pages are free
+      pub room-lacks : r .enough ≡ false → (NoRoom ≡ roomAnswer k n ws stand) × (ws ≡ afterInsertion k n ws x v stand)
+      room-lacks none =
+          let few = leb-false need (length (freePages k n ws)) (sym (found .enough) ∙ none) in
+          let lacks : lacksRoom k n ws stand ≡ true = lt-ltb (length (freePages k n ws)) (room k (pageAt k ws) (standLeaf stand) (pathOf stand)) (omega arith) in
+          (sym (cond-true NoRoom Inserted lacks), sym (cond-true ws (changed (freePages k n ws)) lacks))
+
+      -- the change was made with the pages found, which are those that the rule takes
+      pub room-enough : need ≤ stand .depth + 1 → r .enough ≡ true → {after : List ℕ} → after ≡ changed (r .pages)
+          → (Inserted ≡ roomAnswer k n ws stand) × (after ≡ afterInsertion k n ws x v stand)
+      unfolding pathOf
+      room-enough few all made =
+          let many = free-enough k n ws found all in
+          let room-is : lacksRoom k n ws stand ≡ false = le-ltb (length (freePages k n ws)) (room k (pageAt k ws) (standLeaf stand) (pathOf stand)) (omega arith) in
+          let agree : (t : ℕ) → t < room k (pageAt k ws) (standLeaf stand) (pathOf stand) → getD (freePages k n ws) t 0 ≡ getD (r .pages) t 0
+          = λ t l. sym (scanned-at found all t (omega arith)) in
+          let same = insertion-same x v (taken-inserting few all) (freePages k n ws) agree in (
+            sym (cond-false NoRoom Inserted room-is),
+            made ∙ sym (ap (λ (ws′ : List Write). applied k ws′ ws) same) ∙ sym (cond-false ws (changed (freePages k n ws)) room-is),
+          )
 
 -- ---- a regrading
 
@@ -261,21 +271,33 @@ module _ (cells : List ℕ) {ws : List ℕ} {s : ℕ} {op : Op} {stand : Slot} (
   unfolding closes padded pathHolds
   closed-state = state-written cells s closedSlot (leaving s (waitingOrder st) ++ 0 ∷ drop (st .waiting) (st .order)) (st .waiting - 1) long inside (order-long 0) refl refl exist
 
-  gone-state : (next : ℕ) → stateOf (laidInto cells s (requeued st s (wanting next stand))) ≡ requeued st s (wanting next stand)
-  gone-state next =
-      state-written cells s (wanting next stand) (leaving s (waitingOrder st) ++ s ∷ drop (st .waiting) (st .order)) (st .waiting) long inside (order-long s)
+  gone-state : (next : ℕ) (lock : Lock) → stateOf (laidInto cells s (requeued st s (wanting next lock stand))) ≡ requeued st s (wanting next lock stand)
+  gone-state next lock =
+      state-written cells s (wanting next lock stand) (leaving s (waitingOrder st) ++ s ∷ drop (st .waiting) (st .order)) (st .waiting) long inside (order-long s)
       (stand-path (a .stands)) (stand-siblings (a .stands)) exist
 
   pub acts-broken : {course : Course} → course ≡ Broken → leaves course Damaged cells ws
   acts-broken is = subst (λ (c : Course). leaves c Damaged cells ws) (sym is) (record { answer = refl; state = state-known cells exist; all = refl; words = refl })
 
-  pub acts-goes : {course : Course} {next : ℕ} {cells′ : List ℕ} → course ≡ Goes next → cells′ ≡ laidInto cells s (requeued st s (wanting next stand)) → leaves course Moved cells′ ws
+  pub acts-goes : {course : Course} {next : ℕ} {lock : Lock} {cells′ : List ℕ} → course ≡ Goes next lock
+      → cells′ ≡ laidInto cells s (requeued st s (wanting next lock stand)) → leaves course Moved cells′ ws
   unfolding goesOn
-  acts-goes {next = next} {cells′ = cells′} is e =
-      let same : requeued st s (wanting next stand) ≡ goesOn st s (wantsNext (standOf op stand) next) =
-      ap (λ (slot : Slot). requeued st s (wanting next slot)) (a .stands .exact) in
+  acts-goes {next = next} {lock} {cells′ = cells′} is e =
+      let same : requeued st s (wanting next lock stand) ≡ goesOn st s (wantsNext (standOf op stand) next lock) =
+      ap (λ (slot : Slot). requeued st s (wanting next lock slot)) (a .stands .exact) in
       subst (λ (c : Course). leaves c Moved cells′ ws) (sym is)
-      (record { answer = refl; state = ap stateOf e ∙ gone-state next ∙ same; all = e ∙ ap (laidInto cells s) same; words = refl })
+      (record { answer = refl; state = ap stateOf e ∙ gone-state next lock ∙ same; all = e ∙ ap (laidInto cells s) same; words = refl })
+
+  -- beginning again: nothing is held, and the want is a new one
+  fresh-state : stateOf (laidInto cells s (goesOn st s (freshStand (firstWay op)))) ≡ goesOn st s (freshStand (firstWay op))
+  unfolding goesOn padded pathHolds
+  fresh-state =
+      state-written cells s (slotOf (freshStand (firstWay op))) (leaving s (waitingOrder st) ++ s ∷ drop (st .waiting) (st .order)) (st .waiting) long inside (order-long s) refl refl exist
+
+  pub acts-again : {course : Course} {cells′ : List ℕ} → course ≡ Again → cells′ ≡ laidInto cells s (goesOn st s (freshStand (firstWay op)))
+      → leaves course Moved cells′ ws
+  acts-again {cells′ = cells′} is e =
+      subst (λ (c : Course). leaves c Moved cells′ ws) (sym is) (record { answer = refl; state = ap stateOf e ∙ fresh-state; all = e; words = refl })
 
   pub acts-ends : {course : Course} {answer : Answer} {cells′ : List ℕ} → course ≡ Ends answer → cells′ ≡ laidInto cells s (closes st s) → leaves course answer cells′ ws
   unfolding applied
@@ -333,7 +355,7 @@ module _ (cells : List ℕ) {ws : List ℕ} {s : ℕ} {op : Op} {stand : Slot} (
   unfolding applied atLeaf
   acts-regrades {x = x} {v = v} {answer = answer} {cells′ = cells′} {words = words} is heard made e =
       subst (λ (c : Course). leaves c answer cells′ words) (sym is)
-      (subst (λ (up : List ℕ). Leaves cells ws s (fromLeaf (atLeaf (Regrade x v) (st .k) memory (freePages (st .k) (st .n) ws) (standOf op stand)) up) answer cells′ words)
+      (subst (λ (up : List ℕ). Leaves cells ws s (fromLeaf (atLeaf (Regrade x v First) (st .k) memory (freePages (st .k) (st .n) ws) (standOf op stand)) up) answer cells′ words)
       (sym (stand-upward (a .stands)))
       (split (has x es) refl heard))
     where
@@ -353,14 +375,12 @@ module _ (cells : List ℕ) {ws : List ℕ} {s : ℕ} {op : Op} {stand : Slot} (
 
 -- what a change may count on
 module _ {st : State} {ws : List ℕ} {s : ℕ} {op : Op} {stand : Slot} (a : Acts st ws s op stand) where
-  module _ (course : Course) (fit : ready op (pageAt (st .k) ws) (pathOf stand) course) where
-    pub inserts-stands : {x v : ℕ} → course ≡ Inserts x v → SlotStanding (Insert x v) (st .k) (st .n) ws stand
-    inserts-stands is =
-        let same = subst (ready op (pageAt (st .k) ws) (pathOf stand)) is fit in
-        subst (λ (o : Op). SlotStanding o (st .k) (st .n) ws stand) same (a .stands)
+  module _ (course : Course) (fit : ready op (st .k) (pageAt (st .k) ws) (pathOf stand) course) where
+    pub inserts-stands : {x v : ℕ} → course ≡ Inserts x v → MayInsert (st .k) (st .n) ws stand
+    inserts-stands {x} {v} is = stand-inserting x v (a .stands) (subst (ready op (st .k) (pageAt (st .k) ws) (pathOf stand)) is fit)
 
     pub deletes-stands : {x v : ℕ} → course ≡ Deletes x v
         → Deleting (st .k) (st .n) ws x (stand .path) (stand .depth) (stand .beside) (stand .breadth)
     deletes-stands {x = x} is =
-        let sure = subst (ready op (pageAt (st .k) ws) (pathOf stand)) is fit in
+        let sure = subst (ready op (st .k) (pageAt (st .k) ws) (pathOf stand)) is fit in
         stand-deleting (a .stands) x (sure .0) (sure .1)

@@ -1,7 +1,7 @@
 -- What a call on slots answers and leaves, case by case of its rule, and that this is what is promised.
 use Prim.Native.Nat.{ℕ, _+_, _≤_, _<_}
 use mathlib.Core.Bool.{true, false, cond, not}
-use mathlib.Core.List.{List, []}
+use mathlib.Core.List.{List}
 use mathlib.Core.Path.{_≡_, refl, sym, ap, _∙_}
 use lib.Dec.{ltb}
 use lib.ListN.{length, getD, set, length-set}
@@ -15,7 +15,7 @@ use Rattle.slots.specs.declared.State.{State}
 use Rattle.slots.specs.declared.Outcome.{Outcome}
 use Rattle.slots.specs.declared.Answer.{Answer}
 use Rattle.slots.specs.declared.Answer.the-variants.{Begun, Reported, BadState, BadSlot, SlotBusy, BadPage}
-use Rattle.slots.specs.Parts.{openAt, openSlot}
+use Rattle.slots.specs.Parts.{openAt, freshStand, slotOf}
 use Rattle.slots.specs.Heard.{heard, changesNothing}
 use Rattle.slots.specs.Sound.{sound}
 use Rattle.slots.specs.Book.{begins}
@@ -85,7 +85,7 @@ module _ (cells : List ℕ) (s : ℕ) (op : Op) where
           begin-says cells s op (outcome Begun (begins (stateOf cells) s op))
           (begun-done (stateOf cells) s op h b (ap (λ (st : State). openAt st s) read ∙ o))
           (ap stateOf e
-          ∙ state-written cells s (openSlot op 0 [] []) (set (orderIn cells) (getD cells waitingAt 0) s) (getD cells waitingAt 0 + 1) long b
+          ∙ state-written cells s (slotOf (freshStand op)) (set (orderIn cells) (getD cells waitingAt 0) s) (getD cells waitingAt 0 + 1) long b
           (length-set (orderIn cells) (getD cells waitingAt 0) s ∙ length-order cells long) refl refl exist
           ∙ ap (λ (st : State). begins st s op) (sym read))
           (e ∙ ap (λ (st : State). laidInto cells s (begins st s op)) (sym read))

@@ -28,11 +28,11 @@ use Rattle.slots.specs.declared.Answer.{Answer}
 use Rattle.slots.specs.declared.Answer.the-variants.{Waiting, Moved}
 use Rattle.slots.specs.Heard.{numberOf, refuses, changesNothing, ending}
 use Rattle.slots.specs.Begin.{begun}
-use Rattle.slots.specs.Parts.{keyOf, isNext, slotAt, idleState, Stand, onPages, wantBeside, standOf}
+use Rattle.slots.specs.Parts.{keyOf, isNext, isSecond, slotAt, idleState, Stand, onPages, wantBeside, standOf}
 use Rattle.slots.specs.Sound.{sound}
 use Rattle.slots.specs.Grant.{grants}
 use Rattle.lent.specs.Words.{stateOf, lentAfter}
-use Rattle.footing.specs.Granted.{Verdict, broken, goes, ends, isSafe, kept, byNeed, deletes, nextAnswer, crosses, byNearest, atLeaf, fromLeaf, comesDown, goesLeft, besides, atItsLeaf, granted}
+use Rattle.footing.specs.Granted.{Verdict, broken, goes, ends, isSafe, kept, byNeed, deletes, nextAnswer, crosses, byNearest, atLeaf, fromLeaf, comesDown, goesLeft, besides, atItsLeaf, staysSecond, granted}
 use Rattle.footing.specs.Fitting.{soundForStep, verdict}
 use Rattle.index.specs.Step.{Left, left, ofGranted, acted, steppedTask, stepped}
 use Rattle.index.specs.Make.{made}
@@ -70,14 +70,14 @@ by-nearest further (e ∷ es) h = next-answers (e ∷ es)
 leaf-answers : (op : Op) (k : ℕ) (memory : ℕ → Page) (free : List ℕ) (z : Stand) (leaf : ℕ) (fathers : List ℕ) → Answers (atLeaf op k memory free z leaf fathers)
 unfolding atLeaf member
 leaf-answers (Search x) k memory free z leaf fathers = cond-ind (λ (a : Answer). ofGranted a ≡ true) (has x (memory leaf .entries)) (λ _. refl) (λ _. refl)
-leaf-answers (Insert x v) k memory free z leaf fathers =
+leaf-answers (Insert x v way) k memory free z leaf fathers =
     cond-ind Answers (has x (memory leaf .entries)) (λ _. refl)
     (λ _. cond-ind Answers (ltb (length free) (room k memory leaf (z .path))) (λ _. refl) (λ _. refl))
-leaf-answers (Delete x) k memory free z leaf fathers =
+leaf-answers (Delete x way) k memory free z leaf fathers =
     cond-ind Answers (has x (memory leaf .entries)) (λ _. deletes-answers k memory x z leaf fathers) (λ _. refl)
 leaf-answers (Next x) k memory free z leaf fathers =
     by-nearest (crosses x k memory z (z .path)) (atOrAbove x (memory leaf .entries)) (crosses-answers x k memory z (z .path))
-leaf-answers (Regrade x v) k memory free z leaf fathers = cond-ind Answers (has x (memory leaf .entries)) (λ _. refl) (λ _. refl)
+leaf-answers (Regrade x v way) k memory free z leaf fathers = cond-ind Answers (has x (memory leaf .entries)) (λ _. refl) (λ _. refl)
 
 from-leaf : (act : ℕ → List ℕ → Verdict) → ((leaf : ℕ) (fathers : List ℕ) → Answers (act leaf fathers)) → (up : List ℕ) → Answers (fromLeaf act up)
 from-leaf act h [] = tt
@@ -95,7 +95,9 @@ granted-answers k memory free z =
     (λ _. cond-ind Answers (isNext (z .op))
     (λ _. left-answers memory z)
     (λ _. from-leaf _ (λ leaf fathers. deletes-answers k memory (keyOf (z .op)) (wantBeside z) leaf fathers) (reverse (z .path))))
-    (λ _. cond-ind Answers (isLeaf (memory (z .want))) (λ _. from-leaf _ (λ leaf fathers. leaf-answers (z .op) k memory free down leaf fathers) (reverse (down .path))) (λ _. tt))
+    (λ _. cond-ind Answers (isLeaf (memory (z .want))) (λ _. from-leaf _
+    (λ leaf fathers. cond-ind Answers (isSecond (z .op) && not (staysSecond (z .op) k memory leaf)) (λ _. tt) (λ _. leaf-answers (z .op) k memory free down leaf fathers))
+    (reverse (down .path))) (λ _. tt))
 
 pub verdict-answers : (k n : ℕ) (ws : List ℕ) (z : Stand) → Answers (verdict k n ws z)
 unfolding verdict

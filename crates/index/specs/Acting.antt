@@ -1,20 +1,23 @@
 -- What the functions that carry a course out ask and promise. A slot's arrays stand for the rule's lists as they do for a change.
-use Prim.Native.Nat.{ℕ, _≤_, _<_}
+use Prim.Native.Nat.{ℕ, _*_, _≤_, _<_}
 use mathlib.Core.Bool.{Bool, true, cond}
 use mathlib.Core.List.{List}
+use mathlib.Core.Logic.{_⊎_}
 use mathlib.Core.Path.{_≡_}
 use lib.Dec.{ltb}
-use lib.ListN.{length}
+use lib.ListN.{length, getD}
 use Rattle.ground.specs.Limits.{slotCount}
-use Rattle.ground.specs.Tests.{member}
+use Rattle.ground.specs.Tests.{member, distinct}
+use Rattle.page.specs.Words.{μ}
 use Rattle.page.specs.declared.reading.Lot.{Lot}
 use Rattle.page.specs.declared.reading.Lot.the-variants.{There, Missing}
 use Rattle.pool.specs.Pool.{pageAt, freePages, applied}
 use Rattle.change.specs.Insertion.{room, insertion}
 use Rattle.change.specs.Deletion.{deletion}
 use Rattle.change.specs.Regrading.{regrading}
-use Rattle.change.specs.Held.{leafOf, fathersOf}
+use Rattle.change.specs.Held.{Holding, leafOf, fathersOf}
 use Rattle.slots.specs.declared.Op.{Op}
+use Rattle.slots.specs.declared.Lock.{Lock}
 use Rattle.slots.specs.declared.Slot.{Slot}
 use Rattle.slots.specs.declared.State.{State}
 use Rattle.slots.specs.declared.Answer.{Answer}
@@ -49,9 +52,16 @@ pub record Acts (st : State) (ws : List ℕ) (s : ℕ) (op : Op) (stand : Slot) 
   pub waits : Waits st s
   pub stands : SlotStanding op (st .k) (st .n) ws stand
 
--- the slot with another want
-abbrev pub wanting : ℕ → Slot → Slot
-wanting want slot = record { task = slot .task; want = want; path = slot .path; depth = slot .depth; beside = slot .beside; breadth = slot .breadth }
+-- What the whole change of an insertion asks, whichever way it came down: the pages of its path lie in the slot's array, none stands
+-- there twice, and the top one is page 0 or has space.
+pub record MayInsert (k n : ℕ) (ws : List ℕ) (stand : Slot) : Type 0 where
+  pub holding : Holding k n ws (stand .path) (stand .depth)
+  pub different : distinct (pathOf stand) ≡ true
+  pub top : (getD (stand .path) 0 0 ≡ 0) ⊎ (μ (pageAt k ws (getD (stand .path) 0 0)) < 2 * k)
+
+-- the slot with another want, under this kind of lock
+abbrev pub wanting : ℕ → Lock → Slot → Slot
+wanting want lock slot = record { task = slot .task; want = want; lock = lock; path = slot .path; depth = slot .depth; beside = slot .beside; breadth = slot .breadth }
 
 -- the leaf that an operation stands at, and the pages above it, upward
 abbrev pub standLeaf : Slot → ℕ

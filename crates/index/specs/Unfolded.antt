@@ -1,5 +1,5 @@
 -- For who computes examples by the rules: all that a call unfolds to, in one list. Who unfolds `everyCall` unfolds all of it.
-use Rattle.ground.specs.Limits.{largestK, largestN, tallest, slotCount, searchHolds, regradeHolds, pathHolds, siblingHolds}
+use Rattle.ground.specs.Limits.{largestK, largestN, tallest, slotCount, searchHolds, regradeHolds, secondHolds, pathHolds, siblingHolds}
 use Rattle.ground.specs.Tests.{all, count, member, distinct, apart, allBelow, anyBelow, countBelow, listBelow, firstBelow, padded}
 use Rattle.page.specs.Words.{flat, encode, pairs, view}
 use Rattle.page.specs.Place.{place, has, information, atOrAbove, without, regraded}
@@ -23,7 +23,7 @@ use Rattle.index.specs.Make.{made}
 
 -- numbers, tests and folds
 grounds : Unit {0}
-unfolding largestK largestN tallest slotCount searchHolds regradeHolds pathHolds siblingHolds all count member distinct apart allBelow anyBelow countBelow listBelow firstBelow padded
+unfolding largestK largestN tallest slotCount searchHolds regradeHolds secondHolds pathHolds siblingHolds all count member distinct apart allBelow anyBelow countBelow listBelow firstBelow padded
 grounds = tt
 
 -- pages, the pool, and how they change

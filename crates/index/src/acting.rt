@@ -16,8 +16,11 @@ use page::reading::Lot;
 use pool::lying::take_pages;
 use pool::pages::regrade_at;
 use slots::Answer;
+use slots::Lock;
 use slots::Op;
 use slots::Slot;
+use slots::making::fresh_slot;
+use slots::operations::first_way;
 ghost use mathlib.Core.Path.{_≡_};
 ghost use mathlib.Core.Bool.{true};
 ghost use Prim.Native.Nat.{_≤_};
@@ -25,19 +28,18 @@ ghost use Rattle.page.specs.Reading.{looked};
 ghost use Rattle.pool.specs.Pool.{pageAt, freePages};
 ghost use Rattle.change.specs.Held.{Holding};
 ghost use Rattle.deletion.specs.Deleting.{Deleting};
-ghost use Rattle.slots.specs.declared.Op.the-variants.{Insert};
-ghost use Rattle.slots.specs.Parts.{pathOf, standOf};
-ghost use Rattle.slots.specs.Book.{requeued};
+ghost use Rattle.slots.specs.Parts.{pathOf, firstWay, freshStand, standOf};
+ghost use Rattle.slots.specs.Book.{requeued, goesOn};
 ghost use Rattle.lent.specs.Layout.{columnLength};
 ghost use Rattle.lent.specs.Words.{asRead, known, laidInto};
 ghost use Rattle.footing.specs.Fitting.{verdict};
-ghost use Rattle.footing.specs.Standing.{Asks, SlotStanding};
+ghost use Rattle.footing.specs.Standing.{Asks};
 ghost use Rattle.course.specs.Judged.{courseOf, ready};
-ghost use Rattle.index.specs.Acting.{Waits, Acts, Leaves, wanting, standLeaf, roomAnswer, afterInsertion, afterDeletion, regradeAnswer, afterRegrading};
+ghost use Rattle.index.specs.Acting.{Waits, Acts, Leaves, MayInsert, wanting, standLeaf, roomAnswer, afterInsertion, afterDeletion, regradeAnswer, afterRegrading};
 
 // The whole change of an insertion, if there is room. Room is counted before anything is written.
 fn insert_lot(words: &mut [u32], k: usize, n: usize, x: u32, v: u32, stand: Slot) -> Answer
-    requires { ⌜ SlotStanding (Insert x v) k n (now words) stand ⌝ }
+    requires { ⌜ MayInsert k n (now words) stand ⌝ }
     ensures { λ r. ⌜ r ≡ roomAnswer k n (now (words .entry)) stand ⌝ }
     ensures { λ _. ⌜ now (words .exit) ≡ afterInsertion k n (now (words .entry)) x v stand ⌝ }
 {
@@ -76,14 +78,33 @@ fn regrade_lot(words: &mut [u32], k: usize, n: usize, x: u32, v: u32, stand: Slo
     }
 }
 
-// The slot goes on from where it stands and wants this page.
-fn go_on(state: &mut [u32; STATE], s: usize, stand: Slot, next: u32)
+// The slot goes on from where it stands and wants this page with this lock.
+fn go_on(state: &mut [u32; STATE], s: usize, stand: Slot, next: u32, lock: Lock)
     requires { ⌜ (Waits (asRead (now state)) s) × (stand .depth ≤ columnLength) × (stand .breadth ≤ columnLength) ⌝ }
-    ensures { λ _. ⌜ now (state .exit) ≡ laidInto (now (state .entry)) s (requeued (asRead (now (state .entry))) s (wanting next stand)) ⌝ }
+    ensures { λ _. ⌜ now (state .exit) ≡ laidInto (now (state .entry)) s (requeued (asRead (now (state .entry))) s (wanting next lock stand)) ⌝ }
 {
-    let mut slot = stand;
-    slot.want = next;
+    let task = stand.task;
+    let path = stand.path;
+    let beside = stand.beside;
+    let slot = Slot {
+        task,
+        want: next,
+        lock,
+        path,
+        depth: stand.depth,
+        beside,
+        breadth: stand.breadth,
+    };
     requeues(state, s, slot);
+}
+
+// The slot gives up all that it holds, and its operation begins again by the first way. Its want is a new one: it goes to the end.
+fn begin_again(state: &mut [u32; STATE], s: usize, op: Op)
+    requires { ⌜ Waits (asRead (now state)) s ⌝ }
+    ensures { λ _. ⌜ now (state .exit) ≡ laidInto (now (state .entry)) s (goesOn (asRead (now (state .entry))) s (freshStand (firstWay op))) ⌝ }
+{
+    let first = first_way(op);
+    requeues(state, s, fresh_slot(first));
 }
 
 // Each course.
@@ -96,7 +117,7 @@ fn act(
     course: Course,
 ) -> Answer
     requires { ⌜ (known (now state) ≡ true) × (Acts (asRead (now state)) (now words) s op stand) ⌝ }
-    requires { ⌜ ready op (pageAt (asRead (now state) .k) (now words)) (pathOf stand) course ⌝ }
+    requires { ⌜ ready op (asRead (now state) .k) (pageAt (asRead (now state) .k) (now words)) (pathOf stand) course ⌝ }
     ensures { λ r. ⌜ Leaves (now (state .entry)) (now (words .entry)) s (courseOf (asRead (now (state .entry)) .k) (pageAt (asRead (now (state .entry)) .k) (now (words .entry))) (freePages (asRead (now (state .entry)) .k) (asRead (now (state .entry)) .n) (now (words .entry))) (standOf op stand) course) r (now (state .exit)) (now (words .exit)) ⌝ }
 {
     sized(state);
@@ -104,8 +125,8 @@ fn act(
     let n = state[PAGES] as usize;
     match course {
         Course::Broken => Answer::Damaged,
-        Course::Goes(next) => {
-            go_on(state, s, stand, next);
+        Course::Goes(next, lock) => {
+            go_on(state, s, stand, next, lock);
             Answer::Moved
         }
         Course::Ends(answer) => {
@@ -126,6 +147,10 @@ fn act(
             let answer = regrade_lot(words, k, n, x, v, stand);
             closes(state, s);
             answer
+        }
+        Course::Again => {
+            begin_again(state, s, op);
+            Answer::Moved
         }
     }
 }

@@ -8,24 +8,22 @@ use native.Mathlib.Omega.{arith}
 use native.Mathlib.Numerals.{add-one}
 use lib.Dec.{eqb, leb, ltb}
 use lib.ListN.{length, getD, take}
-use borrow.Author.Tests.{ltb-false, leb-true, eq-eqb, ne-eqb, eqb-true}
+use borrow.Author.Tests.{ltb-false, leb-true, eq-eqb, eqb-true}
 use Rattle.ground.specs.Limits.{slotCount}
 use Rattle.ground.specs.Tests.{allBelow, anyBelow, member}
 use Rattle.ground.proofs.Bools.{and-second, and-first-fails, and-second-fails, not-both, or-first, or-first-fails, or-second-fails, not-of-true}
-use Rattle.ground.proofs.Choice.{cond-false}
 use Rattle.ground.proofs.Tests.{member-none, anyBelow-more, anyBelow-same, anyBelow-fails, anyBelow-false-at, allBelow-same, allBelow-more, allBelow-at}
-use Rattle.slots.specs.declared.Op.{Op}
-use Rattle.slots.specs.declared.Task.the-variants.{Open}
 use Rattle.slots.specs.declared.Lock.{Lock}
 use Rattle.slots.specs.declared.Lock.the-variants.{None, Rho, Xi}
 use Rattle.slots.specs.declared.Slot.{Slot}
-use Rattle.slots.specs.Parts.{isOpen, held, pathOf, besideOf, slotAt, openAt, holdsAt, waitingOrder}
+use Rattle.slots.specs.Parts.{held, pathOf, besideOf, holdsAt, waitingOrder}
+use Rattle.slots.specs.Heard.{lockNumber}
 use Rattle.slots.specs.Locks.{lockOf, lockHeldAt, lockWantedAt, clash, noClashOn}
 use Rattle.slots.specs.Grant.{clashingWant, noClash, noOlder}
 use Rattle.slots.proofs.HoldingLaws.{noOlderFrom, older-end, older-here, older-stops, older-more, order-names}
-use Rattle.lent.specs.Layout.{waitingAt, orderFrom, rowLength, columnLength, kindRow, keyRow, informationRow, wantRow, depthRow, breadthRow, pathRow, besideRow, stateLength}
-use Rattle.lent.specs.Words.{cell, column, highestKind, taskFrom, slotIn, orderIn, asRead, known}
-use Rattle.lent.specs.Holds.{WithinRows, OpenOrder, kindLock, lockHeldIn, lockWantedIn, openLock, numbersClash, counts, otherHolds, topHolds, isDeep, deepHolds, othersHold, alsoWants}
+use Rattle.lent.specs.Layout.{waitingAt, orderFrom, rowLength, columnLength, kindRow, keyRow, informationRow, wantRow, lockRow, depthRow, breadthRow, pathRow, besideRow, stateLength}
+use Rattle.lent.specs.Words.{cell, column, highestKind, taskFrom, lockRead, slotIn, orderIn, asRead, known}
+use Rattle.lent.specs.Holds.{WithinRows, isLockNumber, OpenOrder, kindLock, lockHeldIn, lockWantedIn, openLock, numbersClash, counts, otherHolds, topHolds, isDeep, deepHolds, othersHold, alsoWants}
 use Rattle.lent.proofs.StateLaws.{slot-read, length-column, column-cell, length-order, order-cell}
 
 -- ---- some number below a bound
@@ -162,33 +160,28 @@ module _ (ws : List ℕ) (s : ℕ) (lock : ℕ) (p : ℕ) where
 
 -- ---- locks by kind
 
-pub by-kind : (P : ℕ → Type 0) → P 0 → P 1 → P 2 → P 3 → P 4 → P 5 → (a : ℕ) → a ≤ highestKind → P a
-by-kind P a b c d e f zero h = a
-by-kind P a b c d e f (suc zero) h = b
-by-kind P a b c d e f (suc (suc zero)) h = c
-by-kind P a b c d e f (suc (suc (suc zero))) h = d
-by-kind P a b c d e f (suc (suc (suc (suc zero)))) h = e
-by-kind P a b c d e f (suc (suc (suc (suc (suc zero))))) h = f
-by-kind P a b c d e f (suc (suc (suc (suc (suc (suc n)))))) h = absurd (omega arith)
+pub by-kind : (P : ℕ → Type 0) → P 0 → P 1 → P 2 → P 3 → P 4 → P 5 → P 6 → P 7 → P 8 → (a : ℕ) → a ≤ highestKind → P a
+by-kind P a b c d e f g i j zero h = a
+by-kind P a b c d e f g i j (suc zero) h = b
+by-kind P a b c d e f g i j (suc (suc zero)) h = c
+by-kind P a b c d e f g i j (suc (suc (suc zero))) h = d
+by-kind P a b c d e f g i j (suc (suc (suc (suc zero)))) h = e
+by-kind P a b c d e f g i j (suc (suc (suc (suc (suc zero))))) h = f
+by-kind P a b c d e f g i j (suc (suc (suc (suc (suc (suc zero)))))) h = g
+by-kind P a b c d e f g i j (suc (suc (suc (suc (suc (suc (suc zero))))))) h = i
+by-kind P a b c d e f g i j (suc (suc (suc (suc (suc (suc (suc (suc zero)))))))) h = j
+by-kind P a b c d e f g i j (suc (suc (suc (suc (suc (suc (suc (suc (suc n))))))))) h = absurd (omega arith)
 
 pub kind-known : (ws : List ℕ) → known ws ≡ true → (t : ℕ) → t < rowLength → cell ws kindRow t ≤ highestKind
 unfolding known slotCount
 kind-known ws e t h = leb-true (cell ws kindRow t) highestKind (allBelow-at (λ (s : ℕ). leb (cell ws kindRow s) highestKind) rowLength e t h)
 
--- the kind of a slot with an operation is not 0
-kind-if-open : (kind key information : ℕ) → isOpen (taskFrom kind key information) ≡ true → 0 < kind
-kind-if-open zero key information e = absurd (false≢true e)
-kind-if-open (suc kind) key information e = omega arith
-
-pub kind-of-open : (kind key information : ℕ) {op : Op} → taskFrom kind key information ≡ Open op → 0 < kind
-kind-of-open kind key information e = kind-if-open kind key information (ap isOpen e)
-
--- the lock of a slot by its kind: none if it is closed
+-- the lock under which a slot holds, by its kind: none if it is closed
 abbrev kindsLock : ℕ → Lock
 kindsLock kind = cond (eqb kind 0) None (openLock (kindLock kind))
 
 lock-kind : (key information kind : ℕ) → kind ≤ highestKind → lockOf (taskFrom kind key information) ≡ kindsLock kind
-lock-kind key information = by-kind (λ (k : ℕ). lockOf (taskFrom k key information) ≡ kindsLock k) refl refl refl refl refl refl
+lock-kind key information = by-kind (λ (k : ℕ). lockOf (taskFrom k key information) ≡ kindsLock k) refl refl refl refl refl refl refl refl refl
 
 -- what is not there clashes with nothing
 clash-there : (shut : Bool) (a b : Lock) → clash (cond shut None a) b ≡ not shut && clash a b
@@ -209,20 +202,27 @@ swap false false true false none = refl
 swap false false false true none = refl
 swap false false false false none = refl
 
-module _ (ws : List ℕ) (e : known ws ≡ true) (t : ℕ) (b : t < rowLength) where
-  -- the locks of slot t, by its kind
-  task-lock : lockOf (slotAt (asRead ws) t .task) ≡ kindsLock (cell ws kindRow t)
-  task-lock = ap (λ (x : Slot). lockOf (x .task)) (slot-read ws t b) ∙ lock-kind (cell ws keyRow t) (cell ws informationRow t) (cell ws kindRow t) (kind-known ws e t b)
+-- the lock under which slot t holds, by its kind
+pub held-read : (ws : List ℕ) → known ws ≡ true → (t : ℕ) → t < rowLength → (p : ℕ) → lockHeldAt (asRead ws) t p ≡ cond (eqb (cell ws kindRow t) 0) None (openLock (lockHeldIn ws t p))
+held-read ws e t b p =
+    ap (λ (x : Slot). lockOf (x .task)) (slot-read ws t b) ∙ lock-kind (cell ws keyRow t) (cell ws informationRow t) (cell ws kindRow t) (kind-known ws e t b)
 
-  pub held-read : (p : ℕ) → lockHeldAt (asRead ws) t p ≡ cond (eqb (cell ws kindRow t) 0) None (openLock (lockHeldIn ws t p))
-  held-read p = task-lock
+-- ---- locks by number
 
-  wanted-read : lockWantedAt (asRead ws) t ≡ cond (eqb (cell ws kindRow t) 0) None (openLock (lockWantedIn ws t))
-  wanted-read = task-lock
+-- the number of a lock reads as that lock
+lock-number : (i : ℕ) → isLockNumber i ≡ true → lockRead i ≡ openLock i
+lock-number i e =
+    by-two (eqb i (lockNumber Rho)) (eqb i (lockNumber Xi)) e (λ t. ap (λ (j : ℕ). eqb j (lockNumber Xi)) (eqb-true i (lockNumber Rho) t))
+  where
+    by-two : (rho xi : Bool) → rho || xi ≡ true → (rho ≡ true → xi ≡ false) → cond rho Rho (cond xi Xi None) ≡ cond xi Xi Rho
+    by-two true true h n = not-both refl (n refl)
+    by-two true false h n = refl
+    by-two false true h n = refl
+    by-two false false h n = not-both h refl
 
-  -- an open slot wants with a lock
-  wanted-open : 0 < cell ws kindRow t → lockWantedAt (asRead ws) t ≡ openLock (lockWantedIn ws t)
-  wanted-open o = wanted-read ∙ cond-false None (openLock (lockWantedIn ws t)) (ne-eqb (cell ws kindRow t) 0 (λ z. omega arith))
+-- the lock that slot t wants, by its number
+wanted-read : (ws : List ℕ) (t : ℕ) → t < rowLength → isLockNumber (cell ws lockRow t) ≡ true → lockWantedAt (asRead ws) t ≡ openLock (lockWantedIn ws t)
+wanted-read ws t b l = ap (λ (x : Slot). x .lock) (slot-read ws t b) ∙ lock-number (cell ws lockRow t) l
 
 -- A page held against the locks of the other slots, by the rule and on the words.
 module _ (ws : List ℕ) (e : known ws ≡ true) (short : WithinRows ws) (s p lock : ℕ) where
@@ -244,19 +244,19 @@ module _ (ws : List ℕ) (e : known ws ≡ true) (short : WithinRows ws) (s p lo
   others-words = allBelow-same _ _ rowLength each ∙ any-not (otherHolds ws s lock p) rowLength
 
 -- so of the page that an open slot wants
-pub no-clash-words : (ws : List ℕ) (s : ℕ) → known ws ≡ true → s < rowLength → WithinRows ws → 0 < cell ws kindRow s
+pub no-clash-words : (ws : List ℕ) (s : ℕ) → known ws ≡ true → s < rowLength → WithinRows ws → isLockNumber (cell ws lockRow s) ≡ true
     → {lock want : ℕ} {r : Bool} → lock ≡ lockWantedIn ws s → want ≡ cell ws wantRow s → r ≡ othersHold ws s lock want → not r ≡ noClash (asRead ws) s
 unfolding noClash
-no-clash-words ws s e h short opened {lock} {want} a w said =
+no-clash-words ws s e h short wants {lock} {want} a w said =
     ap not said
     ∙ sym (others-words ws e short s want lock)
     ∙ ap₂ (λ (p : ℕ) (l : Lock). noClashOn (asRead ws) s p l)
     (w ∙ sym (ap (λ (x : Slot). x .want) (slot-read ws s h)))
-    (ap openLock a ∙ sym (wanted-open ws e s h opened))
+    (ap openLock a ∙ sym (wanted-read ws s h wants))
 
 -- ---- the walk over older wants, on the words
 
-module _ (ws : List ℕ) (s : ℕ) (long : length ws ≡ stateLength) (inside : s < rowLength) (e : known ws ≡ true) (opened : 0 < cell ws kindRow s) (waits : OpenOrder ws) where
+module _ (ws : List ℕ) (s : ℕ) (long : length ws ≡ stateLength) (inside : s < rowLength) (wants : isLockNumber (cell ws lockRow s) ≡ true) (waits : OpenOrder ws) where
   few : getD ws waitingAt 0 ≤ slotCount
   unfolding slotCount
   few = waits .few
@@ -265,12 +265,11 @@ module _ (ws : List ℕ) (s : ℕ) (long : length ws ≡ stateLength) (inside : 
   unfolding slotCount
   cells = length-order ws long
 
-  -- an open slot wants the page that slot s wants, with a clashing lock
-  want-words : (t : ℕ) → t < rowLength → openAt (asRead ws) t ≡ true → clashingWant (asRead ws) s t ≡ alsoWants ws (lockWantedIn ws s) (cell ws wantRow s) t
-  want-words t b o =
-      let some : 0 < cell ws kindRow t = kind-if-open (cell ws kindRow t) (cell ws keyRow t) (cell ws informationRow t) (ap (λ (x : Slot). isOpen (x .task)) (sym (slot-read ws t b)) ∙ o) in
+  -- a slot that wants with a lock wants the page that slot s wants, with a clashing one
+  want-words : (t : ℕ) → t < rowLength → isLockNumber (cell ws lockRow t) ≡ true → clashingWant (asRead ws) s t ≡ alsoWants ws (lockWantedIn ws s) (cell ws wantRow s) t
+  want-words t b l =
       ap₂ (λ (x y : Slot). eqb (x .want) (y .want) && clash (lockWantedAt (asRead ws) t) (lockWantedAt (asRead ws) s)) (slot-read ws t b) (slot-read ws s inside)
-      ∙ ap₂ (λ (x y : Lock). eqb (cell ws wantRow t) (cell ws wantRow s) && clash x y) (wanted-open ws e t b some) (wanted-open ws e s inside opened)
+      ∙ ap₂ (λ (x y : Lock). eqb (cell ws wantRow t) (cell ws wantRow s) && clash x y) (wanted-read ws t b l) (wanted-read ws s inside wants)
 
   -- behind the last that waits
   pub walk-end : {i : ℕ} → noOlder (asRead ws) s ≡ noOlderFrom (asRead ws) s i → getD ws waitingAt 0 ≤ i → true ≡ noOlder (asRead ws) s
@@ -296,7 +295,7 @@ module _ (ws : List ℕ) (s : ℕ) (long : length ws ≡ stateLength) (inside : 
       is-found : clashingWant (asRead ws) s (getD (orderIn ws) i 0) ≡ found
       is-found =
           ap (clashingWant (asRead ws) s) place
-          ∙ want-words t walk-slot (waits .opened t named)
+          ∙ want-words t walk-slot (waits .wants t named)
           ∙ ap₂ (λ (a w : ℕ). alsoWants ws a w t) (sym own) (sym wanted)
           ∙ sym said
 

@@ -1,12 +1,12 @@
 -- Words and state give each other back: the words of a state read as that state, and words in which no unused cell is filled are
 -- the words of the state that they read as.
 use Prim.Native.Nat.{ℕ, zero, suc, _+_, _*_, _-_, _/_, _%_, _≤_, _<_}
-use mathlib.Core.Bool.{true}
+use mathlib.Core.Bool.{Bool, true, false, _||_}
 use mathlib.Core.Path.{_≡_, refl, sym, ap, ap₂, _∙_, subst}
 use mathlib.Core.List.{List, _∷_, _++_}
-use mathlib.Core.Logic.{_≢_, _⊎_, inl, inr, ⊎-elim}
+use mathlib.Core.Logic.{_⊎_, inl, inr, ⊎-elim}
 use native.Mathlib.Omega.{arith}
-use lib.Dec.{leb, ltb}
+use lib.Dec.{eqb, leb, ltb}
 use lib.ListN.{length, getD, take, drop, set, replicate, length-drop, getD-replicate, take-append-drop, List·getD-append}
 use lib.Seq.{ext-getD, getD-append-add, getD-drop, take-at}
 use borrow.Author.Tests.{le-leb, ltb-true, ltb-false}
@@ -14,11 +14,13 @@ use Rattle.ground.specs.Limits.{slotCount, pathHolds}
 use Rattle.ground.specs.Tests.{padded}
 use Rattle.ground.proofs.Bools.{true-or-false}
 use Rattle.ground.proofs.Tests.{allBelow-from}
+use Rattle.slots.specs.declared.Lock.the-variants.{Xi}
 use Rattle.slots.specs.declared.Slot.{Slot}
 use Rattle.slots.specs.declared.State.{State}
+use Rattle.slots.specs.Heard.{lockNumber}
 use Rattle.slots.specs.Parts.{closedSlot, slotAt, idleState}
-use Rattle.lent.specs.Layout.{rowsFrom, rowLength, columnLength, kindRow, keyRow, informationRow, pathRow, besideRow, rowCount, rowWords, stateLength}
-use Rattle.lent.specs.Words.{listOf, address, cell, column, highestKind, taskFrom, slotIn, orderIn, asRead, known, stateOf, kindOf, keyIn, informationIn, rowsOf, stateWords}
+use Rattle.lent.specs.Layout.{rowsFrom, rowLength, columnLength, kindRow, keyRow, informationRow, lockRow, pathRow, besideRow, rowCount, rowWords, stateLength}
+use Rattle.lent.specs.Words.{listOf, address, cell, column, highestKind, taskFrom, lockRead, slotIn, orderIn, asRead, known, stateOf, kindOf, keyIn, informationIn, rowsOf, stateWords}
 use Rattle.lent.proofs.ListLaws.{length-listOf, getD-listOf, listOf-same, listOf-getD}
 use Rattle.lent.proofs.StateLaws.{by-front, slot-read, state-known, rows-read, rows-kind, length-column, column-cell}
 use Rattle.lent.proofs.HoldLaws.{by-kind}
@@ -103,27 +105,39 @@ idle-sized k n = record {
 
 -- ---- words that a state gives
 
--- Clean words: as many as a state has, every kind exists, and no key or information stands where the task has none.
+-- the kinds that have information
+abbrev pub informs : ℕ → Bool
+informs kind = eqb kind 2 || eqb kind 5 || eqb kind 6 || eqb kind 8
+
+-- Clean words: as many as a state has, every kind exists, and so does every lock, and no key or information stands where the task has none.
 pub record Clean (ws : List ℕ) : Type 0 where
   pub long : length ws ≡ stateLength
   pub exist : (s : ℕ) → s < rowLength → cell ws kindRow s ≤ highestKind
   pub key : (s : ℕ) → s < rowLength → cell ws kindRow s ≡ 0 → cell ws keyRow s ≡ 0
-  pub information : (s : ℕ) → s < rowLength → cell ws kindRow s ≢ 2 → cell ws kindRow s ≢ 5 → cell ws informationRow s ≡ 0
+  pub information : (s : ℕ) → s < rowLength → informs (cell ws kindRow s) ≡ false → cell ws informationRow s ≡ 0
+  pub lock : (s : ℕ) → s < rowLength → cell ws lockRow s ≤ lockNumber Xi
 
 kind-back : (key information kind : ℕ) → kind ≤ highestKind → kindOf (taskFrom kind key information) ≡ kind
-kind-back key information = by-kind (λ (k : ℕ). kindOf (taskFrom k key information) ≡ k) refl refl refl refl refl refl
+kind-back key information = by-kind (λ (k : ℕ). kindOf (taskFrom k key information) ≡ k) refl refl refl refl refl refl refl refl refl
 
 key-back : (key information kind : ℕ) → kind ≤ highestKind → (kind ≡ 0 → key ≡ 0) → keyIn (taskFrom kind key information) ≡ key
 key-back key information =
-    by-kind (λ (k : ℕ). (k ≡ 0 → key ≡ 0) → keyIn (taskFrom k key information) ≡ key) (λ e. sym (e refl)) (λ _. refl) (λ _. refl) (λ _. refl) (λ _. refl) (λ _. refl)
+    by-kind (λ (k : ℕ). (k ≡ 0 → key ≡ 0) → keyIn (taskFrom k key information) ≡ key)
+    (λ e. sym (e refl)) (λ _. refl) (λ _. refl) (λ _. refl) (λ _. refl) (λ _. refl) (λ _. refl) (λ _. refl) (λ _. refl)
 
-information-back : (key information kind : ℕ) → kind ≤ highestKind → (kind ≢ 2 → kind ≢ 5 → information ≡ 0) → informationIn (taskFrom kind key information) ≡ information
+information-back : (key information kind : ℕ) → kind ≤ highestKind → (informs kind ≡ false → information ≡ 0) → informationIn (taskFrom kind key information) ≡ information
 information-back key information =
-    by-kind (λ (k : ℕ). (k ≢ 2 → k ≢ 5 → information ≡ 0) → informationIn (taskFrom k key information) ≡ information)
-    (λ e. sym (e (λ q. absurd (omega arith)) (λ q. absurd (omega arith)))) (λ e. sym (e (λ q. absurd (omega arith)) (λ q. absurd (omega arith)))) (λ _. refl) (λ e. sym (e (λ q. absurd (omega arith)) (λ q. absurd (omega arith)))) (λ e. sym (e (λ q. absurd (omega arith)) (λ q. absurd (omega arith)))) (λ _. refl)
+    by-kind (λ (k : ℕ). (informs k ≡ false → information ≡ 0) → informationIn (taskFrom k key information) ≡ information)
+    (λ e. sym (e refl)) (λ e. sym (e refl)) (λ _. refl) (λ e. sym (e refl)) (λ e. sym (e refl)) (λ _. refl) (λ _. refl) (λ e. sym (e refl)) (λ _. refl)
+
+number-back : (number : ℕ) → number ≤ lockNumber Xi → lockNumber (lockRead number) ≡ number
+number-back zero h = refl
+number-back (suc zero) h = refl
+number-back (suc (suc zero)) h = refl
+number-back (suc (suc (suc n))) h = absurd (omega arith)
 
 module _ (ws : List ℕ) (clean : Clean ws) (s : ℕ) (h : s < rowLength) where
-  -- behind the six numbers
+  -- behind the seven numbers
   page-back : (q : ℕ) → q < columnLength + columnLength → getD (column ws pathRow s ++ column ws besideRow s) q 0 ≡ cell ws (pathRow + q) s
   page-back q b =
       ⊎-elim
@@ -144,10 +158,11 @@ module _ (ws : List ℕ) (clean : Clean ws) (s : ℕ) (h : s < rowLength) where
   row-back (suc zero) b = key-back (cell ws keyRow s) (cell ws informationRow s) (cell ws kindRow s) (clean .exist s h) (clean .key s h)
   row-back (suc (suc zero)) b = information-back (cell ws keyRow s) (cell ws informationRow s) (cell ws kindRow s) (clean .exist s h) (clean .information s h)
   row-back (suc (suc (suc zero))) b = refl
-  row-back (suc (suc (suc (suc zero)))) b = refl
+  row-back (suc (suc (suc (suc zero)))) b = number-back (cell ws lockRow s) (clean .lock s h)
   row-back (suc (suc (suc (suc (suc zero))))) b = refl
-  row-back (suc (suc (suc (suc (suc (suc q)))))) b =
-      let same : 6 + q ≡ suc (suc (suc (suc (suc (suc q))))) = omega arith in
+  row-back (suc (suc (suc (suc (suc (suc zero)))))) b = refl
+  row-back (suc (suc (suc (suc (suc (suc (suc q))))))) b =
+      let same : 7 + q ≡ suc (suc (suc (suc (suc (suc (suc q)))))) = omega arith in
       page-back q (omega arith) ∙ ap (λ (r : ℕ). cell ws r s) same
 
 -- the rows of the state that clean words read as

@@ -16,13 +16,16 @@ use Rattle.ground.proofs.Choice.{cond-true}
 use Rattle.ground.proofs.Tests.{allBelow-at, allBelow-from}
 use Rattle.slots.specs.declared.Task.{Task}
 use Rattle.slots.specs.declared.Task.the-variants.{Closed, Open}
+use Rattle.slots.specs.declared.Lock.{Lock}
+use Rattle.slots.specs.declared.Lock.the-variants.{None, Rho, Xi}
 use Rattle.slots.specs.declared.Slot.{Slot}
+use Rattle.slots.specs.Heard.{lockNumber}
 use Rattle.slots.specs.Parts.{closedSlot, slotAt}
 use Rattle.slots.specs.Book.{rewritten}
 use Rattle.slots.proofs.OperationLaws.{asked-back, kind-within}
 use Rattle.slots.proofs.OrderLaws.{same-or-not}
-use Rattle.lent.specs.Layout.{kAt, nAt, waitingAt, orderFrom, rowsFrom, rowLength, columnLength, kindRow, keyRow, informationRow, wantRow, depthRow, breadthRow, pathRow, besideRow, rowCount, stateLength}
-use Rattle.lent.specs.Words.{listOf, address, cell, column, highestKind, taskOf, taskFrom, slotIn, orderIn, asRead, known, stateOf, kindOf, keyIn, informationIn, rowsOf, spread, slotLaid, orderLaid, laidInto}
+use Rattle.lent.specs.Layout.{kAt, nAt, waitingAt, orderFrom, rowsFrom, rowLength, columnLength, kindRow, keyRow, informationRow, wantRow, lockRow, depthRow, breadthRow, pathRow, besideRow, rowCount, stateLength}
+use Rattle.lent.specs.Words.{listOf, address, cell, column, highestKind, taskOf, taskFrom, lockRead, slotIn, orderIn, asRead, known, stateOf, kindOf, keyIn, informationIn, rowsOf, spread, slotLaid, orderLaid, laidInto}
 use Rattle.lent.proofs.ListLaws.{length-listOf, getD-listOf, listOf-same, listOf-getD, listOf-set}
 use Rattle.lent.proofs.SpreadLaws.{length-spread, spread-beside, spread-front, spread-at}
 
@@ -53,6 +56,11 @@ task-back : (t : Task) → taskFrom (kindOf t) (keyIn t) (informationIn t) ≡ t
 task-back Closed = refl
 task-back (Open op) = ap taskOf (asked-back op)
 
+lock-back : (l : Lock) → lockRead (lockNumber l) ≡ l
+lock-back None = refl
+lock-back Rho = refl
+lock-back Xi = refl
+
 kind-exists : (t : Task) → kindOf t ≤ highestKind
 kind-exists Closed = omega arith
 kind-exists (Open op) = kind-within op
@@ -60,17 +68,17 @@ kind-exists (Open op) = kind-within op
 -- A slot whose numbers stand in these rows.
 module _ (ws : List ℕ) (s : ℕ) (slot : Slot) (path : length (slot .path) ≡ columnLength) (beside : length (slot .beside) ≡ columnLength)
     (rows : (r : ℕ) → r < rowCount → cell ws r s ≡ getD (rowsOf slot) r 0) where
-  -- behind the six numbers stand the pages
-  six-behind : (j : ℕ) → getD (rowsOf slot) (pathRow + j) 0 ≡ getD (slot .path ++ slot .beside) j 0
-  six-behind j =
-      getD-append-add (kindOf (slot .task) ∷ keyIn (slot .task) ∷ informationIn (slot .task) ∷ slot .want ∷ slot .depth ∷ slot .breadth ∷ [])
+  -- behind the seven numbers stand the pages
+  seven-behind : (j : ℕ) → getD (rowsOf slot) (pathRow + j) 0 ≡ getD (slot .path ++ slot .beside) j 0
+  seven-behind j =
+      getD-append-add (kindOf (slot .task) ∷ keyIn (slot .task) ∷ informationIn (slot .task) ∷ slot .want ∷ lockNumber (slot .lock) ∷ slot .depth ∷ slot .breadth ∷ [])
       (slot .path ++ slot .beside) j 0
 
   path-read : column ws pathRow s ≡ slot .path
   unfolding column
   path-read =
       listOf-same columnLength (λ (j : ℕ). cell ws (pathRow + j) s) (λ (j : ℕ). getD (slot .path) j 0)
-      (λ j h. rows (pathRow + j) (omega arith) ∙ six-behind j ∙ List·getD-append (slot .path) (slot .beside) 0 j (omega arith))
+      (λ j h. rows (pathRow + j) (omega arith) ∙ seven-behind j ∙ List·getD-append (slot .path) (slot .beside) 0 j (omega arith))
       ∙ listOf-getD (slot .path) 0 columnLength path
 
   beside-read : column ws besideRow s ≡ slot .beside
@@ -81,7 +89,7 @@ module _ (ws : List ℕ) (s : ℕ) (slot : Slot) (path : length (slot .path) ≡
       let same : besideRow + j ≡ pathRow + (columnLength + j) = omega arith in
       rows (besideRow + j) (omega arith)
       ∙ ap (λ (r : ℕ). getD (rowsOf slot) r 0) same
-      ∙ six-behind (columnLength + j)
+      ∙ seven-behind (columnLength + j)
       ∙ subst (λ (n : ℕ). getD (slot .path ++ slot .beside) (n + j) 0 ≡ getD (slot .beside) j 0) path
       (getD-append-add (slot .path) (slot .beside) j 0))
       ∙ listOf-getD (slot .beside) 0 columnLength beside
@@ -96,6 +104,7 @@ module _ (ws : List ℕ) (s : ℕ) (slot : Slot) (path : length (slot .path) ≡
       λ i. record {
         task = task i;
         want = rows wantRow (omega arith) i;
+        lock = (ap lockRead (rows lockRow (omega arith)) ∙ lock-back (slot .lock)) i;
         path = path-read i;
         depth = rows depthRow (omega arith) i;
         beside = beside-read i;
@@ -108,7 +117,7 @@ module _ (ws : List ℕ) (s : ℕ) (slot : Slot) (path : length (slot .path) ≡
 
 module _ (ws : List ℕ) (s : ℕ) (slot : Slot) (long : length ws ≡ stateLength) (inside : s < rowLength) (path : length (slot .path) ≡ columnLength) (beside : length (slot .beside) ≡ columnLength) where
   rows-long : length (rowsOf slot) ≡ rowCount
-  rows-long = ap (λ (n : ℕ). suc (suc (suc (suc (suc (suc n)))))) (length-append (slot .path) (slot .beside) ∙ omega arith)
+  rows-long = ap (λ (n : ℕ). suc (suc (suc (suc (suc (suc (suc n))))))) (length-append (slot .path) (slot .beside) ∙ omega arith)
 
   row-laid : (r : ℕ) → r < rowCount → cell (slotLaid ws s slot) r s ≡ getD (rowsOf slot) r 0
   unfolding slotLaid
@@ -146,6 +155,7 @@ unfolding column
 slot-same ws ws′ s e = λ i. record {
   task = taskFrom (e kindRow i) (e keyRow i) (e informationRow i);
   want = e wantRow i;
+  lock = lockRead (e lockRow i);
   path = listOf-same columnLength (λ (j : ℕ). cell ws (pathRow + j) s) (λ (j : ℕ). cell ws′ (pathRow + j) s) (λ j _. e (pathRow + j)) i;
   depth = e depthRow i;
   beside = listOf-same columnLength (λ (j : ℕ). cell ws (besideRow + j) s) (λ (j : ℕ). cell ws′ (besideRow + j) s) (λ j _. e (besideRow + j)) i;

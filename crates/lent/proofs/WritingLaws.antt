@@ -8,10 +8,11 @@ use borrow.Rule.Slice.PartMut.{putMid}
 use lib.Seq.{length-take-le, set-append-left, getD-append-add, getD-drop}
 use Rattle.slots.specs.declared.Op.{Op}
 use Rattle.slots.specs.declared.Slot.{Slot}
-use Rattle.slots.specs.Parts.{openSlot, closedSlot, waitingOrder}
+use Rattle.slots.specs.Parts.{freshStand, slotOf, closedSlot, waitingOrder}
+use Rattle.slots.specs.Heard.{lockNumber}
 use Rattle.slots.specs.Book.{leaving, begins, requeued, closes}
 use Rattle.slots.proofs.MakingLaws.{gapAt}
-use Rattle.lent.specs.Layout.{waitingAt, orderFrom, rowLength, columnLength, kindRow, wantRow, depthRow, breadthRow, pathRow, besideRow, stateLength}
+use Rattle.lent.specs.Layout.{waitingAt, orderFrom, rowLength, columnLength, kindRow, wantRow, lockRow, depthRow, breadthRow, pathRow, besideRow, stateLength}
 use Rattle.lent.specs.Words.{address, orderIn, asRead, kindOf, keyIn, informationIn, spread, slotLaid, orderLaid, laidInto}
 use Rattle.lent.proofs.SpreadLaws.{spread-append}
 use Rattle.lent.proofs.StateLaws.{by-front, written-laid}
@@ -67,9 +68,9 @@ fewer-laid ws order w v long =
 -- ---- the whole
 
 module _ (ws : List ℕ) (s : ℕ) (long : length ws ≡ stateLength) (inside : s < rowLength) where
-  pub begins-writes : (op : Op) → slotLaid (orderLaid ws (getD ws waitingAt 0 + 1) (set (orderIn ws) (getD ws waitingAt 0) s)) s (openSlot op 0 [] []) ≡ laidInto ws s (begins (asRead ws) s op)
+  pub begins-writes : (op : Op) → slotLaid (orderLaid ws (getD ws waitingAt 0 + 1) (set (orderIn ws) (getD ws waitingAt 0) s)) s (slotOf (freshStand op)) ≡ laidInto ws s (begins (asRead ws) s op)
   unfolding begins
-  begins-writes op = sym (written-laid ws s (openSlot op 0 [] []) (set (orderIn ws) (getD ws waitingAt 0) s) (getD ws waitingAt 0 + 1) long inside)
+  begins-writes op = sym (written-laid ws s (slotOf (freshStand op)) (set (orderIn ws) (getD ws waitingAt 0) s) (getD ws waitingAt 0 + 1) long inside)
 
   pub requeued-writes : (slot : Slot)
       → slotLaid (orderLaid ws (getD ws waitingAt 0) (leaving s (take (getD ws waitingAt 0) (orderIn ws)) ++ s ∷ drop (getD ws waitingAt 0) (orderIn ws))) s slot ≡ laidInto ws s (requeued (asRead ws) s slot)
@@ -81,21 +82,29 @@ module _ (ws : List ℕ) (s : ℕ) (long : length ws ≡ stateLength) (inside : 
   closes-writes = sym (written-laid ws s closedSlot _ (getD ws waitingAt 0 - 1) long inside)
 
 -- a slot laid down number by number
-pub laid-by : (ws : List ℕ) (s : ℕ) (slot : Slot) {c₁ c₂ c₃ c₄ c₅ c₆ : List ℕ} → length (slot .path) ≡ columnLength
+pub laid-by : (ws : List ℕ) (s : ℕ) (slot : Slot) {c₁ c₂ c₃ c₄ c₅ c₆ c₇ : List ℕ} {number : ℕ} → length (slot .path) ≡ columnLength
     → c₁ ≡ spread ws kindRow s (kindOf (slot .task) ∷ keyIn (slot .task) ∷ informationIn (slot .task) ∷ [])
     → c₂ ≡ set c₁ (address wantRow s) (slot .want)
-    → c₃ ≡ set c₂ (address depthRow s) (slot .depth)
-    → c₄ ≡ set c₃ (address breadthRow s) (slot .breadth)
-    → c₅ ≡ spread c₄ pathRow s (slot .path)
-    → c₆ ≡ spread c₅ besideRow s (slot .beside)
-    → c₆ ≡ slotLaid ws s slot
+    → number ≡ lockNumber (slot .lock)
+    → c₃ ≡ set c₂ (address lockRow s) number
+    → c₄ ≡ set c₃ (address depthRow s) (slot .depth)
+    → c₅ ≡ set c₄ (address breadthRow s) (slot .breadth)
+    → c₆ ≡ spread c₅ pathRow s (slot .path)
+    → c₇ ≡ spread c₆ besideRow s (slot .beside)
+    → c₇ ≡ slotLaid ws s slot
 unfolding slotLaid spread
-laid-by ws s slot long e₁ e₂ e₃ e₄ e₅ e₆ =
-    let six : List ℕ = spread ws kindRow s (kindOf (slot .task) ∷ keyIn (slot .task) ∷ informationIn (slot .task) ∷ slot .want ∷ slot .depth ∷ slot .breadth ∷ []) in
-    let there : _ ≡ six =
-    e₄ ∙ ap (λ (l : List ℕ). set l (address breadthRow s) (slot .breadth)) (e₃ ∙ ap (λ (l : List ℕ). set l (address depthRow s) (slot .depth)) (e₂ ∙ ap (λ (l : List ℕ). set l (address wantRow s) (slot .want)) e₁)) in
+laid-by ws s slot {c₂ = c₂} long e₁ e₂ n e₃ e₄ e₅ e₆ e₇ =
+    let seven : List ℕ = spread ws kindRow s (kindOf (slot .task) ∷ keyIn (slot .task) ∷ informationIn (slot .task) ∷ slot .want ∷ lockNumber (slot .lock) ∷ slot .depth ∷ slot .breadth ∷ []) in
+    let there : _ ≡ seven =
+    e₅
+    ∙ ap (λ (l : List ℕ). set l (address breadthRow s) (slot .breadth))
+    (e₄
+    ∙ ap (λ (l : List ℕ). set l (address depthRow s) (slot .depth))
+    (e₃
+    ∙ ap (set c₂ (address lockRow s)) n
+    ∙ ap (λ (l : List ℕ). set l (address lockRow s) (lockNumber (slot .lock))) (e₂ ∙ ap (λ (l : List ℕ). set l (address wantRow s) (slot .want)) e₁))) in
     let behind : pathRow + length (slot .path) ≡ besideRow = omega arith in
-    e₆
-    ∙ ap (λ (l : List ℕ). spread l besideRow s (slot .beside)) (e₅ ∙ ap (λ (l : List ℕ). spread l pathRow s (slot .path)) there)
-    ∙ ap (λ (r : ℕ). spread (spread six pathRow s (slot .path)) r s (slot .beside)) (sym behind)
-    ∙ sym (spread-append six pathRow s (slot .path) (slot .beside))
+    e₇
+    ∙ ap (λ (l : List ℕ). spread l besideRow s (slot .beside)) (e₆ ∙ ap (λ (l : List ℕ). spread l pathRow s (slot .path)) there)
+    ∙ ap (λ (r : ℕ). spread (spread seven pathRow s (slot .path)) r s (slot .beside)) (sym behind)
+    ∙ sym (spread-append seven pathRow s (slot .path) (slot .beside))

@@ -9,10 +9,10 @@ use Rattle.ground.specs.Limits.{slotCount}
 use Rattle.ground.specs.Tests.{anyBelow, member}
 use Rattle.slots.specs.declared.Lock.{Lock}
 use Rattle.slots.specs.declared.Lock.the-variants.{Rho, Xi}
-use Rattle.slots.specs.Parts.{held, openAt, waitingOrder}
+use Rattle.slots.specs.Parts.{held, waitingOrder}
 use Rattle.slots.specs.Locks.{clash}
 use Rattle.slots.specs.Heard.{lockNumber}
-use Rattle.lent.specs.Layout.{waitingAt, rowLength, columnLength, kindRow, wantRow, depthRow, breadthRow, pathRow}
+use Rattle.lent.specs.Layout.{waitingAt, rowLength, columnLength, kindRow, wantRow, lockRow, depthRow, breadthRow, pathRow}
 use Rattle.lent.specs.Words.{cell, slotIn, asRead}
 
 -- no path is longer than its rows, nor are the pages beside it, and a closed slot holds nothing
@@ -21,17 +21,21 @@ pub record WithinRows (ws : List ℕ) : Type 0 where
   pub beside : (s : ℕ) → s < rowLength → cell ws breadthRow s ≤ columnLength
   pub closed : (t : ℕ) → t < rowLength → cell ws kindRow t ≡ 0 → (cell ws depthRow t ≡ 0) × (cell ws breadthRow t ≡ 0)
 
--- the waiting order is no longer than its row, and names open slots
+-- a number that stands for a lock, ρ or ξ
+abbrev pub isLockNumber : ℕ → Bool
+isLockNumber number = eqb number (lockNumber Rho) || eqb number (lockNumber Xi)
+
+-- the waiting order is no longer than its row, and names slots that want with a lock, as open slots do
 pub record OpenOrder (ws : List ℕ) : Type 0 where
   pub few : getD ws waitingAt 0 ≤ rowLength
   pub below : (t : ℕ) → member t (waitingOrder (asRead ws)) ≡ true → t < slotCount
-  pub opened : (t : ℕ) → member t (waitingOrder (asRead ws)) ≡ true → openAt (asRead ws) t ≡ true
+  pub wants : (t : ℕ) → member t (waitingOrder (asRead ws)) ≡ true → isLockNumber (cell ws lockRow t) ≡ true
 
--- the kinds whose lock is ξ
+-- the kinds that hold their pages under ξ: the updates by the first way
 abbrev pub updatesKind : ℕ → Bool
 updatesKind kind = eqb kind 2 || eqb kind 3 || eqb kind 5
 
--- Locks have the numbers of a report. The lock of an open slot of this kind (a closed one holds nothing):
+-- Locks have the numbers of a report. The lock under which an open slot of this kind holds its pages (a closed one holds nothing):
 abbrev pub kindLock : ℕ → ℕ
 kindLock kind = cond (updatesKind kind) (lockNumber Xi) (lockNumber Rho)
 
@@ -40,7 +44,7 @@ abbrev pub lockHeldIn : List ℕ → ℕ → ℕ → ℕ
 lockHeldIn ws t p = kindLock (cell ws kindRow t)
 
 abbrev pub lockWantedIn : List ℕ → ℕ → ℕ
-lockWantedIn ws t = kindLock (cell ws kindRow t)
+lockWantedIn ws t = cell ws lockRow t
 
 -- the lock that such a number stands for (an open slot has one), and the rule's table of two numbers
 abbrev pub openLock : ℕ → Lock

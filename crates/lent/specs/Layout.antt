@@ -41,16 +41,20 @@ informationRow = 2
 abbrev pub wantRow : ℕ
 wantRow = 3
 
+-- the number of the lock that it wants it with
+abbrev pub lockRow : ℕ
+lockRow = 4
+
 -- how long the path is, and how many pages stand beside it
 abbrev pub depthRow : ℕ
-depthRow = 4
+depthRow = 5
 
 abbrev pub breadthRow : ℕ
-breadthRow = 5
+breadthRow = 6
 
 -- from here on the path, and from there on the pages beside it
 abbrev pub pathRow : ℕ
-pathRow = 6
+pathRow = 7
 
 abbrev pub besideRow : ℕ
 besideRow = pathRow + columnLength

@@ -3,7 +3,7 @@
 use Prim.Native.Nat.{ℕ, zero, suc, _+_, _*_, _/_, _%_}
 use mathlib.Core.Bool.{Bool, cond}
 use mathlib.Core.List.{List, [], _∷_, _++_}
-use lib.Dec.{leb}
+use lib.Dec.{eqb, leb}
 use lib.ListN.{getD, take, drop, set}
 use Rattle.ground.specs.Limits.{slotCount}
 use Rattle.ground.specs.Tests.{allBelow}
@@ -11,14 +11,16 @@ use Rattle.slots.specs.declared.operations.Asked.{Asked}
 use Rattle.slots.specs.declared.operations.Asked.the-variants.{Known, Unknown}
 use Rattle.slots.specs.declared.Task.{Task}
 use Rattle.slots.specs.declared.Task.the-variants.{Closed, Open}
+use Rattle.slots.specs.declared.Lock.{Lock}
+use Rattle.slots.specs.declared.Lock.the-variants.{None, Rho, Xi}
 use Rattle.slots.specs.declared.Slot.{Slot}
 use Rattle.slots.specs.declared.State.{State}
 use Rattle.slots.specs.declared.Answer.{Answer}
-use Rattle.slots.specs.Heard.{changesNothing}
+use Rattle.slots.specs.Heard.{lockNumber, changesNothing}
 use Rattle.slots.specs.Operations.{kindNumber, keyOf, informationOf, askedBy}
 pub use Rattle.slots.specs.Operations.{highestKind}
 use Rattle.slots.specs.Parts.{slotAt, idleState}
-use Rattle.lent.specs.Layout.{kAt, nAt, waitingAt, orderFrom, rowsFrom, rowLength, columnLength, kindRow, keyRow, informationRow, wantRow, depthRow, breadthRow, pathRow, besideRow, rowWords}
+use Rattle.lent.specs.Layout.{kAt, nAt, waitingAt, orderFrom, rowsFrom, rowLength, columnLength, kindRow, keyRow, informationRow, wantRow, lockRow, depthRow, breadthRow, pathRow, besideRow, rowWords}
 
 -- the list of what f gives for 0 to n - 1
 unfoldable pub listOf : {A : Type 0} → ℕ → (ℕ → A) → List A
@@ -46,11 +48,16 @@ taskOf Unknown = Closed
 abbrev pub taskFrom : ℕ → ℕ → ℕ → Task
 taskFrom kind key information = taskOf (askedBy kind key information)
 
+-- the lock of a number. A number that is no kind reads as no lock, which no open slot may want.
+abbrev pub lockRead : ℕ → Lock
+lockRead i = cond (eqb i (lockNumber Rho)) Rho (cond (eqb i (lockNumber Xi)) Xi None)
+
 -- slot s of these words
 abbrev pub slotIn : List ℕ → ℕ → Slot
 slotIn ws s = record {
   task = taskFrom (cell ws kindRow s) (cell ws keyRow s) (cell ws informationRow s);
   want = cell ws wantRow s;
+  lock = lockRead (cell ws lockRow s);
   path = column ws pathRow s;
   depth = cell ws depthRow s;
   beside = column ws besideRow s;
@@ -92,7 +99,15 @@ informationIn (Open op) = informationOf op
 -- the numbers of a slot, row by row
 abbrev pub rowsOf : Slot → List ℕ
 rowsOf slot =
-    kindOf (slot .task) ∷ keyIn (slot .task) ∷ informationIn (slot .task) ∷ slot .want ∷ slot .depth ∷ slot .breadth ∷ slot .path ++ slot .beside
+    kindOf (slot .task)
+    ∷ keyIn (slot .task)
+    ∷ informationIn (slot .task)
+    ∷ slot .want
+    ∷ lockNumber (slot .lock)
+    ∷ slot .depth
+    ∷ slot .breadth
+    ∷ slot .path
+    ++ slot .beside
 
 -- these numbers down the column of slot s, from row r on
 unfoldable pub spread : List ℕ → ℕ → ℕ → List ℕ → List ℕ

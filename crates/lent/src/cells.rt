@@ -2,6 +2,7 @@
 use crate::BREADTH;
 use crate::DEPTH;
 use crate::KIND;
+use crate::LOCK;
 use crate::ORDER;
 use crate::PAGES;
 use crate::PATH;
@@ -14,7 +15,7 @@ use ground::SLOTS;
 ghost use mathlib.Core.Path.{_≡_};
 ghost use Prim.Native.Nat.{_+_, _<_};
 ghost use lib.ListN.{length, getD, set};
-ghost use Rattle.lent.specs.Layout.{kAt, nAt, waitingAt, orderFrom, rowLength, kindRow, wantRow, depthRow, breadthRow, pathRow, rowCount, stateLength};
+ghost use Rattle.lent.specs.Layout.{kAt, nAt, waitingAt, orderFrom, rowLength, kindRow, wantRow, lockRow, depthRow, breadthRow, pathRow, rowCount, stateLength};
 ghost use Rattle.lent.specs.Words.{address, cell};
 
 pub fn wide(x: u32) -> usize
@@ -88,6 +89,14 @@ pub fn want_at(cells: &[u32; STATE], s: usize) -> u32
     ensures { λ r. ⌜ r ≡ cell (now (cells .entry)) wantRow s ⌝ }
 {
     word_at(cells, WANT, s)
+}
+
+// The number of the lock that it wants it with.
+pub fn lock_at(cells: &[u32; STATE], s: usize) -> u32
+    requires { ⌜ s < rowLength ⌝ }
+    ensures { λ r. ⌜ r ≡ cell (now (cells .entry)) lockRow s ⌝ }
+{
+    word_at(cells, LOCK, s)
 }
 
 // How many pages are on its path.

@@ -6,6 +6,7 @@ use crate::STATE;
 use crate::cells::breadth_at;
 use crate::cells::depth_at;
 use crate::cells::kind_at;
+use crate::cells::lock_at;
 use crate::cells::order_at;
 use crate::cells::sized;
 use crate::cells::top_at;
@@ -14,7 +15,6 @@ use crate::cells::want_at;
 use crate::cells::wide;
 use crate::cells::word_at;
 use ground::SLOTS;
-use slots::operations::HIGHEST_KIND;
 use slots::operations::REGRADES;
 ghost use mathlib.Core.Path.{_≡_};
 ghost use mathlib.Core.Bool.{true, not, _&&_};
@@ -24,9 +24,9 @@ ghost use lib.ListN.{take};
 ghost use Rattle.ground.specs.Tests.{anyBelow, member};
 ghost use Rattle.slots.specs.Parts.{held};
 ghost use Rattle.slots.specs.Grant as rule;
-ghost use Rattle.lent.specs.Layout.{rowLength, columnLength, kindRow, besideRow};
+ghost use Rattle.lent.specs.Layout.{rowLength, columnLength, lockRow, besideRow};
 ghost use Rattle.lent.specs.Words.{cell, column, slotIn, asRead, known};
-ghost use Rattle.lent.specs.Holds.{WithinRows, OpenOrder, updatesKind, kindLock, numbersClash, topHolds, deepHolds, isDeep, othersHold, alsoWants};
+ghost use Rattle.lent.specs.Holds.{WithinRows, isLockNumber, OpenOrder, updatesKind, kindLock, numbersClash, topHolds, deepHolds, isDeep, othersHold, alsoWants};
 
 // The numbers of locks, as a report gives them.
 pub const RHO: u32 = 1;
@@ -59,17 +59,17 @@ pub fn holds_at(cells: &[u32; STATE], s: usize, p: u32) -> bool
     column_has(cells, BESIDE, wide(breadth_at(cells, s)), s, p)
 }
 
-// The lock of this kind is ξ: it is an insertion, a deletion (of all kinds these alone have an odd half) or a regrading. No way out
-// in between: the rows ask this of several slots in one go. Where the three are compared one by one, the compiler makes no vector
-// code of it on Arm.
+// A slot of this kind holds its pages under ξ: it is an insertion, a deletion (of all kinds these alone have the half 1) or a regrading,
+// by the first way. No way out in between: the rows ask this of several slots in one go. Where the three are compared one by one, the
+// compiler makes no vector code of it on Arm.
 pub fn is_update(kind: u32) -> bool
     ensures { λ r. ⌜ r ≡ updatesKind kind ⌝ }
 {
-    ((kind / 2 % 2 == 1) | (kind == REGRADES)) & (kind <= HIGHEST_KIND)
+    (kind / 2 == 1) | (kind == REGRADES)
 }
 
-// The number of the lock of an open slot of this kind: it holds each of its pages under it, and wants the next with it.
-fn kind_lock(kind: u32) -> u32
+// The number of the lock under which an open slot of this kind holds its pages.
+pub fn kind_lock(kind: u32) -> u32
     ensures { λ r. ⌜ r ≡ kindLock kind ⌝ }
 {
     RHO + is_update(kind) as u32
@@ -182,10 +182,10 @@ pub fn others_hold(cells: &[u32; STATE], s: usize, lock: u32, p: u32) -> bool
 
 // No other slot holds a clashing lock on the page that slot s wants. A closed slot has no lock, and holds no page either.
 fn no_clash(cells: &[u32; STATE], s: usize) -> bool
-    requires { ⌜ (s < rowLength) × (known (now cells) ≡ true) × WithinRows (now cells) × (0 < cell (now cells) kindRow s) ⌝ }
+    requires { ⌜ (s < rowLength) × (known (now cells) ≡ true) × WithinRows (now cells) × (isLockNumber (cell (now cells) lockRow s) ≡ true) ⌝ }
     ensures { λ r. ⌜ r ≡ rule.noClash (asRead (now (cells .entry))) s ⌝ }
 {
-    let lock = kind_lock(kind_at(cells, s));
+    let lock = lock_at(cells, s);
     !others_hold(cells, s, lock, want_at(cells, s))
 }
 
@@ -197,16 +197,16 @@ fn also_wants(cells: &[u32; STATE], lock: u32, p: u32, t: usize) -> bool
     if want_at(cells, t) != p {
         return false;
     }
-    clashes(kind_lock(kind_at(cells, t)), lock)
+    clashes(lock_at(cells, t), lock)
 }
 
 // No older want clashes with that of slot s.
 fn no_older(cells: &[u32; STATE], s: usize) -> bool
-    requires { ⌜ (s < rowLength) × (known (now cells) ≡ true) × (0 < cell (now cells) kindRow s) × OpenOrder (now cells) ⌝ }
+    requires { ⌜ (s < rowLength) × (isLockNumber (cell (now cells) lockRow s) ≡ true) × OpenOrder (now cells) ⌝ }
     ensures { λ r. ⌜ r ≡ rule.noOlder (asRead (now (cells .entry))) s ⌝ }
 {
     sized(cells);
-    let lock = kind_lock(kind_at(cells, s));
+    let lock = lock_at(cells, s);
     let want = want_at(cells, s);
     let waiting = waiting_of(cells);
     let mut i = 0;
@@ -227,7 +227,7 @@ fn no_older(cells: &[u32; STATE], s: usize) -> bool
 
 // A step grants the want of slot s.
 pub fn grants(cells: &[u32; STATE], s: usize) -> bool
-    requires { ⌜ (s < rowLength) × (known (now cells) ≡ true) × WithinRows (now cells) × (0 < cell (now cells) kindRow s) × OpenOrder (now cells) ⌝ }
+    requires { ⌜ (s < rowLength) × (known (now cells) ≡ true) × WithinRows (now cells) × (isLockNumber (cell (now cells) lockRow s) ≡ true) × OpenOrder (now cells) ⌝ }
     ensures { λ r. ⌜ r ≡ rule.grants (asRead (now (cells .entry))) s ⌝ }
 {
     if !no_older(cells, s) {

@@ -27,11 +27,13 @@ pub const INFORMATION: usize = 2;
 
 pub const WANT: usize = 3;
 
-pub const DEPTH: usize = 4;
+pub const LOCK: usize = 4;
 
-pub const BREADTH: usize = 5;
+pub const DEPTH: usize = 5;
 
-pub const PATH: usize = 6;
+pub const BREADTH: usize = 6;
+
+pub const PATH: usize = 7;
 
 pub const BESIDE: usize = PATH + HELD;
 

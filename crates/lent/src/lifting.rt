@@ -4,6 +4,7 @@ use crate::BREADTH;
 use crate::DEPTH;
 use crate::INFORMATION;
 use crate::KEY;
+use crate::LOCK;
 use crate::PATH;
 use crate::ROWS_FROM;
 use crate::STATE;
@@ -11,14 +12,19 @@ use crate::WANT;
 use crate::cells::breadth_at;
 use crate::cells::depth_at;
 use crate::cells::kind_at;
+use crate::cells::lock_at;
 use crate::cells::put;
 use crate::cells::want_at;
 use crate::cells::wide;
 use crate::cells::word_at;
+use crate::granting::RHO;
+use crate::granting::XI;
 use ground::HELD;
 use ground::SLOTS;
+use slots::Lock;
 use slots::Slot;
 use slots::Task;
+use slots::hearing::lock_number;
 use slots::operations::Asked;
 use slots::operations::asked_by;
 use slots::operations::information_asked;
@@ -28,7 +34,7 @@ ghost use mathlib.Core.Path.{_≡_};
 ghost use mathlib.Core.List.{[], _∷_};
 ghost use Prim.Native.Nat.{_≤_, _<_};
 ghost use Rattle.lent.specs.Layout.{rowLength, columnLength, besideRow};
-ghost use Rattle.lent.specs.Words.{column, taskFrom, slotIn, kindOf, keyIn, informationIn, spread, slotLaid};
+ghost use Rattle.lent.specs.Words.{column, taskFrom, lockRead, slotIn, kindOf, keyIn, informationIn, spread, slotLaid};
 
 // The task of this kind.
 fn task_of(kind: u32, key: u32, information: u32) -> Task
@@ -38,6 +44,19 @@ fn task_of(kind: u32, key: u32, information: u32) -> Task
         Asked::Known(op) => Task::Open(op),
         Asked::Unknown => Task::Closed,
     }
+}
+
+// The lock of this number. A number that is no kind stands for none.
+fn lock_of(number: u32) -> Lock
+    ensures { λ r. ⌜ r ≡ lockRead number ⌝ }
+{
+    if number == RHO {
+        return Lock::Rho;
+    }
+    if number == XI {
+        return Lock::Xi;
+    }
+    Lock::None
 }
 
 // Ten rows of slot s.
@@ -71,11 +90,13 @@ pub fn slot_at(cells: &[u32; STATE], s: usize) -> Slot
     ensures { λ r. ⌜ r ≡ slotIn (now (cells .entry)) s ⌝ }
 {
     let task = task_at(cells, s);
+    let lock = lock_of(lock_at(cells, s));
     let path = column_of(cells, PATH, s);
     let beside = column_of(cells, BESIDE, s);
     Slot {
         task,
         want: want_at(cells, s),
+        lock,
         path,
         depth: wide(depth_at(cells, s)),
         beside,
@@ -144,6 +165,8 @@ pub fn lay(cells: &mut [u32; STATE], s: usize, slot: Slot)
     let task = slot.task;
     lay_task(cells, s, task);
     put(cells, WANT, s, slot.want);
+    let lock = slot.lock;
+    put(cells, LOCK, s, lock_number(lock));
     put(cells, DEPTH, s, slot.depth as u32);
     put(cells, BREADTH, s, slot.breadth as u32);
     let path = slot.path;

@@ -31,10 +31,12 @@ use Rattle.runs.proofs.Invariant.{Invariant}
 use Rattle.runs.proofs.Runs.{call-keeps, words-append, start-ready}
 use Rattle.promises.specs.Demand1.{MakingInRange}
 use Rattle.promises.specs.Demand2.{AfterEveryCall}
+use Rattle.promises.specs.TopOpen.{TopOpen}
 use Rattle.promises.specs.Regrading.{IsThere, NotDeleted, NeverNowhere}
 use Rattle.promises.proofs.Demand1.{range-tested, make-demand}
 use Rattle.promises.proofs.Demand2.{call-heard, demand2}
 use Rattle.promises.proofs.Demand3.{demand3}
+use Rattle.promises.proofs.TopOpen.{top-open-holds}
 use Rattle.promises.proofs.Regrading.{regrading-holds}
 use Rattle.library.specs.Promises.{Went, begins, steps, reports, Follow, OpenedBy, making, beginsWith, callsIn, toldFirst, toldIn, quietNumber, quietFour, LibraryRuns, LibraryPromises, LibraryKeepsLots}
 
@@ -97,7 +99,7 @@ asked-in-words : (s kind key information : ℕ) (cs : List Call) → key < wordR
 unfolding wordRange
 asked-in-words s kind key information cs hk hi h =
     let no : 0 < wordRange = omega arith in
-    each-in-words s kind cs h (operations key information) ((hk, no), ((hk, hi), ((hk, no), ((hk, no), ((hk, hi), tt)))))
+    each-in-words s kind cs h (operations key information) ((hk, no), ((hk, hi), ((hk, no), ((hk, no), ((hk, hi), ((hk, hi), ((hk, no), ((hk, hi), tt))))))))
 
 follow-in-words : (calls : List Went) (cells ws last lastWs : List ℕ) → Follow cells ws calls last lastWs → InWords (callsIn calls)
 unfolding callsIn
@@ -174,6 +176,8 @@ library-promises start calls last lastWs h =
       neverTold = ap (all quietFour) (is .answers) ∙ from-quiet start cs (is .run);
       second = second;
       third = demand3 start cs (is .run);
+      top = subst (λ (st : State). TopOpen st lastWs) (sym (is .state))
+          (subst (λ (after : List ℕ). TopOpen (runFrom start cs .state) after) (sym (is .words)) (top-open-holds start cs (is .run)));
     }
 
 -- ---- a lot that is not deleted

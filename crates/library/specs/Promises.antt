@@ -18,6 +18,7 @@ use Rattle.embed.specs.Statements.{MakeTells, BeginTells, StepTells, ReportTell
 use Rattle.runs.specs.Run.{Call, begin, step, report, Start, freshStart, runFrom, Run}
 use Rattle.promises.specs.Demand2.{AfterEveryCall, Demand2}
 use Rattle.promises.specs.Demand3.{Demand3}
+use Rattle.promises.specs.TopOpen.{TopOpen}
 use Rattle.promises.specs.Regrading.{IsThere, NotDeleted, NeverNowhere}
 
 -- ---- calls of the library
@@ -102,6 +103,8 @@ pub record Kept (start : Start) (calls : List Went) (last lastWs : List ℕ) : T
   -- the demands whole, of the calls as a run
   pub second : Demand2 start (callsIn calls)
   pub third : Demand3 start (callsIn calls)
+  -- 02 (v): nobody waits for page 0 or an upper page but for an update by the first way
+  pub top : TopOpen (stateOf last) lastWs
 
 abbrev pub LibraryPromises : Type 0
 LibraryPromises = (start : Start) (calls : List Went) (last lastWs : List ℕ) → Served start calls last lastWs → Kept start calls last lastWs

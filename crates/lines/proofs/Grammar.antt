@@ -15,10 +15,13 @@ use Rattle.ground.specs.Tests.{all}
 use Rattle.ground.proofs.Bools.{and-first, and-second, and-both}
 use Rattle.ground.proofs.Choice.{cond-ind, cond-true}
 use Rattle.slots.specs.declared.Op.the-variants.{Search, Insert, Delete, Next, Regrade}
+use Rattle.slots.specs.declared.Way.{Way}
+use Rattle.slots.specs.declared.Way.the-variants.{First, Second}
+use Rattle.slots.specs.Operations.{byWay}
 use Rattle.lines.specs.declared.Command.{Command}
 use Rattle.lines.specs.declared.Command.the-variants.{Begin, Step, Bad}
 use Rattle.lines.specs.Text.{bytes, startsWith}
-use Rattle.lines.specs.Meaning.{isDigit, digits, value, largest, Front, noNumber, number, counted, front, alone, numbered, after, stepping, searching, deleting, askingNext, informing, keying, inserting, askingRegrade, asking, beginning, meaning}
+use Rattle.lines.specs.Meaning.{isDigit, digits, value, largest, Front, noNumber, number, counted, front, alone, numbered, after, stepping, searching, deleting, askingNext, informing, keying, inserting, askingRegrade, askingSecond, asking, beginning, meaning}
 use Rattle.lines.specs.Forms.{Numeral, Good, toSearch, toInsert, toDelete, toNext, toRegrade, toStep}
 
 -- ---- a number at the front
@@ -70,28 +73,47 @@ lot-means {key} means ks is hk hi =
     ap (λ (f : Front). numbered f (λ key rest. after " " rest (informing (means key)) Bad)) (front-numeral (bytes " " ++ is) hk refl)
     ∙ ap (λ (f : Front). numbered f (λ information rest. means key information)) (alone-numeral hi)
 
+-- behind the slot, the letter of an update says what is asked, and by which way
+insert-asked : (way : Way) {slot : ℕ} (ss bs : List ℕ) → Numeral ss slot
+    → beginning (ss ++ (bytes (byWay way " i " " i2 ") ++ bs)) ≡ inserting way slot bs
+unfolding startsWith digits askingSecond asking beginning
+insert-asked First ss bs hs = ap (λ (f : Front). numbered f asking) (front-numeral (bytes " i " ++ bs) hs refl)
+insert-asked Second ss bs hs = ap (λ (f : Front). numbered f asking) (front-numeral (bytes " i2 " ++ bs) hs refl)
+
+delete-asked : (way : Way) {slot : ℕ} (ss bs : List ℕ) → Numeral ss slot
+    → beginning (ss ++ (bytes (byWay way " d " " d2 ") ++ bs)) ≡ deleting way slot bs
+unfolding startsWith digits askingSecond asking beginning
+delete-asked First ss bs hs = ap (λ (f : Front). numbered f asking) (front-numeral (bytes " d " ++ bs) hs refl)
+delete-asked Second ss bs hs = ap (λ (f : Front). numbered f asking) (front-numeral (bytes " d2 " ++ bs) hs refl)
+
+regrade-asked : (way : Way) {slot : ℕ} (ss bs : List ℕ) → Numeral ss slot
+    → beginning (ss ++ (bytes (byWay way " g " " g2 ") ++ bs)) ≡ askingRegrade way slot bs
+unfolding startsWith digits askingSecond asking beginning
+regrade-asked First ss bs hs = ap (λ (f : Front). numbered f asking) (front-numeral (bytes " g " ++ bs) hs refl)
+regrade-asked Second ss bs hs = ap (λ (f : Front). numbered f asking) (front-numeral (bytes " g2 " ++ bs) hs refl)
+
 pub good-means : (line : List ℕ) {c : Command} → Good line c → meaning line ≡ c
 unfolding startsWith digits stepping searching deleting askingNext informing keying inserting askingRegrade asking beginning meaning
 good-means line (toSearch {slot = slot} ss ks hs hk e) =
     ap meaning e
     ∙ ap (λ (f : Front). numbered f asking) (front-numeral (bytes " s " ++ ks) hs refl)
     ∙ ap (λ (f : Front). numbered f (λ key rest. Begin slot (Search key))) (alone-numeral hk)
-good-means line (toInsert {slot = slot} ss ks is hs hk hi e) =
+good-means line (toInsert way {slot = slot} ss ks is hs hk hi e) =
     ap meaning e
-    ∙ ap (λ (f : Front). numbered f asking) (front-numeral (bytes " i " ++ (ks ++ (bytes " " ++ is))) hs refl)
-    ∙ lot-means (λ key information. Begin slot (Insert key information)) ks is hk hi
-good-means line (toDelete {slot = slot} ss ks hs hk e) =
+    ∙ insert-asked way ss (ks ++ (bytes " " ++ is)) hs
+    ∙ lot-means (λ key information. Begin slot (Insert key information way)) ks is hk hi
+good-means line (toDelete way {slot = slot} ss ks hs hk e) =
     ap meaning e
-    ∙ ap (λ (f : Front). numbered f asking) (front-numeral (bytes " d " ++ ks) hs refl)
-    ∙ ap (λ (f : Front). numbered f (λ key rest. Begin slot (Delete key))) (alone-numeral hk)
+    ∙ delete-asked way ss ks hs
+    ∙ ap (λ (f : Front). numbered f (λ key rest. Begin slot (Delete key way))) (alone-numeral hk)
 good-means line (toNext {slot = slot} ss ks hs hk e) =
     ap meaning e
     ∙ ap (λ (f : Front). numbered f asking) (front-numeral (bytes " n " ++ ks) hs refl)
     ∙ ap (λ (f : Front). numbered f (λ key rest. Begin slot (Next key))) (alone-numeral hk)
-good-means line (toRegrade {slot = slot} ss ks is hs hk hi e) =
+good-means line (toRegrade way {slot = slot} ss ks is hs hk hi e) =
     ap meaning e
-    ∙ ap (λ (f : Front). numbered f asking) (front-numeral (bytes " g " ++ (ks ++ (bytes " " ++ is))) hs refl)
-    ∙ lot-means (λ key information. Begin slot (Regrade key information)) ks is hk hi
+    ∙ regrade-asked way ss (ks ++ (bytes " " ++ is)) hs
+    ∙ lot-means (λ key information. Begin slot (Regrade key information way)) ks is hk hi
 good-means line (toStep ss hs e) = ap meaning e ∙ ap (λ (f : Front). numbered f (λ slot rest. Step slot)) (alone-numeral hs)
 
 -- ---- a line that means a command is good
@@ -178,11 +200,11 @@ module _ (line : List ℕ) where
         numbered-ind (Meant line) (alone (front ks)) (λ key rest. Begin slot (Search key)) (inl refl)
         (λ key rest f. inr (toSearch ss ks hs (last-numeral ks f) e))
 
-    deleting-meant : (ks : List ℕ) → line ≡ bytes "b " ++ (ss ++ (bytes " d " ++ ks)) → Meant line (deleting slot ks)
+    deleting-meant : (way : Way) (ks : List ℕ) → line ≡ bytes "b " ++ (ss ++ (bytes (byWay way " d " " d2 ") ++ ks)) → Meant line (deleting way slot ks)
     unfolding deleting
-    deleting-meant ks e =
-        numbered-ind (Meant line) (alone (front ks)) (λ key rest. Begin slot (Delete key)) (inl refl)
-        (λ key rest f. inr (toDelete ss ks hs (last-numeral ks f) e))
+    deleting-meant way ks e =
+        numbered-ind (Meant line) (alone (front ks)) (λ key rest. Begin slot (Delete key way)) (inl refl)
+        (λ key rest f. inr (toDelete way ss ks hs (last-numeral ks f) e))
 
     next-meant : (ks : List ℕ) → line ≡ bytes "b " ++ (ss ++ (bytes " n " ++ ks)) → Meant line (askingNext slot ks)
     unfolding askingNext
@@ -190,27 +212,39 @@ module _ (line : List ℕ) where
         numbered-ind (Meant line) (alone (front ks)) (λ key rest. Begin slot (Next key)) (inl refl)
         (λ key rest f. inr (toNext ss ks hs (last-numeral ks f) e))
 
-    inserting-meant : (bs : List ℕ) → line ≡ bytes "b " ++ (ss ++ (bytes " i " ++ bs)) → Meant line (inserting slot bs)
+    inserting-meant : (way : Way) (bs : List ℕ) → line ≡ bytes "b " ++ (ss ++ (bytes (byWay way " i " " i2 ") ++ bs)) → Meant line (inserting way slot bs)
     unfolding inserting
-    inserting-meant bs e =
-        lot-meant (λ key information. Begin slot (Insert key information)) bs
-        (λ key information ks is hk hi f. toInsert ss ks is hs hk hi (e ∙ ap (λ (l : List ℕ). bytes "b " ++ (ss ++ (bytes " i " ++ l))) f))
+    inserting-meant way bs e =
+        lot-meant (λ key information. Begin slot (Insert key information way)) bs
+        (λ key information ks is hk hi f. toInsert way ss ks is hs hk hi (e ∙ ap (λ (l : List ℕ). bytes "b " ++ (ss ++ (bytes (byWay way " i " " i2 ") ++ l))) f))
 
-    regrading-meant : (bs : List ℕ) → line ≡ bytes "b " ++ (ss ++ (bytes " g " ++ bs)) → Meant line (askingRegrade slot bs)
+    regrading-meant : (way : Way) (bs : List ℕ) → line ≡ bytes "b " ++ (ss ++ (bytes (byWay way " g " " g2 ") ++ bs)) → Meant line (askingRegrade way slot bs)
     unfolding askingRegrade
-    regrading-meant bs e =
-        lot-meant (λ key information. Begin slot (Regrade key information)) bs
-        (λ key information ks is hk hi f. toRegrade ss ks is hs hk hi (e ∙ ap (λ (l : List ℕ). bytes "b " ++ (ss ++ (bytes " g " ++ l))) f))
+    regrading-meant way bs e =
+        lot-meant (λ key information. Begin slot (Regrade key information way)) bs
+        (λ key information ks is hk hi f. toRegrade way ss ks is hs hk hi (e ∙ ap (λ (l : List ℕ). bytes "b " ++ (ss ++ (bytes (byWay way " g " " g2 ") ++ l))) f))
 
-    asking-meant : (bs : List ℕ) → line ≡ bytes "b " ++ (ss ++ bs) → Meant line (asking slot bs)
-    unfolding asking
-    asking-meant bs e =
-        let behind : (word : List ℕ) → startsWith word bs ≡ true → line ≡ bytes "b " ++ (ss ++ (word ++ drop (length word) bs)) = λ word t. e ∙ ap (λ (l : List ℕ). bytes "b " ++ (ss ++ l)) (begins-split word bs t) in
-        cond-ind (Meant line) (startsWith (bytes " s ") bs) (λ t. searching-meant (drop 3 bs) (behind (bytes " s ") t))
-        (λ n. cond-ind (Meant line) (startsWith (bytes " i ") bs) (λ t. inserting-meant (drop 3 bs) (behind (bytes " i ") t))
-        (λ m. cond-ind (Meant line) (startsWith (bytes " d ") bs) (λ t. deleting-meant (drop 3 bs) (behind (bytes " d ") t))
-        (λ k. cond-ind (Meant line) (startsWith (bytes " n ") bs) (λ t. next-meant (drop 3 bs) (behind (bytes " n ") t))
-        (λ l. cond-ind (Meant line) (startsWith (bytes " g ") bs) (λ t. regrading-meant (drop 3 bs) (behind (bytes " g ") t)) (λ j. inl refl)))))
+    module _ (bs : List ℕ) (e : line ≡ bytes "b " ++ (ss ++ bs)) where
+      -- a word that stands behind the slot
+      behind-slot : (word : List ℕ) → startsWith word bs ≡ true → line ≡ bytes "b " ++ (ss ++ (word ++ drop (length word) bs))
+      behind-slot word t = e ∙ ap (λ (l : List ℕ). bytes "b " ++ (ss ++ l)) (begins-split word bs t)
+
+      second-meant : Meant line (askingSecond slot bs)
+      unfolding askingSecond
+      second-meant =
+          cond-ind (Meant line) (startsWith (bytes " i2 ") bs) (λ t. inserting-meant Second (drop 4 bs) (behind-slot (bytes " i2 ") t))
+          (λ n. cond-ind (Meant line) (startsWith (bytes " d2 ") bs) (λ t. deleting-meant Second (drop 4 bs) (behind-slot (bytes " d2 ") t))
+          (λ m. cond-ind (Meant line) (startsWith (bytes " g2 ") bs) (λ t. regrading-meant Second (drop 4 bs) (behind-slot (bytes " g2 ") t)) (λ k. inl refl)))
+
+      asking-meant : Meant line (asking slot bs)
+      unfolding asking
+      asking-meant =
+          cond-ind (Meant line) (startsWith (bytes " s ") bs) (λ t. searching-meant (drop 3 bs) (behind-slot (bytes " s ") t))
+          (λ n. cond-ind (Meant line) (startsWith (bytes " i ") bs) (λ t. inserting-meant First (drop 3 bs) (behind-slot (bytes " i ") t))
+          (λ m. cond-ind (Meant line) (startsWith (bytes " d ") bs) (λ t. deleting-meant First (drop 3 bs) (behind-slot (bytes " d ") t))
+          (λ k. cond-ind (Meant line) (startsWith (bytes " n ") bs) (λ t. next-meant (drop 3 bs) (behind-slot (bytes " n ") t))
+          (λ l. cond-ind (Meant line) (startsWith (bytes " g ") bs) (λ t. regrading-meant First (drop 3 bs) (behind-slot (bytes " g ") t))
+          (λ j. second-meant)))))
 
   beginning-meant : (bs : List ℕ) → line ≡ bytes "b " ++ bs → Meant line (beginning bs)
   unfolding beginning

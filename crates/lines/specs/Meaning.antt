@@ -8,6 +8,8 @@ use lib.ListN.{length, drop}
 use Rattle.lines.specs.declared.Command.{Command}
 use Rattle.lines.specs.declared.Command.the-variants.{Begin, Step, Bad}
 use Rattle.slots.specs.declared.Op.the-variants.{Search, Insert, Delete, Next, Regrade}
+use Rattle.slots.specs.declared.Way.{Way}
+use Rattle.slots.specs.declared.Way.the-variants.{First, Second}
 use Rattle.lines.specs.Text.{bytes, startsWith}
 
 -- ---- "Numbers are decimal"
@@ -48,7 +50,7 @@ alone noNumber = noNumber
 alone (number n []) = number n []
 alone (number n (b ∷ bs)) = noNumber
 
--- ---- the six forms of a line: "Another line .. gives BadLine"
+-- ---- the nine forms of a line: "Another line .. gives BadLine"
 
 -- what a number means, with the bytes behind it; where there is none, the line is bad
 abbrev pub numbered : Front → (ℕ → List ℕ → Command) → Command
@@ -67,9 +69,9 @@ stepping bs = numbered (alone (front bs)) (λ slot rest. Step slot)
 unfoldable pub searching : ℕ → List ℕ → Command
 searching slot bs = numbered (alone (front bs)) (λ key rest. Begin slot (Search key))
 
--- `b SLOT d KEY`
-unfoldable pub deleting : ℕ → List ℕ → Command
-deleting slot bs = numbered (alone (front bs)) (λ key rest. Begin slot (Delete key))
+-- `b SLOT d KEY`, `b SLOT d2 KEY`
+unfoldable pub deleting : Way → ℕ → List ℕ → Command
+deleting way slot bs = numbered (alone (front bs)) (λ key rest. Begin slot (Delete key way))
 
 -- `b SLOT n KEY`
 unfoldable pub askingNext : ℕ → List ℕ → Command
@@ -82,20 +84,28 @@ informing means bs = numbered (alone (front bs)) (λ information rest. means inf
 unfoldable pub keying : (ℕ → ℕ → Command) → List ℕ → Command
 keying means bs = numbered (front bs) (λ key rest. after " " rest (informing (means key)) Bad)
 
--- `b SLOT i KEY INFO`
-unfoldable pub inserting : ℕ → List ℕ → Command
-inserting slot = keying (λ key information. Begin slot (Insert key information))
+-- `b SLOT i KEY INFO`, `b SLOT i2 KEY INFO`
+unfoldable pub inserting : Way → ℕ → List ℕ → Command
+inserting way slot = keying (λ key information. Begin slot (Insert key information way))
 
--- `b SLOT g KEY INFO`
-unfoldable pub askingRegrade : ℕ → List ℕ → Command
-askingRegrade slot = keying (λ key information. Begin slot (Regrade key information))
+-- `b SLOT g KEY INFO`, `b SLOT g2 KEY INFO`
+unfoldable pub askingRegrade : Way → ℕ → List ℕ → Command
+askingRegrade way slot = keying (λ key information. Begin slot (Regrade key information way))
 
--- `b SLOT s KEY`, `b SLOT i KEY INFO`, `b SLOT d KEY`, `b SLOT n KEY`, `b SLOT g KEY INFO`
+-- 02 (v): "chosen per operation at begin". A 2 behind the letter of an update chooses the second way: `b SLOT i2 KEY INFO`, `b SLOT d2 KEY`,
+-- `b SLOT g2 KEY INFO`. Who only reads has no way, and so no such letter.
+unfoldable pub askingSecond : ℕ → List ℕ → Command
+askingSecond slot bs =
+    after " i2 " bs (inserting Second slot)
+    (after " d2 " bs (deleting Second slot) (after " g2 " bs (askingRegrade Second slot) Bad))
+
+-- `b SLOT s KEY`, `b SLOT i KEY INFO`, `b SLOT d KEY`, `b SLOT n KEY`, `b SLOT g KEY INFO`, or an update by the second way
 unfoldable pub asking : ℕ → List ℕ → Command
 asking slot bs =
     after " s " bs (searching slot)
-    (after " i " bs (inserting slot)
-    (after " d " bs (deleting slot) (after " n " bs (askingNext slot) (after " g " bs (askingRegrade slot) Bad))))
+    (after " i " bs (inserting First slot)
+    (after " d " bs (deleting First slot)
+    (after " n " bs (askingNext slot) (after " g " bs (askingRegrade First slot) (askingSecond slot bs)))))
 
 unfoldable pub beginning : List ℕ → Command
 beginning bs = numbered (front bs) asking

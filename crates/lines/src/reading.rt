@@ -1,12 +1,13 @@
 // What a line means. Positions go from the front of the line to its end.
 use crate::Command;
 use slots::Op;
+use slots::Way;
 ghost use mathlib.Core.Bool.{true};
 ghost use mathlib.Core.Path.{_≡_};
 ghost use Prim.Native.Nat.{_≤_, max};
 ghost use lib.ListN.{length, drop};
 ghost use Rattle.lines.specs.Text.{startsWith};
-ghost use Rattle.lines.specs.Meaning.{isDigit, front, alone, stepping, searching, deleting, askingNext, inserting, askingRegrade, asking, beginning, meaning};
+ghost use Rattle.lines.specs.Meaning.{isDigit, front, alone, stepping, searching, deleting, askingNext, inserting, askingRegrade, askingSecond, asking, beginning, meaning};
 ghost use Rattle.lines.specs.Ends.{lineEnd};
 ghost use Rattle.lines.specs.Positions.{frontOf, behind, IsLot, Capped, Counted};
 
@@ -151,15 +152,15 @@ fn read_search(line: &[u8], at: usize, slot: u32) -> Command
     Command::Begin(slot, Op::Search(key))
 }
 
-// `b SLOT d KEY`
-fn read_delete(line: &[u8], at: usize, slot: u32) -> Command
+// `b SLOT d KEY`, `b SLOT d2 KEY`
+fn read_delete(line: &[u8], at: usize, slot: u32, way: Way) -> Command
     requires { ⌜ at ≤ length (now line) ⌝ }
-    ensures { λ r. ⌜ r ≡ deleting slot (drop at (now (line .entry))) ⌝ }
+    ensures { λ r. ⌜ r ≡ deleting way slot (drop at (now (line .entry))) ⌝ }
 {
     let Number::Read(key, _) = read_last(line, at) else {
         return Command::Bad;
     };
-    Command::Begin(slot, Op::Delete(key))
+    Command::Begin(slot, Op::Delete(key, way))
 }
 
 // `b SLOT n KEY`
@@ -190,26 +191,43 @@ fn read_lot(line: &[u8], at: usize) -> LotRead
     LotRead::Read(key, information)
 }
 
-// `b SLOT i KEY INFO`
-fn read_insert(line: &[u8], at: usize, slot: u32) -> Command
+// `b SLOT i KEY INFO`, `b SLOT i2 KEY INFO`
+fn read_insert(line: &[u8], at: usize, slot: u32, way: Way) -> Command
     requires { ⌜ at ≤ length (now line) ⌝ }
-    ensures { λ r. ⌜ r ≡ inserting slot (drop at (now (line .entry))) ⌝ }
+    ensures { λ r. ⌜ r ≡ inserting way slot (drop at (now (line .entry))) ⌝ }
 {
     let LotRead::Read(key, information) = read_lot(line, at) else {
         return Command::Bad;
     };
-    Command::Begin(slot, Op::Insert(key, information))
+    Command::Begin(slot, Op::Insert(key, information, way))
 }
 
-// `b SLOT g KEY INFO`
-fn read_regrade(line: &[u8], at: usize, slot: u32) -> Command
+// `b SLOT g KEY INFO`, `b SLOT g2 KEY INFO`
+fn read_regrade(line: &[u8], at: usize, slot: u32, way: Way) -> Command
     requires { ⌜ at ≤ length (now line) ⌝ }
-    ensures { λ r. ⌜ r ≡ askingRegrade slot (drop at (now (line .entry))) ⌝ }
+    ensures { λ r. ⌜ r ≡ askingRegrade way slot (drop at (now (line .entry))) ⌝ }
 {
     let LotRead::Read(key, information) = read_lot(line, at) else {
         return Command::Bad;
     };
-    Command::Begin(slot, Op::Regrade(key, information))
+    Command::Begin(slot, Op::Regrade(key, information, way))
+}
+
+// Behind the slot: an update by the second way.
+fn read_second(line: &[u8], at: usize, slot: u32) -> Command
+    requires { ⌜ at ≤ length (now line) ⌝ }
+    ensures { λ r. ⌜ r ≡ askingSecond slot (drop at (now (line .entry))) ⌝ }
+{
+    if goes_on(line, at, b" i2 ") {
+        return read_insert(line, at + 4, slot, Way::Second);
+    }
+    if goes_on(line, at, b" d2 ") {
+        return read_delete(line, at + 4, slot, Way::Second);
+    }
+    if goes_on(line, at, b" g2 ") {
+        return read_regrade(line, at + 4, slot, Way::Second);
+    }
+    Command::Bad
 }
 
 // Behind the slot: what is asked.
@@ -221,18 +239,18 @@ fn read_asked(line: &[u8], at: usize, slot: u32) -> Command
         return read_search(line, at + 3, slot);
     }
     if goes_on(line, at, b" i ") {
-        return read_insert(line, at + 3, slot);
+        return read_insert(line, at + 3, slot, Way::First);
     }
     if goes_on(line, at, b" d ") {
-        return read_delete(line, at + 3, slot);
+        return read_delete(line, at + 3, slot, Way::First);
     }
     if goes_on(line, at, b" n ") {
         return read_next(line, at + 3, slot);
     }
     if goes_on(line, at, b" g ") {
-        return read_regrade(line, at + 3, slot);
+        return read_regrade(line, at + 3, slot, Way::First);
     }
-    Command::Bad
+    read_second(line, at, slot)
 }
 
 // `b SLOT ..`

@@ -14,6 +14,7 @@ use Rattle.promises.specs.NextRows.{nextRows}
 use Rattle.promises.specs.RegradeRows.{regradeRows}
 use Rattle.promises.specs.WideRows.{wideRows}
 use Rattle.promises.specs.DamageRows.{damageRows}
+use Rattle.promises.specs.SecondRows.{secondRows}
 
 -- Everything that a run unfolds to: who unfolds this unfolds all of it.
 calls : Unit {0}
@@ -93,3 +94,7 @@ wide-holds = agree-holds wideRows refl
 pub damage-holds : RowsHold damageRows
 unfolding calls same sames agree
 damage-holds = agree-holds damageRows refl
+
+pub second-holds : RowsHold secondRows
+unfolding calls same sames agree
+second-holds = agree-holds secondRows refl

@@ -1,8 +1,8 @@
 -- Demand 2 holds: it is read off what holds after every call of a run.
 use Prim.Native.Nat.{ℕ, suc, _-_, _*_, _≤_, _<_}
-use mathlib.Core.Bool.{true, false, not, _&&_, _||_, false≢true}
+use mathlib.Core.Bool.{Bool, true, false, not, _&&_, _||_, false≢true}
 use mathlib.Core.Logic.{_⊎_, inl, inr, ⊎-elim, _≢_}
-use mathlib.Core.List.{List, [], _∷_, _++_, map}
+use mathlib.Core.List.{List, [], _∷_, _++_, map, reverse}
 use mathlib.Core.Path.{_≡_, refl, sym, ap, ap₂, subst, _∙_}
 use native.Mathlib.Omega.{arith}
 use lib.Dec.{leb, ltb, eqb}
@@ -12,7 +12,7 @@ use Rattle.ground.specs.Limits.{slotCount}
 use Rattle.ground.specs.Tests.{member, padded}
 use Rattle.ground.proofs.Bools.{true-or-false, not-both, false-if-not-true, and-first, and-second, and-both, not-of-false, or-first, or-second, or-cases}
 use Rattle.ground.proofs.Choice.{cond-true, cond-false}
-use Rattle.ground.proofs.Tests.{member-here, member-cases, member-append, member-inside}
+use Rattle.ground.proofs.Tests.{member-here, member-none, member-append, member-inside}
 use Rattle.page.specs.Words.{Page, μ, isLeaf, encode}
 use Rattle.page.specs.Place.{place, pointer}
 use Rattle.page.specs.Short.{hasRight, neighbour}
@@ -21,17 +21,19 @@ use Rattle.pool.specs.Pool.{Write, wordsOf, applied, pageAt}
 use Rattle.pool.proofs.WriteLaws.{wordsOf-applied-other}
 use Rattle.slots.specs.declared.Op.{Op}
 use Rattle.slots.specs.declared.Op.the-variants.{Search, Insert, Delete, Next, Regrade}
+use Rattle.slots.specs.declared.Way.the-variants.{First, Second}
+use Rattle.slots.specs.declared.Lock.{Lock}
 use Rattle.slots.specs.declared.Task.{Task}
 use Rattle.slots.specs.declared.Task.the-variants.{Closed, Open}
 use Rattle.slots.specs.declared.Slot.{Slot}
 use Rattle.slots.specs.declared.State.{State}
-use Rattle.slots.specs.declared.Lock.the-variants.{Rho, Xi}
+use Rattle.slots.specs.declared.Lock.the-variants.{Xi}
 use Rattle.slots.specs.declared.Outcome.{Outcome}
 use Rattle.slots.specs.declared.Answer.{Answer}
 use Rattle.slots.specs.declared.Answer.the-variants.{Waiting, Moved, NoRoom, BadSlot, SlotIdle}
-use Rattle.slots.specs.Parts.{isDelete, isNext, goesBeside, isOpen, held, pathOf, besideOf, Stand, stand, holding, withOp, standOf, slotOf, slotAt, openAt, wantAt, holdsAt, waitingOrder, openSlot, closedSlot, Opened}
-use Rattle.slots.specs.Locks.{lockOf, clash}
-use Rattle.slots.specs.Sound.{withinLimits}
+use Rattle.slots.specs.Parts.{isDelete, isNext, isSecond, firstWay, heldLock, goesBeside, isOpen, held, pathOf, besideOf, Stand, freshStand, holding, standOf, slotOf, slotAt, openAt, wantAt, holdsAt, waitingOrder, closedSlot, Opened}
+use Rattle.slots.specs.Locks.{lockOf, lockHeld, lockHeldAt, lockWantedAt, clash}
+use Rattle.slots.specs.Sound.{withinLimits, wantsRightly}
 use Rattle.slots.specs.Heard.{numberOf, changesNothing, isOneOf, countedAnswers, ending}
 use Rattle.slots.specs.Report.{reported}
 use Rattle.slots.specs.Grant.{grants}
@@ -39,11 +41,14 @@ use Rattle.slots.specs.Book.{begins, goesOn, closes}
 use Rattle.slots.specs.Begin.{begun}
 use Rattle.slots.proofs.SoundFacts.{facts-sound}
 use Rattle.slots.proofs.Clashes.{no-two-locks-clash}
+use Rattle.slots.proofs.LockLaws.{isLock, clash-swap, xi-clashes, held-lock, can-want-locks}
 use Rattle.slots.proofs.GrantLaws.{holder-open}
 use Rattle.slots.proofs.OrderLaws.{order-has-room, leaving-between, waiting-begins, waiting-requeued, waiting-closes}
 use Rattle.slots.proofs.Keeping.{slot-here, slot-other, held-new, stand-new}
-use Rattle.footing.specs.Granted.{isSafe}
-use Rattle.index.specs.Step.{Left, left, stepped}
+use Rattle.footing.specs.Granted.{Verdict, broken, goes, ends, isSafe, answeredAtOnce, staysSecond, atItsLeaf}
+use Rattle.footing.specs.Fitting.{verdict}
+use Rattle.footing.proofs.KeepLaws.{second-safe, regrade-safe}
+use Rattle.index.specs.Step.{Left, left, acted, stepped}
 use Rattle.tree.specs.Tree.{Tr, entriesOf}
 use Rattle.tree.specs.Change.{writtenPages}
 use Rattle.tree.proofs.Words.{fit-writes}
@@ -54,78 +59,69 @@ use Rattle.runs.specs.Waits.{Barred}
 use Rattle.runs.specs.Step.{Ended}
 use Rattle.runs.proofs.Invariant.{Invariant}
 use Rattle.runs.proofs.Placing.{one-held}
-use Rattle.runs.proofs.Calls.{StepOf, noSlot, idle, waits, onward, over, step-of}
+use Rattle.runs.proofs.Calls.{StepOf, noSlot, idle, waits, onward, over, step-of, granted-does}
 use Rattle.runs.proofs.Runs.{call-keeps, call-numbers, BeginOf, noSuch, busy, begins-so, begin-of, ReportOf, noPage, tells, report-of, holds-after, numbers-after}
-use Rattle.runs.proofs.Progress.{barred, barred-waits, older-other, older-waits}
+use Rattle.runs.proofs.Barring.{coming-above}
+use Rattle.runs.proofs.Progress.{barred, barred-waits, older-other, older-waits, opened}
 use Rattle.runs.proofs.Older.{older-before, before-older}
 use Rattle.runs.proofs.PlainLaws.{none-below, below-none}
+use Rattle.runs.proofs.Verdicts.{EndsIf, stillBy, coming-stays}
+use Rattle.runs.proofs.Measure.{Where, atStart, onTheWay, atTheLeaf, beside-first}
+use Rattle.runs.proofs.MeasureLaws.{start-above, low-above, where-slot}
 use Rattle.runs.proofs.Agreement.{plain-counted}
-use Rattle.promises.specs.Terms.{Exactly, Reader}
-use Rattle.promises.specs.Demand2.{AfterEveryCall, Seen, InTheWay, StepLocks, CallLocks, Words, Demand2Holds}
-use Rattle.promises.proofs.Terms.{never-both}
+use Rattle.promises.specs.Terms.{Exactly, HoldsRho, BySecond}
+use Rattle.promises.specs.Demand2.{AfterEveryCall, Anew, HasXi, Seen, InTheWay, StepLocks, CallLocks, Words, Demand2Holds}
+use Rattle.promises.proofs.Terms.{holds-rho, holds-xi, second-named, named-second, wants-as, xi-excludes, excludes-xi, other-shares, clash-xi, clashes-so}
 use Rattle.promises.proofs.Seen.{step-seen}
+
+-- ---- an update by the second way ends
+
+-- it does not begin again: not on page 0, and only where its key is answered at once or its leaf is safe by the first way
+ends-told : (test : Bool) (st : State) (ws : List ℕ) (s : ℕ) (v : Verdict) → EndsIf test v → isOneOf (acted st ws s v .answer) ending ≡ true → test ≡ true
+unfolding member
+ends-told test st ws s broken h e = absurd (false≢true e)
+ends-told test st ws s (goes z) h e = absurd (false≢true e)
+ends-told test st ws s (ends a writes) h e = h
+
+-- in a run it stands above its leaf
+pub second-above : (st : State) (ws : List ℕ) (inv : Invariant st ws) (s : ℕ) (op : Op) → s < slotCount → Opened st s op → isSecond op ≡ true
+    → atItsLeaf (pageAt (st .k) ws) (reverse (pathOf (slotAt st s))) ≡ false
+second-above st ws inv s op b runs second = above (where-slot st ws inv s op b runs)
+  where
+    above : Where (pageAt (st .k) ws) (inv .height) (inv .tree) (standOf op (slotAt st s)) → atItsLeaf (pageAt (st .k) ws) (reverse (pathOf (slotAt st s))) ≡ false
+    above (atStart none _ _) = start-above (pageAt (st .k) ws) (inv .height) (inv .tree) (pathOf (slotAt st s)) none
+    above (onTheWay low stands _ _) = low-above (pageAt (st .k) ws) (inv .height) (inv .tree) (pathOf (slotAt st s)) low stands
+    above (atTheLeaf _ _ beside) = not-both second (beside-first op beside)
+
+stays-second : (st : State) (ws : List ℕ) (inv : Invariant st ws) (s : ℕ) (op : Op) → s < slotCount → Opened st s op → grants st s ≡ true
+    → isOneOf (stepped st ws s .answer) ending ≡ true → BySecond op
+    → (wantAt st s ≢ 0)
+    × ((answeredAtOnce op (pageAt (st .k) ws (wantAt st s) .entries) ≡ true) ⊎ (isSafe (firstWay op) (st .k) (pageAt (st .k) ws (wantAt st s)) ≡ true))
+stays-second st ws inv s op b runs g e second =
+    let memory : ℕ → Page = pageAt (st .k) ws in
+    let z : Stand = standOf op (slotAt st s) in
+    let want : ℕ = wantAt st s in
+    let is-second : isSecond op ≡ true = named-second op second in
+    let still : stillBy op (st .k) memory want ≡ true
+    = ends-told (stillBy op (st .k) memory want) st ws s (verdict (st .k) (st .n) ws z) (coming-stays (st .k) (st .n) ws z (second-above st ws inv s op b runs is-second))
+    (subst (λ (r : Left). isOneOf (r .answer) ending ≡ true) (granted-does st ws inv s op b runs g) e) in
+    let stays : staysSecond op (st .k) memory want ≡ true
+    = ⊎-elim (λ n. not-both is-second (not-true (isSecond op) n)) (λ t. t) (or-cases (not (isSecond op)) (staysSecond op (st .k) memory want) still) in
+    let atOnce : Bool = answeredAtOnce op (memory want .entries) in
+    let safe : Bool = isSafe (firstWay op) (st .k) (memory want) in (
+      eqb-false want 0 (not-true (eqb want 0) (and-first (not (eqb want 0)) (atOnce || safe) stays)),
+      or-cases atOnce safe (and-second (not (eqb want 0)) (atOnce || safe) stays),
+    )
 
 -- ---- after every call
 
--- An operation's lock: ρ if it only reads, ξ otherwise.
-data LockSays (op : Op) : Type 0 where
-  shares : lockOf (Open op) ≡ Rho → Reader op → LockSays op
-  excludes : lockOf (Open op) ≡ Xi → (Reader op → ⊥) → LockSays op
-
-lock-says : (op : Op) → LockSays op
-lock-says (Search x) = shares refl tt
-lock-says (Insert x v) = excludes refl (λ r. r)
-lock-says (Delete x) = excludes refl (λ r. r)
-lock-says (Next x) = shares refl tt
-lock-says (Regrade x v) = excludes refl (λ r. r)
-
--- the locks of two open slots go together just if both read only
-clashes-so : (op op′ : Op) → LockSays op → LockSays op′ → Exactly (clash (lockOf (Open op)) (lockOf (Open op′)) ≡ false) (Reader op × Reader op′)
-clashes-so op op′ (shares e r) (shares f q) = ((λ _. (r, q)), (λ _. ap₂ clash e f))
-clashes-so op op′ (shares e r) (excludes f never) = ((λ c. not-both (ap₂ clash e f) c), (λ b. absurd (never (b .1))))
-clashes-so op op′ (excludes e never) (shares f q) = ((λ c. not-both (ap₂ clash e f) c), (λ b. absurd (never (b .0))))
-clashes-so op op′ (excludes e never) (excludes f _) = ((λ c. not-both (ap₂ clash e f) c), (λ b. absurd (never (b .0))))
-
-clashes-is : (op op′ : Op) → Exactly (clash (lockOf (Open op)) (lockOf (Open op′)) ≡ false) (Reader op × Reader op′)
-clashes-is op op′ = clashes-so op op′ (lock-says op) (lock-says op′)
-
--- the same of two tasks that are open with these operations
-tasks-clash : (op op′ : Op) {a b : Task} → a ≡ Open op → b ≡ Open op′ → Exactly (clash (lockOf a) (lockOf b) ≡ false) (Reader op × Reader op′)
-tasks-clash op op′ {b = b} e f =
-    subst (λ (t : Task). Exactly (clash (lockOf t) (lockOf b) ≡ false) (Reader op × Reader op′)) (sym e)
-    (subst (λ (t : Task). Exactly (clash (lockOf (Open op)) (lockOf t) ≡ false) (Reader op × Reader op′)) (sym f) (clashes-is op op′))
-
--- a task that only reads
-abbrev ReadsTask : Task → Type 0
-ReadsTask task = (op : Op) × (task ≡ Open op) × Reader op
-
-both-read : (a b : Task) → isOpen a ≡ true → isOpen b ≡ true → clash (lockOf a) (lockOf b) ≡ false → ReadsTask a × ReadsTask b
-both-read Closed b o q c = not-both o refl
-both-read (Open op) Closed o q c = not-both q refl
-both-read (Open op) (Open op′) o q c = let (one, other) = clashes-is op op′ .0 c in ((op, refl, one), (op′, refl, other))
-
--- a task that updates
-abbrev UpdatesTask : Task → Type 0
-UpdatesTask task = (op : Op) × (task ≡ Open op) × (Reader op → ⊥)
-
--- where two locks clash one of the two updates,
-one-updates : (a b : Task) → isOpen a ≡ true → isOpen b ≡ true → clash (lockOf a) (lockOf b) ≡ true → UpdatesTask a ⊎ UpdatesTask b
-one-updates Closed b o q c = not-both o refl
-one-updates (Open op) Closed o q c = not-both q refl
-one-updates (Open op) (Open op′) o q c = by-lock (lock-says op) (lock-says op′)
-  where
-    by-lock : LockSays op → LockSays op′ → UpdatesTask (Open op) ⊎ UpdatesTask (Open op′)
-    by-lock (excludes e never) l = inl (op, refl, never)
-    by-lock (shares e r) (excludes f never) = inr (op′, refl, never)
-    by-lock (shares e r) (shares f p) = not-both c (ap₂ clash e f)
-
--- and where one updates they clash
-update-clashes : (a b : Task) → isOpen a ≡ true → isOpen b ≡ true → UpdatesTask a ⊎ UpdatesTask b → clash (lockOf a) (lockOf b) ≡ true
-update-clashes a b o q u =
-    ⊎-elim
-    (λ c. c)
-    (λ c. let (one, other) = both-read a b o q c in absurd (⊎-elim (never-both a one) (never-both b other) u))
-    (true-or-false (clash (lockOf a) (lockOf b)))
+-- where no two locks clash on a page, both who hold it hold it with ρ
+both-share : (a b : Slot) (p : ℕ) → isOpen (a .task) ≡ true → isOpen (b .task) ≡ true → clash (lockHeld a p) (lockHeld b p) ≡ false
+    → ((op : Op) × (a .task ≡ Open op) × HoldsRho op) × ((op : Op) × (b .task ≡ Open op) × HoldsRho op)
+both-share a b p o q c = (
+  other-shares (a .task) o (λ x. not-both (ap (λ (l : Lock). clash l (lockHeld b p)) x ∙ clash-swap Xi (lockHeld b p) ∙ xi-clashes (lockHeld b p) (held-lock b p q)) c),
+  other-shares (b .task) q (λ x. not-both (ap (clash (lockHeld a p)) x ∙ xi-clashes (lockHeld a p) (held-lock a p o)) c),
+)
 
 -- "a closed slot holds nothing"
 closed-empty : (task : Task) (depth beside : ℕ) (path siblings : List ℕ) → withinLimits task depth beside ≡ true → isOpen task ≡ false → take depth path ++ take beside siblings ≡ []
@@ -136,15 +132,30 @@ closed-empty Closed depth beside path siblings h c =
     ap₂ (λ (i j : ℕ). take i path ++ take j siblings) d e
 closed-empty (Open op) depth beside path siblings h c = not-both refl c
 
--- a regrading holds one page, and nothing beside it
-regrade-one : (x v k : ℕ) (memory : ℕ → Page) (l : ℕ) (t : Tr l) (z : Stand) → Stance k memory l t (withOp (Regrade x v) z) → length (holding z) ≤ 1
-regrade-one x v k memory l t z (inl s) =
+-- a deletion by the first way and a Next may hold pages beside their path; nobody by the second way does
+beside-goes : (op : Op) → (isDelete op ≡ true) ⊎ (isNext op ≡ true) → goesBeside op ≡ true
+beside-goes (Search x) e = ⊎-elim (λ d. not-both d refl) (λ n. not-both n refl) e
+beside-goes (Insert x v First) e = ⊎-elim (λ d. not-both d refl) (λ n. not-both n refl) e
+beside-goes (Insert x v Second) e = ⊎-elim (λ d. not-both d refl) (λ n. not-both n refl) e
+beside-goes (Delete x First) e = refl
+beside-goes (Delete x Second) e = ⊎-elim (λ d. not-both d refl) (λ n. not-both n refl) e
+beside-goes (Next x) e = refl
+beside-goes (Regrade x v First) e = ⊎-elim (λ d. not-both d refl) (λ n. not-both n refl) e
+beside-goes (Regrade x v Second) e = ⊎-elim (λ d. not-both d refl) (λ n. not-both n refl) e
+
+second-straight : (op : Op) → isSecond op ≡ true → goesBeside op ≡ false
+second-straight op second = false-if-not-true (goesBeside op) (λ b. not-both second (beside-first op b))
+
+-- an operation for which every page is safe, and which takes nothing beside its path, holds one page
+holds-one : (k : ℕ) (memory : ℕ → Page) (l : ℕ) (t : Tr l) (z : Stand) → ((P : Page) → isSafe (z .op) k P ≡ true) → goesBeside (z .op) ≡ false
+    → Stance k memory l t z → length (holding z) ≤ 1
+holds-one k memory l t z safe straight (inl s) =
     omega (arith, length-append (z .path) (z .beside), ap length (s .noPath), ap length (s .noSiblings))
-regrade-one x v k memory l t z (inr (inl c)) =
-    let few = one-held (Regrade x v) k memory (z .path) (λ P. refl) (c .rightly) in
+holds-one k memory l t z safe straight (inr (inl c)) =
+    let few = one-held (z .op) k memory (z .path) safe (c .rightly) in
     omega (arith, length-append (z .path) (z .beside), ap length (c .noSiblings))
-regrade-one x v k memory l t z (inr (inr (inl b))) = absurd (false≢true (b .deletes))
-regrade-one x v k memory l t z (inr (inr (inr c))) = absurd (false≢true (c .asksNext))
+holds-one k memory l t z safe straight (inr (inr (inl b))) = not-both (beside-goes (z .op) (inl (b .deletes))) straight
+holds-one k memory l t z safe straight (inr (inr (inr c))) = not-both (beside-goes (z .op) (inr (c .asksNext))) straight
 
 after-call : (st : State) (ws : List ℕ) → Invariant st ws → AfterEveryCall (st .k) (st .n) st ws
 unfolding pathOf besideOf
@@ -156,30 +167,67 @@ after-call st ws inv = record {
   forms = inv .forms;
   free = λ q b none. inv .forms .exact q b ∙ ap (encode (st .k)) (inv .forms .forms .others q b none) ∙ encode-free (st .k);
   soundState = facts-sound st (inv .sound);
-  locks = λ s u p b c n hs hu. both-read (slotAt st s .task) (slotAt st u .task)
+  locks = λ s u p b c n hs hu. both-share (slotAt st s) (slotAt st u) p
       (holder-open (st .n) (slotAt st s) p (inv .sound .slot s b) hs)
       (holder-open (st .n) (slotAt st u) p (inv .sound .slot u c) hu)
       (no-two-locks-clash st (inv .sound) s u p b c n hs hu);
   stands = inv .stands;
   closed = λ s b c. closed-empty (slotAt st s .task) (slotAt st s .depth) (slotAt st s .breadth) (slotAt st s .path) (slotAt st s .beside) (inv .sound .slot s b .limits) c;
-  oneHeld = λ s x v b runs.
-      regrade-one x v (st .k) (pageAt (st .k) ws) (inv .height) (inv .tree) (standOf (Regrade x v) (slotAt st s))
-      (inv .stands s (Regrade x v) b runs);
+  wantsAs = λ s op b runs. wants-as (pageAt (st .k) ws) (standOf op (slotAt st s)) (inv .locked s op b runs);
+  oneHeld = λ s x v way b runs.
+      holds-one (st .k) (pageAt (st .k) ws) (inv .height) (inv .tree) (standOf (Regrade x v way) (slotAt st s)) (λ P. regrade-safe (st .k) P {x = x} {v = v} {way = way} refl) refl
+      (inv .stands s (Regrade x v way) b runs);
+  secondHeld = λ s op b runs second.
+      holds-one (st .k) (pageAt (st .k) ws) (inv .height) (inv .tree) (standOf op (slotAt st s)) (λ P. second-safe op (st .k) P (named-second op second))
+      (second-straight op (named-second op second)) (inv .stands s op b runs);
+  secondAbove = λ s p op b runs second h. no-leaf s p op b runs second h (inv .stands s op b runs);
 }
+  where
+    no-leaf : (s p : ℕ) (op : Op) → s < slotCount → Opened st s op → BySecond op → holdsAt st s p ≡ true
+        → Stance (st .k) (pageAt (st .k) ws) (inv .height) (inv .tree) (standOf op (slotAt st s)) → pageAt (st .k) ws p .level ≢ 1
+    no-leaf s p op b runs second h (inl e) =
+        not-both h (ap₂ (λ (ps qs : List ℕ). member p (ps ++ qs)) (e .noPath) (e .noSiblings) ∙ member-none p)
+    no-leaf s p op b runs second h (inr (inl c)) =
+        coming-above (st .k) (st .n) (pageAt (st .k) ws) (inv .height) (inv .tree) (inv .sound .kLeast) (inv .forms .forms) (standOf op (slotAt st s)) (inv .keys s op b runs) c p h
+    no-leaf s p op b runs second h (inr (inr (inl e))) =
+        not-both (beside-goes op (inl (e .deletes))) (second-straight op (named-second op second))
+    no-leaf s p op b runs second h (inr (inr (inr c))) =
+        not-both (beside-goes op (inr (c .asksNext))) (second-straight op (named-second op second))
 
 -- ---- what one call takes and gives up
 
--- the page that was wanted is held afterwards
-takes-wanted : (k : ℕ) (memory : ℕ → Page) (z z′ : Stand) → Takes k memory z z′ → member (z .want) (holding z′) ≡ true
+-- who goes on holds afterwards the page that was wanted, or has begun again
+abbrev Goes : Stand → Stand → Type 0
+Goes z z′ = ((z′ .op ≡ z .op) × (member (z .want) (holding z′) ≡ true)) ⊎ ((isSecond (z .op) ≡ true) × (z′ ≡ freshStand (firstWay (z .op))))
+
+takes-wanted : (k : ℕ) (memory : ℕ → Page) (z z′ : Stand) → Takes k memory z z′ → Goes z z′
 takes-wanted k memory z z′ (inl g) =
-    member-append (z .want) (z′ .path) (z′ .beside)
-    ∙ or-first (member (z .want) (z′ .beside)) (ap (member (z .want)) (g .holds) ∙ member-here (z .want) [])
+    inl (
+      g .same,
+      member-append (z .want) (z′ .path) (z′ .beside)
+          ∙ or-first (member (z .want) (z′ .beside)) (ap (member (z .want)) (g .holds) ∙ member-here (z .want) []),
+    )
 takes-wanted k memory z z′ (inr (inl g)) =
-    member-append (z .want) (z′ .path) (z′ .beside)
-    ∙ or-first (member (z .want) (z′ .beside)) (ap (member (z .want)) (g .holds) ∙ member-inside (z .want) (z .path) [])
-takes-wanted k memory z z′ (inr (inr g)) =
-    member-append (z .want) (z′ .path) (z′ .beside)
-    ∙ or-second (member (z .want) (z′ .path)) (ap (member (z .want)) (g .holds) ∙ member-inside (z .want) (z .beside) [])
+    inl (
+      g .same,
+      member-append (z .want) (z′ .path) (z′ .beside)
+          ∙ or-first (member (z .want) (z′ .beside)) (ap (member (z .want)) (g .holds) ∙ member-inside (z .want) (z .path) []),
+    )
+takes-wanted k memory z z′ (inr (inr (inl g))) =
+    inl (
+      g .same,
+      member-append (z .want) (z′ .path) (z′ .beside)
+          ∙ or-second (member (z .want) (z′ .path)) (ap (member (z .want)) (g .holds) ∙ member-inside (z .want) (z .beside) []),
+    )
+takes-wanted k memory z z′ (inr (inr (inr g))) = inr (g .second, g .fresh)
+
+-- by the first way an update holds with ξ
+first-excludes : (op : Op) → isSecond op ≡ true → heldLock (firstWay op) ≡ Xi
+first-excludes (Search x) e = not-both e refl
+first-excludes (Insert x v way) e = refl
+first-excludes (Delete x way) e = refl
+first-excludes (Next x) e = not-both e refl
+first-excludes (Regrade x v way) e = refl
 
 module _ (st : State) (ws : List ℕ) (inv : Invariant st ws) where
   order-long : st .waiting ≤ length (st .order)
@@ -195,8 +243,7 @@ module _ (st : State) (ws : List ℕ) (inv : Invariant st ws) where
     slot = h .slot;
     inside = h .below;
     other = h .other;
-    oneUpdates = one-updates (slotAt st (h .slot) .task) (slotAt st s .task) (holder-open (st .n) (slotAt st (h .slot)) (wantAt st s) (inv .sound .slot (h .slot) (h .below)) (h .holds)) o (h .clashes);
-    there = inl (h .holds);
+    there = inl (h .holds, ⊎-elim (λ x. inl (xi-excludes (slotAt st (h .slot) .task) x)) inr (clash-xi (lockHeldAt st (h .slot) (wantAt st s)) (lockWantedAt st s) (h .clashes)));
   }
   in-the-way s b o (inr e) =
       let waits = older-waits s (e .slot) (waitingOrder st) (e .older) in
@@ -204,21 +251,36 @@ module _ (st : State) (ws : List ℕ) (inv : Invariant st ws) where
         slot = e .slot;
         inside = inv .sound .orderBelow (e .slot) waits;
         other = older-other s (e .slot) (waitingOrder st) (e .older);
-        oneUpdates = one-updates (slotAt st (e .slot) .task) (slotAt st s .task) (inv .sound .orderOpen (e .slot) waits) o (e .clashes);
-        there = inr (e .same, older-before s (e .slot) (waitingOrder st) (inv .sound .orderNames s b o) (e .older));
+        there = inr (
+          e .same,
+          older-before s (e .slot) (waitingOrder st) (inv .sound .orderNames s b o) (e .older),
+          clash-xi (lockWantedAt st (e .slot)) (lockWantedAt st s) (e .clashes),
+        );
       }
 
-  way-barred : (s : ℕ) → openAt st s ≡ true → InTheWay st s → Barred st s
-  way-barred s o w =
-      let clashes : openAt st (w .slot) ≡ true → clash (lockOf (slotAt st (w .slot) .task)) (lockOf (slotAt st s .task)) ≡ true
-      = λ q. update-clashes (slotAt st (w .slot) .task) (slotAt st s .task) q o (w .oneUpdates) in
+  -- what an open slot wants is a lock
+  wants-lock : (s : ℕ) → s < slotCount → openAt st s ≡ true → isLock (slotAt st s .lock) ≡ true
+  wants-lock s b o =
+      let (op, runs) = opened (slotAt st s .task) o in
+      can-want-locks op (slotAt st s .lock) (subst (λ (task : Task). wantsRightly task (slotAt st s .lock) ≡ true) runs (inv .sound .slot s b .rightly))
+
+  -- two locks of which one is ξ clash
+  one-xi : (a b : Lock) → isLock a ≡ true → isLock b ≡ true → (a ≡ Xi) ⊎ (b ≡ Xi) → clash a b ≡ true
+  one-xi a b x y (inl e) = ap (λ (l : Lock). clash l b) e ∙ clash-swap Xi b ∙ xi-clashes b y
+  one-xi a b x y (inr e) = ap (clash a) e ∙ xi-clashes a x
+
+  way-barred : (s : ℕ) → s < slotCount → openAt st s ≡ true → InTheWay st s → Barred st s
+  way-barred s b o w =
       ⊎-elim
-      (λ h. inl (record {
+      (λ h.
+      let holder = holder-open (st .n) (slotAt st (w .slot)) (wantAt st s) (inv .sound .slot (w .slot) (w .inside)) (h .0) in
+      inl (record {
         slot = w .slot;
         below = w .inside;
         other = w .other;
-        holds = h;
-        clashes = clashes (holder-open (st .n) (slotAt st (w .slot)) (wantAt st s) (inv .sound .slot (w .slot) (w .inside)) h);
+        holds = h .0;
+        clashes = one-xi (lockHeldAt st (w .slot) (wantAt st s)) (lockWantedAt st s) (held-lock (slotAt st (w .slot)) (wantAt st s) holder) (wants-lock s b o)
+            (⊎-elim (λ x. inl (excludes-xi (slotAt st (w .slot) .task) (x .0) (x .1) (x .2))) inr (h .1));
       }))
       (λ q.
       let older = before-older s (w .slot) (waitingOrder st) (inv .sound .orderOnce) (q .1) in
@@ -226,12 +288,13 @@ module _ (st : State) (ws : List ℕ) (inv : Invariant st ws) where
         slot = w .slot;
         older = older;
         same = q .0;
-        clashes = clashes (inv .sound .orderOpen (w .slot) (older-waits s (w .slot) (waitingOrder st) older));
+        clashes = one-xi (lockWantedAt st (w .slot)) (lockWantedAt st s)
+            (wants-lock (w .slot) (w .inside) (inv .sound .orderOpen (w .slot) (older-waits s (w .slot) (waitingOrder st) older))) (wants-lock s b o) (q .2);
       }))
       (w .there)
 
   waits-for : (s : ℕ) (r : Left) → Waits s r → Exactly (r .answer ≡ Waiting) ((s < slotCount) × (openAt st s ≡ true) × InTheWay st s)
-  waits-for s r w = ((λ e. let (b, o, h) = w .0 e in (b, o, in-the-way s b o h)), (λ q. w .1 (q .0, q .1, way-barred s (q .1) (q .2))))
+  waits-for s r w = ((λ e. let (b, o, h) = w .0 e in (b, o, in-the-way s b o h)), (λ q. w .1 (q .0, q .1, way-barred s (q .0) (q .1) (q .2))))
 
   -- another answer, of a slot that is not barred
   not-waiting : (s : ℕ) (a : Answer) (next : State) (words : List ℕ) → isOneOf a (Waiting ∷ []) ≡ false
@@ -242,21 +305,22 @@ module _ (st : State) (ws : List ℕ) (inv : Invariant st ws) where
   unchanged : (s : ℕ) (a : Answer) → changesNothing a ≡ true → Waits s (left a st ws) → stepped st ws s ≡ left a st ws → StepLocks st ws s (stepped st ws s)
   unchanged s a same w e = subst (StepLocks st ws s) (sym e) (record { itself = inl (record { answer = same; state = refl; words = refl }); others = λ u n. refl; waits = w; waitsFor = waits-for s (left a st ws) w })
 
-  moved : (s : ℕ) (b : s < slotCount) (op : Op) (z : Stand) → Opened st s op → z .op ≡ op
+  moved : (s : ℕ) (b : s < slotCount) (op : Op) (z : Stand) → Opened st s op
       → Takes (st .k) (pageAt (st .k) ws) (standOf op (slotAt st s)) z
       → grants st s ≡ true → StepLocks st ws s (left Moved (goesOn st s z) ws)
   unfolding goesOn member
-  moved s b op z runs same takes g = record {
+  moved s b op z runs takes g = record {
     itself = inr (inl (record {
       op = op;
+      op′ = z .op;
       opened = runs;
       answer = refl;
       words = refl;
-      still = ap (λ (sl : Slot). sl .task) here ∙ ap Open same;
-      taken = ap (λ (sl : Slot). member (wantAt st s) (held sl)) here ∙ ap (member (wantAt st s)) (held-new z)
-          ∙ takes-wanted (st .k) (pageAt (st .k) ws) (standOf op (slotAt st s)) z takes;
+      still = ap (λ (sl : Slot). sl .task) here;
+      taken = ⊎-elim (λ t. inl (t .0, ap (λ (sl : Slot). member (wantAt st s) (held sl)) here ∙ ap (member (wantAt st s)) (held-new z) ∙ t .1)) (λ t. inr (anew (t .0) (t .1)))
+          (takes-wanted (st .k) (pageAt (st .k) ws) (standOf op (slotAt st s)) z takes);
       takes = subst (Takes (st .k) (pageAt (st .k) ws) (standOf op (slotAt st s)))
-          (sym (ap (standOf op) here ∙ ap (λ (o : Op). standOf o (slotOf z)) (sym same) ∙ stand-new z)) takes;
+          (sym (ap (standOf (z .op)) here ∙ stand-new z)) takes;
       order = waiting-requeued st s order-long (inv .sound .orderNames s b (ap isOpen runs)) (slotOf z);
     }));
     others = λ u n. slot-other st (inv .shaped) s b (slotOf z) [] 0 u n;
@@ -270,6 +334,15 @@ module _ (st : State) (ws : List ℕ) (inv : Invariant st ws) where
       here : slotAt (goesOn st s z) s ≡ slotOf z
       here = slot-here st (inv .shaped) s b (slotOf z) [] 0
 
+      anew : isSecond op ≡ true → z ≡ freshStand (firstWay op) → Anew s op (z .op) (left Moved (goesOn st s z) ws)
+      anew second fresh = record {
+        second = second-named op second;
+        first = ap (λ (y : Stand). y .op) fresh;
+        nothing = ap held here ∙ held-new z ∙ ap holding fresh;
+        root = ap (λ (sl : Slot). sl .want) here ∙ ap (λ (y : Stand). y .want) fresh;
+        excludes = ap (λ (sl : Slot). sl .lock) here ∙ ap (λ (y : Stand). y .lock) fresh ∙ first-excludes op second;
+      }
+
   -- a page that an ended operation did not write has its words as before
   unwritten : (s : ℕ) (op : Op) (a : Answer) (writes : List Write)
       → Ended (st .k) (st .n) ws (inv .height) (inv .tree) (standOf op (slotAt st s)) a writes
@@ -278,14 +351,14 @@ module _ (st : State) (ws : List ℕ) (inv : Invariant st ws) where
       wordsOf-applied-other (st .k) (st .n) q writes ws (fit-writes (st .k) (st .n) writes (e .leads .fitting) (e .leads .inside))
       (false-if-not-true (member q (writtenPages writes)) never)
 
-  -- so one that it did not hold, and that was not free
-  untouched : (s : ℕ) (op : Op) (a : Answer) (writes : List Write)
+  -- so one that it had no ξ-lock on, and that was not free
+  untouched : (s : ℕ) (op : Op) (a : Answer) (writes : List Write) → Opened st s op
       → Ended (st .k) (st .n) ws (inv .height) (inv .tree) (standOf op (slotAt st s)) a writes
-      → (q : ℕ) → q < st .n → holdsAt st s q ≡ false → q ≢ wantAt st s → pageAt (st .k) ws q .level ≢ 0 → wordsOf (st .k) q (applied (st .k) writes ws) ≡ wordsOf (st .k) q ws
-  untouched s op a writes e q b h n level =
+      → (q : ℕ) → q < st .n → (HasXi st s q → ⊥) → pageAt (st .k) ws q .level ≢ 0 → wordsOf (st .k) q (applied (st .k) writes ws) ≡ wordsOf (st .k) q ws
+  untouched s op a writes runs e q b none level =
       unwritten s op a writes e q (λ w. ⊎-elim
-      (λ m. ⊎-elim (λ same. n same) (λ held-so. not-both held-so h) (member-cases q (wantAt st s) (held (slotAt st s)) m))
-      (λ none. level (ap (λ (P : Page). P .level) (inv .forms .forms .others q b none)))
+      (λ m. none (⊎-elim inl (λ (h, x). inr (h, xi-excludes (slotAt st s .task) (ap lockOf runs ∙ x))) m))
+      (λ free. level (ap (λ (P : Page). P .level) (inv .forms .forms .others q b free)))
       (e .only q w))
 
   -- an operation ends with an answer that ends
@@ -320,9 +393,10 @@ module _ (st : State) (ws : List ℕ) (inv : Invariant st ws) where
       nothing = ap held here;
       closed = ap (λ (sl : Slot). isOpen (sl .task)) here;
       order = waiting-closes st s order-long (inv .sound .orderNames s b (ap isOpen runs));
-      writes = untouched s op a writes e;
+      writes = untouched s op a writes runs e;
       reads = λ other. ap (λ (W : List Write). applied (st .k) W ws) (e .writers other);
       regrades = λ old told-so q other. unwritten s op a writes e q (λ w. other (e .regrades old told-so q w));
+      stays = λ second. stays-second st ws inv s op b runs g (subst (λ (r : Left). isOneOf (r .answer) ending ≡ true) (sym told) (ends-so op s a writes e)) second;
       seen = subst (λ (r : Left). Seen (pageAt (st .k) ws (wantAt st s)) (r .answer)) told (step-seen st ws inv s op b runs g);
     }));
     others = λ u n. slot-other st (inv .shaped) s b closedSlot [] 0 u n;
@@ -341,24 +415,28 @@ module _ (st : State) (ws : List ℕ) (inv : Invariant st ws) where
   step-locks s (noSlot b e) = unchanged s BadSlot refl (not-waiting s BadSlot st ws refl (λ w. let inside = w .0 in absurd (omega arith))) e
   step-locks s (idle b c e) = unchanged s SlotIdle refl (not-waiting s SlotIdle st ws refl (λ w. not-both (w .1) c)) e
   step-locks s (waits op b runs g e) = unchanged s Waiting refl (λ _. (b, ap isOpen runs, barred st s g), λ _. refl) e
-  step-locks s (onward op z b runs g e same stance takes) = subst (StepLocks st ws s) (sym e) (moved s b op z runs same takes g)
-  step-locks s (over op a writes b runs g e ends) = subst (StepLocks st ws s) (sym e) (ended s b op a writes runs g ends e)
+  step-locks s (onward op z b runs g e same stance locked takes) = subst (StepLocks st ws s) (sym e) (moved s b op z runs takes g)
+  step-locks s (over op a writes b runs g e done) = subst (StepLocks st ws s) (sym e) (ended s b op a writes runs g done e)
+
+  -- who is told to wait has somebody in its way
+  pub call-waits : (s : ℕ) → stepped st ws s .answer ≡ Waiting → InTheWay st s
+  call-waits s e = step-locks s (step-of st ws inv s) .waitsFor .0 e .2
 
   begin-locks : (s : ℕ) (op : Op) → BeginOf st s op → CallLocks st ws (begin s op) (called st ws (begin s op))
   unfolding called begins
   begin-locks s op (noSuch b e) = subst (λ (r : Outcome). CallLocks st ws (begin s op) (left (r .answer) (r .state) ws)) (sym e) (inl (record { answer = refl; state = refl; words = refl }))
   begin-locks s op (busy b o e) = subst (λ (r : Outcome). CallLocks st ws (begin s op) (left (r .answer) (r .state) ws)) (sym e) (inl (record { answer = refl; state = refl; words = refl }))
   begin-locks s op (begins-so b c e) =
-      let here : slotAt (begins st s op) s ≡ openSlot op 0 [] [] = slot-here st (inv .shaped) s b (openSlot op 0 [] []) [] 0 in
+      let here : slotAt (begins st s op) s ≡ slotOf (freshStand op) = slot-here st (inv .shaped) s b (slotOf (freshStand op)) [] 0 in
       subst (λ (r : Outcome). CallLocks st ws (begin s op) (left (r .answer) (r .state) ws)) (sym e)
       (inr (record {
         answer = refl;
         words = refl;
         opened = ap (λ (sl : Slot). sl .task) here;
-        nothing = ap held here ∙ held-new (stand op [] [] 0);
+        nothing = ap held here ∙ held-new (freshStand op);
         root = ap (λ (sl : Slot). sl .want) here;
         order = waiting-begins st s op (subst (λ (m : ℕ). st .waiting < m) (sym (inv .shaped .order)) (order-has-room st (inv .shaped .order) (inv .sound) s b c));
-        others = λ u n. slot-other st (inv .shaped) s b (openSlot op 0 [] []) [] 0 u n;
+        others = λ u n. slot-other st (inv .shaped) s b (slotOf (freshStand op)) [] 0 u n;
       }))
 
   call-locks : (c : Call) → CallLocks st ws c (called st ws c)
@@ -380,11 +458,11 @@ module _ (st : State) (ws : List ℕ) (inv : Invariant st ws) where
   step-heard s (noSlot b e) = ap (λ (r : Left). isOneOf (r .answer) (answersOf (step s))) e
   step-heard s (idle b c e) = ap (λ (r : Left). isOneOf (r .answer) (answersOf (step s))) e
   step-heard s (waits op b runs g e) = ap (λ (r : Left). isOneOf (r .answer) (answersOf (step s))) e
-  step-heard s (onward op z b runs g e same stance takes) = ap (λ (r : Left). isOneOf (r .answer) (answersOf (step s))) e
-  step-heard s (over op a writes b runs g e ends) =
+  step-heard s (onward op z b runs g e same stance locked takes) = ap (λ (r : Left). isOneOf (r .answer) (answersOf (step s))) e
+  step-heard s (over op a writes b runs g e done) =
       ap (λ (r : Left). isOneOf (r .answer) (answersOf (step s))) e
       ∙ or-second (eqb (numberOf a) (numberOf Waiting)) (or-second (eqb (numberOf a) (numberOf Moved))
-      (or-second (eqb (numberOf a) (numberOf BadSlot)) (or-second (eqb (numberOf a) (numberOf SlotIdle)) (ends-so op s a writes ends))))
+      (or-second (eqb (numberOf a) (numberOf BadSlot)) (or-second (eqb (numberOf a) (numberOf SlotIdle)) (ends-so op s a writes done))))
 
   report-heard : (p : ℕ) → ReportOf st p → isOneOf (reported st p) (answersOf (report p)) ≡ true
   unfolding member
@@ -401,8 +479,10 @@ module _ (st : State) (ws : List ℕ) (inv : Invariant st ws) where
 
 pub safe-is : (k : ℕ) (op : Op) (P : Page) → Exactly (isSafe op k P ≡ true) (Safe op k P)
 safe-is k (Search x) P = (λ _. tt, λ _. refl)
-safe-is k (Insert x v) P = (ltb-true (μ P) (2 * k), lt-ltb (μ P) (2 * k))
-safe-is k (Delete x) P = (ltb-true k (μ P), lt-ltb k (μ P))
+safe-is k (Insert x v First) P = (ltb-true (μ P) (2 * k), lt-ltb (μ P) (2 * k))
+safe-is k (Insert x v Second) P = (λ _. tt, λ _. refl)
+safe-is k (Delete x First) P = (ltb-true k (μ P), lt-ltb k (μ P))
+safe-is k (Delete x Second) P = (λ _. tt, λ _. refl)
 safe-is k (Next x) P = (
   λ h. (
     eqb-false (P .level) 1 (not-true (isLeaf P) (and-first (not (isLeaf P)) (hasRight x P) h)),
@@ -410,43 +490,58 @@ safe-is k (Next x) P = (
   ),
   λ s. and-both (not-of-false (ne-eqb (P .level) 1 (s .0))) (lt-ltb (place x (P .entries)) (μ P) (s .1)),
 )
-safe-is k (Regrade x v) P = (λ _. tt, λ _. refl)
+safe-is k (Regrade x v First) P = (λ _. tt, λ _. refl)
+safe-is k (Regrade x v Second) P = (λ _. tt, λ _. refl)
 
 -- a deletion, a Next, and what may hold pages beside its path, by name
-deletion-named : (op : Op) → isDelete op ≡ true → (x : ℕ) × (op ≡ Delete x)
+deletion-named : (op : Op) → isDelete op ≡ true → (x : ℕ) × (op ≡ Delete x First)
 deletion-named (Search x) e = absurd (false≢true e)
-deletion-named (Insert x v) e = absurd (false≢true e)
-deletion-named (Delete x) e = (x, refl)
+deletion-named (Insert x v First) e = absurd (false≢true e)
+deletion-named (Insert x v Second) e = absurd (false≢true e)
+deletion-named (Delete x First) e = (x, refl)
+deletion-named (Delete x Second) e = absurd (false≢true e)
 deletion-named (Next x) e = absurd (false≢true e)
-deletion-named (Regrade x v) e = absurd (false≢true e)
+deletion-named (Regrade x v First) e = absurd (false≢true e)
+deletion-named (Regrade x v Second) e = absurd (false≢true e)
 
 next-named : (op : Op) → isNext op ≡ true → (x : ℕ) × (op ≡ Next x)
 next-named (Search x) e = absurd (false≢true e)
-next-named (Insert x v) e = absurd (false≢true e)
-next-named (Delete x) e = absurd (false≢true e)
+next-named (Insert x v First) e = absurd (false≢true e)
+next-named (Insert x v Second) e = absurd (false≢true e)
+next-named (Delete x First) e = absurd (false≢true e)
+next-named (Delete x Second) e = absurd (false≢true e)
 next-named (Next x) e = (x, refl)
-next-named (Regrade x v) e = absurd (false≢true e)
+next-named (Regrade x v First) e = absurd (false≢true e)
+next-named (Regrade x v Second) e = absurd (false≢true e)
 
-beside-named : (op : Op) → goesBeside op ≡ true → (x : ℕ) × ((op ≡ Delete x) ⊎ (op ≡ Next x))
+beside-named : (op : Op) → goesBeside op ≡ true → (x : ℕ) × ((op ≡ Delete x First) ⊎ (op ≡ Next x))
 beside-named (Search x) e = absurd (false≢true e)
-beside-named (Insert x v) e = absurd (false≢true e)
-beside-named (Delete x) e = (x, inl refl)
+beside-named (Insert x v First) e = absurd (false≢true e)
+beside-named (Insert x v Second) e = absurd (false≢true e)
+beside-named (Delete x First) e = (x, inl refl)
+beside-named (Delete x Second) e = absurd (false≢true e)
 beside-named (Next x) e = (x, inr refl)
-beside-named (Regrade x v) e = absurd (false≢true e)
+beside-named (Regrade x v First) e = absurd (false≢true e)
+beside-named (Regrade x v Second) e = absurd (false≢true e)
 
 words-pinned : (k : ℕ) → Words k
 unfolding neighbour
 words-pinned k = record {
-  key = λ x v. (refl, refl, refl, refl, refl);
+  key = λ x v way. (refl, refl, refl, refl, refl);
   deletion = λ op. (deletion-named op, λ d. ap isDelete (d .1));
   asksNext = λ op. (next-named op, λ n. ap isNext (n .1));
   beside = λ op. (beside-named op, λ b. ⊎-elim (λ d. ap goesBeside d) (λ n. ap goesBeside n) (b .1));
+  second = λ op. (second-named op, named-second op);
+  first = λ x v way. (refl, refl, refl);
+  atOnce = λ x v way es. (refl, refl, refl);
   nearest = λ x es. (none-below x es, below-none x es);
   safe = safe-is k;
   right = λ x F h. cond-true (pointer (suc (place x (F .entries))) F) (pointer (place x (F .entries) - 1) F) (lt-ltb (place x (F .entries)) (μ F) h);
   left = λ x F h. cond-false (pointer (suc (place x (F .entries))) F) (pointer (place x (F .entries) - 1) F) (le-ltb (place x (F .entries)) (μ F) h);
-  clashes = λ op op′ a b e f p. tasks-clash op op′ e f;
-  wantsClash = λ op op′ a b. tasks-clash op op′;
+  clashes = clashes-so;
+  heldRho = λ op a p e r. (holds-rho op r, ap lockOf e ∙ holds-rho op r);
+  heldXi = λ op a p e never. (holds-xi op never, ap lockOf e ∙ holds-xi op never);
+  wanted = λ a. refl;
   older = λ s t order d w. ((λ m. older-before s t order w m), (λ b. before-older s t order d b));
   leaves = leaving-between;
 }

@@ -9,6 +9,7 @@ pub mod NextWant
 pub mod Demand1
 pub mod Room
 pub mod Demand3
+pub mod TopOpen
 pub mod Regrading
 pub mod OneWord
 pub mod NextAbove

@@ -1,6 +1,6 @@
 -- No key below the one asked is answered: read off the rule, for every state and all words.
 use Prim.Native.Nat.{ℕ, _≤_}
-use mathlib.Core.Bool.{true, false, not, false≢true}
+use mathlib.Core.Bool.{true, false, not, false≢true, _&&_}
 use mathlib.Core.List.{List, [], _∷_, reverse}
 use mathlib.Core.Path.{_≡_, refl, sym, ap, _∙_, subst}
 use lib.Dec.{ltb, eqb}
@@ -18,11 +18,11 @@ use Rattle.slots.specs.declared.Task.{Task}
 use Rattle.slots.specs.declared.State.{State}
 use Rattle.slots.specs.declared.Answer.{Answer}
 use Rattle.slots.specs.declared.Answer.the-variants.{Waiting, Moved, Found, NotFound, Inserted, AlreadyThere, Deleted, NoSuchKey, NoRoom, BadState, BadPool, BadSlot, Damaged, Next as NextLot, None as NoLot, Regraded}
-use Rattle.slots.specs.Parts.{keyOf, isNext, Stand, onPages, wantBeside, standOf, slotAt}
+use Rattle.slots.specs.Parts.{keyOf, isNext, isSecond, Stand, onPages, wantBeside, standOf, slotAt}
 use Rattle.slots.specs.Heard.{heard, numberOf}
 use Rattle.slots.specs.Grant.{grants}
 use Rattle.slots.specs.Sound.{sound}
-use Rattle.footing.specs.Granted.{Verdict, broken, goes, ends, isSafe, kept, byNeed, deletes, nextAnswer, crosses, byNearest, atLeaf, fromLeaf, comesDown, goesLeft, besides, atItsLeaf, granted}
+use Rattle.footing.specs.Granted.{Verdict, broken, goes, ends, isSafe, kept, byNeed, deletes, nextAnswer, crosses, byNearest, staysSecond, atLeaf, fromLeaf, byWayAtLeaf, comesDown, goesLeft, besides, atItsLeaf, granted}
 use Rattle.footing.specs.Fitting.{soundForStep, verdict}
 use Rattle.index.specs.Step.{Left, acted, steppedTask, stepped}
 use Rattle.runs.proofs.PlainLaws.{above-key}
@@ -78,24 +78,29 @@ leaf-tells (Search x) k memory free z leaf fathers =
     cond-ind (Tells (Search x)) (has x (memory leaf .entries))
     (λ _. no-lot (Search x) (Found (information x (memory leaf .entries))) refl)
     (λ _. no-lot (Search x) NotFound refl)
-leaf-tells (Insert x v) k memory free z leaf fathers =
-    cond-ind (TellsBy (Insert x v)) (has x (memory leaf .entries))
-    (λ _. no-lot (Insert x v) (AlreadyThere (information x (memory leaf .entries))) refl)
+leaf-tells (Insert x v way) k memory free z leaf fathers =
+    cond-ind (TellsBy (Insert x v way)) (has x (memory leaf .entries))
+    (λ _. no-lot (Insert x v way) (AlreadyThere (information x (memory leaf .entries))) refl)
     (λ _.
-    cond-ind (TellsBy (Insert x v)) (ltb (length free) (room k memory leaf (z .path)))
-    (λ _. no-lot (Insert x v) NoRoom refl)
-    (λ _. no-lot (Insert x v) Inserted refl))
-leaf-tells (Delete x) k memory free z leaf fathers =
-    cond-ind (TellsBy (Delete x)) (has x (memory leaf .entries))
-    (λ _. deletes-tells (Delete x) k memory x z leaf fathers)
-    (λ _. no-lot (Delete x) NoSuchKey refl)
+    cond-ind (TellsBy (Insert x v way)) (ltb (length free) (room k memory leaf (z .path)))
+    (λ _. no-lot (Insert x v way) NoRoom refl)
+    (λ _. no-lot (Insert x v way) Inserted refl))
+leaf-tells (Delete x way) k memory free z leaf fathers =
+    cond-ind (TellsBy (Delete x way)) (has x (memory leaf .entries))
+    (λ _. deletes-tells (Delete x way) k memory x z leaf fathers)
+    (λ _. no-lot (Delete x way) NoSuchKey refl)
 leaf-tells (Next x) k memory free z leaf fathers =
     nearest-tells (Next x) (crosses x k memory z (z .path)) (crosses-tells (Next x) x k memory z (z .path))
     (atOrAbove x (memory leaf .entries)) (first-tells (Next x) refl (memory leaf .entries))
-leaf-tells (Regrade x v) k memory free z leaf fathers =
-    cond-ind (TellsBy (Regrade x v)) (has x (memory leaf .entries))
-    (λ _. no-lot (Regrade x v) (Regraded (information x (memory leaf .entries))) refl)
-    (λ _. no-lot (Regrade x v) NoSuchKey refl)
+leaf-tells (Regrade x v way) k memory free z leaf fathers =
+    cond-ind (TellsBy (Regrade x v way)) (has x (memory leaf .entries))
+    (λ _. no-lot (Regrade x v way) (Regraded (information x (memory leaf .entries))) refl)
+    (λ _. no-lot (Regrade x v way) NoSuchKey refl)
+
+-- by its way: where it begins again it tells nothing
+way-tells : (k : ℕ) (memory : ℕ → Page) (free : List ℕ) (z : Stand) (leaf : ℕ) (fathers : List ℕ) → TellsBy (z .op) (byWayAtLeaf k memory free z leaf fathers)
+way-tells k memory free z leaf fathers =
+    cond-ind (TellsBy (z .op)) (isSecond (z .op) && not (staysSecond (z .op) k memory leaf)) (λ _. tt) (λ _. leaf-tells (z .op) k memory free z leaf fathers)
 
 -- ---- a granted step
 
@@ -110,7 +115,7 @@ module _ (k : ℕ) (memory : ℕ → Page) (free : List ℕ) (z : Stand) where
   coming-tells =
       let down : Stand = onPages z (kept k memory z) [] in
       cond-ind (TellsBy (z .op)) (isLeaf (memory (z .want)))
-      (λ _. from-leaf-tells (z .op) _ (λ leaf fathers. leaf-tells (z .op) k memory free down leaf fathers) (reverse (down .path)))
+      (λ _. from-leaf-tells (z .op) _ (λ leaf fathers. way-tells k memory free down leaf fathers) (reverse (down .path)))
       (λ _. tt)
 
   beside-tells : TellsBy (z .op) (besides k memory z)

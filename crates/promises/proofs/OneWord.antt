@@ -12,8 +12,8 @@ use lib.ListN.{length, getD, set, take, drop, length-set}
 use lib.Seq.{sets, sets-eq, getD-take, getD-drop, drop-drop}
 use Rattle.ground.specs.Limits.{slotCount}
 use Rattle.ground.specs.Tests.{member}
-use Rattle.ground.proofs.Bools.{and-first, or-second}
-use Rattle.ground.proofs.Choice.{cond-ind}
+use Rattle.ground.proofs.Bools.{not-both, and-first, or-second}
+use Rattle.ground.proofs.Choice.{cond-ind, cond-true}
 use Rattle.ground.proofs.Tests.{all-member, member-append, member-here}
 use Rattle.page.specs.Words.{Entry, Page, size, isLeaf, pairsFrom, view}
 use Rattle.page.specs.Place.{place, has, information}
@@ -27,17 +27,20 @@ use Rattle.change.specs.Deletion.{Need, nothing, sibling, astray, needs}
 use Rattle.change.specs.Regrading.{regrading}
 use Rattle.change.proofs.HeldLaws.{Known, held-page}
 use Rattle.slots.specs.declared.Op.the-variants.{Regrade}
+use Rattle.slots.specs.declared.Way.{Way}
+use Rattle.slots.specs.declared.Way.the-variants.{First, Second}
 use Rattle.slots.specs.declared.Task.{Task}
 use Rattle.slots.specs.declared.Slot.{Slot}
 use Rattle.slots.specs.declared.State.{State}
 use Rattle.slots.specs.declared.Answer.{Answer}
 use Rattle.slots.specs.declared.Answer.the-variants.{Waiting, Moved, Deleted, NoSuchKey, BadState, BadPool, BadSlot, Damaged, Regraded}
-use Rattle.slots.specs.Parts.{isOpen, held, Stand, holding, onPages, wantBeside, withOp, standOf, slotAt}
+use Rattle.slots.specs.Parts.{isOpen, isNext, isSecond, held, Stand, holding, onPages, wantBeside, withOp, standOf, slotAt}
 use Rattle.slots.specs.Heard.{heard, numberOf}
 use Rattle.slots.specs.Grant.{grants}
 use Rattle.slots.specs.Sound.{sound}
 use Rattle.slots.proofs.SoundFacts.{SoundState, sound-facts}
-use Rattle.footing.specs.Granted.{Verdict, broken, goes, ends, byNeed, deletes, atLeaf, fromLeaf, comesDown, besides, atItsLeaf, granted}
+use Rattle.footing.specs.Granted.{Verdict, broken, goes, ends, kept, byNeed, deletes, staysSecond, atLeaf, fromLeaf, byWayAtLeaf, comesDown, besides, atItsLeaf, granted}
+use Rattle.footing.proofs.KeepLaws.{regrade-safe}
 use Rattle.footing.specs.Fitting.{pagesSound, fitting, nextIsNew, soundForStep, verdict}
 use Rattle.index.specs.Step.{Left, acted, steppedTask, stepped}
 use Rattle.runs.proofs.PlainLaws.{clashes}
@@ -109,9 +112,14 @@ Writes k ws x new old (ends answer writes) = answer ≡ Regraded old → OneWord
 another : {A : Type 0} {old : ℕ} (a : Answer) → eqb (numberOf a) (numberOf (Regraded 0)) ≡ false → a ≡ Regraded old → A
 another a other e = clashes e (eqb-false (numberOf a) (numberOf (Regraded 0)) other)
 
-module _ (k n : ℕ) (ws : List ℕ) (x new old : ℕ) (z₀ : Stand) where
+-- a regrading asks for no next lot
+regrades-not-next : (x new : ℕ) (way : Way) → isNext (Regrade x new way) ≡ false
+regrades-not-next x new First = refl
+regrades-not-next x new Second = refl
+
+module _ (k n : ℕ) (ws : List ℕ) (x new old : ℕ) (way : Way) (z₀ : Stand) where
   abbrev z : Stand
-  z = withOp (Regrade x new) z₀
+  z = withOp (Regrade x new way) z₀
 
   abbrev memory : ℕ → Page
   memory = pageAt k ws
@@ -132,7 +140,7 @@ module _ (k n : ℕ) (ws : List ℕ) (x new old : ℕ) (z₀ : Stand) where
   beside-writes (leaf ∷ fathers) =
       need-writes (wantBeside z) _ (another (Deleted (information x (memory leaf .entries))) refl) (needs k memory x leaf fathers (z .beside ++ z .want ∷ []))
 
-  leaf-writes : Known k n ws (z .want) → Wrote (atLeaf (Regrade x new) k memory (freePages k n ws) (onPages z (z .want ∷ []) []) (z .want) [])
+  leaf-writes : Known k n ws (z .want) → Wrote (atLeaf (Regrade x new way) k memory (freePages k n ws) (onPages z (z .want ∷ []) []) (z .want) [])
   unfolding atLeaf
   leaf-writes known =
       cond-ind Wrote (has x (memory (z .want) .entries))
@@ -140,12 +148,23 @@ module _ (k n : ℕ) (ws : List ℕ) (x new old : ℕ) (z₀ : Stand) where
       subst (λ (v : ℕ). OneWord ws (applied k (regrading memory x new (z .want)) ws) x v new) (ap (λ (a : Answer). getD (heard a) 1 0) e) (page-writes x new known there))
       (λ _. another NoSuchKey refl)
 
+  -- by its way: where it begins again it writes nothing
+  way-writes : Known k n ws (z .want) → Wrote (byWayAtLeaf k memory (freePages k n ws) (onPages z (z .want ∷ []) []) (z .want) [])
+  way-writes known =
+      cond-ind Wrote (isSecond (z .op) && not (staysSecond (z .op) k memory (z .want))) (λ _. tt) (λ _. leaf-writes known)
+
+  -- "every page is safe for it"
+  kept-one : kept k memory z ≡ z .want ∷ []
+  kept-one = cond-true (z .want ∷ []) (z .path ++ z .want ∷ []) (regrade-safe k (memory (z .want)) {x = x} {v = new} {way = way} refl)
+
   granted-writes : Known k n ws (z .want) → Wrote (granted k memory (freePages k n ws) z)
   unfolding granted besides comesDown
   granted-writes known =
       cond-ind Wrote (atItsLeaf memory (reverse (z .path)))
-      (λ _. beside-writes (reverse (z .path)))
-      (λ _. cond-ind Wrote (isLeaf (memory (z .want))) (λ _. leaf-writes known) (λ _. tt))
+      (λ _. cond-ind Wrote (isNext (z .op)) (λ asks. not-both asks (regrades-not-next x new way)) (λ _. beside-writes (reverse (z .path))))
+      (λ _. cond-ind Wrote (isLeaf (memory (z .want)))
+      (λ _. subst (λ (path : List ℕ). Wrote (fromLeaf (byWayAtLeaf k memory (freePages k n ws) (onPages z path [])) (reverse path))) (sym kept-one) (way-writes known))
+      (λ _. tt))
 
   verdict-writes : (soundForStep k n ws z ≡ true → Known k n ws (z .want))
       → Wrote (verdict k n ws z)
@@ -172,14 +191,14 @@ acted-writes st ws s x new old (ends answer writes) h = h
 
 pub regrading-writes : RegradingWrites
 unfolding stepped
-regrading-writes st ws s x new old opened =
+regrading-writes st ws s x new old way opened =
     cond-ind Told (not (sound st)) (λ _. another BadState refl)
     (λ ok. cond-ind Told (not (eqb (length ws) (poolLength (st .k) (st .n)))) (λ _. another BadPool refl)
     (λ whole. cond-ind Told (not (ltb s slotCount)) (λ _. another BadSlot refl)
     (λ inside. subst (λ (task : Task). Told (steppedTask st ws s slot task)) (sym opened)
     (cond-ind Told (grants st s)
-    (λ _. acted-writes st ws s x new old (verdict (st .k) (st .n) ws (standOf (Regrade x new) slot))
-    (verdict-writes (st .k) (st .n) ws x new old (standOf (Regrade x new) slot)
+    (λ _. acted-writes st ws s x new old (verdict (st .k) (st .n) ws (standOf (Regrade x new way) slot))
+    (verdict-writes (st .k) (st .n) ws x new old way (standOf (Regrade x new way) slot)
     (known (not-false (sound st) ok) (eqb-true (length ws) (poolLength (st .k) (st .n)) (not-false (eqb (length ws) (poolLength (st .k) (st .n))) whole))
     (ltb-true s slotCount (not-false (ltb s slotCount) inside)))))
     (λ _. another Waiting refl)))))
@@ -192,9 +211,9 @@ regrading-writes st ws s x new old opened =
 
     -- the step has tested the page that it is granted
     known : sound st ≡ true → length ws ≡ poolLength (st .k) (st .n) → s < slotCount
-        → soundForStep (st .k) (st .n) ws (standOf (Regrade x new) slot) ≡ true → Known (st .k) (st .n) ws (slot .want)
+        → soundForStep (st .k) (st .n) ws (standOf (Regrade x new way) slot) ≡ true → Known (st .k) (st .n) ws (slot .want)
     known ok whole inside sure =
         let facts : SoundState st = sound-facts st ok in
         let below : slot .want < st .n = facts .slot s inside .below (ap isOpen opened) (slot .want) (member-here (slot .want) (held slot)) in
         held-page (facts .kMost) (facts .nMost) whole
-        (record { inside = below; sound = want-sound (st .k) (st .n) ws x new old (standOf (Regrade x new) slot) sure })
+        (record { inside = below; sound = want-sound (st .k) (st .n) ws x new old way (standOf (Regrade x new way) slot) sure })

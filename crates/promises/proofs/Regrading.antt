@@ -15,17 +15,18 @@ use Rattle.page.specs.Sound.{rises}
 use Rattle.pool.specs.Pool.{Write, applied}
 use Rattle.slots.specs.declared.Op.{Op}
 use Rattle.slots.specs.declared.Op.the-variants.{Search, Insert, Delete, Next, Regrade}
+use Rattle.slots.specs.declared.Way.{Way}
 use Rattle.slots.specs.declared.State.{State}
 use Rattle.slots.specs.declared.Answer.{Answer}
 use Rattle.slots.specs.declared.Answer.the-variants.{Waiting, Moved, Found, NotFound, Deleted, NoSuchKey, BadSlot, SlotIdle, Next as NextLot, Regraded}
-use Rattle.slots.specs.Parts.{keyOf, onlyReads, standOf, slotAt, Opened}
+use Rattle.slots.specs.Parts.{keyOf, firstWay, onlyReads, standOf, slotAt, Opened}
 use Rattle.slots.specs.Heard.{isOneOf, ending}
 use Rattle.slots.specs.Book.{closes}
 use Rattle.footing.specs.Granted.{nextAnswer}
 use Rattle.index.specs.Step.{Left, left, stepped}
 use Rattle.tree.specs.Tree.{Tr, entriesOf, PoolForms}
 use Rattle.runs.specs.Run.{Call, begin, step, report, called, run, runFrom, CallInWords, InWords}
-use Rattle.runs.specs.Plain.{plain}
+use Rattle.runs.specs.Plain.{Reply, plain}
 use Rattle.runs.specs.PlainFacts.{Among, FirstFrom, PlainFacts}
 use Rattle.runs.specs.Step.{Ended}
 use Rattle.runs.proofs.Invariant.{Invariant}
@@ -39,11 +40,18 @@ use Rattle.promises.proofs.Demand3.{run-before, tree-rises}
 
 -- ---- the plain list
 
+-- it does the same by either way: its laws are of the first
+answer-by : {es : List Entry} → PlainFacts es → (op : Op) → plain op es .answer ≡ plain (firstWay op) es .answer
+answer-by facts op = ap (λ (r : Reply). r .answer) (facts .ways op)
+
+entries-by : {es : List Entry} → PlainFacts es → (op : Op) → plain op es .entries ≡ plain (firstWay op) es .entries
+entries-by facts op = ap (λ (r : Reply). r .entries) (facts .ways op)
+
 -- What one operation does to a lot that is there: it is still there, with the same information, or with that of a regrading.
 record StillAmong (x v : ℕ) (op : Op) (es : List Entry) : Type 0 where
   now : ℕ
   there : Among x now es
-  from : (now ≡ v) ⊎ (op ≡ Regrade x now)
+  from : (now ≡ v) ⊎ ((way : Way) × (op ≡ Regrade x now way))
 
 module _ (x v : ℕ) (es : List Entry) (r : rises es ≡ true) (a : Among x v es) where
   abbrev facts : PlainFacts es
@@ -56,20 +64,21 @@ module _ (x v : ℕ) (es : List Entry) (r : rises es ≡ true) (a : Among x v es
   same-among : (op : Op) → plain op es .entries ≡ es → StillAmong x v op (plain op es .entries)
   same-among op e = record { now = v; there = subst (Among x v) (sym e) a; from = inl refl }
 
-  by-key : (op : Op) → x ≡ keyOf op → (op ≡ Delete x → ⊥) → StillAmong x v op (plain op es .entries)
+  by-key : (op : Op) → x ≡ keyOf op → ((way : Way) → op ≡ Delete x way → ⊥) → StillAmong x v op (plain op es .entries)
   by-key (Search y) e kept = same-among (Search y) (facts .searchKeeps y)
-  by-key (Insert y u) e kept = same-among (Insert y u) (facts .alreadyKeeps y u v (subst (λ (z : ℕ). Among z v es) e a))
-  by-key (Delete y) e kept = absurd (kept (ap Delete (sym e)))
+  by-key (Insert y u way) e kept = same-among (Insert y u way) (entries-by facts (Insert y u way) ∙ facts .alreadyKeeps y u v (subst (λ (z : ℕ). Among z v es) e a))
+  by-key (Delete y way) e kept = absurd (kept way (ap (λ (z : ℕ). Delete z way) (sym e)))
   by-key (Next y) e kept = same-among (Next y) (facts .nextKeeps y)
-  by-key (Regrade y w) e kept = record {
+  by-key (Regrade y w way) e kept = record {
     now = w;
-    there = found-after (Regrade y w) w
-        (subst (λ (z : ℕ). plain (Search z) (plain (Regrade y w) es .entries) .answer ≡ Found w) (sym e)
-        (facts .regradedFound y w v (facts .regrades y w v (subst (λ (z : ℕ). Among z v es) e a))));
-    from = inr (ap (λ (z : ℕ). Regrade z w) (sym e));
+    there = found-after (Regrade y w way) w
+        (subst (λ (z : ℕ). plain (Search z) (plain (Regrade y w way) es .entries) .answer ≡ Found w) (sym e)
+        (ap (λ (after : List Entry). plain (Search y) after .answer) (entries-by facts (Regrade y w way))
+        ∙ facts .regradedFound y w v (facts .regrades y w v (subst (λ (z : ℕ). Among z v es) e a))));
+    from = inr (way, ap (λ (z : ℕ). Regrade z w way) (sym e));
   }
 
-  plain-keeps : (op : Op) → (op ≡ Delete x → ⊥) → StillAmong x v op (plain op es .entries)
+  plain-keeps : (op : Op) → ((way : Way) → op ≡ Delete x way → ⊥) → StillAmong x v op (plain op es .entries)
   plain-keeps op kept =
       ⊎-elim
       (λ same. by-key op same kept)
@@ -132,7 +141,7 @@ module _ (st : State) (ws : List ℕ) (inv : Invariant st ws) where
 
   -- An operation that ends, and inserts no new key, ends so.
   module _ (s : ℕ) (op : Op) (runs : Opened st s op) (counts : isOneOf (stepped st ws s .answer) ending ≡ true)
-      (old : (y u : ℕ) → op ≡ Insert y u → has y es ≡ true) where
+      (old : (y u : ℕ) (way : Way) → op ≡ Insert y u way → has y es ≡ true) where
     other-answer : (a : Answer) (next : State) → isOneOf a ending ≡ false → stepped st ws s ≡ left a next ws → AsPlainList s op
     other-answer a next other e = not-both counts (ap (λ (r : Left). isOneOf (r .answer) ending) e ∙ other)
 
@@ -141,7 +150,7 @@ module _ (st : State) (ws : List ℕ) (inv : Invariant st ws) where
     by-step (noSlot b e) = other-answer BadSlot st refl e
     by-step (idle b c e) = other-answer SlotIdle st refl e
     by-step (waits op′ b rs g e) = other-answer Waiting st refl e
-    by-step (onward op′ z b rs g e same stance takes) = other-answer Moved _ refl e
+    by-step (onward op′ z b rs g e same stance locked takes) = other-answer Moved _ refl e
     by-step (over op′ a writes b rs g e ended) =
         let same : op′ ≡ op = same-op (sym rs ∙ runs) in
         ⊎-elim
@@ -149,7 +158,7 @@ module _ (st : State) (ws : List ℕ) (inv : Invariant st ws) where
           answer-after s op′ a writes e ended ∙ p .answer ∙ ap (λ (o : Op). plain o es .answer) same,
           λ l t f. entries-after s op′ a writes e ended l t f ∙ p .entries ∙ ap (λ (o : Op). plain o es .entries) same,
         ))
-        (λ none. not-both (old (none .0 .key) (none .0 .lot) (sym same ∙ none .0 .inserts)) (none .0 .missing))
+        (λ none. not-both (old (none .0 .key) (none .0 .lot) (none .0 .way) (sym same ∙ none .0 .inserts)) (none .0 .missing))
         (ended .how)
 
     ended-plainly : AsPlainList s op
@@ -183,7 +192,7 @@ ends-first st ws c between s op a e opened answer counts =
 
 -- No deletion of x ends among the calls.
 abbrev Undeleted : ℕ → State → List ℕ → List Call → Type 0
-Undeleted x st ws between = (first : List Call) (s v : ℕ) → EndsAmong st ws between first s (Delete x) (Deleted v) → ⊥
+Undeleted x st ws between = (first : List Call) (s v : ℕ) (way : Way) → EndsAmong st ws between first s (Delete x way) (Deleted v) → ⊥
 
 -- Where calls have left off, with the lot x there that was there with information v when they began.
 record Later (x v : ℕ) (st : State) (ws : List ℕ) (between : List Call) : Type 0 where
@@ -198,19 +207,21 @@ module _ (x : ℕ) where
   put-later st ws c cs v p = record {
     first = c ∷ p .first;
     slot = p .slot;
+    way = p .way;
     old = p .old;
-    ended = ends-later st ws c cs (p .first) (p .slot) (Regrade x v) (Regraded (p .old)) (p .ended);
+    ended = ends-later st ws c cs (p .first) (p .slot) (Regrade x v (p .way)) (Regraded (p .old)) (p .ended);
   }
 
   module _ (st : State) (ws : List ℕ) (inv : Invariant st ws) (v : ℕ) (r : rises (entriesIn st ws inv) ≡ true) (a : Among x v (entriesIn st ws inv))
       (c : Call) (cs : List Call) (kept : Undeleted x st ws (c ∷ cs)) where
     -- the call is no deletion of it that ends
-    not-deleted : (s : ℕ) (op : Op) → c ≡ step s → Opened st s op → stepped st ws s .answer ≡ plain op (entriesIn st ws inv) .answer → op ≡ Delete x → ⊥
+    not-deleted : (s : ℕ) (op : Op) → c ≡ step s → Opened st s op → stepped st ws s .answer ≡ plain op (entriesIn st ws inv) .answer → (way : Way) → op ≡ Delete x way → ⊥
     unfolding member
-    not-deleted s op e runs answer deletes =
-        kept [] s v
-        (ends-first st ws c cs s (Delete x) (Deleted v) e (subst (Opened st s) deletes runs)
-        (answer ∙ ap (λ (o : Op). plain o (entriesIn st ws inv) .answer) deletes ∙ plain-facts (entriesIn st ws inv) r .deletes x v a) refl)
+    not-deleted s op e runs answer way deletes =
+        let facts = plain-facts (entriesIn st ws inv) r in
+        kept [] s v way
+        (ends-first st ws c cs s (Delete x way) (Deleted v) e (subst (Opened st s) deletes runs)
+        (answer ∙ ap (λ (o : Op). plain o (entriesIn st ws inv) .answer) deletes ∙ answer-by facts (Delete x way) ∙ facts .deletes x v a) refl)
 
     -- the lot after the call, its information, and that keys still rise
     abbrev Next-so : List Entry → Type 0
@@ -226,12 +237,13 @@ module _ (x : ℕ) where
           subst (Among x (still .now)) (sym after) (still .there),
           ap rises after ∙ facts .rising op,
           ⊎-elim inl
-              (λ g. inr (record {
+              (λ (way, g). inr (record {
                 first = [];
                 slot = s;
+                way = way;
                 old = v;
-                ended = ends-first st ws c cs s (Regrade x (still .now)) (Regraded v) e (subst (Opened st s) g runs)
-                    (answer ∙ ap (λ (o : Op). plain o (entriesIn st ws inv) .answer) g ∙ facts .regrades x (still .now) v a) refl;
+                ended = ends-first st ws c cs s (Regrade x (still .now) way) (Regraded v) e (subst (Opened st s) g runs)
+                    (answer ∙ ap (λ (o : Op). plain o (entriesIn st ws inv) .answer) g ∙ answer-by facts (Regrade x (still .now) way) ∙ facts .regrades x (still .now) v a) refl;
               }))
               (still .from),
         )
@@ -251,7 +263,7 @@ module _ (x : ℕ) where
       let (w, b, up, from) = next-so st ws inv v r a c cs kept (entriesIn (called st ws c .state) (called st ws c .words) after)
       (call-does st ws inv c (after .height) (after .tree) (forms-after st ws inv c (h .0))) in
       let later = stays cs (called st ws c .state) (called st ws c .words) after w up b (h .1)
-      (λ first s u e. kept (c ∷ first) s u (ends-later st ws c cs first s (Delete x) (Deleted u) e)) in
+      (λ first s u way e. kept (c ∷ first) s u way (ends-later st ws c cs first s (Delete x way) (Deleted u) e)) in
       record {
         holds = later .holds;
         rising = later .rising;
@@ -271,7 +283,7 @@ module _ (x : ℕ) (st : State) (ws : List ℕ) (inv : Invariant st ws) (r : ris
       stays x first st ws inv (h .there .0) r
       (subst (Among x (h .there .0)) (same-entries (st .k) (st .n) ws (began .height) (began .tree) (inv .height) (inv .tree) (began .forms) (inv .forms)) (began .there))
       (words-before first rest (subst InWords e words))
-      (λ earlier s u d. h .kept earlier s u (ends-longer st ws between first rest earlier s (Delete x) (Deleted u) e d))
+      (λ earlier s u way d. h .kept earlier s u way (ends-longer st ws between first rest earlier s (Delete x way) (Deleted u) e d))
 
   is-there : (first : List Call) (v : ℕ) (later : Later x v st ws first) → IsThere (run first st ws .state) (run first st ws .words) x (later .now)
   is-there first v later = record { height = later .holds .height; tree = later .holds .tree; forms = later .holds .forms; there = later .there }
@@ -307,21 +319,21 @@ module _ (x : ℕ) (st : State) (ws : List ℕ) (inv : Invariant st ws) (r : ris
     lot-there = is-there first (h .there .0) later
 
     -- which inserts no other key
-    module _ (old : (y u : ℕ) → op ≡ Insert y u → x ≡ y) where
+    module _ (old : (y u : ℕ) (way : Way) → op ≡ Insert y u way → x ≡ y) where
       as-plain : AsPlainList here lying (later .holds) s op
       as-plain =
           ended-plainly here lying (later .holds) s op (e .opened) (ap (λ (b : Answer). isOneOf b ending) (e .answer) ∙ e .ends)
-          (λ y u i. subst (λ (z : ℕ). has z lots ≡ true) (old y u i) (among-has x (later .now) lots (later .there)))
+          (λ y u way i. subst (λ (z : ℕ). has z lots ≡ true) (old y u way i) (among-has x (later .now) lots (later .there)))
 
       answered : a ≡ plain op lots .answer
       answered = sym (e .answer) ∙ as-plain .0
 
   -- an operation on the lot inserts no other key
-  on-it : {op : Op} → x ≡ keyOf op → (y u : ℕ) → op ≡ Insert y u → x ≡ y
-  on-it key y u i = key ∙ ap keyOf i
+  on-it : {op : Op} → x ≡ keyOf op → (y u : ℕ) (way : Way) → op ≡ Insert y u way → x ≡ y
+  on-it key y u way i = key ∙ ap keyOf i
 
   -- a regrading leaves the new information
-  module _ (first : List Call) (s w : ℕ) (a : Answer) (e : EndsAmong st ws between first s (Regrade x w) a) where
+  module _ (first : List Call) (s w : ℕ) (way : Way) (a : Answer) (e : EndsAmong st ws between first s (Regrade x w way) a) where
     abbrev old : State
     old = run first st ws .state
 
@@ -331,7 +343,7 @@ module _ (x : ℕ) (st : State) (ws : List ℕ) (inv : Invariant st ws) (r : ris
     new-stepped : IsThere (called old pool (step s) .state) (called old pool (step s) .words) x w
     unfolding called
     new-stepped =
-        let lot = later first s (Regrade x w) a e in
+        let lot = later first s (Regrade x w way) a e in
         let after : Invariant (called old pool (step s) .state) (called old pool (step s) .words) = call-keeps old pool (lot .holds) (step s) tt in
         record {
           height = after .height;
@@ -340,8 +352,9 @@ module _ (x : ℕ) (st : State) (ws : List ℕ) (inv : Invariant st ws) (r : ris
           there = record {
             before = lot .there .before;
             after = lot .there .after;
-            whole = as-plain first s (Regrade x w) a e (on-it refl) .1 (after .height) (after .tree) (forms-after old pool (lot .holds) (step s) tt)
-                ∙ facts-here first s (Regrade x w) a e .regradedThere x w (lot .now) (lot .there);
+            whole = as-plain first s (Regrade x w way) a e (on-it refl) .1 (after .height) (after .tree) (forms-after old pool (lot .holds) (step s) tt)
+                ∙ entries-by (facts-here first s (Regrade x w way) a e) (Regrade x w way)
+                ∙ facts-here first s (Regrade x w way) a e .regradedThere x w (lot .now) (lot .there);
           };
         }
 
@@ -361,15 +374,15 @@ module _ (x : ℕ) (st : State) (ws : List ℕ) (inv : Invariant st ws) (r : ris
         lot-there first s (Search x) a e,
       )
 
-  regrades : (first : List Call) (s w : ℕ) (a : Answer) (e : EndsAmong st ws between first s (Regrade x w) a)
+  regrades : (first : List Call) (s w : ℕ) (way : Way) (a : Answer) (e : EndsAmong st ws between first s (Regrade x w way) a)
       → (v : ℕ) × (a ≡ Regraded v) × IsThere (run first st ws .state) (run first st ws .words) x v
       × IsThere (run (first ++ step s ∷ []) st ws .state) (run (first ++ step s ∷ []) st ws .words) x w
-  regrades first s w a e =
-      let lot = later first s (Regrade x w) a e in (
+  regrades first s w way a e =
+      let lot = later first s (Regrade x w way) a e in (
         lot .now,
-        answered first s (Regrade x w) a e (on-it refl) ∙ facts-here first s (Regrade x w) a e .regrades x w (lot .now) (lot .there),
-        lot-there first s (Regrade x w) a e,
-        new-there first s w a e,
+        answered first s (Regrade x w way) a e (on-it refl) ∙ answer-by (facts-here first s (Regrade x w way) a e) (Regrade x w way) ∙ facts-here first s (Regrade x w way) a e .regrades x w (lot .now) (lot .there),
+        lot-there first s (Regrade x w way) a e,
+        new-there first s w way a e,
       )
 
   never-nowhere : NeverNowhere st ws between x
@@ -386,28 +399,28 @@ module _ (x : ℕ) (st : State) (ws : List ℕ) (inv : Invariant st ws) (r : ris
     searched = searches;
     neverNotFound = λ first s e. let (v, same, _) = searches first s NotFound e in clashes same (λ q. omega (arith, q));
     regraded = regrades;
-    neverNoSuchKey = λ first s w e. let (v, same, _, _) = regrades first s w NoSuchKey e in clashes same (λ q. omega (arith, q));
-    already = λ first s w a e.
-        let lot = later first s (Insert x w) a e in (
+    neverNoSuchKey = λ first s w way e. let (v, same, _, _) = regrades first s w way NoSuchKey e in clashes same (λ q. omega (arith, q));
+    already = λ first s w way a e.
+        let lot = later first s (Insert x w way) a e in (
           lot .now,
-          answered first s (Insert x w) a e (on-it refl) ∙ facts-here first s (Insert x w) a e .already x w (lot .now) (lot .there),
-          lot-there first s (Insert x w) a e,
+          answered first s (Insert x w way) a e (on-it refl) ∙ answer-by (facts-here first s (Insert x w way) a e) (Insert x w way) ∙ facts-here first s (Insert x w way) a e .already x w (lot .now) (lot .there),
+          lot-there first s (Insert x w way) a e,
         );
     nexts = λ first s y a low e.
         let lot = later first s (Next y) a e in
         let (z, w, told, next) = next-plain x (lot .now) (lots first s (Next y) a e) (lot .rising) (lot .there) y low in (
           z,
           w,
-          answered first s (Next y) a e (λ z u i. absurd (true≢false (ap onlyReads i))) ∙ told,
+          answered first s (Next y) a e (λ z u way i. absurd (true≢false (ap onlyReads i))) ∙ told,
           next .above,
           next .first x (lot .now) (lot .there) low,
           record { height = lot .holds .height; tree = lot .holds .tree; forms = lot .holds .forms; there = next .there },
         );
-    neverDeleted = λ first s a e.
-        let lot = later first s (Delete x) a e in
+    neverDeleted = λ first s way a e.
+        let lot = later first s (Delete x way) a e in
         let same : a ≡ Deleted (lot .now)
-        = answered first s (Delete x) a e (on-it refl) ∙ facts-here first s (Delete x) a e .deletes x (lot .now) (lot .there) in
-        h .kept first s (lot .now) (subst (EndsAmong st ws between first s (Delete x)) same e);
+        = answered first s (Delete x way) a e (on-it refl) ∙ answer-by (facts-here first s (Delete x way) a e) (Delete x way) ∙ facts-here first s (Delete x way) a e .deletes x (lot .now) (lot .there) in
+        h .kept first s (lot .now) way (subst (EndsAmong st ws between first s (Delete x way)) same e);
   }
 
 -- ---- the theorem

@@ -26,9 +26,9 @@ use Rattle.slots.proofs.LockLaws.{isLock, held-lock, is-xi}
 use Rattle.slots.proofs.Clashes.{update-alone}
 use Rattle.slots.proofs.GrantLaws.{holder-open}
 use Rattle.slots.proofs.OrderLaws.{length-counted}
-use Rattle.promises.specs.Terms.{Holds, Reads}
+use Rattle.promises.specs.Terms.{Holds, WithRho}
 use Rattle.promises.specs.Report.{Holders, Nobody, Lowest, KindIs, Reports}
-use Rattle.promises.proofs.Terms.{in-member, xi-updates, shares-reads, never-both}
+use Rattle.promises.proofs.Terms.{in-member, xi-excludes, other-shares, never-both}
 
 module _ (st : State) (p : ℕ) where
   -- the slots that hold the page, by the rule's test
@@ -112,7 +112,7 @@ module _ (st : State) (p : ℕ) where
             s,
             b,
             holds-told s holds,
-            xi-updates (slotAt st s .task) xi,
+            xi-excludes (slotAt st s .task) xi,
             λ u c h.
                 ⊎-elim (λ e. e) (λ n. not-both (holds-test u h) (update-alone st f s u p b c (λ e. n (sym e)) xi holds)) (same-or-not u s),
           )
@@ -120,9 +120,9 @@ module _ (st : State) (p : ℕ) where
       by-reader : (s : ℕ) × (s < slotCount) × (under Rho s ≡ true) → (s : ℕ) × (s < slotCount) × Holds st s p
       by-reader (s, b, t) = (s, b, holds-told s (and-first (holdsAt st s p) (eqb (lockNumber (lockHeldAt st s p)) (lockNumber Rho)) t))
 
-      all-read : heldUnder st p Xi ≡ false → (s : ℕ) → s < slotCount → holdsAt st s p ≡ true → Reads st s
+      all-read : heldUnder st p Xi ≡ false → (s : ℕ) → s < slotCount → holdsAt st s p ≡ true → WithRho st s
       all-read x s b holds =
-          shares-reads (slotAt st s .task) (opened s b holds)
+          other-shares (slotAt st s .task) (opened s b holds)
           (λ xi. not-both (under-of Xi s holds xi) (anyBelow-false-at (under Xi) slotCount x s b))
 
       nobody : heldUnder st p Xi ≡ false → heldUnder st p Rho ≡ false → (s : ℕ) → s < slotCount → holdsAt st s p ≡ true

@@ -10,21 +10,24 @@ use borrow.Author.Tests.{eqb-true}
 use Rattle.ground.specs.Limits.{slotCount, wordRange}
 use Rattle.ground.specs.Tests.{member}
 use Rattle.ground.proofs.Bools.{not-both}
-use Rattle.ground.proofs.Choice.{cond-true, cond-false}
+use Rattle.ground.proofs.Choice.{by-test, cond-true, cond-false}
 use Rattle.page.specs.Words.{Page, Entry, isLeaf}
 use Rattle.page.specs.Place.{has, information}
 use Rattle.pool.specs.Pool.{Write, pageAt, freePages, applied}
 use Rattle.slots.specs.declared.Op.{Op}
 use Rattle.slots.specs.declared.Op.the-variants.{Insert}
+use Rattle.slots.specs.declared.Way.{Way}
+use Rattle.slots.specs.declared.Way.the-variants.{First, Second}
 use Rattle.slots.specs.declared.Task.the-variants.{Open}
 use Rattle.slots.specs.declared.State.{State}
 use Rattle.slots.specs.declared.Answer.{Answer}
 use Rattle.slots.specs.declared.Answer.the-variants.{Moved, Inserted, AlreadyThere, NoRoom}
-use Rattle.slots.specs.Parts.{isOpen, keyOf, goesBeside, slotAt, wantAt, pathOf, Stand, standOf, Opened}
+use Rattle.slots.specs.Parts.{isOpen, keyOf, isSecond, goesBeside, slotAt, wantAt, pathOf, Stand, standOf, Opened}
 use Rattle.slots.specs.Heard.{isOneOf, countedAnswers}
 use Rattle.slots.specs.Grant.{grants}
 use Rattle.slots.specs.Book.{goesOn, closes}
-use Rattle.footing.specs.Granted.{atItsLeaf}
+use Rattle.footing.specs.Granted.{Verdict, broken, goes, ends, atItsLeaf}
+use Rattle.footing.specs.Fitting.{verdict}
 use Rattle.index.specs.Step.{Left, left, acted, stepped}
 use Rattle.tree.specs.Tree.{entriesOf}
 use Rattle.tree.specs.Facts.{AnyTree}
@@ -37,28 +40,38 @@ use Rattle.runs.specs.Stance.{Stance, Takes}
 use Rattle.runs.specs.Step.{Ended, NoRoomLeft, Comes, moves, stops}
 use Rattle.runs.proofs.Invariant.{Invariant, scene}
 use Rattle.runs.proofs.Stepping.{granted-comes}
-use Rattle.runs.proofs.Verdicts.{coming-ends}
+use Rattle.runs.proofs.Verdicts.{coming-ends, FirstLacks, coming-lacks}
 use Rattle.runs.proofs.Calls.{StepOf, noSlot, idle, waits, onward, over, step-of, same-op, granted-does}
 use Rattle.runs.proofs.Measure.{lowestOf, Where, atStart, onTheWay, atTheLeaf, where-it-stands}
 use Rattle.runs.proofs.MeasureLaws.{start-above, low-above}
 use Rattle.runs.proofs.Agreement.{plain-counted}
+use Rattle.promises.proofs.Demand2.{second-above}
 use Rattle.promises.specs.Demand3.{RoomExact, NoRoomSays, Room}
 
--- A page that a slot took coming down, and from which it goes on, is no leaf. (An insertion takes no sibling.)
-lowest-taken : (k : ℕ) (memory : ℕ → Page) (z z′ : Stand) → z′ .beside ≡ [] → Takes k memory z z′ → lowestOf (z′ .path) ≡ z .want
-lowest-taken k memory z z′ none (inl g) = ap lowestOf (g .holds)
-lowest-taken k memory z z′ none (inr (inl g)) =
+-- who does not go by the second way goes on with its operation
+same-taken : (k : ℕ) (memory : ℕ → Page) (z z′ : Stand) → isSecond (z .op) ≡ false → Takes k memory z z′ → z′ .op ≡ z .op
+same-taken k memory z z′ first (inl g) = g .same
+same-taken k memory z z′ first (inr (inl g)) = g .same
+same-taken k memory z z′ first (inr (inr (inl g))) = g .same
+same-taken k memory z z′ first (inr (inr (inr g))) = not-both (g .second) first
+
+-- A page that it took coming down, and from which it goes on, is no leaf. (An insertion takes no sibling.)
+lowest-taken : (k : ℕ) (memory : ℕ → Page) (z z′ : Stand) → isSecond (z .op) ≡ false → z′ .beside ≡ [] → Takes k memory z z′ → lowestOf (z′ .path) ≡ z .want
+lowest-taken k memory z z′ first none (inl g) = ap lowestOf (g .holds)
+lowest-taken k memory z z′ first none (inr (inl g)) =
     ap lowestOf (g .holds) ∙ ap (λ (ps : List ℕ). getD ps 0 0) (reverse-append (z .path) (z .want ∷ []))
-lowest-taken k memory z z′ none (inr (inr g)) =
+lowest-taken k memory z z′ first none (inr (inr (inl g))) =
     absurd (omega (arith, ap length (sym none ∙ g .holds), length-append (z .beside) (z .want ∷ [])))
+lowest-taken k memory z z′ first none (inr (inr (inr g))) = not-both (g .second) first
 
-some-taken : (k : ℕ) (memory : ℕ → Page) (z z′ : Stand) → z′ .beside ≡ [] → Takes k memory z z′ → 1 ≤ length (z′ .path)
-some-taken k memory z z′ none (inl g) = omega (arith, ap length (g .holds))
-some-taken k memory z z′ none (inr (inl g)) = omega (arith, ap length (g .holds), length-append (z .path) (z .want ∷ []))
-some-taken k memory z z′ none (inr (inr g)) =
+some-taken : (k : ℕ) (memory : ℕ → Page) (z z′ : Stand) → isSecond (z .op) ≡ false → z′ .beside ≡ [] → Takes k memory z z′ → 1 ≤ length (z′ .path)
+some-taken k memory z z′ first none (inl g) = omega (arith, ap length (g .holds))
+some-taken k memory z z′ first none (inr (inl g)) = omega (arith, ap length (g .holds), length-append (z .path) (z .want ∷ []))
+some-taken k memory z z′ first none (inr (inr (inl g))) =
     absurd (omega (arith, ap length (sym none ∙ g .holds), length-append (z .beside) (z .want ∷ [])))
+some-taken k memory z z′ first none (inr (inr (inr g))) = not-both (g .second) first
 
-module _ (st : State) (ws : List ℕ) (inv : Invariant st ws) (s x v : ℕ) (b : s < slotCount) (runs : Opened st s (Insert x v)) where
+module _ (st : State) (ws : List ℕ) (inv : Invariant st ws) (s x v : ℕ) (b : s < slotCount) (runs : Opened st s (Insert x v First)) where
   abbrev memory : ℕ → Page
   memory = pageAt (st .k) ws
 
@@ -69,24 +82,24 @@ module _ (st : State) (ws : List ℕ) (inv : Invariant st ws) (s x v : ℕ) (b :
   Here r = RoomExact (st .k) (st .n) ws (inv .height) (inv .tree) x r
 
   -- an insertion that is granted its leaf does not go on
-  not-onward : (op : Op) (z : Stand) → isLeaf (memory (wantAt st s)) ≡ true → z .op ≡ Insert x v
+  not-onward : (op : Op) (z : Stand) → isSecond op ≡ false → isLeaf (memory (wantAt st s)) ≡ true → z .op ≡ Insert x v First
       → Stance (st .k) memory (inv .height) (inv .tree) z
       → Takes (st .k) memory (standOf op (slotAt st s)) z → ⊥
-  not-onward op z leaf same stance takes =
+  not-onward op z first leaf same stance takes =
       by-place (where-it-stands (st .k) (st .n) memory (inv .height) (inv .tree) z (inv .forms .forms)
-      (subst (λ (o : Op). keyOf o < wordRange) (sym same) (inv .keys s (Insert x v) b runs)) stance)
+      (subst (λ (o : Op). keyOf o < wordRange) (sym same) (inv .keys s (Insert x v First) b runs)) stance)
     where
       by-place : Where memory (inv .height) (inv .tree) z → ⊥
       by-place (atStart none alone _) =
-          let some = some-taken (st .k) memory (standOf op (slotAt st s)) z alone takes in
+          let some = some-taken (st .k) memory (standOf op (slotAt st s)) z first alone takes in
           omega (arith, ap length none)
       by-place (onTheWay low stands alone _) =
-          let taken = lowest-taken (st .k) memory (standOf op (slotAt st s)) z alone takes in
+          let taken = lowest-taken (st .k) memory (standOf op (slotAt st s)) z first alone takes in
           let level : memory (lowestOf (z .path)) .level ≡ 1 = ap (λ (p : ℕ). memory p .level) taken ∙ eqb-true (memory (wantAt st s) .level) 1 leaf in
           omega (arith, stands .level)
       by-place (atTheLeaf _ _ deletes) = not-both deletes (ap goesBeside same)
 
-  plain-room : (a : Answer) (next : State) (words : List ℕ) → a ≡ plain (Insert x v) es .answer
+  plain-room : (a : Answer) (next : State) (words : List ℕ) → a ≡ plain (Insert x v First) es .answer
       → (has x es ≡ false → treeRoom (st .k) x (inv .height) (inv .tree) ≤ length (freePages (st .k) (st .n) ws)) → Here (left a next words)
   unfolding plain
   plain-room a next words e enough = record {
@@ -96,11 +109,11 @@ module _ (st : State) (ws : List ℕ) (inv : Invariant st ws) (s x v : ℕ) (b :
   }
 
   ended-room : (a : Answer) (writes : List Write) (next : State) (words : List ℕ)
-      → Ended (st .k) (st .n) ws (inv .height) (inv .tree) (standOf (Insert x v) (slotAt st s)) a writes → Here (left a next words)
+      → Ended (st .k) (st .n) ws (inv .height) (inv .tree) (standOf (Insert x v First) (slotAt st s)) a writes → Here (left a next words)
   ended-room a writes next words e =
-      ⊎-elim (λ p. plain-room a next words (p .answer) (p .room x v refl)) (λ r. roomless (r .0)) (e .how)
+      ⊎-elim (λ p. plain-room a next words (p .answer) (p .room x v First refl)) (λ r. roomless (r .0)) (e .how)
     where
-      roomless : NoRoomLeft (Insert x v) (st .k) (st .n) ws (inv .height) (inv .tree) a writes → Here (left a next words)
+      roomless : NoRoomLeft (Insert x v First) (st .k) (st .n) ws (inv .height) (inv .tree) a writes → Here (left a next words)
       roomless r =
           let same : r .key ≡ x = sym (ap keyOf (r .inserts)) in
           record {
@@ -115,11 +128,13 @@ module _ (st : State) (ws : List ℕ) (inv : Invariant st ws) (s x v : ℕ) (b :
   exact-here g leaf (noSlot c e) = absurd (omega arith)
   exact-here g leaf (idle c d e) = not-both (ap isOpen runs) d
   exact-here g leaf (waits op c rs h e) = not-both g h
-  exact-here g leaf (onward op z c rs h e same stance takes) = absurd (not-onward op z leaf (same ∙ same-op (sym rs ∙ runs)) stance takes)
-  exact-here g leaf (over op a writes c rs h e ends) =
+  exact-here g leaf (onward op z c rs h e same stance locked takes) =
+      let asked : op ≡ Insert x v First = same-op (sym rs ∙ runs) in
+      absurd (not-onward op z (ap isSecond asked) leaf (same-taken (st .k) memory (standOf op (slotAt st s)) z (ap isSecond asked) takes ∙ asked) stance takes)
+  exact-here g leaf (over op a writes c rs h e done) =
       subst Here (sym e)
       (ended-room a writes (closes st s) (applied (st .k) writes ws)
-      (subst (λ (o : Op). Ended (st .k) (st .n) ws (inv .height) (inv .tree) (standOf o (slotAt st s)) a writes) (same-op (sym rs ∙ runs)) ends))
+      (subst (λ (o : Op). Ended (st .k) (st .n) ws (inv .height) (inv .tree) (standOf o (slotAt st s)) a writes) (same-op (sym rs ∙ runs)) done))
 
 -- ---- a step answered NoRoom
 
@@ -143,34 +158,54 @@ module _ (st : State) (ws : List ℕ) (inv : Invariant st ws) (s : ℕ) where
   pages = pageAt (st .k) ws
 
   -- an insertion does not end above the leaves
-  leaf-reached : (x v : ℕ) → s < slotCount → Opened st s (Insert x v) → grants st s ≡ true → stepped st ws s .answer ≡ NoRoom → isLeaf (pageAt (st .k) ws (wantAt st s)) ≡ true
-  leaf-reached x v b runs g none = by-comes (granted-comes (st .k) (st .n) ws (inv .height) (inv .tree) (standOf (Insert x v) (slotAt st s)) (scene st ws inv s (Insert x v) b runs))
+  leaf-reached : (x v : ℕ) → s < slotCount → Opened st s (Insert x v First) → grants st s ≡ true → stepped st ws s .answer ≡ NoRoom → isLeaf (pageAt (st .k) ws (wantAt st s)) ≡ true
+  leaf-reached x v b runs g none = by-comes (granted-comes (st .k) (st .n) ws (inv .height) (inv .tree) (standOf (Insert x v First) (slotAt st s)) (scene st ws inv s (Insert x v First) b runs))
     where
-      above : Where pages (inv .height) (inv .tree) (standOf (Insert x v) (slotAt st s)) → atItsLeaf pages (reverse path) ≡ false
+      above : Where pages (inv .height) (inv .tree) (standOf (Insert x v First) (slotAt st s)) → atItsLeaf pages (reverse path) ≡ false
       above (atStart e _ _) = start-above pages (inv .height) (inv .tree) path e
       above (onTheWay low w _ _) = low-above pages (inv .height) (inv .tree) path low w
       above (atTheLeaf _ _ deletes) = absurd (false≢true deletes)
 
-      by-comes : Comes (st .k) (st .n) ws (inv .height) (inv .tree) (standOf (Insert x v) (slotAt st s)) → isLeaf (pages (wantAt st s)) ≡ true
-      by-comes (moves z′ e same stance takes) =
-          absurd (says-not Moved (goesOn st s z′) ws moved-not (granted-does st ws inv s (Insert x v) b runs g ∙ ap (acted st ws s) e) none)
+      by-comes : Comes (st .k) (st .n) ws (inv .height) (inv .tree) (standOf (Insert x v First) (slotAt st s)) → isLeaf (pages (wantAt st s)) ≡ true
+      by-comes (moves z′ e same stance locked takes) =
+          absurd (says-not Moved (goesOn st s z′) ws moved-not (granted-does st ws inv s (Insert x v First) b runs g ∙ ap (acted st ws s) e) none)
       by-comes (stops a writes e ended) =
-          coming-ends (st .k) (st .n) ws (standOf (Insert x v) (slotAt st s))
-          (above (where-it-stands (st .k) (st .n) pages (inv .height) (inv .tree) (standOf (Insert x v) (slotAt st s)) (inv .forms .forms) (inv .keys s (Insert x v) b runs) (inv .stands s (Insert x v) b runs)))
+          coming-ends (st .k) (st .n) ws (standOf (Insert x v First) (slotAt st s))
+          (above (where-it-stands (st .k) (st .n) pages (inv .height) (inv .tree) (standOf (Insert x v First) (slotAt st s)) (inv .forms .forms) (inv .keys s (Insert x v First) b runs) (inv .stands s (Insert x v First) b runs)))
           a writes e
+
+  -- nor does an update by the second way lack room
+  acted-lacks : (op : Op) (v : Verdict) → FirstLacks op v → acted st ws s v .answer ≡ NoRoom → isSecond op ≡ false
+  unfolding member
+  acted-lacks op broken h e = absurd (false≢true (ap (λ (r : Answer). isOneOf r (NoRoom ∷ [])) e))
+  acted-lacks op (goes z) h e = absurd (false≢true (ap (λ (r : Answer). isOneOf r (NoRoom ∷ [])) e))
+  acted-lacks op (ends a writes) h e = h e
+
+  lacks-first : (op : Op) → s < slotCount → Opened st s op → grants st s ≡ true → stepped st ws s .answer ≡ NoRoom → isSecond op ≡ false
+  lacks-first op b runs g none =
+      by-test (isSecond op)
+      (λ second. acted-lacks op (verdict (st .k) (st .n) ws (standOf op (slotAt st s)))
+      (coming-lacks (st .k) (st .n) ws (standOf op (slotAt st s)) (second-above st ws inv s op b runs second))
+      (sym (ap (λ (r : Left). r .answer) (granted-does st ws inv s op b runs g)) ∙ none))
+      (λ first. first)
+
+  by-first : (x v : ℕ) (way : Way) → isSecond (Insert x v way) ≡ false → way ≡ First
+  by-first x v First e = refl
+  by-first x v Second e = not-both refl e
 
   says-here : stepped st ws s .answer ≡ NoRoom → StepOf st ws inv s → Says (stepped st ws s)
   unfolding member applied
   says-here none (noSlot c e) = absurd (says-not _ _ _ refl e none)
   says-here none (idle c d e) = absurd (says-not _ _ _ refl e none)
   says-here none (waits op c rs h e) = absurd (says-not _ _ _ refl e none)
-  says-here none (onward op z c rs h e same stance takes) = absurd (says-not _ _ _ refl e none)
-  says-here none (over op a writes c rs h e ends) =
+  says-here none (onward op z c rs h e same stance locked takes) = absurd (says-not _ _ _ refl e none)
+  says-here none (over op a writes c rs h e done) =
       let here : a ≡ NoRoom = sym (ap (λ (r : Left). r .answer) e) ∙ none in
       ⊎-elim
       (λ p. not-both (ap (λ (y : Answer). isOneOf y countedAnswers) (p .answer) ∙ plain-counted op (entriesOf (inv .height) (inv .tree))) (ap (λ (y : Answer). isOneOf y countedAnswers) here))
       (λ r.
-      let inserts-so : Opened st s (Insert (r .0 .key) (r .0 .lot)) = rs ∙ ap (λ (o : Op). Open o) (r .0 .inserts) in
+      let first : r .0 .way ≡ First = by-first (r .0 .key) (r .0 .lot) (r .0 .way) (sym (ap isSecond (r .0 .inserts)) ∙ lacks-first op c rs h none) in
+      let inserts-so : Opened st s (Insert (r .0 .key) (r .0 .lot) First) = rs ∙ ap Open (r .0 .inserts ∙ ap (Insert (r .0 .key) (r .0 .lot)) first) in
       record {
         key = r .0 .key;
         lot = r .0 .lot;
@@ -181,7 +216,7 @@ module _ (st : State) (ws : List ℕ) (inv : Invariant st ws) (s : ℕ) where
         needsMore = r .0 .needsMore;
         words = ap (λ (q : Left). q .words) e ∙ ap (λ (W : List Write). applied (st .k) W ws) (r .0 .nothing);
       })
-      (ends .how)
+      (done .how)
 
 -- For whatever tree the words form: there is one.
 pub room : (st : State) (ws : List ℕ) → Invariant st ws → Room (st .k) (st .n) st ws

@@ -1,7 +1,7 @@
 -- The lot that a Next answers stands on the leaf that its last step was granted: read off the rule.
 use Prim.Native.Nat.{ℕ, _<_}
-use mathlib.Core.Bool.{true, false, false≢true}
-use mathlib.Core.List.{List, [], _∷_, reverse, reverse-append}
+use mathlib.Core.Bool.{true, false, not, _&&_, false≢true}
+use mathlib.Core.List.{List, [], _∷_, _++_, reverse, reverse-append}
 use mathlib.Core.Path.{_≡_, refl, sym, ap, _∙_, subst}
 use borrow.Author.Tests.{eqb-true}
 use lib.Dec.{leb, ltb, eqb}
@@ -18,10 +18,10 @@ use Rattle.slots.specs.declared.Op.the-variants.{Search, Insert, Delete, Next, 
 use Rattle.slots.specs.declared.State.{State}
 use Rattle.slots.specs.declared.Answer.{Answer}
 use Rattle.slots.specs.declared.Answer.the-variants.{Moved, Found, NotFound, Inserted, AlreadyThere, Deleted, NoSuchKey, NoRoom, Damaged, None as NoLot, Regraded}
-use Rattle.slots.specs.Parts.{keyOf, isNext, Stand, onPages, wantBeside, standOf, slotAt, wantAt, Opened}
+use Rattle.slots.specs.Parts.{keyOf, isNext, isSecond, Stand, onPages, wantBeside, standOf, slotAt, wantAt, Opened}
 use Rattle.slots.specs.Heard.{heard, numberOf}
 use Rattle.slots.specs.Grant.{grants}
-use Rattle.footing.specs.Granted.{Verdict, broken, goes, ends, isSafe, kept, byNeed, deletes, nextAnswer, crosses, byNearest, atLeaf, fromLeaf, comesDown, goesLeft, besides, atItsLeaf, granted}
+use Rattle.footing.specs.Granted.{Verdict, broken, goes, ends, isSafe, kept, byNeed, deletes, nextAnswer, crosses, byNearest, staysSecond, atLeaf, fromLeaf, byWayAtLeaf, comesDown, goesLeft, besides, atItsLeaf, granted}
 use Rattle.footing.specs.Fitting.{soundForStep, verdict}
 use Rattle.index.specs.Step.{Left, acted, stepped}
 use Rattle.runs.specs.PlainFacts.{Among}
@@ -88,24 +88,30 @@ leaf-seen (Search x) k memory free z leaf fathers h =
     cond-ind (Seen (memory leaf)) (has x (memory leaf .entries))
     (λ _. no-next (memory leaf) (Found (information x (memory leaf .entries))) refl)
     (λ _. no-next (memory leaf) NotFound refl)
-leaf-seen (Insert x v) k memory free z leaf fathers h =
+leaf-seen (Insert x v way) k memory free z leaf fathers h =
     cond-ind (SeenBy (memory leaf)) (has x (memory leaf .entries))
     (λ _. no-next (memory leaf) (AlreadyThere (information x (memory leaf .entries))) refl)
     (λ _.
     cond-ind (SeenBy (memory leaf)) (ltb (length free) (room k memory leaf (z .path)))
     (λ _. no-next (memory leaf) NoRoom refl)
     (λ _. no-next (memory leaf) Inserted refl))
-leaf-seen (Delete x) k memory free z leaf fathers h =
+leaf-seen (Delete x way) k memory free z leaf fathers h =
     cond-ind (SeenBy (memory leaf)) (has x (memory leaf .entries))
     (λ _. deletes-seen (memory leaf) k memory x z leaf fathers)
     (λ _. no-next (memory leaf) NoSuchKey refl)
 leaf-seen (Next x) k memory free z leaf fathers h =
     nearest-seen (memory leaf) h (crosses x k memory z (z .path)) (crosses-seen (memory leaf) x k memory z (z .path))
     (atOrAbove x (memory leaf .entries)) (above-among x (memory leaf .entries))
-leaf-seen (Regrade x v) k memory free z leaf fathers h =
+leaf-seen (Regrade x v way) k memory free z leaf fathers h =
     cond-ind (SeenBy (memory leaf)) (has x (memory leaf .entries))
     (λ _. no-next (memory leaf) (Regraded (information x (memory leaf .entries))) refl)
     (λ _. no-next (memory leaf) NoSuchKey refl)
+
+-- by its way: where it begins again it tells nothing
+way-seen : (k : ℕ) (memory : ℕ → Page) (free : List ℕ) (z : Stand) (leaf : ℕ) (fathers : List ℕ) → isLeaf (memory leaf) ≡ true
+    → SeenBy (memory leaf) (byWayAtLeaf k memory free z leaf fathers)
+way-seen k memory free z leaf fathers h =
+    cond-ind (SeenBy (memory leaf)) (isSecond (z .op) && not (staysSecond (z .op) k memory leaf)) (λ _. tt) (λ _. leaf-seen (z .op) k memory free z leaf fathers h)
 
 -- ---- a granted step
 
@@ -114,21 +120,20 @@ module _ (k : ℕ) (memory : ℕ → Page) (free : List ℕ) (z : Stand) where
   P = memory (z .want)
 
   -- the lowest page that it holds, coming down, is the granted one
-  lowest-seen : (down : Stand) → isLeaf P ≡ true
-      → SeenBy P (fromLeaf (λ (leaf : ℕ) (fathers : List ℕ). atLeaf (z .op) k memory free down leaf fathers) (reverse (kept k memory z)))
-  lowest-seen down leaf =
+  lowest-seen : isLeaf P ≡ true → SeenBy P (fromLeaf (byWayAtLeaf k memory free (onPages z (kept k memory z) [])) (reverse (kept k memory z)))
+  lowest-seen leaf =
       cond-ind
-      (λ (ps : List ℕ). SeenBy P (fromLeaf (λ (leaf : ℕ) (fathers : List ℕ). atLeaf (z .op) k memory free down leaf fathers) (reverse ps)))
+      (λ (ps : List ℕ). SeenBy P (fromLeaf (byWayAtLeaf k memory free (onPages z ps [])) (reverse ps)))
       (isSafe (z .op) k P)
-      (λ _. leaf-seen (z .op) k memory free down (z .want) [] leaf)
+      (λ _. way-seen k memory free (onPages z (z .want ∷ []) []) (z .want) [] leaf)
       (λ _.
-      subst (λ (up : List ℕ). SeenBy P (fromLeaf (λ (leaf : ℕ) (fathers : List ℕ). atLeaf (z .op) k memory free down leaf fathers) up))
+      subst (λ (up : List ℕ). SeenBy P (fromLeaf (byWayAtLeaf k memory free (onPages z (z .path ++ z .want ∷ []) [])) up))
       (sym (reverse-append (z .path) (z .want ∷ [])))
-      (leaf-seen (z .op) k memory free down (z .want) (reverse (z .path)) leaf))
+      (way-seen k memory free (onPages z (z .path ++ z .want ∷ []) []) (z .want) (reverse (z .path)) leaf))
 
   coming-seen : SeenBy P (comesDown k memory free z)
   unfolding comesDown
-  coming-seen = cond-ind (SeenBy P) (isLeaf P) (λ leaf. lowest-seen (onPages z (kept k memory z) []) leaf) (λ _. tt)
+  coming-seen = cond-ind (SeenBy P) (isLeaf P) (λ leaf. lowest-seen leaf) (λ _. tt)
 
   left-seen : SeenBy P (goesLeft memory z)
   unfolding goesLeft

@@ -3,30 +3,35 @@ use Prim.Native.Nat.{ℕ, _≤_, _<_}
 use mathlib.Core.Bool.{Bool, true, _&&_, _||_}
 use mathlib.Core.List.{_∷_}
 use mathlib.Core.Logic.{_⊎_, inl, inr, ⊎-elim}
-use mathlib.Core.Path.{_≡_, refl, sym, ap}
+use mathlib.Core.Path.{_≡_, refl, sym, ap, subst, _∙_}
 use native.Mathlib.Omega.{arith}
 use lib.Dec.{leb, ltb, eqb}
 use borrow.Author.Tests.{leb-true, le-leb, ltb-true, lt-ltb, eqb-true, eq-eqb}
-use Rattle.ground.specs.Limits.{largestK, largestN, tallest, slotCount, searchHolds, regradeHolds, pathHolds, siblingHolds}
+use Rattle.ground.specs.Limits.{largestK, largestN, tallest, slotCount, searchHolds, regradeHolds, secondHolds, pathHolds, siblingHolds}
 use Rattle.ground.proofs.Bools.{not-both, false-if-not-true, and-first, and-second, and-both, or-first, or-second, or-cases}
 use Rattle.ground.proofs.Tests.{member-at, distinct-at, distinct-from}
+use Rattle.slots.specs.declared.Op.{Op}
 use Rattle.slots.specs.declared.Op.the-variants.{Search, Insert, Delete, Next, Regrade}
+use Rattle.slots.specs.declared.Way.the-variants.{First, Second}
+use Rattle.slots.specs.declared.Lock.{Lock}
+use Rattle.slots.specs.declared.Lock.the-variants.{Xi}
 use Rattle.slots.specs.declared.Task.{Task}
 use Rattle.slots.specs.declared.Task.the-variants.{Closed, Open}
 use Rattle.slots.specs.declared.State.{State}
-use Rattle.slots.specs.Parts.{isOpen, held, slotAt, wantAt, waitingOrder}
-use Rattle.slots.specs.Locks.{lockHeldAt, clash}
-use Rattle.slots.specs.Sound.{withinLimits, sound}
+use Rattle.slots.specs.Parts.{isOpen, isSecond, heldLock, held, slotAt, wantAt, waitingOrder}
+use Rattle.slots.specs.Locks.{lockHeldAt, sameLock, canWant, clash}
+use Rattle.slots.specs.Sound.{withinLimits, wantsRightly, sound}
 use Rattle.slots.proofs.SoundFacts.{SoundState, sound-facts, facts-sound}
 use Rattle.slots.proofs.Clashes.{update-alone}
+use Rattle.slots.proofs.LockLaws.{same-lock, lock-same, can-want-held}
 use Rattle.runs.proofs.Progress.{opened}
 use Rattle.promises.specs.Terms.{Exactly}
-use Rattle.promises.specs.SoundState.{Numbers, InLimits, IsSound}
-use Rattle.promises.proofs.Terms.{in-member, xi-updates, updates-xi, clash-xi}
+use Rattle.promises.specs.SoundState.{Numbers, InLimits, CanWant, IsSound}
+use Rattle.promises.proofs.Terms.{in-member, holds-rho, holds-xi, one-kind, second-named, named-second, xi-excludes, excludes-xi, clash-xi}
 
 pub numbers : Numbers
-unfolding largestK largestN tallest slotCount searchHolds regradeHolds pathHolds siblingHolds
-numbers = record { widest = refl; largest = refl; highest = refl; slots = refl; search = refl; path = refl; siblings = refl; regrading = refl }
+unfolding largestK largestN tallest slotCount searchHolds regradeHolds secondHolds pathHolds siblingHolds
+numbers = record { widest = refl; largest = refl; highest = refl; slots = refl; search = refl; path = refl; siblings = refl; regrading = refl; second = refl }
 
 -- ---- how many pages a slot holds
 
@@ -60,18 +65,50 @@ none-from most path beside (p, b) = within-from most 0 path beside (p, omega (ar
 limits-told : (task : Task) (path beside : ℕ) → withinLimits task path beside ≡ true → InLimits task path beside
 limits-told Closed path beside h = let (p, b) = none-told 0 path beside h in (omega (arith, p), b)
 limits-told (Open (Search x)) path beside h = none-told searchHolds path beside h
-limits-told (Open (Insert x v)) path beside h = none-told pathHolds path beside h
-limits-told (Open (Delete x)) path beside h = within-told pathHolds siblingHolds path beside h
+limits-told (Open (Insert x v First)) path beside h = none-told pathHolds path beside h
+limits-told (Open (Insert x v Second)) path beside h = none-told secondHolds path beside h
+limits-told (Open (Delete x First)) path beside h = within-told pathHolds siblingHolds path beside h
+limits-told (Open (Delete x Second)) path beside h = none-told secondHolds path beside h
 limits-told (Open (Next x)) path beside h = within-told pathHolds siblingHolds path beside h
-limits-told (Open (Regrade x v)) path beside h = none-told regradeHolds path beside h
+limits-told (Open (Regrade x v First)) path beside h = none-told regradeHolds path beside h
+limits-told (Open (Regrade x v Second)) path beside h = none-told secondHolds path beside h
 
 limits-from : (task : Task) (path beside : ℕ) → InLimits task path beside → withinLimits task path beside ≡ true
 limits-from Closed path beside (p, b) = none-from 0 path beside (omega (arith, p), b)
 limits-from (Open (Search x)) path beside h = none-from searchHolds path beside h
-limits-from (Open (Insert x v)) path beside h = none-from pathHolds path beside h
-limits-from (Open (Delete x)) path beside h = within-from pathHolds siblingHolds path beside h
+limits-from (Open (Insert x v First)) path beside h = none-from pathHolds path beside h
+limits-from (Open (Insert x v Second)) path beside h = none-from secondHolds path beside h
+limits-from (Open (Delete x First)) path beside h = within-from pathHolds siblingHolds path beside h
+limits-from (Open (Delete x Second)) path beside h = none-from secondHolds path beside h
 limits-from (Open (Next x)) path beside h = within-from pathHolds siblingHolds path beside h
-limits-from (Open (Regrade x v)) path beside h = none-from regradeHolds path beside h
+limits-from (Open (Regrade x v First)) path beside h = none-from regradeHolds path beside h
+limits-from (Open (Regrade x v Second)) path beside h = none-from secondHolds path beside h
+
+-- ---- the kind of lock that it wants
+
+wants-told : (op : Op) (lock : Lock) → canWant op lock ≡ true → CanWant op lock
+wants-told op lock h =
+    ⊎-elim
+    (λ e. ⊎-elim
+    (λ r. inl (same-lock lock (heldLock op) e ∙ holds-rho op r, r))
+    (λ never. inr (same-lock lock (heldLock op) e ∙ holds-xi op never, inl never))
+    (one-kind op))
+    (λ e. inr (same-lock lock Xi (and-second (isSecond op) (sameLock lock Xi) e), inr (second-named op (and-first (isSecond op) (sameLock lock Xi) e))))
+    (or-cases (sameLock lock (heldLock op)) (isSecond op && sameLock lock Xi) h)
+
+wants-from : (op : Op) (lock : Lock) → CanWant op lock → canWant op lock ≡ true
+wants-from op lock (inl (e, r)) = ap (canWant op) (e ∙ sym (holds-rho op r)) ∙ can-want-held op
+wants-from op lock (inr (e, inl never)) = ap (canWant op) (e ∙ sym (holds-xi op never)) ∙ can-want-held op
+wants-from op lock (inr (e, inr second)) =
+    ap (canWant op) e ∙ or-second (sameLock Xi (heldLock op)) (and-both (named-second op second) (lock-same Xi))
+
+-- of a task; a closed slot's want is not looked at
+rightly-told : (task : Task) (op : Op) (lock : Lock) → wantsRightly task lock ≡ true → task ≡ Open op → CanWant op lock
+rightly-told task op lock h e = wants-told op lock (subst (λ (t : Task). wantsRightly t lock ≡ true) e h)
+
+rightly-from : (task : Task) (lock : Lock) → ((op : Op) → task ≡ Open op → CanWant op lock) → wantsRightly task lock ≡ true
+rightly-from Closed lock f = refl
+rightly-from (Open op) lock f = wants-from op lock (f op refl)
 
 -- ---- the whole
 
@@ -90,9 +127,10 @@ told st f = record {
   below = λ s p b o i. f .slot s b .below (ap isOpen (o .1)) p (in-member p (wantAt st s ∷ held (slotAt st s)) i);
   different = λ s b o. distinct-at (wantAt st s ∷ held (slotAt st s)) 0 (f .slot s b .different (ap isOpen (o .1)));
   limits = λ s b. limits-told (slotAt st s .task) (slotAt st s .depth) (slotAt st s .breadth) (f .slot s b .limits);
+  wants = λ s op b runs. rightly-told (slotAt st s .task) op (slotAt st s .lock) (f .slot s b .rightly) runs;
   alone = λ s t p b c n u i j.
       not-both (in-member p (held (slotAt st t)) j)
-      (update-alone st f s t p b c n (updates-xi (slotAt st s .task) (u .0) (u .1) (u .2)) (in-member p (held (slotAt st s)) i));
+      (update-alone st f s t p b c n (excludes-xi (slotAt st s .task) (u .0) (u .1) (u .2)) (in-member p (held (slotAt st s)) i));
 }
 
 from : (st : State) → IsSound st → SoundState st
@@ -110,13 +148,14 @@ from st g = record {
     limits = limits-from (slotAt st s .task) (slotAt st s .depth) (slotAt st s .breadth) (g .limits s b);
     below = λ o p m. g .below s p b (opened (slotAt st s .task) o) (member-at p (wantAt st s ∷ held (slotAt st s)) 0 m);
     different = λ o. distinct-from (wantAt st s ∷ held (slotAt st s)) 0 (g .different s b (opened (slotAt st s .task) o));
+    rightly = rightly-from (slotAt st s .task) (slotAt st s .lock) (λ op runs. g .wants s op b runs);
   };
   locks = λ s t b c n p h m. false-if-not-true (clash (lockHeldAt st s p) (lockHeldAt st t p)) (λ e.
       let mine = member-at p (held (slotAt st s)) 0 h in
       let theirs = member-at p (held (slotAt st t)) 0 m in
       ⊎-elim
-      (λ x. g .alone s t p b c n (xi-updates (slotAt st s .task) x) mine theirs)
-      (λ x. g .alone t s p c b (λ q. n (sym q)) (xi-updates (slotAt st t .task) x) theirs mine)
+      (λ x. g .alone s t p b c n (xi-excludes (slotAt st s .task) x) mine theirs)
+      (λ x. g .alone t s p c b (λ q. n (sym q)) (xi-excludes (slotAt st t .task) x) theirs mine)
       (clash-xi (lockHeldAt st s p) (lockHeldAt st t p) e));
 }
 

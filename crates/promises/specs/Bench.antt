@@ -8,6 +8,7 @@ use Rattle.pool.specs.Pool.{poolLength, wordsOf, pageAt, freePages}
 use Rattle.change.specs.Insertion.{room}
 use Rattle.slots.specs.declared.Op.{Op}
 use Rattle.slots.specs.declared.Op.the-variants.{Search, Insert, Delete}
+use Rattle.slots.specs.declared.Way.the-variants.{First}
 use Rattle.slots.specs.declared.Answer.the-variants.{Moved, Found, NotFound, AlreadyThere, Deleted, NoRoom, Begun}
 use Rattle.slots.specs.Heard.{heard}
 use Rattle.slots.specs.Parts.{wantAt}
@@ -35,7 +36,7 @@ runs s op n = begin s op ∷ steps s n
 
 -- "information 7 throughout"
 abbrev pub puts : ℕ → List Call
-puts x = runs 0 (Insert x 7) 1
+puts x = runs 0 (Insert x 7 First) 1
 
 -- 10 and 20 inserted, then 30
 abbrev pub two : List Call
@@ -64,10 +65,10 @@ abbrev pub caseE : Told
 caseE = pool 3 three
 
 abbrev pub delete10 : List Call
-delete10 = runs 0 (Delete 10) 3
+delete10 = runs 0 (Delete 10 First) 3
 
 abbrev pub delete20 : List Call
-delete20 = runs 0 (Delete 20) 3
+delete20 = runs 0 (Delete 20 First) 3
 
 -- the words of pages 0, 1 and 2
 abbrev pub pages : Told → List (List ℕ)
@@ -109,6 +110,6 @@ bench =
     (heard Begun ∷ heard Moved ∷ heard Moved ∷ heard (Deleted 7)
     ∷ (1 ∷ 1 ∷ 30 ∷ 7 ∷ 0 ∷ 0 ∷ 0 ∷ []) ∷ (0 ∷ 0 ∷ 0 ∷ 0 ∷ 0 ∷ 0 ∷ 0 ∷ []) ∷ (0 ∷ 0 ∷ 0 ∷ 0 ∷ 0 ∷ 0 ∷ 0 ∷ []) ∷ [])
     -- "I: in E, insert 20: AlreadyThere, words unchanged." 02 (iv): "Case I becomes AlreadyThere 7."
-    ∷ row (heardIn (goingOn caseE (runs 0 (Insert 20 7) 2)) ++ pages (goingOn caseE (runs 0 (Insert 20 7) 2)))
+    ∷ row (heardIn (goingOn caseE (runs 0 (Insert 20 7 First) 2)) ++ pages (goingOn caseE (runs 0 (Insert 20 7 First) 2)))
     (heard Begun ∷ heard Moved ∷ heard (AlreadyThere 7) ∷ pages caseE)
     ∷ []

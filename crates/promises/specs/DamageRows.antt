@@ -5,6 +5,7 @@ use Prim.Native.Nat.{ℕ}
 use mathlib.Core.List.{List, [], _∷_, _++_}
 use Rattle.slots.specs.declared.Op.{Op}
 use Rattle.slots.specs.declared.Op.the-variants.{Search, Insert, Delete, Regrade}
+use Rattle.slots.specs.declared.Way.the-variants.{First}
 use Rattle.slots.specs.declared.Lock.the-variants.{Xi}
 use Rattle.slots.specs.declared.Answer.the-variants.{Reported}
 use Rattle.slots.specs.Heard.{heard}
@@ -32,11 +33,11 @@ toSixty =
 
 -- slot 0 inserts 65 there; it wants this page, and holds this path and these beside it
 abbrev pub inserting : ℕ → List ℕ → List ℕ → Told
-inserting want path beside = ran [] (slotOpen 11 (Insert 65 7) want path beside) toSixty
+inserting want path beside = ran [] (slotOpen 11 (Insert 65 7 First) want path beside) toSixty
 
 -- slot 0 deletes 10 where page 0 stands over pages 5 and 6, page 5 over the leaves 1 and 2, and no page but leaf 4 can spare a key
 abbrev pub deleting : ℕ → List ℕ → List ℕ → Told
-deleting want path beside = ran [] (slotOpen 7 (Delete 10) want path beside) tensWords
+deleting want path beside = ran [] (slotOpen 7 (Delete 10 First) want path beside) tensWords
 
 -- slot 0 holds these pages of 20 and wants page 19: what a report for page 18 says
 abbrev pub lookedAt : Op → List ℕ → List ℕ → List (List ℕ)
@@ -100,7 +101,7 @@ spareLeaf = 1 ∷ 2 ∷ 20 ∷ 7 ∷ 21 ∷ 7 ∷ 0 ∷ []
 -- an insertion
 abbrev pub insertionDamage : List Row
 insertionDamage =
-    row (pool 11 (puts 10 ++ puts 20 ++ puts 30 ++ runs 0 (Insert 40 7) 2 ++ runs 0 (Insert 50 7) 2 ++ runs 0 (Insert 60 7) 3) .words ∷ [])
+    row (pool 11 (puts 10 ++ puts 20 ++ puts 30 ++ runs 0 (Insert 40 7 First) 2 ++ runs 0 (Insert 50 7 First) 2 ++ runs 0 (Insert 60 7 First) 3) .words ∷ [])
     (toSixty ∷ [])
     -- No damage: it comes down, and at the leaf the lot is inserted.
     ∷ row (once insertBefore0 ++ once insertBefore6 ++ once insertBefore7)
@@ -245,7 +246,7 @@ deletionDamage =
     ∷ row (once (deleting 1 (0 ∷ 5 ∷ []) (2 ∷ [])) ++ once deleteBefore1)
     (damagedStep ∷ onward ∷ [])
     -- At the leaf the key is there: 10, not 11. Page 0 as a leaf needs no sibling.
-    ∷ row (once (ran [] (slotOpen 7 (Delete 11) 2 (0 ∷ 5 ∷ 1 ∷ []) []) tensWords) ++ once deleteBefore2)
+    ∷ row (once (ran [] (slotOpen 7 (Delete 11 First) 2 (0 ∷ 5 ∷ 1 ∷ []) []) tensWords) ++ once deleteBefore2)
     (damagedStep ∷ onward ∷ [])
     ∷ row (once (withPage (deleting 1 (0 ∷ []) []) 0 (1 ∷ 1 ∷ 10 ∷ 7 ∷ 0 ∷ 0 ∷ 0 ∷ [])))
     (damagedStep ∷ [])
@@ -261,8 +262,8 @@ deletionDamage =
     ∷ row (once (deleting 3 (0 ∷ 5 ∷ 1 ∷ []) (2 ∷ [])) ++ once deleteBefore6)
     (damagedStep ∷ deleted ∷ [])
     ∷ row
-    (once (withPage (ran [] (slotOpen 7 (Delete 20) 1 (5 ∷ 2 ∷ []) []) tensWords) 5 threeLeaves)
-    ++ once (withPage (ran [] (slotOpen 7 (Delete 20) 3 (5 ∷ 2 ∷ []) []) tensWords) 5 threeLeaves))
+    (once (withPage (ran [] (slotOpen 7 (Delete 20 First) 1 (5 ∷ 2 ∷ []) []) tensWords) 5 threeLeaves)
+    ++ once (withPage (ran [] (slotOpen 7 (Delete 20 First) 3 (5 ∷ 2 ∷ []) []) tensWords) 5 threeLeaves))
     (damagedStep ∷ deleted ∷ [])
     -- "the page it would want next is none that it would then hold": page 5 leads to itself; the leaf's sibling would be page 5; the father's sibling
     -- would be page 2, the leaf's.
@@ -279,13 +280,13 @@ abbrev pub limitRows : List Row
 limitRows =
     row (lookedAt (Search 5) (0 ∷ []) [] ++ lookedAt (Search 5) (0 ∷ 1 ∷ []) [] ++ lookedAt (Search 5) [] [])
     (noHolder ∷ badState ∷ noHolder ∷ [])
-    ∷ row (lookedAt (Regrade 5 8) (0 ∷ []) [] ++ lookedAt (Regrade 5 8) (0 ∷ 1 ∷ []) [])
+    ∷ row (lookedAt (Regrade 5 8 First) (0 ∷ []) [] ++ lookedAt (Regrade 5 8 First) (0 ∷ 1 ∷ []) [])
     (noHolder ∷ badState ∷ [])
-    ∷ row (lookedAt (Insert 5 7) tenPages [] ++ lookedAt (Insert 5 7) elevenPages [] ++ lookedAt (Insert 5 7) (0 ∷ 1 ∷ []) (2 ∷ []))
+    ∷ row (lookedAt (Insert 5 7 First) tenPages [] ++ lookedAt (Insert 5 7 First) elevenPages [] ++ lookedAt (Insert 5 7 First) (0 ∷ 1 ∷ []) (2 ∷ []))
     (noHolder ∷ badState ∷ badState ∷ [])
-    ∷ row (lookedAt (Delete 5) tenPages nineBeside ++ lookedAt (Delete 5) elevenPages [])
+    ∷ row (lookedAt (Delete 5 First) tenPages nineBeside ++ lookedAt (Delete 5 First) elevenPages [])
     (heard (Reported Xi 1 0) ∷ badState ∷ [])
-    ∷ row (lookedAt (Delete 5) (0 ∷ 1 ∷ []) (2 ∷ []) ++ lookedAt (Delete 5) (0 ∷ 1 ∷ []) (2 ∷ 3 ∷ []))
+    ∷ row (lookedAt (Delete 5 First) (0 ∷ 1 ∷ []) (2 ∷ []) ++ lookedAt (Delete 5 First) (0 ∷ 1 ∷ []) (2 ∷ 3 ∷ []))
     (noHolder ∷ badState ∷ [])
     ∷ []
 

@@ -3,8 +3,10 @@
 -- free, no two locks clash, and each step takes and gives up just the locks the rules name."
 -- Next of 02 (i) and the regrading of 02 (iv) are among the operations: whatever is said of every operation is said of them.
 -- 02 (iii): "Demands 2 and 3 stand, with Waiting given exactly by the new rule.": `StepLocks`, its fields waits and waitsFor.
+-- 02 (v), updates by the second way: `AfterEveryCall`, its fields wantsAs, secondHeld and secondAbove; `MovesOn`, its field taken; `Ends`, its
+-- fields writes and stays.
 use Prim.Native.Nat.{ℕ, suc, _-_, _≤_, _<_}
-use mathlib.Core.Bool.{true, false}
+use mathlib.Core.Bool.{true, false, not}
 use mathlib.Core.List.{List, [], _∷_, _++_}
 use mathlib.Core.Logic.{_⊎_, _≢_}
 use mathlib.Core.Path.{_≡_}
@@ -12,23 +14,27 @@ use lib.ListN.{length, replicate}
 use Rattle.ground.specs.Limits.{slotCount}
 use Rattle.ground.specs.Tests.{member, distinct}
 use Rattle.page.specs.Words.{Entry, Page, μ, size}
-use Rattle.page.specs.Place.{place, pointer, atOrAbove}
+use Rattle.page.specs.Place.{place, pointer, has, atOrAbove}
 use Rattle.page.specs.Short.{neighbour}
 use Rattle.pool.specs.Pool.{wordsOf, pageAt}
 use Rattle.slots.specs.declared.Op.{Op}
 use Rattle.slots.specs.declared.Op.the-variants.{Search, Insert, Delete, Next, Regrade}
+use Rattle.slots.specs.declared.Way.{Way}
+use Rattle.slots.specs.declared.Way.the-variants.{First}
+use Rattle.slots.specs.declared.Lock.{Lock}
+use Rattle.slots.specs.declared.Lock.the-variants.{Rho, Xi}
 use Rattle.slots.specs.declared.Task.the-variants.{Open}
 use Rattle.slots.specs.declared.Slot.{Slot}
 use Rattle.slots.specs.declared.State.{State}
 use Rattle.slots.specs.declared.Answer.{Answer}
 use Rattle.slots.specs.declared.Answer.the-variants.{Waiting, Moved, Begun, Next as NextLot, Regraded}
-use Rattle.slots.specs.Parts.{keyOf, isDelete, isNext, goesBeside, held, standOf, slotAt, openAt, wantAt, holdsAt, waitingOrder, Opened}
+use Rattle.slots.specs.Parts.{keyOf, isDelete, isNext, isSecond, firstWay, heldLock, goesBeside, held, standOf, slotAt, openAt, wantAt, holdsAt, waitingOrder, Opened}
 use Rattle.slots.specs.Locks.{lockHeld, lockWanted, clash}
 use Rattle.slots.specs.Grant.{olderThan}
 use Rattle.slots.specs.Sound.{sound}
 use Rattle.slots.specs.Heard.{changesNothing, isOneOf, ending, writing}
 use Rattle.slots.specs.Book.{leaving}
-use Rattle.footing.specs.Granted.{isSafe}
+use Rattle.footing.specs.Granted.{isSafe, answeredAtOnce}
 use Rattle.index.specs.Step.{Left}
 use Rattle.tree.specs.Tree.{Tr, occurs, PoolForms}
 use Rattle.runs.specs.Calls.{Call, begin, step, report, called, CallInWords, answersOf}
@@ -36,7 +42,7 @@ use Rattle.runs.specs.Run.{Start, runFrom, Run}
 use Rattle.runs.specs.Stance.{Safe, Stance, Takes}
 use Rattle.runs.specs.Waits.{Barred, Before}
 use Rattle.runs.specs.PlainFacts.{Among, AllBelow}
-use Rattle.promises.specs.Terms.{Exactly, Reader, Reads, Updates}
+use Rattle.promises.specs.Terms.{Exactly, HoldsRho, BySecond, WithRho, WithXi, WantsXi, WantsAs}
 
 -- ---- after every call
 
@@ -52,13 +58,18 @@ pub record AfterEveryCall (k n : ℕ) (st : State) (ws : List ℕ) : Type 0 wher
   pub free : (q : ℕ) → q < n → occurs q height tree ≡ 0 → wordsOf k q ws ≡ replicate (size k) 0
   -- the state is sound
   pub soundState : sound st ≡ true
-  -- "no two locks clash": two different slots that hold one page both read only
-  pub locks : (s u p : ℕ) → s < slotCount → u < slotCount → s ≢ u → holdsAt st s p ≡ true → holdsAt st u p ≡ true → Reads st s × Reads st u
+  -- "no two locks clash": two different slots that hold one page both hold it with ρ
+  pub locks : (s u p : ℕ) → s < slotCount → u < slotCount → s ≢ u → holdsAt st s p ≡ true → holdsAt st u p ≡ true → WithRho st s × WithRho st u
   -- "just the locks the rules name", where everybody stands: an open slot as `Stance` says; a closed one holds nothing
   pub stands : (s : ℕ) (op : Op) → s < slotCount → Opened st s op → Stance k (pageAt k ws) height tree (standOf op (slotAt st s))
   pub closed : (s : ℕ) → s < slotCount → openAt st s ≡ false → held (slotAt st s) ≡ []
+  -- and with which kind of lock it wants its page
+  pub wantsAs : (s : ℕ) (op : Op) → s < slotCount → Opened st s op → WantsAs (pageAt k ws) (standOf op (slotAt st s))
   -- Regrading: "every page is safe for it, so it holds at most 1"
-  pub oneHeld : (s x v : ℕ) → s < slotCount → Opened st s (Regrade x v) → length (held (slotAt st s)) ≤ 1
+  pub oneHeld : (s x v : ℕ) (way : Way) → s < slotCount → Opened st s (Regrade x v way) → length (held (slotAt st s)) ≤ 1
+  -- By the second way an update holds at most 1 page too, and never a leaf: granted its leaf, it is done with it or begins again.
+  pub secondHeld : (s : ℕ) (op : Op) → s < slotCount → Opened st s op → BySecond op → length (held (slotAt st s)) ≤ 1
+  pub secondAbove : (s p : ℕ) (op : Op) → s < slotCount → Opened st s op → BySecond op → holdsAt st s p ≡ true → pageAt k ws p .level ≢ 1
 
 -- ---- what one call takes and gives up
 
@@ -68,23 +79,37 @@ pub record Unchanged (st : State) (ws : List ℕ) (after : Left) : Type 0 where
   pub state : after .state ≡ st
   pub words : after .words ≡ ws
 
--- Answered Moved: the slot has its lock and goes on.
+-- 02 (v): "otherwise all locks are given up and the operation begins again by the first way. .. Beginning again is answered Moved, and the
+-- want of page 0 goes to the end of the order." Then it is an operation of the first way that has just begun.
+pub record Anew (s : ℕ) (op op′ : Op) (after : Left) : Type 0 where
+  pub second : BySecond op
+  pub first : op′ ≡ firstWay op
+  pub nothing : held (slotAt (after .state) s) ≡ []
+  pub root : wantAt (after .state) s ≡ 0
+  pub excludes : WantsXi (after .state) s
+
+-- Answered Moved: the slot has its lock and goes on, or begins again.
 pub record MovesOn (st : State) (ws : List ℕ) (s : ℕ) (after : Left) : Type 0 where
   pub op : Op
+  pub op′ : Op
   pub opened : Opened st s op
   pub answer : after .answer ≡ Moved
   pub words : after .words ≡ ws
-  pub still : Opened (after .state) s op
-  -- the page that it wanted is now held,
-  pub taken : holdsAt (after .state) s (wantAt st s) ≡ true
-  -- given up are all ancestors or none, by the operation and the page granted, and nothing else
-  pub takes : Takes (st .k) (pageAt (st .k) ws) (standOf op (slotAt st s)) (standOf op (slotAt (after .state) s))
+  pub still : Opened (after .state) s op′
+  -- the page that it wanted is now held, and the operation is the same; or it has begun again,
+  pub taken : ((op′ ≡ op) × (holdsAt (after .state) s (wantAt st s) ≡ true)) ⊎ Anew s op op′ after
+  -- given up are all ancestors or none, by the operation and the page granted, and nothing else; or all, where it begins again
+  pub takes : Takes (st .k) (pageAt (st .k) ws) (standOf op (slotAt st s)) (standOf op′ (slotAt (after .state) s))
   -- "A new want goes to the end of the waiting order.": the others stand in the order they had
   pub order : waitingOrder (after .state) ≡ leaving s (waitingOrder st) ++ s ∷ []
 
 -- the lot that is answered, if it is one, stands on this leaf
 abbrev pub Seen : Page → Answer → Type 0
 Seen P answer = (y v : ℕ) → answer ≡ NextLot y v → (P .level ≡ 1) × Among y v (P .entries)
+
+-- Once granted its want, slot s has a ξ-lock on page q: it wanted it with ξ, or holds it with ξ.
+abbrev pub HasXi : State → ℕ → ℕ → Type 0
+HasXi st s q = ((q ≡ wantAt st s) × WantsXi st s) ⊎ ((holdsAt st s q ≡ true) × WithXi st s)
 
 -- "An answer that ends the operation gives up every lock and closes the slot."
 pub record Ends (st : State) (ws : List ℕ) (s : ℕ) (after : Left) : Type 0 where
@@ -94,24 +119,28 @@ pub record Ends (st : State) (ws : List ℕ) (s : ℕ) (after : Left) : Type 0 w
   pub nothing : held (slotAt (after .state) s) ≡ []
   pub closed : openAt (after .state) s ≡ false
   pub order : waitingOrder (after .state) ≡ leaving s (waitingOrder st)
-  -- what it writes it holds: every other page, unless it was free, has its words as before
-  pub writes : (q : ℕ) → q < st .n → holdsAt st s q ≡ false → q ≢ wantAt st s → pageAt (st .k) ws q .level ≢ 0
+  -- what it writes it has a ξ-lock on, by whatever way it came: every other page, unless it was free, has its words as before
+  pub writes : (q : ℕ) → q < st .n → (HasXi st s q → ⊥) → pageAt (st .k) ws q .level ≢ 0
       → wordsOf (st .k) q (after .words) ≡ wordsOf (st .k) q ws
   -- and only where a lot was inserted, deleted or regraded does it write at all
   pub reads : isOneOf (after .answer) writing ≡ false → after .words ≡ ws
   -- a regrading writes the page that this step was granted, and no other, held or free
   pub regrades : (old : ℕ) → after .answer ≡ Regraded old → (q : ℕ) → q ≢ wantAt st s → wordsOf (st .k) q (after .words) ≡ wordsOf (st .k) q ws
+  -- 02 (v): "A key already there or missing is answered at once; a safe leaf is changed; otherwise .. the operation begins again by the first
+  -- way. If page 0 is a leaf, it begins again in any case." Where it begins again, `Takes` has why
+  pub stays : BySecond op → (wantAt st s ≢ 0)
+      × ((answeredAtOnce op (pageAt (st .k) ws (wantAt st s) .entries) ≡ true) ⊎ (isSafe (firstWay op) (st .k) (pageAt (st .k) ws (wantAt st s)) ≡ true))
   -- the lot that a Next answers it reads on the leaf that this step was granted, not on one without its lock
   pub seen : Seen (pageAt (st .k) ws (wantAt st s)) (after .answer)
 
 -- Another slot is in slot s's way: it holds the page that s wants, or wants it too and stands before s in the waiting order; and one of
--- the two updates.
+-- the two locks is ξ.
 pub record InTheWay (st : State) (s : ℕ) : Type 0 where
   pub slot : ℕ
   pub inside : slot < slotCount
   pub other : slot ≢ s
-  pub there : (holdsAt st slot (wantAt st s) ≡ true) ⊎ ((wantAt st slot ≡ wantAt st s) × Before slot s (waitingOrder st))
-  pub oneUpdates : Updates st slot ⊎ Updates st s
+  pub there : ((holdsAt st slot (wantAt st s) ≡ true) × (WithXi st slot ⊎ WantsXi st s))
+      ⊎ ((wantAt st slot ≡ wantAt st s) × Before slot s (waitingOrder st) × (WantsXi st slot ⊎ WantsXi st s))
 
 -- "each step takes and gives up just the locks the rules name"
 pub record StepLocks (st : State) (ws : List ℕ) (s : ℕ) (after : Left) : Type 0 where
@@ -144,14 +173,22 @@ CallLocks st ws (report p) after = (after .state ≡ st) × (after .words ≡ ws
 
 pub record Words (k : ℕ) : Type 0 where
   -- the key of an operation is the one that it names
-  pub key : (x v : ℕ)
-      → (keyOf (Search x) ≡ x) × (keyOf (Insert x v) ≡ x) × (keyOf (Delete x) ≡ x) × (keyOf (Next x) ≡ x) × (keyOf (Regrade x v) ≡ x)
-  -- a deletion is a Delete of some key, and nothing else is,
-  pub deletion : (op : Op) → Exactly (isDelete op ≡ true) ((x : ℕ) × (op ≡ Delete x))
+  pub key : (x v : ℕ) (way : Way)
+      → (keyOf (Search x) ≡ x) × (keyOf (Insert x v way) ≡ x) × (keyOf (Delete x way) ≡ x) × (keyOf (Next x) ≡ x) × (keyOf (Regrade x v way) ≡ x)
+  -- a deletion that takes siblings is a Delete of some key by the first way, and nothing else is,
+  pub deletion : (op : Op) → Exactly (isDelete op ≡ true) ((x : ℕ) × (op ≡ Delete x First))
   -- what asks for the next lot is a Next of some key,
   pub asksNext : (op : Op) → Exactly (isNext op ≡ true) ((x : ℕ) × (op ≡ Next x))
   -- and just these two may hold pages beside their path
-  pub beside : (op : Op) → Exactly (goesBeside op ≡ true) ((x : ℕ) × ((op ≡ Delete x) ⊎ (op ≡ Next x)))
+  pub beside : (op : Op) → Exactly (goesBeside op ≡ true) ((x : ℕ) × ((op ≡ Delete x First) ⊎ (op ≡ Next x)))
+  -- who goes by the second way; the same operation by the first; and what stands under the key of an update is answered at once just if an
+  -- insertion's key is there, another one's is missing
+  pub second : (op : Op) → Exactly (isSecond op ≡ true) (BySecond op)
+  pub first : (x v : ℕ) (way : Way)
+      → (firstWay (Insert x v way) ≡ Insert x v First) × (firstWay (Delete x way) ≡ Delete x First) × (firstWay (Regrade x v way) ≡ Regrade x v First)
+  pub atOnce : (x v : ℕ) (way : Way) (es : List Entry)
+      → (answeredAtOnce (Insert x v way) es ≡ has x es) × (answeredAtOnce (Delete x way) es ≡ not (has x es))
+      × (answeredAtOnce (Regrade x v way) es ≡ not (has x es))
   -- no entry of a list is at or above a key just if every key of it is below
   pub nearest : (x : ℕ) (es : List Entry) → Exactly (atOrAbove x es ≡ []) (AllBelow x es)
   -- a page is safe, as 01 says when ancestors are given up
@@ -159,13 +196,12 @@ pub record Words (k : ℕ) : Type 0 where
   -- "its right neighbour under the same father; if it has none, the left one": of the page to which F routes x
   pub right : (x : ℕ) (F : Page) → place x (F .entries) < μ F → neighbour x F ≡ pointer (suc (place x (F .entries))) F
   pub left : (x : ℕ) (F : Page) → μ F ≤ place x (F .entries) → neighbour x F ≡ pointer (place x (F .entries) - 1) F
-  -- "Two ρ on a page go together; ξ goes with nothing.": of two open slots, the lock under which one holds a page and the lock that the
-  -- other wants go together just if both read only,
-  pub clashes : (op op′ : Op) (a b : Slot) → a .task ≡ Open op → b .task ≡ Open op′ → (p : ℕ)
-      → Exactly (clash (lockHeld a p) (lockWanted b) ≡ false) (Reader op × Reader op′)
-  -- and so do the locks that both want
-  pub wantsClash : (op op′ : Op) (a b : Slot) → a .task ≡ Open op → b .task ≡ Open op′
-      → Exactly (clash (lockWanted a) (lockWanted b) ≡ false) (Reader op × Reader op′)
+  -- "Two ρ on a page go together; ξ goes with nothing."
+  pub clashes : (a b : Lock) → (a ≡ Rho) ⊎ (a ≡ Xi) → (b ≡ Rho) ⊎ (b ≡ Xi) → Exactly (clash a b ≡ false) ((a ≡ Rho) × (b ≡ Rho))
+  -- the kind under which an operation holds its pages, whatever page it is, and the kind that a slot wants
+  pub heldRho : (op : Op) (a : Slot) (p : ℕ) → a .task ≡ Open op → HoldsRho op → (heldLock op ≡ Rho) × (lockHeld a p ≡ Rho)
+  pub heldXi : (op : Op) (a : Slot) (p : ℕ) → a .task ≡ Open op → (HoldsRho op → ⊥) → (heldLock op ≡ Xi) × (lockHeld a p ≡ Xi)
+  pub wanted : (a : Slot) → lockWanted a ≡ a .lock
   -- "Wants stand in a waiting order, oldest first."
   pub older : (s t : ℕ) (order : List ℕ) → distinct order ≡ true → member s order ≡ true → Exactly (member t (olderThan s order) ≡ true) (Before t s order)
   -- a slot taken out of the order: those before it and those behind it stand as they stood

@@ -6,6 +6,7 @@ pub mod SoundPages
 pub mod Demand1
 pub mod Demand2
 pub mod Demand3
+pub mod TopOpen
 pub mod MoreRows
 pub mod LongRun
 pub mod NextRows
@@ -13,4 +14,5 @@ pub mod NextAbove
 pub mod RegradeRows
 pub mod WideRows
 pub mod DamageRows
+pub mod SecondRows
 pub mod Regrading

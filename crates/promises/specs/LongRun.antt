@@ -6,6 +6,7 @@ use mathlib.Core.List.{List, [], _∷_, _++_}
 use Rattle.pool.specs.Pool.{fresh}
 use Rattle.slots.specs.declared.Op.{Op}
 use Rattle.slots.specs.declared.Op.the-variants.{Search, Insert, Delete}
+use Rattle.slots.specs.declared.Way.the-variants.{First}
 use Rattle.slots.specs.declared.Answer.the-variants.{Waiting, Moved, Found, NotFound, Inserted, AlreadyThere, Deleted, NoSuchKey, NoRoom, Begun}
 use Rattle.slots.specs.Heard.{heard}
 use Rattle.runs.specs.Run.{Call, begin, step}
@@ -58,19 +59,19 @@ threeAtOnce o p q all two one =
 
 abbrev pub longRun : List Call
 longRun =
-    threeAtOnce (Insert 1 7) (Delete 11) (Insert 14 7) 1 0 0
-    ++ threeAtOnce (Insert 14 7) (Insert 7 7) (Insert 8 7) 1 0 1
-    ++ threeAtOnce (Insert 2 7) (Insert 16 7) (Insert 7 7) 2 1 2
-    ++ threeAtOnce (Insert 13 7) (Insert 3 7) (Insert 4 7) 3 1 1
-    ++ threeAtOnce (Insert 9 7) (Search 17) (Insert 15 7) 3 1 1
-    ++ threeAtOnce (Insert 6 7) (Insert 5 7) (Delete 14) 4 1 2
-    ++ threeAtOnce (Delete 7) (Insert 11 7) (Delete 15) 5 0 4
-    ++ threeAtOnce (Search 16) (Insert 10 7) (Delete 3) 4 1 4
-    ++ threeAtOnce (Search 9) (Delete 5) (Delete 8) 4 3 6
-    ++ threeAtOnce (Insert 12 7) (Delete 2) (Delete 9) 3 6 4
-    ++ threeAtOnce (Delete 4) (Delete 1) (Delete 6) 4 3 4
-    ++ threeAtOnce (Delete 12) (Delete 13) (Delete 10) 2 2 2
-    ++ threeAtOnce (Delete 16) (Search 16) (Delete 16) 1 0 0
+    threeAtOnce (Insert 1 7 First) (Delete 11 First) (Insert 14 7 First) 1 0 0
+    ++ threeAtOnce (Insert 14 7 First) (Insert 7 7 First) (Insert 8 7 First) 1 0 1
+    ++ threeAtOnce (Insert 2 7 First) (Insert 16 7 First) (Insert 7 7 First) 2 1 2
+    ++ threeAtOnce (Insert 13 7 First) (Insert 3 7 First) (Insert 4 7 First) 3 1 1
+    ++ threeAtOnce (Insert 9 7 First) (Search 17) (Insert 15 7 First) 3 1 1
+    ++ threeAtOnce (Insert 6 7 First) (Insert 5 7 First) (Delete 14 First) 4 1 2
+    ++ threeAtOnce (Delete 7 First) (Insert 11 7 First) (Delete 15 First) 5 0 4
+    ++ threeAtOnce (Search 16) (Insert 10 7 First) (Delete 3 First) 4 1 4
+    ++ threeAtOnce (Search 9) (Delete 5 First) (Delete 8 First) 4 3 6
+    ++ threeAtOnce (Insert 12 7 First) (Delete 2 First) (Delete 9 First) 3 6 4
+    ++ threeAtOnce (Delete 4 First) (Delete 1 First) (Delete 6 First) 4 3 4
+    ++ threeAtOnce (Delete 12 First) (Delete 13 First) (Delete 10 First) 2 2 2
+    ++ threeAtOnce (Delete 16 First) (Search 16) (Delete 16 First) 1 0 0
 
 -- what is heard; each three operations begin a new line
 abbrev pub longAnswers : List (List ℕ)

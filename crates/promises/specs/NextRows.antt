@@ -5,11 +5,13 @@ use mathlib.Core.List.{List, [], _∷_, _++_}
 use lib.ListN.{set, take, drop}
 use Rattle.slots.specs.declared.Op.{Op}
 use Rattle.slots.specs.declared.Op.the-variants.{Insert, Delete, Next}
+use Rattle.slots.specs.declared.Way.the-variants.{First}
+use Rattle.slots.specs.declared.Lock.{Lock}
 use Rattle.slots.specs.declared.Lock.the-variants.{None, Rho, Xi}
 use Rattle.slots.specs.declared.State.{State}
 use Rattle.slots.specs.declared.Answer.the-variants.{Reported, BadState, Damaged, Next as NextLot, None as NoLot}
 use Rattle.slots.specs.Heard.{heard}
-use Rattle.slots.specs.Parts.{openSlot, idleState}
+use Rattle.slots.specs.Parts.{heldLock, openSlot, idleState}
 use Rattle.runs.specs.Run.{Call, begin, step, report, Told, ran}
 use Rattle.promises.specs.Bench.{Row, row, runs, puts, two, three, pool, caseE}
 use Rattle.promises.specs.MoreRows.{damaged, answers}
@@ -66,9 +68,14 @@ abbrev pub watched : ℕ → List ℕ → List Call
 watched zero ps = []
 watched (suc n) ps = step 0 ∷ looks ps ++ watched n ps
 
--- a state of n pages in which slot 0 has this operation and want, and holds this path and what stands beside it
+-- a state of n pages in which slot 0 has this operation, wants this page with this kind of lock, and holds this path and what stands
+-- beside it
+abbrev pub slotWanting : ℕ → Op → ℕ → Lock → List ℕ → List ℕ → State
+slotWanting n op want lock path beside = record { k = 1; n = n; slots = set (idleState 1 n .slots) 0 (openSlot op want lock path beside); order = idleState 1 n .order; waiting = 1 }
+
+-- that wants it with the kind under which it holds
 abbrev pub slotOpen : ℕ → Op → ℕ → List ℕ → List ℕ → State
-slotOpen n op want path beside = record { k = 1; n = n; slots = set (idleState 1 n .slots) 0 (openSlot op want path beside); order = idleState 1 n .order; waiting = 1 }
+slotOpen n op want path beside = slotWanting n op want (heldLock op) path beside
 
 -- slot 0 asks for the next lot from 25, in the words of three levels
 abbrev pub nextSlot : ℕ → ℕ → List ℕ → List ℕ → Told
@@ -89,7 +96,7 @@ withPage t p page = ran [] (t .state) (take (p * 7) (t .words) ++ page ++ drop (
 abbrev pub nextRows : List Row
 nextRows =
     -- 10, 20, .. 50 inserted one after the other give the three levels
-    row (pool 7 (puts 10 ++ puts 20 ++ puts 30 ++ runs 0 (Insert 40 7) 2 ++ runs 0 (Insert 50 7) 2) .words ∷ []) (tensWords ∷ [])
+    row (pool 7 (puts 10 ++ puts 20 ++ puts 30 ++ runs 0 (Insert 40 7 First) 2 ++ runs 0 (Insert 50 7 First) 2) .words ∷ []) (tensWords ∷ [])
     -- in an empty pool: None in one grant
     ∷ row (answers (pool 1 []) (runs 0 (Next 5) 1))
     (began ∷ none ∷ [])
@@ -107,7 +114,7 @@ nextRows =
     ∷ next 20 ∷ noHolder ∷ noHolder ∷ noHolder
     ∷ [])
     -- "the next child to the right", not the last: page 0 has three children
-    ∷ row (answers (pool 4 (three ++ runs 0 (Insert 40 7) 2)) (runs 0 (Next 15) 3 ++ runs 0 (Next 25) 3))
+    ∷ row (answers (pool 4 (three ++ runs 0 (Insert 40 7 First) 2)) (runs 0 (Next 15) 3 ++ runs 0 (Next 25) 3))
     (began ∷ onward ∷ onward ∷ next 20 ∷ began ∷ onward ∷ onward ∷ next 30 ∷ [])
     -- three levels, by the second way from page 0: down to the leaf 2, then by page 6 to the leaf 3, giving nothing up
     ∷ row (answers tens (begin 0 (Next 25) ∷ watched 5 (0 ∷ 5 ∷ 2 ∷ 6 ∷ 3 ∷ [])))
@@ -134,14 +141,14 @@ nextRows =
     ∷ none ∷ noHolder ∷ noHolder ∷ noHolder
     ∷ [])
     -- an insertion waits above it until its answer; its key is the next one then
-    ∷ row (answers tens (runs 0 (Next 25) 1 ++ runs 1 (Insert 26 7) 1 ++ step 0 ∷ step 1 ∷ step 0 ∷ step 1 ∷ step 0 ∷ step 1 ∷ step 0 ∷ step 1 ∷ step 1 ∷ step 1 ∷ runs 0 (Next 25) 3))
+    ∷ row (answers tens (runs 0 (Next 25) 1 ++ runs 1 (Insert 26 7 First) 1 ++ step 0 ∷ step 1 ∷ step 0 ∷ step 1 ∷ step 0 ∷ step 1 ∷ step 0 ∷ step 1 ∷ step 1 ∷ step 1 ∷ runs 0 (Next 25) 3))
     (began ∷ onward ∷ began ∷ waits ∷ onward ∷ waits ∷ onward ∷ waits ∷ onward ∷ waits ∷ next 30 ∷ onward ∷ onward ∷ entered
     ∷ began ∷ onward ∷ onward ∷ next 26 ∷ [])
     -- where page 0 is given up the insertion comes in there, and waits for page 5
-    ∷ row (answers tens (runs 0 (Next 15) 2 ++ runs 1 (Insert 16 7) 2 ++ report 0 ∷ report 5 ∷ step 0 ∷ step 1 ∷ step 0 ∷ step 1 ∷ step 1 ∷ []))
+    ∷ row (answers tens (runs 0 (Next 15) 2 ++ runs 1 (Insert 16 7 First) 2 ++ report 0 ∷ report 5 ∷ step 0 ∷ step 1 ∷ step 0 ∷ step 1 ∷ step 1 ∷ []))
     (began ∷ onward ∷ onward ∷ began ∷ onward ∷ waits ∷ changer ∷ reader ∷ onward ∷ waits ∷ next 20 ∷ onward ∷ entered ∷ [])
     -- on its second way it waits for an insertion that holds page 6
-    ∷ row (answers tens (runs 1 (Insert 35 7) 2 ++ report 6 ∷ runs 0 (Next 25) 4 ++ step 1 ∷ step 0 ∷ step 0 ∷ []))
+    ∷ row (answers tens (runs 1 (Insert 35 7 First) 2 ++ report 6 ∷ runs 0 (Next 25) 4 ++ step 1 ∷ step 0 ∷ step 0 ∷ []))
     (began ∷ onward ∷ onward ∷ changer ∷ began ∷ onward ∷ onward ∷ onward ∷ waits ∷ entered ∷ onward ∷ next 30 ∷ [])
     -- two of them go together: slot 1 is granted page 2, for which slot 0's want is older (02 (iii)), and has its answer first
     ∷ row (answers tens (runs 0 (Next 25) 2 ++ runs 1 (Next 25) 3 ++ step 0 ∷ report 0 ∷ report 5 ∷ report 2 ∷ step 1 ∷ step 0 ∷ step 1 ∷ step 0 ∷ []))
@@ -205,7 +212,7 @@ nextRows =
     ∷ row (answers (damaged (nextSlot 7 2 (0 ∷ 5 ∷ []) []) 4 2) (step 0 ∷ []))
     (damagedStep ∷ [])
     -- a deletion of 25, which its leaf has not, goes no second way
-    ∷ row (answers (withPage (ran [] (slotOpen 7 (Delete 25) 3 (5 ∷ 2 ∷ []) []) tensWords) 5 (2 ∷ 2 ∷ 1 ∷ 20 ∷ 2 ∷ 30 ∷ 3 ∷ [])) (step 0 ∷ []))
+    ∷ row (answers (withPage (ran [] (slotOpen 7 (Delete 25 First) 3 (5 ∷ 2 ∷ []) []) tensWords) 5 (2 ∷ 2 ∷ 1 ∷ 20 ∷ 2 ∷ 30 ∷ 3 ∷ [])) (step 0 ∷ []))
     (damagedStep ∷ [])
     -- "the leftmost way": by p0 of page 6, though 25 would be routed to page 4; at the second leaf no key below 25 is answered
     ∷ row (answers (damaged atFirstLeaf 45 20) (step 0 ∷ step 0 ∷ []))

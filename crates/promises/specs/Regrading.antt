@@ -10,6 +10,7 @@ use lib.ListN.{length, getD, set}
 use Rattle.slots.specs.Parts.{Opened}
 use Rattle.slots.specs.declared.Op.{Op}
 use Rattle.slots.specs.declared.Op.the-variants.{Search, Insert, Delete, Next, Regrade}
+use Rattle.slots.specs.declared.Way.{Way}
 use Rattle.slots.specs.declared.State.{State}
 use Rattle.slots.specs.declared.Answer.{Answer}
 use Rattle.slots.specs.declared.Answer.the-variants.{Found, NotFound, AlreadyThere, Deleted, NoSuchKey, Next as NextLot, Regraded}
@@ -26,7 +27,8 @@ pub record IsThere (st : State) (ws : List ℕ) (x v : ℕ) : Type 0 where
   pub forms : PoolForms (st .k) (st .n) ws height tree
   pub there : Among x v (entriesOf height tree)
 
--- Among the calls `between`, behind those that come first, a step of slot s ends the operation op with the answer a.
+-- Among the calls `between`, behind those that come first, a step of slot s ends the operation op with the answer a. An update ends by
+-- the way by which it then goes: one that has begun again, by the first.
 pub record EndsAmong (st : State) (ws : List ℕ) (between first : List Call) (s : ℕ) (op : Op) (a : Answer) : Type 0 where
   pub rest : List Call
   pub whole : between ≡ first ++ step s ∷ rest
@@ -38,14 +40,15 @@ pub record EndsAmong (st : State) (ws : List ℕ) (between first : List Call) (s
 pub record PutBy (st : State) (ws : List ℕ) (between : List Call) (x v : ℕ) : Type 0 where
   pub first : List Call
   pub slot : ℕ
+  pub way : Way
   pub old : ℕ
-  pub ended : EndsAmong st ws between first slot (Regrade x v) (Regraded old)
+  pub ended : EndsAmong st ws between first slot (Regrade x v way) (Regraded old)
 
 -- What is asked of the calls: the lot is there when they begin, and among them no deletion of it ends. Whatever else is begun, stepped
 -- and ended, of this lot and of others, is free; so are deletions of it that wait or are still on their way.
 pub record NotDeleted (st : State) (ws : List ℕ) (between : List Call) (x : ℕ) : Type 0 where
   pub there : (v : ℕ) × IsThere st ws x v
-  pub kept : (first : List Call) (s v : ℕ) → EndsAmong st ws between first s (Delete x) (Deleted v) → ⊥
+  pub kept : (first : List Call) (s v : ℕ) (way : Way) → EndsAmong st ws between first s (Delete x way) (Deleted v) → ⊥
 
 pub record NeverNowhere (st : State) (ws : List ℕ) (between : List Call) (x : ℕ) : Type 0 where
   -- after every call the lot is there, with the information that it had or with one that a regrading put there since. (This holds from
@@ -61,19 +64,19 @@ pub record NeverNowhere (st : State) (ws : List ℕ) (between : List Call) (x : 
   -- and so never NotFound
   pub neverNotFound : (first : List Call) (s : ℕ) → EndsAmong st ws between first s (Search x) NotFound → ⊥
   -- every regrading of it that ends answers Regraded, with the information that stood there, and leaves the new one,
-  pub regraded : (first : List Call) (s w : ℕ) (a : Answer) → EndsAmong st ws between first s (Regrade x w) a
+  pub regraded : (first : List Call) (s w : ℕ) (way : Way) (a : Answer) → EndsAmong st ws between first s (Regrade x w way) a
       → (v : ℕ) × (a ≡ Regraded v) × IsThere (run first st ws .state) (run first st ws .words) x v
       × IsThere (run (first ++ step s ∷ []) st ws .state) (run (first ++ step s ∷ []) st ws .words) x w
   -- and so never NoSuchKey
-  pub neverNoSuchKey : (first : List Call) (s w : ℕ) → EndsAmong st ws between first s (Regrade x w) NoSuchKey → ⊥
+  pub neverNoSuchKey : (first : List Call) (s w : ℕ) (way : Way) → EndsAmong st ws between first s (Regrade x w way) NoSuchKey → ⊥
   -- an insertion of it is told what is there,
-  pub already : (first : List Call) (s w : ℕ) (a : Answer) → EndsAmong st ws between first s (Insert x w) a
+  pub already : (first : List Call) (s w : ℕ) (way : Way) (a : Answer) → EndsAmong st ws between first s (Insert x w way) a
       → (v : ℕ) × (a ≡ AlreadyThere v) × IsThere (run first st ws .state) (run first st ws .words) x v
   -- a Next from its key or a lower one does not pass it over: it answers this lot, or another that is there and comes before it,
   pub nexts : (first : List Call) (s y : ℕ) (a : Answer) → y ≤ x → EndsAmong st ws between first s (Next y) a
       → (z : ℕ) × (v : ℕ) × (a ≡ NextLot z v) × (y ≤ z) × (z ≤ x) × IsThere (run first st ws .state) (run first st ws .words) z v
   -- and no deletion of it ends, so that none says NoSuchKey either
-  pub neverDeleted : (first : List Call) (s : ℕ) (a : Answer) → EndsAmong st ws between first s (Delete x) a → ⊥
+  pub neverDeleted : (first : List Call) (s : ℕ) (way : Way) (a : Answer) → EndsAmong st ws between first s (Delete x way) a → ⊥
 
 -- the calls `between`, behind those before, as far as the lot x is concerned
 abbrev pub LotStays : Start → List Call → List Call → ℕ → Type 0
@@ -100,5 +103,5 @@ pub record OneWord (ws after : List ℕ) (x old new : ℕ) : Type 0 where
 -- "answers Regraded with the old information": whatever state and words are, a regrading that is answered so has written one word.
 abbrev pub RegradingWrites : Type 0
 RegradingWrites =
-    (st : State) (ws : List ℕ) (s x new old : ℕ) → Opened st s (Regrade x new) → stepped st ws s .answer ≡ Regraded old
+    (st : State) (ws : List ℕ) (s x new old : ℕ) (way : Way) → Opened st s (Regrade x new way) → stepped st ws s .answer ≡ Regraded old
     → OneWord ws (stepped st ws s .words) x old new

@@ -9,7 +9,7 @@ use Rattle.ground.specs.Limits.{slotCount}
 use Rattle.slots.specs.declared.State.{State}
 use Rattle.slots.specs.declared.Lock.{Lock}
 use Rattle.slots.specs.declared.Lock.the-variants.{None, Rho, Xi}
-use Rattle.promises.specs.Terms.{Exactly, In, Once, Holds, Reads, Updates}
+use Rattle.promises.specs.Terms.{Exactly, In, Once, Holds, WithRho, WithXi}
 
 -- these slots, all different, are just those that hold the page
 pub record Holders (st : State) (p : ℕ) (slots : List ℕ) : Type 0 where
@@ -26,12 +26,12 @@ pub record Lowest (st : State) (p s : ℕ) : Type 0 where
   pub holds : Holds st s p
   pub noneBelow : (t : ℕ) → t < s → Holds st t p → ⊥
 
--- "Searches use ρ-locks, insertions and deletions ξ-locks."; a Next reads with ρ, a regrading writes with ξ. None: nobody holds the page;
--- ρ: somebody does, and all who do read; ξ: one slot does, and it updates.
+-- "Searches use ρ-locks, insertions and deletions ξ-locks."; a Next reads with ρ, a regrading writes with ξ, and by the second way updates
+-- hold with ρ. None: nobody holds the page; ρ: somebody does, and all who do hold with ρ; ξ: one slot does, and it holds with ξ.
 abbrev pub KindIs : State → ℕ → Lock → Type 0
 KindIs st p None = Nobody st p
-KindIs st p Rho = ((s : ℕ) × (s < slotCount) × Holds st s p) × ((s : ℕ) → s < slotCount → Holds st s p → Reads st s)
-KindIs st p Xi = (s : ℕ) × (s < slotCount) × Holds st s p × Updates st s × ((t : ℕ) → t < slotCount → Holds st t p → t ≡ s)
+KindIs st p Rho = ((s : ℕ) × (s < slotCount) × Holds st s p) × ((s : ℕ) → s < slotCount → Holds st s p → WithRho st s)
+KindIs st p Xi = (s : ℕ) × (s < slotCount) × Holds st s p × WithXi st s × ((t : ℕ) → t < slotCount → Holds st t p → t ≡ s)
 
 pub record Reports (st : State) (p : ℕ) (kind : Lock) (count lowest : ℕ) : Type 0 where
   -- "the lock kind"

@@ -18,7 +18,7 @@ use Rattle.pool.specs.Pool.{wordsOf, pageAt}
 use Rattle.slots.specs.Parts.{keyOf, isDelete, isNext, Stand}
 use Rattle.runs.specs.PlainFacts.{AllBelow}
 use Rattle.runs.specs.Stance.{Safe, StandsAtLeaf}
-use Rattle.promises.specs.Terms.{In, Once}
+use Rattle.promises.specs.Terms.{In, Once, WantsAs}
 
 -- ---- a page by itself
 
@@ -144,8 +144,11 @@ pub data WouldWant (k : ℕ) (memory : ℕ → Page) (z : Stand) (holding : List
 
 -- ---- all of it
 
+-- (An update by the second way that begins again holds nothing then: so page 0, which it wants, is none that it holds.)
 pub record SoundForStep (k n : ℕ) (ws : List ℕ) (z : Stand) : Type 0 where
   pub pages : (p : ℕ) → In p (z .path ++ z .beside ++ z .want ∷ []) → PageSound k n p (wordsOf k p ws) (pageAt k ws p)
   pub kept : KeptRightly k (pageAt k ws) z
+  -- the page is wanted with the kind of lock that the rules would have it want
+  pub wants : WantsAs (pageAt k ws) z
   pub stands : ComesDown (pageAt k ws) z ⊎ (AsksSibling k (pageAt k ws) z ⊎ GoesAcross k (pageAt k ws) z)
   pub new : (holding : List ℕ) (q : ℕ) → WouldWant k (pageAt k ws) z holding q → In q holding → ⊥

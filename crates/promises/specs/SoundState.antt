@@ -1,16 +1,21 @@
--- A sound state in plain terms. "What the caller hears" of document 01; what may be held by a Next and by a regrading is 02 (i)'s and (iv)'s.
+-- A sound state in plain terms. "What the caller hears" of document 01; what may be held by a Next, by a regrading and by the second way is
+-- 02 (i)'s, (iv)'s and (v)'s.
 -- Demand 1 has that the rule's test, `sound`, passes exactly then.
 use Prim.Native.Nat.{ℕ, _≤_, _<_}
 use mathlib.Core.List.{_∷_}
 use mathlib.Core.Logic.{_⊎_, _≢_}
 use mathlib.Core.Path.{_≡_}
-use Rattle.ground.specs.Limits.{largestK, largestN, tallest, slotCount, searchHolds, regradeHolds, pathHolds, siblingHolds}
+use Rattle.ground.specs.Limits.{largestK, largestN, tallest, slotCount, searchHolds, regradeHolds, secondHolds, pathHolds, siblingHolds}
+use Rattle.slots.specs.declared.Op.{Op}
 use Rattle.slots.specs.declared.Op.the-variants.{Search, Insert, Delete, Next, Regrade}
+use Rattle.slots.specs.declared.Way.the-variants.{First, Second}
+use Rattle.slots.specs.declared.Lock.{Lock}
+use Rattle.slots.specs.declared.Lock.the-variants.{Rho, Xi}
 use Rattle.slots.specs.declared.Task.{Task}
 use Rattle.slots.specs.declared.Task.the-variants.{Closed, Open}
 use Rattle.slots.specs.declared.State.{State}
-use Rattle.slots.specs.Parts.{held, slotAt, wantAt, waitingOrder}
-use Rattle.promises.specs.Terms.{Exactly, In, Once, Holds, IsOpen, Updates}
+use Rattle.slots.specs.Parts.{held, slotAt, wantAt, waitingOrder, Opened}
+use Rattle.promises.specs.Terms.{Exactly, In, Once, Holds, IsOpen, HoldsRho, BySecond, WithXi}
 
 -- The numbers that the demands name.
 pub record Numbers : Type 0 where
@@ -26,19 +31,28 @@ pub record Numbers : Type 0 where
   pub search : searchHolds ≡ 1
   pub path : pathHolds ≡ 10
   pub siblings : siblingHolds ≡ 9
-  -- a regrading "holds at most 1"
+  -- a regrading "holds at most 1", and so does an update by the second way
   pub regrading : regradeHolds ≡ 1
+  pub second : secondHolds ≡ 1
 
 -- How many pages a slot holds on its path and beside it, by its task. "a search holds at most 1 page, an insertion at most 10, a deletion at
 -- most 10 on its path and 9 siblings, with no siblings or fewer of them than path pages; siblings only in deletions; a closed slot holds
--- nothing". A Next "may hold up to 19 pages": on its path and beside it as many as a deletion.
+-- nothing". A Next "may hold up to 19 pages": on its path and beside it as many as a deletion. By the second way an update holds one page.
 abbrev pub InLimits : Task → ℕ → ℕ → Type 0
 InLimits Closed path beside = (path ≡ 0) × (beside ≡ 0)
 InLimits (Open (Search x)) path beside = (path ≤ searchHolds) × (beside ≡ 0)
-InLimits (Open (Insert x v)) path beside = (path ≤ pathHolds) × (beside ≡ 0)
-InLimits (Open (Delete x)) path beside = (path ≤ pathHolds) × (beside ≤ siblingHolds) × ((beside ≡ 0) ⊎ (beside < path))
+InLimits (Open (Insert x v First)) path beside = (path ≤ pathHolds) × (beside ≡ 0)
+InLimits (Open (Insert x v Second)) path beside = (path ≤ secondHolds) × (beside ≡ 0)
+InLimits (Open (Delete x First)) path beside = (path ≤ pathHolds) × (beside ≤ siblingHolds) × ((beside ≡ 0) ⊎ (beside < path))
+InLimits (Open (Delete x Second)) path beside = (path ≤ secondHolds) × (beside ≡ 0)
 InLimits (Open (Next x)) path beside = (path ≤ pathHolds) × (beside ≤ siblingHolds) × ((beside ≡ 0) ⊎ (beside < path))
-InLimits (Open (Regrade x v)) path beside = (path ≤ regradeHolds) × (beside ≡ 0)
+InLimits (Open (Regrade x v First)) path beside = (path ≤ regradeHolds) × (beside ≡ 0)
+InLimits (Open (Regrade x v Second)) path beside = (path ≤ secondHolds) × (beside ≡ 0)
+
+-- The kinds of lock that an operation can want at all: who holds with ξ wants with ξ, a search and a Next with ρ; by the second way "ρ-locks
+-- down, a ξ-lock wanted on the leaf".
+abbrev pub CanWant : Op → Lock → Type 0
+CanWant op lock = ((lock ≡ Rho) × HoldsRho op) ⊎ ((lock ≡ Xi) × ((HoldsRho op → ⊥) ⊎ BySecond op))
 
 pub record IsSound (st : State) : Type 0 where
   -- "k and N are in range"
@@ -56,5 +70,7 @@ pub record IsSound (st : State) : Type 0 where
   pub different : (s : ℕ) → s < slotCount → IsOpen st s → Once (wantAt st s ∷ held (slotAt st s))
   -- how many pages a slot holds
   pub limits : (s : ℕ) → s < slotCount → InLimits (slotAt st s .task) (slotAt st s .depth) (slotAt st s .breadth)
-  -- "no ξ-held page is held by another slot": an updating slot holds its pages with ξ-locks
-  pub alone : (s t p : ℕ) → s < slotCount → t < slotCount → s ≢ t → Updates st s → Holds st s p → Holds st t p → ⊥
+  -- the want is for a kind of lock that the operation can want
+  pub wants : (s : ℕ) (op : Op) → s < slotCount → Opened st s op → CanWant op (slotAt st s .lock)
+  -- "no ξ-held page is held by another slot": an update by the first way holds its pages with ξ-locks
+  pub alone : (s t p : ℕ) → s < slotCount → t < slotCount → s ≢ t → WithXi st s → Holds st s p → Holds st t p → ⊥

@@ -5,17 +5,21 @@ use mathlib.Core.Bool.{true, false, not, false≢true}
 use mathlib.Core.List.{List, [], _∷_, _++_, reverse, reverse-cons}
 use mathlib.Core.Path.{_≡_, sym, ap, _∙_, subst}
 use native.Mathlib.Omega.{arith}
+use borrow.Author.Tests.{leb-true, leb-false}
+use lib.Dec.{leb}
 use lib.ListN.{length, getD, length-append, length-reverse, List·getD-append}
 use lib.Seq.{getD-at}
 use Rattle.ground.specs.Limits.{wordRange}
 use Rattle.ground.specs.Tests.{member, distinct}
 use Rattle.ground.proofs.Bools.{and-second, false-if-not-true}
+use Rattle.ground.proofs.Choice.{by-test}
 use Rattle.ground.proofs.Tests.{member-at, distinct-from}
 use Rattle.page.specs.Words.{Page, isLeaf}
 use Rattle.page.specs.Place.{pointer}
 use Rattle.page.specs.Short.{hasRight, neighbour}
 use Rattle.slots.specs.declared.Op.{Op}
 use Rattle.slots.specs.declared.Op.the-variants.{Search, Insert, Delete, Next, Regrade}
+use Rattle.slots.specs.declared.Way.the-variants.{First, Second}
 use Rattle.slots.specs.Parts.{keyOf, isNext, Stand}
 use Rattle.footing.specs.Granted.{isSafe}
 use Rattle.tree.specs.Tree.{Tr, occurs, way, Forms}
@@ -50,10 +54,13 @@ top-upward (top ∷ below) i e =
 -- a page that is safe for a Next has a child to the right of the route
 pub next-right : (op : Op) (k : ℕ) (P : Page) → isNext op ≡ true → isSafe op k P ≡ true → hasRight (keyOf op) P ≡ true
 next-right (Search x) k P asks safe = absurd (false≢true asks)
-next-right (Insert x v) k P asks safe = absurd (false≢true asks)
-next-right (Delete x) k P asks safe = absurd (false≢true asks)
+next-right (Insert x v First) k P asks safe = absurd (false≢true asks)
+next-right (Insert x v Second) k P asks safe = absurd (false≢true asks)
+next-right (Delete x First) k P asks safe = absurd (false≢true asks)
+next-right (Delete x Second) k P asks safe = absurd (false≢true asks)
 next-right (Next x) k P asks safe = and-second (not (isLeaf P)) (hasRight x P) safe
-next-right (Regrade x v) k P asks safe = absurd (false≢true asks)
+next-right (Regrade x v First) k P asks safe = absurd (false≢true asks)
+next-right (Regrade x v Second) k P asks safe = absurd (false≢true asks)
 
 module _ (k n : ℕ) (memory : ℕ → Page) (l : ℕ) (t : Tr l) (one : 1 ≤ k) (forms : Forms k n memory l t)
     (z : Stand) (key : keyOf (z .op) < wordRange) (c : Crossing k memory l t z) where
@@ -134,6 +141,18 @@ module _ (k n : ℕ) (memory : ℕ → Page) (l : ℕ) (t : Tr l) (forms : Forms
   second-placed j h =
       subst (λ (p : ℕ). PlacedFor (a .beyond .key) l t 0 wordRange p ((a .index - j) + 1)) (sym (a .on j h))
       (place-facts k n memory l t forms .onWay (a .beyond .key) (a .index - j) (a .beyond .inWords) (omega (arith, a .inside)))
+
+  -- which begin beyond the first key: on its level the first way has another page
+  pub second-later : (j : ℕ) (h : j ≤ length (z .beside)) → keyOf (z .op) < second-placed j h .from
+  second-later j h =
+      let x : ℕ = keyOf (z .op) in
+      let spot = second-placed j h in
+      by-test (leb (spot .from) x)
+      (λ y.
+      let on-first = place-facts k n memory l t forms .wayHas x (a .index - j) (getD (z .beside ++ z .want ∷ []) j 0) (spot .from) (spot .to) (spot .stands)
+      (leb-true (spot .from) x y) (omega (arith, a .beyond .later, spot .high)) in
+      absurd (a .beyond .parts (a .index - j) (omega arith) (sym (a .on j h) ∙ sym on-first)))
+      (λ o. leb-false (spot .from) x o)
 
   -- where such a page stands among them
   pub second-at : (q : ℕ) → member q (z .beside ++ z .want ∷ []) ≡ true → (j : ℕ) × (j ≤ length (z .beside)) × (getD (z .beside ++ z .want ∷ []) j 0 ≡ q)

@@ -19,7 +19,7 @@ use Rattle.slots.specs.declared.State.{State}
 use Rattle.slots.specs.declared.Outcome.{Outcome}
 use Rattle.slots.specs.declared.Answer.{Answer}
 use Rattle.slots.specs.declared.Answer.the-variants.{Waiting, Moved, Begun, BadSlot, SlotBusy, SlotIdle}
-use Rattle.slots.specs.Parts.{Stand, standOf, slotOf, slotAt, openSlot, closedSlot, Opened}
+use Rattle.slots.specs.Parts.{firstWay, Stand, freshStand, standOf, slotOf, slotAt, closedSlot, Opened}
 use Rattle.slots.specs.Heard.{isOneOf, countedAnswers}
 use Rattle.slots.specs.Book.{rewritten, begins, goesOn, closes}
 use Rattle.slots.proofs.OrderLaws.{same-or-not}
@@ -35,6 +35,7 @@ use Rattle.runs.specs.Plain.{Reply, plain}
 use Rattle.runs.specs.Done.{Done, ended, nobody, asks, done, plainAnswers, plainEntries, opsOf, answersIn}
 use Rattle.runs.specs.Step.{Ended, AsPlain, NoRoomLeft}
 use Rattle.runs.proofs.Invariant.{Invariant}
+use Rattle.runs.proofs.PlainLaws.{plain-ways}
 use Rattle.runs.proofs.Calls.{StepOf, noSlot, idle, waits, onward, over, step-of, same-op, closed-open}
 use Rattle.runs.proofs.Runs.{BeginOf, noSuch, busy, begins-so, begin-of, call-keeps, call-numbers, forms-with, Ready, start-ready}
 
@@ -58,9 +59,9 @@ ended-entries st ws inv z a writes e l t f =
     (pool-leads (st .k) (st .n) ws (inv .height) (inv .tree) writes (e .entries) (inv .forms) (e .leads))
     ∙ e .leads .entries
 
--- what was asked in a slot is what runs there
+-- what was asked in a slot is what runs there, by its way or begun again by the first way
 abbrev pub Knows : State → (ℕ → Op) → Type 0
-Knows st asked = (s : ℕ) (op : Op) → s < slotCount → Opened st s op → asked s ≡ op
+Knows st asked = (s : ℕ) (op : Op) → s < slotCount → Opened st s op → firstWay (asked s) ≡ firstWay op
 
 -- The plain list, worked through these operations from the entries es, gives their answers, and has then the entries of the
 -- tree that the words form.
@@ -78,33 +79,33 @@ next-counted (e ∷ es) = refl
 pub plain-counted : (op : Op) (es : List Entry) → isOneOf (plain op es .answer) countedAnswers ≡ true
 unfolding plain member
 plain-counted (Search x) es = cond-ind (λ (a : Answer). isOneOf a countedAnswers ≡ true) (has x es) (λ _. refl) (λ _. refl)
-plain-counted (Insert x v) es = cond-ind (λ (r : Reply). isOneOf (r .answer) countedAnswers ≡ true) (has x es) (λ _. refl) (λ _. refl)
-plain-counted (Delete x) es = cond-ind (λ (r : Reply). isOneOf (r .answer) countedAnswers ≡ true) (has x es) (λ _. refl) (λ _. refl)
+plain-counted (Insert x v way) es = cond-ind (λ (r : Reply). isOneOf (r .answer) countedAnswers ≡ true) (has x es) (λ _. refl) (λ _. refl)
+plain-counted (Delete x way) es = cond-ind (λ (r : Reply). isOneOf (r .answer) countedAnswers ≡ true) (has x es) (λ _. refl) (λ _. refl)
 plain-counted (Next x) es = next-counted (atOrAbove x es)
-plain-counted (Regrade x v) es = cond-ind (λ (r : Reply). isOneOf (r .answer) countedAnswers ≡ true) (has x es) (λ _. refl) (λ _. refl)
+plain-counted (Regrade x v way) es = cond-ind (λ (r : Reply). isOneOf (r .answer) countedAnswers ≡ true) (has x es) (λ _. refl) (λ _. refl)
 
 -- ---- what was asked stays known
 
 module _ (st : State) (ws : List ℕ) (inv : Invariant st ws) (s : ℕ) (b : s < slotCount) (asked : ℕ → Op) (knows : Knows st asked) where
   -- a slot written anew: what was asked of it, and of the others (the waiting order does not matter)
   knows-anew : (slot : Slot) (asked′ : ℕ → Op)
-      → ((op : Op) → slot .task ≡ Open op → asked′ s ≡ op) → ((u : ℕ) → u ≢ s → asked′ u ≡ asked u) → Knows (rewritten st s slot [] 0) asked′
+      → ((op : Op) → slot .task ≡ Open op → firstWay (asked′ s) ≡ firstWay op) → ((u : ℕ) → u ≢ s → asked′ u ≡ asked u) → Knows (rewritten st s slot [] 0) asked′
   knows-anew slot asked′ here other u op c runs =
       ⊎-elim
-      (λ e. ap asked′ e ∙ here op (sym (ap (λ (sl : Slot). sl .task) (ap (slotAt (rewritten st s slot [] 0)) e ∙ slot-here st (inv .shaped) s b slot [] 0)) ∙ runs))
-      (λ n. other u n ∙ knows u op c (sym (ap (λ (sl : Slot). sl .task) (slot-other st (inv .shaped) s b slot [] 0 u n)) ∙ runs))
+      (λ e. ap (λ (u : ℕ). firstWay (asked′ u)) e ∙ here op (sym (ap (λ (sl : Slot). sl .task) (ap (slotAt (rewritten st s slot [] 0)) e ∙ slot-here st (inv .shaped) s b slot [] 0)) ∙ runs))
+      (λ n. ap firstWay (other u n) ∙ knows u op c (sym (ap (λ (sl : Slot). sl .task) (slot-other st (inv .shaped) s b slot [] 0 u n)) ∙ runs))
       (same-or-not u s)
 
   knows-begun : (op : Op) → Knows (begins st s op) (asks s op asked)
   unfolding begins
   knows-begun op =
-      knows-anew (openSlot op 0 [] []) (asks s op asked)
-      (λ op′ e. cond-true op (asked s) (eq-eqb s s refl) ∙ same-op e)
+      knows-anew (slotOf (freshStand op)) (asks s op asked)
+      (λ op′ e. ap firstWay (cond-true op (asked s) (eq-eqb s s refl) ∙ same-op e))
       (λ u n. cond-false op (asked u) (ne-eqb u s n))
 
-  knows-onward : (z : Stand) → Opened st s (z .op) → Knows (goesOn st s z) asked
+  knows-onward : (op : Op) (z : Stand) → Opened st s op → firstWay (z .op) ≡ firstWay op → Knows (goesOn st s z) asked
   unfolding goesOn
-  knows-onward z runs = knows-anew (slotOf z) asked (λ op′ e. knows s (z .op) b runs ∙ same-op e) (λ u n. refl)
+  knows-onward op z runs same = knows-anew (slotOf z) asked (λ op′ e. knows s op b runs ∙ sym same ∙ ap firstWay (same-op e)) (λ u n. refl)
 
   knows-closed : Knows (closes st s) asked
   unfolding closes
@@ -134,7 +135,7 @@ module _ (st : State) (ws : List ℕ) (inv : Invariant st ws) (s : ℕ) where
   by-step (noSlot b e) = still BadSlot st refl e
   by-step (idle b c e) = still SlotIdle st refl e
   by-step (waits op b runs g e) = still Waiting st refl e
-  by-step (onward op z b runs g e same stance takes) = still Moved (goesOn st s z) refl e
+  by-step (onward op z b runs g e same stance locked takes) = still Moved (goesOn st s z) refl e
   by-step (over op a writes b runs g e ended) =
       let answer : stepped st ws s .answer ≡ a = ap (λ (r : Left). r .answer) e in
       let entries : (l : ℕ) (t : Tr l) → PoolForms (st .k) (st .n) (stepped st ws s .words) l t → entriesOf l t ≡ ended .entries
@@ -187,8 +188,8 @@ module _ (st : State) (ws : List ℕ) (inv : Invariant st ws) (asked : ℕ → O
   step-knows s (noSlot b e) = subst (λ (r : Left). Knows (r .state) asked) (sym e) knows
   step-knows s (idle b c e) = subst (λ (r : Left). Knows (r .state) asked) (sym e) knows
   step-knows s (waits op b runs g e) = subst (λ (r : Left). Knows (r .state) asked) (sym e) knows
-  step-knows s (onward op z b runs g e same stance takes) =
-      subst (λ (r : Left). Knows (r .state) asked) (sym e) (knows-onward st ws inv s b asked knows z (runs ∙ ap Open (sym same)))
+  step-knows s (onward op z b runs g e same stance locked takes) =
+      subst (λ (r : Left). Knows (r .state) asked) (sym e) (knows-onward st ws inv s b asked knows op z runs same)
   step-knows s (over op a writes b runs g e how) = subst (λ (r : Left). Knows (r .state) asked) (sym e) (knows-closed st ws inv s b asked knows)
 
   -- a step adds what it does to the entries
@@ -205,8 +206,10 @@ module _ (st : State) (ws : List ℕ) (inv : Invariant st ws) (asked : ℕ → O
     same,
   )
   step-adds s known (ends op b runs answer entries) =
-      let so : op ≡ asked s = sym (knows s op b runs) in
-      let next = ap (λ (o : Op). plain o (entriesIn st ws inv) .entries) so in (
+      let es = entriesIn st ws inv in
+      let so : plain op es ≡ plain (asked s) es
+      = plain-ways op es ∙ ap (λ (o : Op). plain o es) (sym (knows s op b runs)) ∙ sym (plain-ways (asked s) es) in
+      let next = ap (λ (r : Reply). r .entries) so in (
         plain op (entriesIn st ws inv) .entries,
         record {
           asked′ = asked;
@@ -214,7 +217,7 @@ module _ (st : State) (ws : List ℕ) (inv : Invariant st ws) (asked : ℕ → O
           adds = ended s (asked s) (stepped st ws s .answer) ∷ [];
           done-so = λ cs heard. cond-true (ended s (asked s) (stepped st ws s .answer) ∷ done cs heard asked) (done cs heard asked)
               (ap (λ (x : Answer). isOneOf x countedAnswers) answer ∙ plain-counted op (entriesIn st ws inv));
-          answers = λ ds h. ap₂ _∷_ (answer ∙ ap (λ (o : Op). plain o (entriesIn st ws inv) .answer) so) (h ∙ ap (plainAnswers (opsOf ds)) next);
+          answers = λ ds h. ap₂ _∷_ (answer ∙ ap (λ (r : Reply). r .answer) so) (h ∙ ap (plainAnswers (opsOf ds)) next);
           entries = λ ds. ap (plainEntries (opsOf ds)) (sym next);
         },
         entries,

@@ -2,7 +2,7 @@
 use Prim.Native.Nat.{ℕ, _≤_, _<_}
 use mathlib.Core.Bool.{true, false, cond, not, false≢true}
 use mathlib.Core.Logic.{_⊎_, inl, inr, ⊎-elim, _≢_}
-use mathlib.Core.List.{List, [], _∷_, _++_, append-nil}
+use mathlib.Core.List.{List, [], _∷_, _++_, reverse, append-nil}
 use mathlib.Core.Path.{_≡_, refl, sym, ap, ap₂, subst, _∙_}
 use native.Mathlib.Omega.{arith}
 use lib.Dec.{ltb}
@@ -16,38 +16,37 @@ use Rattle.ground.proofs.Tests.{member-none, member-there, member-cases, member
 use Rattle.page.specs.Words.{Page}
 use Rattle.pool.specs.Pool.{Write, poolLength, pageAt, applied}
 use Rattle.slots.specs.declared.Op.{Op}
-use Rattle.slots.specs.declared.Op.the-variants.{Search, Insert, Delete, Next, Regrade}
 use Rattle.slots.specs.declared.Task.{Task}
 use Rattle.slots.specs.declared.Task.the-variants.{Closed, Open}
-use Rattle.slots.specs.declared.Lock.the-variants.{Xi}
 use Rattle.slots.specs.declared.Slot.{Slot}
 use Rattle.slots.specs.declared.State.{State}
 use Rattle.slots.specs.declared.Answer.{Answer}
 use Rattle.slots.specs.declared.Answer.the-variants.{Waiting, Moved, BadState, BadPool, BadSlot, SlotIdle}
-use Rattle.slots.specs.Parts.{isOpen, onlyReads, held, keyOf, Stand, stand, holding, standOf, slotOf, slotAt, openAt, wantAt, holdsAt, openSlot, closedSlot, Opened}
+use Rattle.slots.specs.Parts.{isOpen, held, keyOf, heldLock, firstWay, Stand, freshStand, holding, standOf, slotOf, slotAt, openAt, wantAt, holdsAt, closedSlot, Opened}
 use Rattle.slots.specs.Locks.{lockOf}
 use Rattle.slots.specs.Grant.{grants}
 use Rattle.slots.specs.Book.{rewritten, begins, goesOn, closes}
 use Rattle.slots.proofs.SoundFacts.{SoundState, facts-sound}
 use Rattle.slots.proofs.OrderLaws.{same-or-not}
 use Rattle.slots.proofs.Clashes.{update-alone, wanted-alone}
-use Rattle.slots.proofs.GrantLaws.{taking-fits}
-use Rattle.slots.proofs.Keeping.{Shaped, slot-here, slot-other, path-new, beside-new, stand-new, begins-sound, begins-shaped, closes-sound, closes-shaped, goes-on-sound, goes-on-shaped}
+use Rattle.slots.proofs.GrantLaws.{Takable, taking-fits}
+use Rattle.slots.proofs.Keeping.{Shaped, slot-here, slot-other, stand-new, begins-sound, begins-shaped, closes-sound, closes-shaped, goes-on-sound, goes-on-shaped}
 use Rattle.footing.specs.Fitting.{verdict}
 use Rattle.index.specs.Step.{Left, left, acted, steppedTask, stepped}
 use Rattle.tree.specs.Tree.{Tr, PoolForms}
 use Rattle.tree.specs.Change.{memoryAfter, writtenPages}
 use Rattle.tree.proofs.Words.{fit-writes, applied-memory, pool-leads}
-use Rattle.runs.specs.Stance.{Starting, Stance, Takes}
-use Rattle.runs.specs.Step.{Ended, Comes, moves, stops}
+use Rattle.runs.specs.Stance.{WantsWith, Stance, Takes}
+use Rattle.runs.specs.Step.{Writable, Ended, Comes, moves, stops}
 use Rattle.runs.proofs.Invariant.{Invariant, scene}
 use Rattle.runs.proofs.Placing.{WellHeld, well-held}
-use Rattle.runs.proofs.Others.{others-keep}
-use Rattle.runs.proofs.Stepping.{granted-comes}
+use Rattle.runs.proofs.Others.{others-keep, others-wait}
+use Rattle.runs.proofs.Stepping.{same-key, granted-comes}
+use Rattle.runs.proofs.Locking.{due-wanted}
 
 -- a slot stands in a pool
 abbrev StandsIn : ℕ → List ℕ → (l : ℕ) → Tr l → Op → Slot → Type 0
-StandsIn k ws l t op slot = Stance k (pageAt k ws) l t (standOf op slot)
+StandsIn k ws l t op slot = Stance k (pageAt k ws) l t (standOf op slot) × WantsWith (pageAt k ws) (standOf op slot)
 
 -- an open task has one operation, and a closed one none
 abbrev opOf : Task → Op → Op
@@ -59,14 +58,6 @@ same-op {op = op} e = ap (λ (task : Task). opOf task op) e
 
 pub closed-open : {op : Op} → Closed ≡ Open op → ⊥
 closed-open e = false≢true (ap isOpen e)
-
--- what does not only read has ξ-locks
-update-xi : (op : Op) → onlyReads op ≡ false → lockOf (Open op) ≡ Xi
-update-xi (Search x) e = not-both refl e
-update-xi (Insert x v) e = refl
-update-xi (Delete x) e = refl
-update-xi (Next x) e = not-both refl e
-update-xi (Regrade x v) e = refl
 
 -- One slot is written anew, the words may change: what has to be shown of that slot, and of the others.
 module _ (st : State) (ws : List ℕ) (inv : Invariant st ws) (s : ℕ) (b : s < slotCount) where
@@ -87,10 +78,8 @@ module _ (st : State) (ws : List ℕ) (inv : Invariant st ws) (s : ℕ) (b : s <
             (λ e. here op (sym (ap (λ (sl : Slot). sl .task) (slot-at u e)) ∙ runs) .0)
             (λ n. inv .keys u op c (sym (ap (λ (sl : Slot). sl .task) (slot-away u n)) ∙ runs))
             (same-or-not u s);
-        stands = λ u op c runs. ⊎-elim
-            (λ e. subst (StandsIn (st .k) after l t op) (sym (slot-at u e)) (here op (sym (ap (λ (sl : Slot). sl .task) (slot-at u e)) ∙ runs) .1))
-            (λ n. subst (StandsIn (st .k) after l t op) (sym (slot-away u n)) (other u op c n (sym (ap (λ (sl : Slot). sl .task) (slot-away u n)) ∙ runs)))
-            (same-or-not u s);
+        stands = λ u op c runs. stands-in u op c runs .0;
+        locked = λ u op c runs. stands-in u op c runs .1;
       }
     where
       next : State
@@ -102,68 +91,78 @@ module _ (st : State) (ws : List ℕ) (inv : Invariant st ws) (s : ℕ) (b : s <
       slot-away : (u : ℕ) → u ≢ s → slotAt next u ≡ slotAt st u
       slot-away u n = slot-other st (inv .shaped) s b slot order waiting u n
 
+      stands-in : (u : ℕ) (op : Op) → u < slotCount → Opened next u op → StandsIn (st .k) after l t op (slotAt next u)
+      stands-in u op c runs = ⊎-elim
+          (λ e. subst (StandsIn (st .k) after l t op) (sym (slot-at u e)) (here op (sym (ap (λ (sl : Slot). sl .task) (slot-at u e)) ∙ runs) .1))
+          (λ n. subst (StandsIn (st .k) after l t op) (sym (slot-away u n)) (other u op c n (sym (ap (λ (sl : Slot). sl .task) (slot-away u n)) ∙ runs)))
+          (same-or-not u s)
+
   -- Beginning in a closed slot.
   pub begin-keeps : (op : Op) → openAt st s ≡ false → keyOf op < wordRange → Invariant (begins st s op) ws
   unfolding begins
   begin-keeps op closed key =
-      slot-anew (openSlot op 0 [] []) _ _ ws (inv .height) (inv .tree)
+      slot-anew (slotOf (freshStand op)) _ _ ws (inv .height) (inv .tree)
       (begins-shaped st (inv .shaped) (inv .sound) s b op)
       (begins-sound st (inv .shaped) (inv .sound) s b op closed)
       (inv .forms)
       (λ op′ e. let same : op ≡ op′ = same-op e in
-      (subst (λ (o : Op). keyOf o < wordRange) same key, subst (λ (o : Op). StandsIn (st .k) ws (inv .height) (inv .tree) o (openSlot op 0 [] [])) same (inl starting)))
-      (λ u op′ c n runs. inv .stands u op′ c runs)
+      (subst (λ (o : Op). keyOf o < wordRange) same key, subst (λ (o : Op). StandsIn (st .k) ws (inv .height) (inv .tree) o (slotOf (freshStand op))) same here))
+      (λ u op′ c n runs. (inv .stands u op′ c runs, inv .locked u op′ c runs))
     where
-      starting : Starting (standOf op (openSlot op 0 [] []))
-      starting = record { noPath = path-new (stand op [] [] 0); noSiblings = beside-new (stand op [] [] 0); wantsRoot = refl }
+      here : StandsIn (st .k) ws (inv .height) (inv .tree) op (slotOf (freshStand op))
+      here =
+          subst (λ (z : Stand). Stance (st .k) (pageAt (st .k) ws) (inv .height) (inv .tree) z × WantsWith (pageAt (st .k) ws) z) (sym (stand-new (freshStand op)))
+          (inl (record { noPath = refl; noSiblings = refl; wantsRoot = refl }), refl)
 
   -- Going on: the slot holds what it took and stands again.
-  pub move-keeps : (z : Stand) → Opened st s (z .op) → grants st s ≡ true
+  pub move-keeps : (op : Op) (z : Stand) → Opened st s op → grants st s ≡ true
+      → firstWay (z .op) ≡ firstWay op
       → Stance (st .k) (pageAt (st .k) ws) (inv .height) (inv .tree) z
-      → ((p : ℕ) → member p (holding z) ≡ true → (holdsAt st s p ≡ true) ⊎ (p ≡ wantAt st s))
+      → WantsWith (pageAt (st .k) ws) z
+      → ((p : ℕ) → member p (holding z) ≡ true → Takable st s (slotOf z) p)
       → Invariant (goesOn st s z) ws
   unfolding goesOn
-  move-keeps z runs granted stance from =
+  move-keeps op z runs granted asked stance locked from =
       slot-anew (slotOf z) _ _ ws (inv .height) (inv .tree)
       (goes-on-shaped st (inv .shaped) (inv .sound) s b z opened)
       (goes-on-sound st (inv .shaped) (inv .sound) s b z opened (well .limits) (well .below) (well .different)
-      (λ u c n p m. taking-fits st (inv .sound) s b granted (slotOf z) (sym runs) p (from p m) u c n))
+      (due-wanted (z .op) (z .lock) (pageAt (st .k) ws) (reverse (z .path)) locked)
+      (λ u c n p m. taking-fits st (inv .sound) s b granted (slotOf z) p (from p m) u c n))
       (inv .forms)
       (λ op′ e. let same : z .op ≡ op′ = same-op e in
       (subst (λ (o : Op). keyOf o < wordRange) same key, subst (λ (o : Op). StandsIn (st .k) ws (inv .height) (inv .tree) o (slotOf z)) same here))
-      (λ u op′ c n rs. inv .stands u op′ c rs)
+      (λ u op′ c n rs. (inv .stands u op′ c rs, inv .locked u op′ c rs))
     where
       opened : openAt st s ≡ true
       opened = ap isOpen runs
 
       key : keyOf (z .op) < wordRange
-      key = inv .keys s (z .op) b runs
+      key = subst (λ (y : ℕ). y < wordRange) (sym (same-key (z .op) op asked)) (inv .keys s op b runs)
 
       well : WellHeld (st .n) (inv .height) (inv .tree) z
       well = well-held (st .k) (st .n) ws (inv .height) (inv .tree) z
-          (record { kLeast = inv .sound .kLeast; kMost = inv .sound .kMost; nMost = inv .sound .nMost; key = key; forms = inv .forms; stance = stance })
+          (record { kLeast = inv .sound .kLeast; kMost = inv .sound .kMost; nMost = inv .sound .nMost; key = key; forms = inv .forms; stance = stance; locked = locked })
 
       here : StandsIn (st .k) ws (inv .height) (inv .tree) (z .op) (slotOf z)
-      here = subst (Stance (st .k) (pageAt (st .k) ws) (inv .height) (inv .tree)) (sym (stand-new z)) stance
+      here =
+          subst (λ (y : Stand). Stance (st .k) (pageAt (st .k) ws) (inv .height) (inv .tree) y × WantsWith (pageAt (st .k) ws) y) (sym (stand-new z)) (stance, locked)
 
-  -- What an operation writes as it ends no other slot holds: who only reads writes nothing, and others have ξ-locks on what they write.
+  -- What an operation writes as it ends no other slot holds: it has ξ-locks on what it writes.
   pub others-unwritten : (op : Op) (a : Answer) (writes : List Write) → Opened st s op → grants st s ≡ true
       → Ended (st .k) (st .n) ws (inv .height) (inv .tree) (standOf op (slotAt st s)) a writes
       → (u : ℕ) (op′ : Op) → u < slotCount → u ≢ s → Opened st u op′ → (q : ℕ) → holdsAt st u q ≡ true → member q (writtenPages writes) ≡ false
   others-unwritten op a writes runs granted e u op′ c n rs q m =
-      by-test (onlyReads op)
-      (λ r. ap (λ (W : List Write). member q (writtenPages W)) (e .reads r) ∙ member-none q)
-      (λ r. false-if-not-true (member q (writtenPages writes)) (λ w. ⊎-elim
-      (λ h. not-both m (alone r (member-cases q (wantAt st s) (held (slotAt st s)) h)))
+      false-if-not-true (member q (writtenPages writes)) (λ w. ⊎-elim
+      (λ h. not-both m (alone h))
       (λ o. let some = well .pages q (member-there (wantAt st u) q (held (slotAt st u)) m) in absurd (omega arith))
-      (e .only q w)))
+      (e .only q w))
     where
       well : WellHeld (st .n) (inv .height) (inv .tree) (standOf op′ (slotAt st u))
       well = well-held (st .k) (st .n) ws (inv .height) (inv .tree) (standOf op′ (slotAt st u)) (scene st ws inv u op′ c rs)
 
-      alone : onlyReads op ≡ false → (q ≡ wantAt st s) ⊎ (holdsAt st s q ≡ true) → holdsAt st u q ≡ false
-      alone r (inl w) = subst (λ (p : ℕ). holdsAt st u p ≡ false) (sym w) (wanted-alone st (inv .sound) s u c n granted (ap lockOf runs ∙ update-xi op r))
-      alone r (inr h) = update-alone st (inv .sound) s u q b c (λ i. n (sym i)) (ap lockOf runs ∙ update-xi op r) h
+      alone : Writable (standOf op (slotAt st s)) q → holdsAt st u q ≡ false
+      alone (inl (w, xi)) = subst (λ (p : ℕ). holdsAt st u p ≡ false) (sym w) (wanted-alone st (inv .sound) s u c n granted xi)
+      alone (inr (h, xi)) = update-alone st (inv .sound) s u q b c (λ i. n (sym i)) (ap lockOf runs ∙ xi) h
 
   -- Ending: the slot closes, and what it wrote no other slot holds.
   pub end-keeps : (op : Op) (a : Answer) (writes : List Write) → Opened st s op → grants st s ≡ true
@@ -177,10 +176,13 @@ module _ (st : State) (ws : List ℕ) (inv : Invariant st ws) (s : ℕ) (b : s <
       (pool-leads (st .k) (st .n) ws (inv .height) (inv .tree) writes (e .entries) (inv .forms) (e .leads))
       (λ op′ c. absurd (closed-open c))
       (λ u op′ c n rs. subst
-      (λ (m : ℕ → Page). Stance (st .k) m (e .leads .height) (e .leads .tree) (standOf op′ (slotAt st u)))
-      (sym memory-after)
-      (others-keep (st .k) (st .n) (pageAt (st .k) ws) (inv .height) (inv .tree) writes (e .entries) (standOf op′ (slotAt st u))
-      (inv .sound .kLeast) (inv .keys u op′ c rs) (inv .forms .forms) (e .leads) (others-unwritten op a writes runs granted e u op′ c n rs) (inv .stands u op′ c rs)))
+      (λ (m : ℕ → Page). Stance (st .k) m (e .leads .height) (e .leads .tree) (standOf op′ (slotAt st u)) × WantsWith m (standOf op′ (slotAt st u)))
+      (sym memory-after) (
+        others-keep (st .k) (st .n) (pageAt (st .k) ws) (inv .height) (inv .tree) writes (e .entries) (standOf op′ (slotAt st u))
+            (inv .sound .kLeast) (inv .keys u op′ c rs) (inv .forms .forms) (e .leads) (others-unwritten op a writes runs granted e u op′ c n rs) (inv .stands u op′ c rs),
+        others-wait (st .k) (st .n) (pageAt (st .k) ws) (inv .height) (inv .tree) writes (e .entries) (standOf op′ (slotAt st u))
+            (inv .keys u op′ c rs) (inv .forms .forms) (e .leads) (others-unwritten op a writes runs granted e u op′ c n rs) (inv .locked u op′ c rs),
+      ))
     where
       opened : openAt st s ≡ true
       opened = ap isOpen runs
@@ -198,8 +200,9 @@ pub data StepOf (st : State) (ws : List ℕ) (inv : Invariant st ws) (s : ℕ) :
   -- the slot goes on: it stands again, and holds what the rules say
   onward : (op : Op) (z : Stand) → s < slotCount → Opened st s op → grants st s ≡ true
       → stepped st ws s ≡ left Moved (goesOn st s z) ws
-      → z .op ≡ op
+      → firstWay (z .op) ≡ firstWay op
       → Stance (st .k) (pageAt (st .k) ws) (inv .height) (inv .tree) z
+      → WantsWith (pageAt (st .k) ws) z
       → Takes (st .k) (pageAt (st .k) ws) (standOf op (slotAt st s)) z
       → StepOf st ws inv s
   -- the operation ends
@@ -223,7 +226,7 @@ module _ (st : State) (ws : List ℕ) (inv : Invariant st ws) (s : ℕ) where
       → stepped st ws s ≡ acted st ws s (verdict (st .k) (st .n) ws (standOf op (slotAt st s)))
       → Comes (st .k) (st .n) ws (inv .height) (inv .tree) (standOf op (slotAt st s))
       → StepOf st ws inv s
-  comes-to op b runs g e (moves z v same stance takes) = onward op z b runs g (e ∙ ap (acted st ws s) v) same stance takes
+  comes-to op b runs g e (moves z v same stance locked takes) = onward op z b runs g (e ∙ ap (acted st ws s) v) same stance locked takes
   comes-to op b runs g e (stops a writes v ended) = over op a writes b runs g (e ∙ ap (acted st ws s) v) ended
 
   -- a granted step does what it comes to by the rule
@@ -257,19 +260,39 @@ takes-from k memory z z′ (inl g) p m =
 takes-from k memory z z′ (inr (inl g)) p m =
     ⊎-elim (λ h. inl (member-append p (z .path) (z .beside) ∙ or-first (member p (z .beside)) h)) inr
     (member-last p (z .path) (z .want) (subst (λ (ps : List ℕ). member p ps ≡ true) (ap₂ _++_ (g .holds) (g .still) ∙ append-nil (z .path ++ z .want ∷ [])) m))
-takes-from k memory z z′ (inr (inr g)) p m =
+takes-from k memory z z′ (inr (inr (inl g))) p m =
     ⊎-elim (λ h. inl (member-append p (z .path) (z .beside) ∙ or-first (member p (z .beside)) h))
     (λ h. ⊎-elim (λ g. inl (member-append p (z .path) (z .beside) ∙ or-second (member p (z .path)) g)) inr (member-last p (z .beside) (z .want) h))
     (or-cases (member p (z .path)) (member p (z .beside ++ z .want ∷ []))
     (sym (member-append p (z .path) (z .beside ++ z .want ∷ [])) ∙ subst (λ (ps : List ℕ). member p ps ≡ true) (ap₂ _++_ (g .still) (g .holds)) m))
+takes-from k memory z z′ (inr (inr (inr g))) p m =
+    not-both (subst (λ (y : Stand). member p (holding y) ≡ true) (g .fresh) m) (member-none p)
+
+-- what it keeps it holds under the kind that it held it under, and what it takes under the kind that it wanted it with
+takable : (st : State) (s : ℕ) (op : Op) → Opened st s op → (k : ℕ) (memory : ℕ → Page) (z : Stand) → Takes k memory (standOf op (slotAt st s)) z
+    → (p : ℕ) → member p (holding z) ≡ true → Takable st s (slotOf z) p
+takable st s op runs k memory z takes p m = by-case takes
+  where
+    under : z .op ≡ op → slotAt st s .lock ≡ heldLock op → Takable st s (slotOf z) p
+    under same kind =
+        ⊎-elim
+        (λ h. inl (h, ap heldLock same ∙ sym (ap lockOf runs)))
+        (λ w. inr (w, ap heldLock same ∙ sym kind))
+        (takes-from k memory (standOf op (slotAt st s)) z takes p m)
+
+    by-case : Takes k memory (standOf op (slotAt st s)) z → Takable st s (slotOf z) p
+    by-case (inl g) = under (g .same) (g .under)
+    by-case (inr (inl g)) = under (g .same) (g .under)
+    by-case (inr (inr (inl g))) = under (g .same) (g .under)
+    by-case (inr (inr (inr g))) = not-both (subst (λ (y : Stand). member p (holding y) ≡ true) (g .fresh) m) (member-none p)
 
 -- A step keeps what holds of a run.
 pub step-keeps : (st : State) (ws : List ℕ) (inv : Invariant st ws) (s : ℕ) → StepOf st ws inv s → Invariant (stepped st ws s .state) (stepped st ws s .words)
 step-keeps st ws inv s (noSlot b e) = subst (λ (r : Left). Invariant (r .state) (r .words)) (sym e) inv
 step-keeps st ws inv s (idle b c e) = subst (λ (r : Left). Invariant (r .state) (r .words)) (sym e) inv
 step-keeps st ws inv s (waits op b runs g e) = subst (λ (r : Left). Invariant (r .state) (r .words)) (sym e) inv
-step-keeps st ws inv s (onward op z b runs g e same stance takes) =
+step-keeps st ws inv s (onward op z b runs g e same stance locked takes) =
     subst (λ (r : Left). Invariant (r .state) (r .words)) (sym e)
-    (move-keeps st ws inv s b z (runs ∙ ap Open (sym same)) g stance (takes-from (st .k) (pageAt (st .k) ws) (standOf op (slotAt st s)) z takes))
+    (move-keeps st ws inv s b op z runs g same stance locked (takable st s op runs (st .k) (pageAt (st .k) ws) z takes))
 step-keeps st ws inv s (over op a writes b runs g e ended) =
     subst (λ (r : Left). Invariant (r .state) (r .words)) (sym e) (end-keeps st ws inv s b op a writes runs g ended)

@@ -12,7 +12,7 @@ use lib.ListN.{length}
 use Rattle.ground.specs.Limits.{slotCount}
 use Rattle.ground.proofs.Bools.{true-or-false, not-both, and-both, and-first-fails, and-second-fails, not-of-false, false-if-not-true}
 use Rattle.ground.proofs.Limits.{range-rises}
-use Rattle.ground.proofs.Choice.{cond-true, cond-false}
+use Rattle.ground.proofs.Choice.{by-test, cond-true, cond-false}
 use Rattle.page.specs.Words.{Page}
 use Rattle.pool.specs.Pool.{pageAt}
 use Rattle.slots.specs.declared.Op.{Op}
@@ -21,25 +21,28 @@ use Rattle.slots.specs.declared.Slot.{Slot}
 use Rattle.slots.specs.declared.State.{State}
 use Rattle.slots.specs.declared.Outcome.{Outcome}
 use Rattle.slots.specs.Heard.{numberOf, changesNothing}
-use Rattle.slots.specs.Parts.{isOpen, goesBeside, openSlot, pathOf, Stand, stand, standOf, slotAt, openAt, wantAt, Opened}
+use Rattle.slots.specs.Parts.{isOpen, isSecond, firstWay, goesBeside, pathOf, Stand, freshStand, standOf, slotOf, slotAt, openAt, wantAt, Opened}
 use Rattle.slots.specs.Book.{begins, goesOn}
 use Rattle.slots.specs.Begin.{begun}
+use Rattle.slots.proofs.LockLaws.{first-not-second}
 use Rattle.slots.proofs.Keeping.{Shaped, slot-here, slot-other, path-new}
 use Rattle.slots.proofs.OrderLaws.{same-or-not}
-use Rattle.footing.specs.Granted.{kept, atItsLeaf}
+use Rattle.footing.specs.Granted.{atItsLeaf}
 use Rattle.index.specs.Step.{Left, stepped}
 use Rattle.index.proofs.Refusals.{step-refused}
 use Rattle.tree.proofs.Search.{way-facts}
 use Rattle.runs.specs.Run.{Call, begin, step, report, called, InWords}
+use Rattle.runs.specs.Stance.{BeginsAgain}
 use Rattle.runs.specs.Step.{Comes, moves, stops}
-use Rattle.runs.specs.Counts.{grantedTo, grantsOf, endsWithin, heightGranted, GrantCounts, CountsFrom}
+use Rattle.runs.specs.Counts.{grantedTo, grantsOf, endsWithin, heightGranted, secondTask, secondAt, beginsAgain, grantsSecond, Behind, behind, behindAgain, FirstCounts, SecondCounts, GrantCounts, CountsFrom}
 use Rattle.runs.proofs.Invariant.{Invariant}
 use Rattle.runs.proofs.Calls.{same-op}
 use Rattle.runs.proofs.Runs.{BeginOf, noSuch, busy, begins-so, begin-of, call-keeps}
-use Rattle.runs.proofs.Measure.{lowestOf, grantsLeft, Where, atStart, onTheWay, atTheLeaf}
-use Rattle.runs.proofs.MeasureLaws.{Undisturbed, nothing-disturbed, undisturbed-measure, step-undisturbed, measure-falls, measure-bound, kept-path, goes-on-here, goes-on-k, closes-here, comes, moved, ended-so, after-moving, leftAt, kept-left, where-slot, low-above, start-above}
+use Rattle.runs.proofs.Measure.{lowestOf, grantsLeft, beside-first, Where, atStart, onTheWay, atTheLeaf}
+use Rattle.runs.proofs.MeasureLaws.{Undisturbed, nothing-disturbed, undisturbed-measure, step-undisturbed, measure-falls, measure-bound, measure-first, Lower, takes-lower, goes-on-here, goes-on-k, closes-here, comes, moved, ended-so, after-moving, lower-left, where-slot, low-above, start-above}
 use Rattle.runs.proofs.Steps.{Goes, step-cases}
-use Rattle.runs.proofs.Verdicts.{coming-goes, coming-ends}
+use Rattle.runs.proofs.Stepping.{at-leaf-test}
+use Rattle.runs.proofs.Verdicts.{coming-ends}
 
 -- ---- the counts, call by call
 
@@ -87,11 +90,11 @@ none-granted s st ws = refl
 
 begins-other : (st : State) → Shaped st → (u : ℕ) → u < slotCount → (op : Op) (s : ℕ) → s ≢ u → slotAt (begins st u op) s ≡ slotAt st s
 unfolding begins
-begins-other st shaped u b op s n = slot-other st shaped u b (openSlot op 0 [] []) (st .order) (st .waiting) s n
+begins-other st shaped u b op s n = slot-other st shaped u b (slotOf (freshStand op)) (st .order) (st .waiting) s n
 
-begins-here : (st : State) → Shaped st → (s : ℕ) → s < slotCount → (op : Op) → slotAt (begins st s op) s ≡ openSlot op 0 [] []
+begins-here : (st : State) → Shaped st → (s : ℕ) → s < slotCount → (op : Op) → slotAt (begins st s op) s ≡ slotOf (freshStand op)
 unfolding begins
-begins-here st shaped s b op = slot-here st shaped s b (openSlot op 0 [] []) (st .order) (st .waiting)
+begins-here st shaped s b op = slot-here st shaped s b (slotOf (freshStand op)) (st .order) (st .waiting)
 
 begins-k : (st : State) (u : ℕ) (op : Op) → begins st u op .k ≡ st .k
 unfolding begins
@@ -165,9 +168,11 @@ pub record Under (st : State) (ws : List ℕ) (s : ℕ) (op : Op) (level : ℕ) 
   pub some : 1 ≤ length (pathOf (slotAt st s))
   pub lowest : lowLevel st ws s ≡ level
 
--- Its operation ended where m is 0; or it goes on, with the page granted on level m + 1 the lowest.
-abbrev WentDown : State → List ℕ → ℕ → Op → ℕ → ℕ → Type 0
-WentDown st ws s op m depth = ((openAt st s ≡ false) × (m ≡ 0)) ⊎ (Under st ws s op (m + 1) × (grantsLeft st ws s ≤ 2 * m + depth))
+-- What a grant on level m + 1 does: the operation ends, where m is 0; or it goes on, with that page the lowest; or it begins again, where m is 0.
+data WentDown (st : State) (ws : List ℕ) (s : ℕ) (op : Op) (m depth : ℕ) : Type 0 where
+  over : openAt st s ≡ false → m ≡ 0 → WentDown st ws s op m depth
+  lower : Under st ws s op (m + 1) → (isSecond op ≡ false → grantsLeft st ws s ≤ 2 * m + depth) → WentDown st ws s op m depth
+  again : isSecond op ≡ true → Opened st s (firstWay op) → pathOf (slotAt st s) ≡ [] → m ≡ 0 → WentDown st ws s op m depth
 
 module _ (st : State) (ws : List ℕ) (inv : Invariant st ws) (s : ℕ) (g : Goes st s) where
   abbrev path : List ℕ
@@ -178,37 +183,44 @@ module _ (st : State) (ws : List ℕ) (inv : Invariant st ws) (s : ℕ) (g : Goe
       → WentDown (stepped st ws s .state) (stepped st ws s .words) s (g .op) m (length path)
   grant-down m above wanted = by-comes (comes st ws inv s g)
     where
-      by-comes : Comes (st .k) (st .n) ws (inv .height) (inv .tree) (standOf (g .op) (slotAt st s))
-          → WentDown (stepped st ws s .state) (stepped st ws s .words) s (g .op) m (length path)
-      by-comes (moves z′ e same stance takes) =
-          let memory : ℕ → Page = pageAt (st .k) ws in
-          let z : Stand = standOf (g .op) (slotAt st s) in
-          let went = coming-goes (st .k) (st .n) ws z above z′ e in
-          let how = kept-path (st .k) memory z in
+      memory : ℕ → Page
+      memory = pageAt (st .k) ws
+
+      z : Stand
+      z = standOf (g .op) (slotAt st s)
+
+      went-on : (z′ : Stand) → Lower z z′ ⊎ BeginsAgain (st .k) memory z z′ → WentDown (goesOn st s z′) ws s (g .op) m (length path)
+      went-on z′ (inl low) =
           let here = goes-on-here st (inv .shaped) s (g .inside) z′ in
-          let holds : pathOf (slotAt (goesOn st s z′) s) ≡ kept (st .k) memory z
-          = ap pathOf here ∙ path-new z′ ∙ ap (λ (y : Stand). y .path) went in
-          let left-over : grantsLeft (goesOn st s z′) ws s ≡ 2 * (m + 1) + (length (kept (st .k) memory z) - 1) - 2
-          = after-moving st ws inv s g z′ ∙ ap (leftAt memory) went ∙ kept-left (st .k) memory z (m + 1) wanted in
-          inr (subst (λ (r : Left). Under (r .state) (r .words) s (g .op) (m + 1) × (grantsLeft (r .state) (r .words) s ≤ 2 * m + length path))
-          (sym (moved st ws inv s g z′ e)) (
-            record {
-              runs = ap (λ (slot : Slot). slot .task) here ∙ ap Open same;
-              some = subst (λ (p : List ℕ). 1 ≤ length p) (sym holds) (how .some);
-              lowest =
-                  ap (λ (k : ℕ). pageAt k ws (lowestOf (pathOf (slotAt (goesOn st s z′) s))) .level) (goes-on-k st s z′)
-                  ∙ ap (λ (p : ℕ). memory p .level) (ap lowestOf holds ∙ how .lowest)
-                  ∙ wanted;
-            },
-            omega (arith, left-over, how .most, how .some),
-          ))
+          let holds : pathOf (slotAt (goesOn st s z′) s) ≡ z′ .path = ap pathOf here ∙ path-new z′ in
+          lower
+          (record {
+            runs = ap (λ (slot : Slot). slot .task) here ∙ ap Open (low .same);
+            some = subst (λ (p : List ℕ). 1 ≤ length p) (sym holds) (low .some);
+            lowest =
+                ap (λ (k : ℕ). pageAt k ws (lowestOf (pathOf (slotAt (goesOn st s z′) s))) .level) (goes-on-k st s z′)
+                ∙ ap (λ (p : ℕ). memory p .level) (ap lowestOf holds ∙ low .lowest)
+                ∙ wanted;
+          })
+          (λ first. omega (arith, after-moving st ws inv s g z′, lower-left memory z z′ (m + 1) low first wanted, low .most, low .some))
+      went-on z′ (inr a) =
+          let here = goes-on-here st (inv .shaped) s (g .inside) z′ in
+          again (a .second)
+          (ap (λ (slot : Slot). slot .task) here ∙ ap (λ (y : Stand). Open (y .op)) (a .fresh))
+          (ap pathOf here ∙ path-new z′ ∙ ap (λ (y : Stand). y .path) (a .fresh))
+          (omega (arith, wanted, a .leaf))
+
+      by-comes : Comes (st .k) (st .n) ws (inv .height) (inv .tree) z
+          → WentDown (stepped st ws s .state) (stepped st ws s .words) s (g .op) m (length path)
+      by-comes (moves z′ e same stance locked takes) =
+          subst (λ (r : Left). WentDown (r .state) (r .words) s (g .op) m (length path)) (sym (moved st ws inv s g z′ e))
+          (went-on z′ (takes-lower (st .k) memory z z′ (λ at. not-both (at-leaf-test memory path at) above) takes))
       by-comes (stops a writes e ended) =
-          let leaf = coming-ends (st .k) (st .n) ws (standOf (g .op) (slotAt st s)) above a writes e in
-          inl (
-            subst (λ (r : Left). openAt (r .state) s ≡ false) (sym (ended-so st ws inv s g a writes e))
-                (ap (λ (slot : Slot). isOpen (slot .task)) (closes-here st (inv .shaped) s (g .inside))),
-            omega (arith, wanted, eqb-true (pageAt (st .k) ws (wantAt st s) .level) 1 leaf),
-          )
+          let leaf = coming-ends (st .k) (st .n) ws z above a writes e in
+          over
+          (subst (λ (r : Left). openAt (r .state) s ≡ false) (sym (ended-so st ws inv s g a writes e))
+          (ap (λ (slot : Slot). isOpen (slot .task)) (closes-here st (inv .shaped) s (g .inside))))
+          (omega (arith, wanted, eqb-true (pageAt (st .k) ws (wantAt st s) .level) 1 leaf))
 
 -- ---- what other calls leave
 
@@ -283,15 +295,15 @@ module _ (s : ℕ) (b : s < slotCount) where
       (omega (arith, is, e), λ so. omega (arith, is, e))
 
   -- on the way down it is granted one page a level
-  on-the-way : (cs : List Call) → InWords cs → (st : State) (ws : List ℕ) → Invariant st ws → (op : Op) (level : ℕ) → Under st ws s op level
+  on-the-way : (cs : List Call) → InWords cs → (st : State) (ws : List ℕ) → Invariant st ws → (op : Op) → isSecond op ≡ false → (level : ℕ) → Under st ws s op level
       → endsWithin s cs st ws ≡ true → Needs op (level - 1) (grantsOf s cs st ws)
-  on-the-way [] words st ws inv op level u ends-so = not-both ends-so (none-ends s st ws)
-  on-the-way (c ∷ cs) words st ws inv op level u ends-so =
+  on-the-way [] words st ws inv op first level u ends-so = not-both ends-so (none-ends s st ws)
+  on-the-way (c ∷ cs) words st ws inv op first level u ends-so =
       ⊎-elim
-      (λ g. granted-now (on-the-way cs (words .1) next after kept-inv op) g (where-slot st ws inv s op b (u .runs)))
+      (λ g. granted-now (on-the-way cs (words .1) next after kept-inv op first) g (where-slot st ws inv s op b (u .runs)))
       (λ o.
       let still = undisturbed-open st ws next after s (o .keeps) (ap isOpen (u .runs)) in
-      let rest = on-the-way cs (words .1) next after kept-inv op level (undisturbed-under st ws next after s op level (o .keeps) u)
+      let rest = on-the-way cs (words .1) next after kept-inv op first level (undisturbed-under st ws next after s op level (o .keeps) u)
       (sym (ends-later s c cs st ws still) ∙ ends-so) in
       subst (Needs op (level - 1)) (sym (grants-other s c cs st ws (o .other) still)) rest)
       (call-cases st ws inv s b (ap isOpen (u .runs)) c)
@@ -313,26 +325,28 @@ module _ (s : ℕ) (b : s < slotCount) where
       granted-now rest g (atTheLeaf w f d) = (omega (arith, u .lowest, w .level), λ so. not-both d so)
       granted-now rest g (onTheWay low w e h) =
           subst (λ (m : ℕ). Needs op m (grantsOf s (c ∷ cs) st ws)) (omega (arith, u .lowest, w .level))
-          (⊎-elim
-          (λ ended. last-one c cs st ws op low (g .granted) (ended .0) (ended .1))
-          (λ on.
-          let still : openAt next s ≡ true = ap isOpen (on .0 .runs) in
-          let less : low + 1 - 1 ≡ low = omega arith in
-          one-more c cs st ws op low (g .granted) still
-          (subst (λ (m : ℕ). Needs op m (grantsOf s cs next after)) less (rest (low + 1) (on .0) (sym (ends-later s c cs st ws still) ∙ ends-so))))
-          (called-down c st ws inv op (u .runs) g low (low-above (pageAt (st .k) ws) (inv .height) (inv .tree) (pathOf (slotAt st s)) low w) h))
+          (by-down (called-down c st ws inv op (u .runs) g low (low-above (pageAt (st .k) ws) (inv .height) (inv .tree) (pathOf (slotAt st s)) low w) h))
+        where
+          by-down : WentDown next after s op low (length (pathOf (slotAt st s))) → Needs op (low + 1) (grantsOf s (c ∷ cs) st ws)
+          by-down (over closed e) = last-one c cs st ws op low (g .granted) closed e
+          by-down (lower under few) =
+              let still : openAt next s ≡ true = ap isOpen (under .runs) in
+              let less : low + 1 - 1 ≡ low = omega arith in
+              one-more c cs st ws op low (g .granted) still
+              (subst (λ (m : ℕ). Needs op m (grantsOf s cs next after)) less (rest (low + 1) under (sym (ends-later s c cs st ws still) ∙ ends-so)))
+          by-down (again second runs none e) = not-both second first
 
   -- from where it has just begun it is granted h pages on its way down, and at most 2h - 1 in all
-  from-start : (cs : List Call) → InWords cs → (st : State) (ws : List ℕ) → Invariant st ws → (op : Op) → Opened st s op → pathOf (slotAt st s) ≡ []
+  from-start : (cs : List Call) → InWords cs → (st : State) (ws : List ℕ) → Invariant st ws → (op : Op) → isSecond op ≡ false → Opened st s op → pathOf (slotAt st s) ≡ []
       → (endsWithin s cs st ws ≡ true → Needs op (heightGranted s cs st ws) (grantsOf s cs st ws))
       × (grantsOf s cs st ws ≤ 2 * heightGranted s cs st ws - 1)
-  from-start [] words st ws inv op runs none = (λ ends-so. not-both ends-so (none-ends s st ws), omega (arith, none-granted s st ws))
-  from-start (c ∷ cs) words st ws inv op runs none =
+  from-start [] words st ws inv op first runs none = (λ ends-so. not-both ends-so (none-ends s st ws), omega (arith, none-granted s st ws))
+  from-start (c ∷ cs) words st ws inv op first runs none =
       ⊎-elim
       (λ g. granted-now g (where-slot st ws inv s op b runs))
       (λ o.
       let still = undisturbed-open st ws next after s (o .keeps) (ap isOpen runs) in
-      let rest = from-start cs (words .1) next after kept-inv op (ap (λ (slot : Slot). slot .task) (o .keeps .slot) ∙ runs) (ap pathOf (o .keeps .slot) ∙ none) in
+      let rest = from-start cs (words .1) next after kept-inv op first (ap (λ (slot : Slot). slot .task) (o .keeps .slot) ∙ runs) (ap pathOf (o .keeps .slot) ∙ none) in
       let is = grants-other s c cs st ws (o .other) still in
       let height = height-later s c cs st ws (o .other) in (
         λ ends-so.
@@ -360,34 +374,241 @@ module _ (s : ℕ) (b : s < slotCount) where
       granted-now g (atStart e f h) =
           let l : ℕ = inv .height in
           let height : heightGranted s (c ∷ cs) st ws ≡ l + 1 = height-now s c cs st ws (g .granted) ∙ root-level st ws inv in
-          ⊎-elim
-          (λ ended. (
-            λ _. subst (λ (m : ℕ). Needs op m (grantsOf s (c ∷ cs) st ws)) (sym height) (last-one c cs st ws op l (g .granted) (ended .0) (ended .1)),
-            omega (arith, height, grants-last s c cs st ws (g .granted) (ended .0)),
-          ))
-          (λ on.
-          let still : openAt next s ≡ true = ap isOpen (on .0 .runs) in
-          let less : l + 1 - 1 ≡ l = omega arith in (
-            λ ends-so. subst (λ (m : ℕ). Needs op m (grantsOf s (c ∷ cs) st ws)) (sym height)
-                (one-more c cs st ws op l (g .granted) still
-                (subst (λ (m : ℕ). Needs op m (grantsOf s cs next after)) less
-                (on-the-way cs (words .1) next after kept-inv op (l + 1) (on .0) (sym (ends-later s c cs st ws still) ∙ ends-so)))),
-            omega (arith, height, grants-on s c cs st ws (g .granted) still, at-most cs (words .1) next after kept-inv still, on .1, ap length none),
-          ))
-          (called-down c st ws inv op runs g l (start-above (pageAt (st .k) ws) l (inv .tree) (pathOf (slotAt st s)) none) h)
+          by-down height (called-down c st ws inv op runs g l (start-above (pageAt (st .k) ws) l (inv .tree) (pathOf (slotAt st s)) none) h)
+        where
+          by-down : heightGranted s (c ∷ cs) st ws ≡ inv .height + 1 → WentDown next after s op (inv .height) (length (pathOf (slotAt st s)))
+              → (endsWithin s (c ∷ cs) st ws ≡ true → Needs op (heightGranted s (c ∷ cs) st ws) (grantsOf s (c ∷ cs) st ws))
+              × (grantsOf s (c ∷ cs) st ws ≤ 2 * heightGranted s (c ∷ cs) st ws - 1)
+          by-down height (over closed e′) = (
+            λ _. subst (λ (m : ℕ). Needs op m (grantsOf s (c ∷ cs) st ws)) (sym height) (last-one c cs st ws op (inv .height) (g .granted) closed e′),
+            omega (arith, height, grants-last s c cs st ws (g .granted) closed),
+          )
+          by-down height (lower under few) =
+              let l : ℕ = inv .height in
+              let still : openAt next s ≡ true = ap isOpen (under .runs) in
+              let less : l + 1 - 1 ≡ l = omega arith in (
+                λ ends-so. subst (λ (m : ℕ). Needs op m (grantsOf s (c ∷ cs) st ws)) (sym height)
+                    (one-more c cs st ws op l (g .granted) still
+                    (subst (λ (m : ℕ). Needs op m (grantsOf s cs next after)) less
+                    (on-the-way cs (words .1) next after kept-inv op first (l + 1) under (sym (ends-later s c cs st ws still) ∙ ends-so)))),
+                omega (arith, height, grants-on s c cs st ws (g .granted) still, at-most cs (words .1) next after kept-inv still, few first, ap length none),
+              )
+          by-down height (again second runs′ none′ e′) = not-both second first
 
-  -- The grants of an operation that has just begun in a state of a run.
-  pub grant-counts : (op : Op) (cs : List Call) (st : State) (ws : List ℕ) → Invariant st ws → InWords cs → Opened st s op → pathOf (slotAt st s) ≡ []
-      → GrantCounts s op cs st ws
-  grant-counts op cs st ws inv words runs none =
-      let counted = from-start cs words st ws inv op runs none in
-      let opened : openAt st s ≡ true = ap isOpen runs in
+  -- The grants of an operation by the first way that has just begun in a state of a run.
+  first-counts : (op : Op) (cs : List Call) (st : State) (ws : List ℕ) → Invariant st ws → InWords cs → isSecond op ≡ false → Opened st s op → pathOf (slotAt st s) ≡ []
+      → FirstCounts s op cs st ws
+  first-counts op cs st ws inv words first runs none =
+      let counted = from-start cs words st ws inv op first runs none in
       record {
         exactly = λ so ends-so. counted .0 ends-so .1 so;
         least = λ ends-so. counted .0 ends-so .0;
         most = counted .1;
-        inAll = omega (arith, at-most cs words st ws inv opened, measure-bound st ws inv s b opened .1);
+        inAll = omega (arith, at-most cs words st ws inv (ap isOpen runs), measure-first st ws inv s op b runs first);
       }
+
+  -- ---- by the second way
+
+  -- So many grants are needed: m where it does not begin again, m until it does, and then what the first way needs.
+  record SecondNeeds (op : Op) (m : ℕ) (cs : List Call) (st : State) (ws : List ℕ) : Type 0 where
+    straight : beginsAgain s cs st ws ≡ false → endsWithin s cs st ws ≡ true → grantsOf s cs st ws ≡ m
+    downward : beginsAgain s cs st ws ≡ true → grantsSecond s cs st ws ≡ m
+    afresh : beginsAgain s cs st ws ≡ true
+        → FirstCounts s (firstWay op) (behindAgain s cs st ws .calls) (behindAgain s cs st ws .state) (behindAgain s cs st ws .words)
+    together : beginsAgain s cs st ws ≡ true
+        → grantsOf s cs st ws
+        ≡ grantsSecond s cs st ws + grantsOf s (behindAgain s cs st ws .calls) (behindAgain s cs st ws .state) (behindAgain s cs st ws .words)
+
+  -- no call: nothing has ended and nothing has begun again
+  none-needed : (op : Op) (m : ℕ) (st : State) (ws : List ℕ) → SecondNeeds op m [] st ws
+  unfolding beginsAgain
+  none-needed op m st ws = record {
+    straight = λ _ e. not-both e (none-ends s st ws);
+    downward = λ e. not-both e refl;
+    afresh = λ e. not-both e refl;
+    together = λ e. not-both e refl;
+  }
+
+  module _ (op : Op) (second : isSecond op ≡ true) (c : Call) (cs : List Call) (st : State) (ws : List ℕ) where
+    abbrev next : State
+    next = called st ws c .state
+
+    abbrev after : List ℕ
+    after = called st ws c .words
+
+    -- it goes on by the second way, after a grant or another call
+    module _ (granted : ℕ) (goes : Opened next s op) (m : ℕ) (is : grantsOf s (c ∷ cs) st ws ≡ granted + grantsOf s cs next after)
+        (downs : grantsSecond s (c ∷ cs) st ws ≡ granted + grantsSecond s cs next after) where
+      still : openAt next s ≡ true
+      still = ap isOpen goes
+
+      by-second : secondAt next s ≡ true
+      by-second = ap secondTask goes ∙ second
+
+      same-again : beginsAgain s (c ∷ cs) st ws ≡ beginsAgain s cs next after
+      unfolding beginsAgain
+      same-again = cond-true _ false still ∙ cond-true (beginsAgain s cs next after) true by-second
+
+      same-behind : behindAgain s (c ∷ cs) st ws ≡ behindAgain s cs next after
+      unfolding behindAgain
+      same-behind = cond-true (behindAgain s cs next after) (behind cs next after) by-second
+
+      goes-second : SecondNeeds op m cs next after → SecondNeeds op (granted + m) (c ∷ cs) st ws
+      goes-second rest = record {
+        straight = λ not-again ends-so.
+            is ∙ ap (λ (a : ℕ). granted + a) (rest .straight (sym same-again ∙ not-again) (sym (ends-later s c cs st ws still) ∙ ends-so));
+        downward = λ anew. downs ∙ ap (λ (a : ℕ). granted + a) (rest .downward (sym same-again ∙ anew));
+        afresh = λ anew.
+            subst (λ (q : Behind). FirstCounts s (firstWay op) (q .calls) (q .state) (q .words)) (sym same-behind) (rest .afresh (sym same-again ∙ anew));
+        together = λ anew.
+            subst (λ (q : Behind). grantsOf s (c ∷ cs) st ws ≡ grantsSecond s (c ∷ cs) st ws + grantsOf s (q .calls) (q .state) (q .words)) (sym same-behind)
+            (omega (arith, is, downs, rest .together (sym same-again ∙ anew)));
+      }
+
+    -- the grants by the second way, call by call
+    second-on : grantedTo s st ws c ≡ true → Opened next s op → grantsSecond s (c ∷ cs) st ws ≡ 1 + grantsSecond s cs next after
+    unfolding grantsSecond
+    second-on g goes =
+        ap₂ (λ (i j : ℕ). i + j) (cond-true 1 0 g) (cond-true (grantsSecond s cs next after) 0 (ap secondTask goes ∙ second))
+
+    second-other : grantedTo s st ws c ≡ false → Opened next s op → grantsSecond s (c ∷ cs) st ws ≡ 0 + grantsSecond s cs next after
+    unfolding grantsSecond
+    second-other g goes =
+        ap₂ (λ (i j : ℕ). i + j) (cond-false 1 0 g) (cond-true (grantsSecond s cs next after) 0 (ap secondTask goes ∙ second))
+
+    -- its operation ends
+    ends-second : grantedTo s st ws c ≡ true → openAt next s ≡ false → SecondNeeds op 1 (c ∷ cs) st ws
+    unfolding beginsAgain
+    ends-second g closed =
+        let never : beginsAgain s (c ∷ cs) st ws ≡ false = cond-false _ false closed in
+        record {
+          straight = λ _ _. grants-last s c cs st ws g closed;
+          downward = λ anew. not-both anew never;
+          afresh = λ anew. not-both anew never;
+          together = λ anew. not-both anew never;
+        }
+
+    -- it begins again
+    again-second : Invariant next after → InWords cs → grantedTo s st ws c ≡ true → Opened next s (firstWay op) → pathOf (slotAt next s) ≡ []
+        → SecondNeeds op 1 (c ∷ cs) st ws
+    unfolding beginsAgain grantsSecond behindAgain
+    again-second inv′ words g runs none =
+        let first : secondAt next s ≡ false = ap secondTask runs ∙ first-not-second op in
+        let now : beginsAgain s (c ∷ cs) st ws ≡ true = cond-true _ false (ap isOpen runs) ∙ cond-false (beginsAgain s cs next after) true first in
+        let one : grantsSecond s (c ∷ cs) st ws ≡ 1 = ap₂ (λ (i j : ℕ). i + j) (cond-true 1 0 g) (cond-false (grantsSecond s cs next after) 0 first) in
+        let rest : behindAgain s (c ∷ cs) st ws ≡ behind cs next after = cond-false (behindAgain s cs next after) (behind cs next after) first in
+        record {
+          straight = λ never. not-both now never;
+          downward = λ _. one;
+          afresh = λ _.
+              subst (λ (q : Behind). FirstCounts s (firstWay op) (q .calls) (q .state) (q .words)) (sym rest)
+              (first-counts (firstWay op) cs next after inv′ words (first-not-second op) runs none);
+          together = λ _.
+              subst (λ (q : Behind). grantsOf s (c ∷ cs) st ws ≡ grantsSecond s (c ∷ cs) st ws + grantsOf s (q .calls) (q .state) (q .words)) (sym rest)
+              (omega (arith, grants-on s c cs st ws g (ap isOpen runs), one));
+        }
+
+    -- a grant on level m + 1
+    grant-second : (m depth : ℕ) → Invariant next after → InWords cs → grantedTo s st ws c ≡ true → WentDown next after s op m depth
+        → (Under next after s op (m + 1) → SecondNeeds op m cs next after) → SecondNeeds op (m + 1) (c ∷ cs) st ws
+    grant-second m depth inv′ words g (over closed e) rest = subst (λ (i : ℕ). SecondNeeds op i (c ∷ cs) st ws) (omega (arith, e)) (ends-second g closed)
+    grant-second m depth inv′ words g (lower under few) rest =
+        subst (λ (i : ℕ). SecondNeeds op i (c ∷ cs) st ws) (omega arith)
+        (goes-second 1 (under .runs) m (grants-on s c cs st ws g (ap isOpen (under .runs))) (second-on g (under .runs)) (rest under))
+    grant-second m depth inv′ words g (again _ runs none e) rest =
+        subst (λ (i : ℕ). SecondNeeds op i (c ∷ cs) st ws) (omega (arith, e)) (again-second inv′ words g runs none)
+
+    -- any other call
+    other-second : (m : ℕ) → (inv : Invariant st ws) → Opened st s op → OtherCall st ws s c → SecondNeeds op m cs next after → SecondNeeds op m (c ∷ cs) st ws
+    other-second m inv runs o rest =
+        let goes : Opened next s op = ap (λ (slot : Slot). slot .task) (o .keeps .slot) ∙ runs in
+        subst (λ (i : ℕ). SecondNeeds op i (c ∷ cs) st ws) (omega arith)
+        (goes-second 0 goes m (omega (arith, grants-other s c cs st ws (o .other) (ap isOpen goes))) (second-other (o .other) goes) rest)
+
+  -- on the way down
+  second-way : (cs : List Call) → InWords cs → (st : State) (ws : List ℕ) → Invariant st ws → (op : Op) → isSecond op ≡ true → (level : ℕ) → Under st ws s op level
+      → SecondNeeds op (level - 1) cs st ws
+  second-way [] words st ws inv op second level u = none-needed op (level - 1) st ws
+  second-way (c ∷ cs) words st ws inv op second level u =
+      ⊎-elim
+      (λ g. granted-now (second-way cs (words .1) next′ after′ kept-inv op second) g (where-slot st ws inv s op b (u .runs)))
+      (λ o.
+      other-second op second c cs st ws (level - 1) inv (u .runs) o
+      (second-way cs (words .1) next′ after′ kept-inv op second level (undisturbed-under st ws next′ after′ s op level (o .keeps) u)))
+      (call-cases st ws inv s b (ap isOpen (u .runs)) c)
+    where
+      next′ : State
+      next′ = called st ws c .state
+
+      after′ : List ℕ
+      after′ = called st ws c .words
+
+      kept-inv : Invariant next′ after′
+      kept-inv = call-keeps st ws inv c (words .0)
+
+      granted-now : ((lower : ℕ) → Under next′ after′ s op lower → SecondNeeds op (lower - 1) cs next′ after′)
+          → GrantCall st ws s c
+          → Where (pageAt (st .k) ws) (inv .height) (inv .tree) (standOf op (slotAt st s))
+          → SecondNeeds op (level - 1) (c ∷ cs) st ws
+      granted-now rest g (atStart e f h) = absurd (omega (arith, u .some, ap length e))
+      granted-now rest g (atTheLeaf w f d) = not-both second (beside-first op d)
+      granted-now rest g (onTheWay low w e h) =
+          subst (λ (m : ℕ). SecondNeeds op m (c ∷ cs) st ws) (omega (arith, u .lowest, w .level))
+          (grant-second op second c cs st ws low (length (pathOf (slotAt st s))) kept-inv (words .1) (g .granted)
+          (called-down c st ws inv op (u .runs) g low (low-above (pageAt (st .k) ws) (inv .height) (inv .tree) (pathOf (slotAt st s)) low w) h)
+          (λ under. subst (λ (m : ℕ). SecondNeeds op m cs next′ after′) (omega arith) (rest (low + 1) under)))
+
+  -- from where it has just begun
+  second-start : (cs : List Call) → InWords cs → (st : State) (ws : List ℕ) → Invariant st ws → (op : Op) → isSecond op ≡ true → Opened st s op → pathOf (slotAt st s) ≡ []
+      → SecondNeeds op (heightGranted s cs st ws) cs st ws
+  second-start [] words st ws inv op second runs none = none-needed op (heightGranted s [] st ws) st ws
+  second-start (c ∷ cs) words st ws inv op second runs none =
+      ⊎-elim
+      (λ g. granted-now g (where-slot st ws inv s op b runs))
+      (λ o.
+      subst (λ (m : ℕ). SecondNeeds op m (c ∷ cs) st ws) (sym (height-later s c cs st ws (o .other)))
+      (other-second op second c cs st ws (heightGranted s cs next′ after′) inv runs o
+      (second-start cs (words .1) next′ after′ kept-inv op second (ap (λ (slot : Slot). slot .task) (o .keeps .slot) ∙ runs) (ap pathOf (o .keeps .slot) ∙ none))))
+      (call-cases st ws inv s b (ap isOpen runs) c)
+    where
+      next′ : State
+      next′ = called st ws c .state
+
+      after′ : List ℕ
+      after′ = called st ws c .words
+
+      kept-inv : Invariant next′ after′
+      kept-inv = call-keeps st ws inv c (words .0)
+
+      granted-now : GrantCall st ws s c
+          → Where (pageAt (st .k) ws) (inv .height) (inv .tree) (standOf op (slotAt st s))
+          → SecondNeeds op (heightGranted s (c ∷ cs) st ws) (c ∷ cs) st ws
+      granted-now g (onTheWay low w e h) = absurd (omega (arith, w .some, ap length none))
+      granted-now g (atTheLeaf w f d) = not-both second (beside-first op d)
+      granted-now g (atStart e f h) =
+          let l : ℕ = inv .height in
+          subst (λ (m : ℕ). SecondNeeds op m (c ∷ cs) st ws) (sym (height-now s c cs st ws (g .granted) ∙ root-level st ws inv))
+          (grant-second op second c cs st ws l (length (pathOf (slotAt st s))) kept-inv (words .1) (g .granted)
+          (called-down c st ws inv op runs g l (start-above (pageAt (st .k) ws) l (inv .tree) (pathOf (slotAt st s)) none) h)
+          (λ under.
+          subst (λ (m : ℕ). SecondNeeds op m cs next′ after′) (omega arith) (second-way cs (words .1) next′ after′ kept-inv op second (l + 1) under)))
+
+  -- The grants of an operation that has just begun in a state of a run.
+  pub grant-counts : (op : Op) (cs : List Call) (st : State) (ws : List ℕ) → Invariant st ws → InWords cs → Opened st s op → pathOf (slotAt st s) ≡ []
+      → GrantCounts s op cs st ws
+  grant-counts op cs st ws inv words runs none = record {
+    first = λ first. first-counts op cs st ws inv words first runs none;
+    second = λ second.
+        let counted = second-start cs words st ws inv op second runs none in
+        let opened : openAt st s ≡ true = ap isOpen runs in
+        record {
+          straight = counted .straight;
+          downward = counted .downward;
+          afresh = counted .afresh;
+          together = counted .together;
+          inAll = omega (arith, at-most cs words st ws inv opened, measure-bound st ws inv s b opened .1);
+        };
+  }
 
 -- In a state of a run: whatever operation is begun, and whatever is called then.
 pub counts-from : (st : State) (ws : List ℕ) → Invariant st ws → CountsFrom st ws
@@ -398,7 +619,7 @@ counts-from st ws inv s op cs words heard-begun = by-begin (begin-of st ws inv s
     by-begin (noSuch b e) = absurd (omega (arith, ap numberOf (sym (ap (λ (o : Outcome). o .answer) e) ∙ heard-begun)))
     by-begin (busy b o e) = absurd (omega (arith, ap numberOf (sym (ap (λ (o : Outcome). o .answer) e) ∙ heard-begun)))
     by-begin (begins-so b c e) =
-        let here : slotAt (begun st s op .state) s ≡ openSlot op 0 [] [] = ap (λ (o : Outcome). slotAt (o .state) s) e ∙ begins-here st (inv .shaped) s b op in
+        let here : slotAt (begun st s op .state) s ≡ slotOf (freshStand op) = ap (λ (o : Outcome). slotAt (o .state) s) e ∙ begins-here st (inv .shaped) s b op in
         grant-counts s b op cs (begun st s op .state) ws (call-keeps st ws inv (begin s op) (words .0)) (words .1)
         (ap (λ (slot : Slot). slot .task) here)
-        (ap pathOf here ∙ path-new (stand op [] [] 0))
+        (ap pathOf here ∙ path-new (freshStand op))

@@ -16,6 +16,7 @@ use Rattle.ground.proofs.Choice.{cond-ind, cond-false}
 use Rattle.page.specs.Words.{Page, isLeaf}
 use Rattle.page.specs.Place.{route}
 use Rattle.slots.specs.declared.Op.{Op}
+use Rattle.slots.specs.declared.Lock.{Lock}
 use Rattle.slots.specs.Parts.{keyOf, Stand, onPages, wantsNext}
 use Rattle.footing.specs.Granted.{isSafe, kept, atItsLeaf}
 use Rattle.footing.specs.Fitting.{descends, rightlyKept, rightlyBeside, rightlyAcross, isNone, fitting}
@@ -23,8 +24,9 @@ use Rattle.tree.specs.Tree.{Tr, way}
 use Rattle.tree.specs.Facts.{WayFacts}
 use Rattle.ground.proofs.Choice.{by-test}
 use Rattle.tree.proofs.DeletionStep.{one-last}
-use Rattle.runs.specs.Stance.{Rightly, Starting, Coming}
+use Rattle.runs.specs.Stance.{Rightly, WantsWith, Starting, Coming}
 use Rattle.runs.proofs.Paths.{no-length}
+use Rattle.runs.proofs.Locking.{lock-test}
 
 -- The pages that a slot holds while it comes down are those that it should, or none yet, where it wants page 0.
 abbrev pub HeldRightly : Op → ℕ → (ℕ → Page) → List ℕ → ℕ → Type 0
@@ -86,7 +88,7 @@ module _ (op : Op) (k : ℕ) (memory : ℕ → Page) where
   -- ---- the pages that are kept
 
   -- one page that is safe
-  rightly-alone : (p : ℕ) → isSafe op k (memory p) ≡ true → Rightly op k memory (p ∷ [])
+  pub rightly-alone : (p : ℕ) → isSafe op k (memory p) ≡ true → Rightly op k memory (p ∷ [])
   rightly-alone p safe = record { some = omega arith; top = inr safe; unsafe = λ i h. absurd (omega arith) }
 
   -- page 0
@@ -158,13 +160,13 @@ module _ (k : ℕ) (memory : ℕ → Page) (l : ℕ) (t : Tr l) (z : Stand) (fac
     down-above = above-leaf memory (keyOf (z .op)) l t facts (reverse (z .path)) (down .lower) (z .want) (down .upper) (down .whole)
 
     -- its pages are the ones the rules would have it hold and want
-    pub down-fitting : z .beside ≡ [] → fitting k memory z ≡ true
+    pub down-fitting : z .beside ≡ [] → WantsWith memory z → fitting k memory z ≡ true
     unfolding fitting
-    down-fitting none =
+    down-fitting none locked =
         let stretch : way (keyOf (z .op)) l t ≡ down .lower ++ (reverse (z .path ++ z .want ∷ []) ++ down .upper)
         = down .whole ∙ ap (λ (ps : List ℕ). down .lower ++ (ps ++ down .upper)) (sym (reverse-append (z .path) (z .want ∷ []))) in
         and-both
-        (kept-test (z .op) k memory (z .path) (z .want) (down .held))
+        (and-both (kept-test (z .op) k memory (z .path) (z .want) (down .held)) (lock-test memory z locked))
         (cond-false
         (descends memory (keyOf (z .op)) (z .path)
         && (rightlyBeside k memory z (reverse (z .path)) || rightlyAcross k memory z (z .path)))
@@ -202,8 +204,8 @@ module _ (k : ℕ) (memory : ℕ → Page) (l : ℕ) (t : Tr l) (z : Stand) (fac
     reached-level = level-on-way memory (keyOf (z .op)) l t facts (r .lower) (z .want) (r .fathers ++ r .upper) (r .whole)
 
     -- above the leaves, its route for the key is the next page of the way
-    pub reached-next : isLeaf (memory (z .want)) ≡ false → Coming k memory l t (wantsNext (onPages z path []) (route (keyOf (z .op)) (memory (z .want))))
-    reached-next upperPage =
+    pub reached-next : isLeaf (memory (z .want)) ≡ false → (lock : Lock) → Coming k memory l t (wantsNext (onPages z path []) (route (keyOf (z .op)) (memory (z .want))) lock)
+    reached-next upperPage lock =
         let higher = eqb-false (memory (z .want) .level) 1 upperPage in
         let some : 1 ≤ length (r .lower)
         = by-test (ltb 0 (length (r .lower)))

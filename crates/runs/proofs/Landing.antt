@@ -12,7 +12,7 @@ use lib.Dec.{ltb}
 use lib.ListN.{length, getD}
 use Rattle.ground.specs.Limits.{wordRange}
 use Rattle.ground.specs.Tests.{member}
-use Rattle.ground.proofs.Tests.{count-reverse, member-none, member-here, member-take, distinct-none}
+use Rattle.ground.proofs.Tests.{count-reverse, member-none, member-take, distinct-none}
 use Rattle.ground.proofs.Bools.{not-both}
 use Rattle.ground.proofs.Choice.{cond-ind, cond-true, cond-false}
 use Rattle.page.specs.Words.{Entry, Page, page, μ, isLeaf}
@@ -23,12 +23,14 @@ use Rattle.change.specs.Deletion.{Need, nothing, sibling, astray, needs, deleti
 use Rattle.change.specs.Regrading.{regrading}
 use Rattle.slots.specs.declared.Op.{Op}
 use Rattle.slots.specs.declared.Op.the-variants.{Search, Insert, Delete, Next, Regrade}
+use Rattle.slots.specs.declared.Way.{Way}
+use Rattle.slots.specs.declared.Way.the-variants.{First}
 use Rattle.slots.specs.declared.Answer.{Answer}
 use Rattle.slots.specs.declared.Answer.the-variants.{Found, NotFound, Inserted, AlreadyThere, Deleted, NoSuchKey, NoRoom, Regraded}
-use Rattle.slots.specs.Parts.{keyOf, Stand, holding, wantsNext, withOp}
+use Rattle.slots.specs.Parts.{keyOf, firstWay, heldLock, Stand, wantsNext, withOp}
 use Rattle.slots.specs.Heard.{numberOf}
 use Rattle.footing.specs.Granted.{Verdict, goes, ends, byNeed, deletes, atLeaf}
-use Rattle.tree.specs.Tree.{Tr, entriesOf, way, leafOn, Forms, PoolForms}
+use Rattle.tree.specs.Tree.{Tr, entriesOf, way as wayTo, leafOn, Forms, PoolForms}
 use Rattle.tree.specs.Sorted.{inserted}
 use Rattle.tree.specs.Change.{Leads}
 use Rattle.tree.specs.Insertion.{treeRoom, Inserts}
@@ -36,26 +38,27 @@ use Rattle.tree.specs.Facts.{WayFacts}
 use Rattle.tree.proofs.Insertion.{insertionLeads, roomOfTree}
 use Rattle.tree.proofs.Regrading.{regradingLeads}
 use Rattle.tree.proofs.Words.{free-facts}
-use Rattle.runs.specs.Stance.{Rightly, Stance, Takes}
+use Rattle.runs.specs.Stance.{Rightly, WantsWith, Stance, Takes}
 use Rattle.runs.specs.Plain.{Reply, reply, plain}
-use Rattle.runs.specs.Step.{NoRoomLeft, AsPlain, Ended}
+use Rattle.runs.specs.Step.{NoRoomLeft, AsPlain, Writable, Ended}
 use Rattle.runs.proofs.Paths.{member-reverse}
 use Rattle.runs.proofs.HeldPath.{held-way}
-use Rattle.runs.proofs.Needing.{AtLeaf, leaf-goes, leaf-ends, leaf-on-course}
+use Rattle.runs.proofs.Needing.{AtLeaf, leaf-ends, leaf-on-course}
 
--- What a slot that stands here comes to by this verdict: it goes on with the same operation and stands as it should, or its operation
--- ends.
+-- What a slot that stands here comes to by this verdict: it goes on with the same operation, by its way or begun again by the first way, and
+-- stands as it should, or its operation ends.
 pub data Does (k n : ℕ) (ws : List ℕ) (l : ℕ) (t : Tr l) (z : Stand) (v : Verdict) : Type 0 where
-  on : (z′ : Stand) → v ≡ goes z′ → z′ .op ≡ z .op → Stance k (pageAt k ws) l t z′ → Takes k (pageAt k ws) z z′ → Does k n ws l t z v
+  on : (z′ : Stand) → v ≡ goes z′ → firstWay (z′ .op) ≡ firstWay (z .op) → Stance k (pageAt k ws) l t z′ → WantsWith (pageAt k ws) z′ → Takes k (pageAt k ws) z z′
+      → Does k n ws l t z v
   done : (a : Answer) (writes : List Write) → v ≡ ends a writes → Ended k n ws l t z a writes → Does k n ws l t z v
 
 -- only an insertion puts a key in
 abbrev isInsert : Op → Bool
 isInsert (Search x) = false
-isInsert (Insert x v) = true
-isInsert (Delete x) = false
+isInsert (Insert x v way) = true
+isInsert (Delete x way) = false
 isInsert (Next x) = false
-isInsert (Regrade x v) = false
+isInsert (Regrade x v way) = false
 
 -- ---- nothing is written
 
@@ -83,7 +86,7 @@ room-reverse k memory leaf path =
 
 -- ---- what the leaf tells
 
-module _ (memory : ℕ → Page) (x l : ℕ) (t : Tr l) (facts : WayFacts memory x l t) (leaf : ℕ) (rest : List ℕ) (whole : way x l t ≡ leaf ∷ rest) where
+module _ (memory : ℕ → Page) (x l : ℕ) (t : Tr l) (facts : WayFacts memory x l t) (leaf : ℕ) (rest : List ℕ) (whole : wayTo x l t ≡ leaf ∷ rest) where
   pub leaf-page : memory leaf ≡ page 1 0 (leafOn x l t)
   leaf-page = ap memory (sym (ap (λ (w : List ℕ). getD w 0 0) whole)) ∙ facts .leaf
 
@@ -120,17 +123,17 @@ module _ (k n : ℕ) (ws : List ℕ) (l : ℕ) (t : Tr l) (pool : PoolForms k n 
   }
 
   -- the plain list stays as it is, and no new key is put in
-  unchanged-ends : (op : Op) (a : Answer) → plain op es ≡ reply a es → ((y u : ℕ) → op ≡ Insert y u → has y es ≡ false → ⊥)
+  unchanged-ends : (op : Op) (a : Answer) → plain op es ≡ reply a es → ((y u : ℕ) (w : Way) → op ≡ Insert y u w → has y es ≡ false → ⊥)
       → Ended k n ws l t (withOp op z₀) a []
   unchanged-ends op a same old =
       nothing-ends op a
       (inl (record {
         answer = ap (λ (r : Reply). r .answer) (sym same);
         entries = ap (λ (r : Reply). r .entries) (sym same);
-        room = λ y u e new. absurd (old y u e new);
+        room = λ y u w e new. absurd (old y u w e new);
       }))
 
-  module _ (x : ℕ) (facts : WayFacts memory x l t) (leaf : ℕ) (rest : List ℕ) (whole : way x l t ≡ leaf ∷ rest) where
+  module _ (x : ℕ) (facts : WayFacts memory x l t) (leaf : ℕ) (rest : List ℕ) (whole : wayTo x l t ≡ leaf ∷ rest) where
     there-is : has x (memory leaf .entries) ≡ has x es
     there-is = leaf-has memory x l t facts leaf rest whole
 
@@ -144,49 +147,49 @@ module _ (k n : ℕ) (ws : List ℕ) (l : ℕ) (t : Tr l) (pool : PoolForms k n 
     search-does z fathers =
         done (cond (has x es) (Found (information x es)) NotFound) []
         (ap₂ (λ (b : Bool) (v : ℕ). ends (cond b (Found v) NotFound) []) there-is told-is)
-        (unchanged-ends (Search x) (cond (has x es) (Found (information x es)) NotFound) refl (λ y v e m. false≢true (ap isInsert e)))
+        (unchanged-ends (Search x) (cond (has x es) (Found (information x es)) NotFound) refl (λ y v w e m. false≢true (ap isInsert e)))
 
     -- ---- an insertion
 
-    module _ (key : x < wordRange) (v : ℕ) (z : Stand) (fathers upper : List ℕ) (upward : reverse (z .path) ≡ leaf ∷ fathers)
-        (onWay : way x l t ≡ reverse (z .path) ++ upper) (rightly : Rightly (Insert x v) k memory (z .path)) (one : 1 ≤ k)
-        (inside : (q : ℕ) → member q (z .path) ≡ true → member q (z₀ .want ∷ holding z₀) ≡ true) where
+    module _ (key : x < wordRange) (v : ℕ) (way : Way) (z : Stand) (fathers upper : List ℕ) (upward : reverse (z .path) ≡ leaf ∷ fathers)
+        (onWay : wayTo x l t ≡ reverse (z .path) ++ upper) (rightly : has x es ≡ false → Rightly (Insert x v First) k memory (z .path)) (one : 1 ≤ k)
+        (inside : (q : ℕ) → member q (z .path) ≡ true → Writable (withOp (Insert x v way) z₀) q) where
       -- the room that is counted is what the tree needs
-      room-is : room k memory leaf (z .path) ≡ treeRoom k x l t
-      room-is =
+      room-is : has x es ≡ false → room k memory leaf (z .path) ≡ treeRoom k x l t
+      room-is new =
           room-reverse k memory leaf (z .path)
           ∙ ap (room k memory leaf) upward
           ∙ roomOfTree k n memory l t x leaf fathers (pool .forms) key
-          (held-way (Insert x v) k n memory l t (z .path) leaf fathers upper (pool .forms) key rightly upward onWay)
+          (held-way (Insert x v First) k n memory l t (z .path) leaf fathers upper (pool .forms) key (rightly new) upward onWay)
 
       changes : has x es ≡ false → treeRoom k x l t ≤ length free → Inserts k n memory l t x v free leaf fathers
       changes new enough =
           insertionLeads k n memory l t x v free leaf fathers one (pool .forms) key new
-          (held-way (Insert x v) k n memory l t (z .path) leaf fathers upper (pool .forms) key rightly upward onWay)
+          (held-way (Insert x v First) k n memory l t (z .path) leaf fathers upper (pool .forms) key (rightly new) upward onWay)
           (free-facts k n ws l t pool .free)
-          (omega (arith, sym (ap (room k memory leaf) upward) ∙ sym (room-reverse k memory leaf (z .path)) ∙ room-is))
+          (omega (arith, sym (ap (room k memory leaf) upward) ∙ sym (room-reverse k memory leaf (z .path)) ∙ room-is new))
 
       -- a key that is there
-      already : has x es ≡ true → Ended k n ws l t (withOp (Insert x v) z₀) (AlreadyThere (information x (memory leaf .entries))) []
+      already : has x es ≡ true → Ended k n ws l t (withOp (Insert x v way) z₀) (AlreadyThere (information x (memory leaf .entries))) []
       unfolding plain
       already there =
-          unchanged-ends (Insert x v) (AlreadyThere (information x (memory leaf .entries)))
+          unchanged-ends (Insert x v way) (AlreadyThere (information x (memory leaf .entries)))
           (cond-true (reply (AlreadyThere (information x es)) es) (reply Inserted (inserted x v es)) there
           ∙ ap (λ (w : ℕ). reply (AlreadyThere w) es) (sym told-is))
-          (λ y u e new. not-both there (ap (λ (o : ℕ). has o es) (ap keyOf e) ∙ new))
+          (λ y u w e new. not-both there (ap (λ (o : ℕ). has o es) (ap keyOf e) ∙ new))
 
       -- a new key without room
-      no-room : has x es ≡ false → length free < treeRoom k x l t → Ended k n ws l t (withOp (Insert x v) z₀) NoRoom []
+      no-room : has x es ≡ false → length free < treeRoom k x l t → Ended k n ws l t (withOp (Insert x v way) z₀) NoRoom []
       no-room new lacks =
-          nothing-ends (Insert x v) NoRoom
-          (inr (record { key = x; lot = v; inserts = refl; missing = new; needsMore = lacks; answer = refl; nothing = refl }, refl))
+          nothing-ends (Insert x v way) NoRoom
+          (inr (record { key = x; lot = v; way = way; inserts = refl; missing = new; needsMore = lacks; answer = refl; nothing = refl }, refl))
 
       -- a new key with room
       insertion-ends : has x es ≡ false → treeRoom k x l t ≤ length free
-          → Ended k n ws l t (withOp (Insert x v) z₀) Inserted (insertion k memory x v free leaf fathers)
+          → Ended k n ws l t (withOp (Insert x v way) z₀) Inserted (insertion k memory x v free leaf fathers)
       unfolding plain member
       insertion-ends new enough =
-          let same : plain (Insert x v) es ≡ reply Inserted (inserted x v es)
+          let same : plain (Insert x v way) es ≡ reply Inserted (inserted x v es)
           = cond-false (reply (AlreadyThere (information x es)) es) (reply Inserted (inserted x v es)) new in
           let change = changes new enough in
           record {
@@ -195,7 +198,7 @@ module _ (k n : ℕ) (ws : List ℕ) (l : ℕ) (t : Tr l) (pool : PoolForms k n 
             how = inl (record {
               answer = ap (λ (r : Reply). r .answer) (sym same);
               entries = ap (λ (r : Reply). r .entries) (sym same);
-              room = λ y u e m. subst (λ (o : ℕ). treeRoom k o l t ≤ length free) (ap keyOf e) enough;
+              room = λ y u w e m. subst (λ (o : ℕ). treeRoom k o l t ≤ length free) (ap keyOf e) enough;
             });
             only = λ q m.
                 ⊎-elim
@@ -207,42 +210,43 @@ module _ (k n : ℕ) (ws : List ℕ) (l : ℕ) (t : Tr l) (pool : PoolForms k n 
             regrades = λ old e. absurd (omega (arith, ap numberOf e));
           }
 
-      pub insert-does : Does k n ws l t (withOp (Insert x v) z₀) (atLeaf (Insert x v) k memory free z leaf fathers)
+      pub insert-does : Does k n ws l t (withOp (Insert x v way) z₀) (atLeaf (Insert x v way) k memory free z leaf fathers)
       unfolding atLeaf
       insert-does =
-          cond-ind (Does k n ws l t (withOp (Insert x v) z₀)) (has x (memory leaf .entries))
+          cond-ind (Does k n ws l t (withOp (Insert x v way) z₀)) (has x (memory leaf .entries))
           (λ y. done (AlreadyThere (information x (memory leaf .entries))) [] refl (already (sym there-is ∙ y)))
           (λ o.
-          cond-ind (Does k n ws l t (withOp (Insert x v) z₀)) (ltb (length free) (room k memory leaf (z .path)))
+          cond-ind (Does k n ws l t (withOp (Insert x v way) z₀)) (ltb (length free) (room k memory leaf (z .path)))
           (λ y.
           let lacks = ltb-true (length free) (room k memory leaf (z .path)) y in
-          done NoRoom [] refl (no-room (sym there-is ∙ o) (omega (arith, room-is))))
+          done NoRoom [] refl (no-room (sym there-is ∙ o) (omega (arith, room-is (sym there-is ∙ o)))))
           (λ f.
           let enough = ltb-false (length free) (room k memory leaf (z .path)) f in
-          done Inserted (insertion k memory x v free leaf fathers) refl (insertion-ends (sym there-is ∙ o) (omega (arith, room-is)))))
+          done Inserted (insertion k memory x v free leaf fathers) refl (insertion-ends (sym there-is ∙ o) (omega (arith, room-is (sym there-is ∙ o))))))
 
     -- ---- a deletion
 
     -- a missing key
-    pub missing-ends : has x es ≡ false → Ended k n ws l t (withOp (Delete x) z₀) NoSuchKey []
+    pub missing-ends : (way : Way) → has x es ≡ false → Ended k n ws l t (withOp (Delete x way) z₀) NoSuchKey []
     unfolding plain
-    missing-ends missing =
-        unchanged-ends (Delete x) NoSuchKey
+    missing-ends way missing =
+        unchanged-ends (Delete x way) NoSuchKey
         (cond-false (reply (Deleted (information x es)) (without x es)) (reply NoSuchKey es) missing)
-        (λ y u e m. false≢true (ap isInsert e))
+        (λ y u w e m. false≢true (ap isInsert e))
 
     -- a key that is there, with these pages held
-    module _ (z : Stand) (fathers : List ℕ) (at : AtLeaf k n memory l t x z leaf fathers)
-        (takes : (q : ℕ) → Takes k memory (withOp (Delete x) z₀) (wantsNext (withOp (Delete x) z) q))
-        (inside : (q : ℕ) → member q (leaf ∷ fathers ++ z .beside) ≡ true → member q (z₀ .want ∷ holding z₀) ≡ true) where
+    module _ (way : Way) (z : Stand) (fathers : List ℕ) (at : AtLeaf k n memory l t x z leaf fathers)
+        (further : (s : ℕ) → needs k memory x leaf fathers (z .beside) ≡ sibling s
+        → Does k n ws l t (withOp (Delete x way) z₀) (goes (wantsNext (withOp (Delete x way) z) s (heldLock (Delete x way)))))
+        (inside : (q : ℕ) → member q (leaf ∷ fathers ++ z .beside) ≡ true → Writable (withOp (Delete x way) z₀) q) where
       abbrev change : Verdict
       change = ends (Deleted (information x (memory leaf .entries))) (deletion k memory x leaf fathers (z .beside))
 
       deletion-ends : needs k memory x leaf fathers (z .beside) ≡ nothing
-          → Ended k n ws l t (withOp (Delete x) z₀) (Deleted (information x (memory leaf .entries))) (deletion k memory x leaf fathers (z .beside))
+          → Ended k n ws l t (withOp (Delete x way) z₀) (Deleted (information x (memory leaf .entries))) (deletion k memory x leaf fathers (z .beside))
       unfolding plain member
       deletion-ends enough =
-          let same : plain (Delete x) es ≡ reply (Deleted (information x es)) (without x es)
+          let same : plain (Delete x way) es ≡ reply (Deleted (information x es)) (without x es)
           = cond-true (reply (Deleted (information x es)) (without x es)) (reply NoSuchKey es) (at .there) in
           let made = leaf-ends at enough in
           record {
@@ -251,7 +255,7 @@ module _ (k n : ℕ) (ws : List ℕ) (l : ℕ) (t : Tr l) (pool : PoolForms k n 
             how = inl (record {
               answer = ap Deleted told-is ∙ ap (λ (r : Reply). r .answer) (sym same);
               entries = ap (λ (r : Reply). r .entries) (sym same);
-              room = λ y u e m. absurd (false≢true (ap isInsert e));
+              room = λ y u w e m. absurd (false≢true (ap isInsert e));
             });
             only = λ q m. inl (inside q (made .writes q m));
             reads = λ y. absurd (false≢true y);
@@ -260,32 +264,32 @@ module _ (k n : ℕ) (ws : List ℕ) (l : ℕ) (t : Tr l) (pool : PoolForms k n 
           }
 
       by-need : (d : Need) → needs k memory x leaf fathers (z .beside) ≡ d
-          → Does k n ws l t (withOp (Delete x) z₀) (byNeed (withOp (Delete x) z) change d)
+          → Does k n ws l t (withOp (Delete x way) z₀) (byNeed (withOp (Delete x way) z) change d)
       by-need nothing e = done (Deleted (information x (memory leaf .entries))) (deletion k memory x leaf fathers (z .beside)) refl (deletion-ends e)
-      by-need (sibling s) e = on (wantsNext (withOp (Delete x) z) s) refl refl (inr (inr (inl (leaf-goes at s e)))) (takes s)
+      by-need (sibling s) e = further s e
       by-need astray e = absurd (leaf-on-course at e)
 
-      pub delete-does : Does k n ws l t (withOp (Delete x) z₀) (deletes k memory x (withOp (Delete x) z) leaf fathers)
+      pub delete-does : Does k n ws l t (withOp (Delete x way) z₀) (deletes k memory x (withOp (Delete x way) z) leaf fathers)
       unfolding deletes
       delete-does = by-need (needs k memory x leaf fathers (z .beside)) refl
 
     -- ---- a regrading
 
-    module _ (key : x < wordRange) (v : ℕ) (last : leaf ≡ z₀ .want) where
+    module _ (key : x < wordRange) (v : ℕ) (way : Way) (last : leaf ≡ z₀ .want) (inside : Writable (withOp (Regrade x v way) z₀) (z₀ .want)) where
       -- a missing key
-      none-ends : has x es ≡ false → Ended k n ws l t (withOp (Regrade x v) z₀) NoSuchKey []
+      none-ends : has x es ≡ false → Ended k n ws l t (withOp (Regrade x v way) z₀) NoSuchKey []
       unfolding plain
       none-ends missing =
-          unchanged-ends (Regrade x v) NoSuchKey
+          unchanged-ends (Regrade x v way) NoSuchKey
           (cond-false (reply (Regraded (information x es)) (regraded x v es)) (reply NoSuchKey es) missing)
-          (λ y u e m. false≢true (ap isInsert e))
+          (λ y u w e m. false≢true (ap isInsert e))
 
       -- a key that is there
       regrading-ends : has x es ≡ true
-          → Ended k n ws l t (withOp (Regrade x v) z₀) (Regraded (information x (memory leaf .entries))) (regrading memory x v leaf)
+          → Ended k n ws l t (withOp (Regrade x v way) z₀) (Regraded (information x (memory leaf .entries))) (regrading memory x v leaf)
       unfolding plain member
       regrading-ends there =
-          let same : plain (Regrade x v) es ≡ reply (Regraded (information x es)) (regraded x v es)
+          let same : plain (Regrade x v way) es ≡ reply (Regraded (information x es)) (regraded x v es)
           = cond-true (reply (Regraded (information x es)) (regraded x v es)) (reply NoSuchKey es) there in
           let made = regradingLeads k n memory l t x v leaf rest (pool .forms) key whole in
           record {
@@ -294,18 +298,18 @@ module _ (k n : ℕ) (ws : List ℕ) (l : ℕ) (t : Tr l) (pool : PoolForms k n 
             how = inl (record {
               answer = ap Regraded told-is ∙ ap (λ (r : Reply). r .answer) (sym same);
               entries = ap (λ (r : Reply). r .entries) (sym same);
-              room = λ y u e m. absurd (false≢true (ap isInsert e));
+              room = λ y u w e m. absurd (false≢true (ap isInsert e));
             });
             only = λ q m.
-                inl (ap (λ (p : ℕ). member p (z₀ .want ∷ holding z₀)) (made .writes q m ∙ last) ∙ member-here (z₀ .want) (holding z₀));
+                inl (subst (Writable (withOp (Regrade x v way) z₀)) (sym (made .writes q m ∙ last)) inside);
             reads = λ y. absurd (false≢true y);
             writers = λ y. absurd (true≢false y);
             regrades = λ old e q m. made .writes q m ∙ last;
           }
 
-      pub regrade-does : (z : Stand) (fathers : List ℕ) → Does k n ws l t (withOp (Regrade x v) z₀) (atLeaf (Regrade x v) k memory free z leaf fathers)
+      pub regrade-does : (z : Stand) (fathers : List ℕ) → Does k n ws l t (withOp (Regrade x v way) z₀) (atLeaf (Regrade x v way) k memory free z leaf fathers)
       unfolding atLeaf
       regrade-does z fathers =
-          cond-ind (Does k n ws l t (withOp (Regrade x v) z₀)) (has x (memory leaf .entries))
+          cond-ind (Does k n ws l t (withOp (Regrade x v way) z₀)) (has x (memory leaf .entries))
           (λ y. done (Regraded (information x (memory leaf .entries))) (regrading memory x v leaf) refl (regrading-ends (sym there-is ∙ y)))
           (λ o. done NoSuchKey [] refl (none-ends (sym there-is ∙ o)))

@@ -5,12 +5,14 @@ pub mod HeldPath
 pub mod Across
 pub mod Needing
 pub mod Placing
+pub mod Locking
 pub mod Others
 pub mod Granting
 pub mod Landing
 pub mod NextSteps
 pub mod Stepping
 pub mod Fathers
+pub mod Barring
 pub mod Progress
 pub mod Older
 pub mod Calls

@@ -1,18 +1,18 @@
 -- The measure's laws: it falls at a grant of the slot (`measure-falls`), stays at other slots' steps (`measure-stays`), and is
 -- from 1 to `slotGrants` while the slot is open (`measure-bound`).
-use Prim.Native.Nat.{ℕ, _+_, _-_, _*_, _≤_, _<_}
-use mathlib.Core.Bool.{true, false}
+use Prim.Native.Nat.{ℕ, suc, _+_, _-_, _*_, _≤_, _<_}
+use mathlib.Core.Bool.{true, false, cond}
 use mathlib.Core.List.{List, [], _∷_, _++_, reverse, reverse-append}
-use mathlib.Core.Logic.{_≢_}
+use mathlib.Core.Logic.{_⊎_, inl, inr, _≢_}
 use mathlib.Core.Path.{_≡_, refl, sym, ap, ap₂, _∙_, subst}
 use native.Mathlib.Omega.{arith}
 use borrow.Author.Tests.{eq-eqb, ne-eqb}
 use lib.ListN.{length, getD, length-append, length-reverse}
-use Rattle.ground.specs.Limits.{slotCount, tallest, slotGrants}
+use Rattle.ground.specs.Limits.{slotCount, tallest, wayGrants, slotGrants}
 use Rattle.ground.specs.Tests.{member}
 use Rattle.ground.proofs.Bools.{not-both}
-use Rattle.ground.proofs.Choice.{cond-ind}
-use Rattle.ground.proofs.Limits.{grants-of-height}
+use Rattle.ground.proofs.Choice.{by-test}
+use Rattle.ground.proofs.Limits.{grants-of-height, grants-of-ways}
 use Rattle.page.specs.Words.{Page, isLeaf}
 use Rattle.pool.specs.Pool.{Write, pageAt, applied}
 use Rattle.slots.specs.declared.Op.{Op}
@@ -22,26 +22,28 @@ use Rattle.slots.specs.declared.Slot.{Slot}
 use Rattle.slots.specs.declared.State.{State}
 use Rattle.slots.specs.declared.Answer.{Answer}
 use Rattle.slots.specs.declared.Answer.the-variants.{Moved}
-use Rattle.slots.specs.Parts.{isOpen, closedSlot, pathOf, besideOf, Stand, onPages, wantBeside, wantsNext, standOf, slotOf, slotAt, openAt, holdsAt, Opened}
+use Rattle.slots.specs.Parts.{isOpen, isSecond, firstWay, goesBeside, closedSlot, pathOf, besideOf, Stand, standOf, slotOf, slotAt, openAt, holdsAt, Opened}
 use Rattle.slots.specs.Book.{goesOn, closes}
+use Rattle.slots.proofs.LockLaws.{first-not-second}
 use Rattle.slots.proofs.Keeping.{Shaped, slot-here, slot-other, stand-new}
-use Rattle.footing.specs.Granted.{Verdict, goes, ends, isSafe, kept, atItsLeaf}
+use Rattle.footing.specs.Granted.{Verdict, goes, ends, atItsLeaf}
 use Rattle.footing.specs.Fitting.{verdict}
 use Rattle.index.specs.Step.{Left, left, acted, stepped}
+use Rattle.footing.proofs.KeepLaws.{second-safe}
 use Rattle.tree.specs.Tree.{Tr}
 use Rattle.tree.specs.Change.{writtenPages}
 use Rattle.tree.proofs.Height.{height-facts}
 use Rattle.tree.proofs.Memory.{absent-times, unwritten}
 use Rattle.tree.proofs.Words.{fit-writes, applied-memory}
+use Rattle.runs.specs.Stance.{StandsAtLeaf, BeginsAgain, Takes}
 use Rattle.runs.specs.Step.{Comes, moves, stops}
 use Rattle.runs.proofs.Invariant.{Invariant, scene}
 use Rattle.runs.proofs.Stepping.{granted-comes}
 use Rattle.runs.proofs.Fathers.{upward-held}
 use Rattle.runs.proofs.Progress.{opened as open-task}
 use Rattle.runs.proofs.Calls.{granted-does, others-unwritten}
-use Rattle.runs.proofs.Measure.{lowestOf, leftOpen, leftTask, leftSlot, grantsLeft, Low, Where, atStart, onTheWay, atTheLeaf, where-it-stands, left-some, left-start, left-coming, left-leaf, left-bounds}
+use Rattle.runs.proofs.Measure.{lowestOf, leftFirst, leftOpen, beside-first, left-by-first, left-by-second, second-some, second-start, second-coming, leftTask, leftSlot, grantsLeft, Low, Where, atStart, onTheWay, atTheLeaf, where-it-stands, left-some, left-start, left-coming, left-leaf, left-bounds, left-first-most}
 use Rattle.runs.proofs.Steps.{Goes}
-use Rattle.runs.proofs.Verdicts.{beside-goes, coming-goes}
 
 -- ---- the lowest page
 
@@ -53,18 +55,42 @@ leaf-by-low memory (p ∷ up) h = refl
 pub at-its-leaf : (memory : ℕ → Page) (path : List ℕ) → 1 ≤ length path → atItsLeaf memory (reverse path) ≡ isLeaf (memory (lowestOf path))
 at-its-leaf memory path h = leaf-by-low memory (reverse path) (omega (arith, length-reverse path))
 
--- the lowest page of what is kept once a page is granted is that page
-pub record KeptPath (path path′ : List ℕ) (want : ℕ) : Type 0 where
-  pub lowest : lowestOf path′ ≡ want
-  pub some : 1 ≤ length path′
-  pub most : length path′ ≤ length path + 1
+-- What a slot that comes down holds once its want is granted: that page is its lowest.
+pub record Lower (z z′ : Stand) : Type 0 where
+  pub same : z′ .op ≡ z .op
+  pub lowest : lowestOf (z′ .path) ≡ z .want
+  pub some : 1 ≤ length (z′ .path)
+  pub most : length (z′ .path) ≤ length (z .path) + 1
+  pub still : z′ .beside ≡ []
+  -- by the second way it holds it alone
+  pub alone : isSecond (z .op) ≡ true → length (z′ .path) ≡ 1
 
-pub kept-path : (k : ℕ) (memory : ℕ → Page) (z : Stand) → KeptPath (z .path) (kept k memory z) (z .want)
-kept-path k memory z =
-    cond-ind (λ (p : List ℕ). KeptPath (z .path) p (z .want)) (isSafe (z .op) k (memory (z .want)))
-    (λ _. record { lowest = refl; some = omega arith; most = omega arith })
-    (λ _. let long = length-append (z .path) (z .want ∷ []) in
-    record { lowest = ap (λ (p : List ℕ). getD p 0 0) (reverse-append (z .path) (z .want ∷ [])); some = omega arith; most = omega arith })
+-- It goes lower, or it begins again.
+pub takes-lower : (k : ℕ) (memory : ℕ → Page) (z z′ : Stand) → (StandsAtLeaf memory (z .path) → ⊥) → Takes k memory z z′
+    → Lower z z′ ⊎ BeginsAgain k memory z z′
+takes-lower k memory z z′ above (inl g) =
+    let size = ap length (g .holds) in
+    inl (record {
+      same = g .same;
+      lowest = ap lowestOf (g .holds);
+      some = omega arith;
+      most = omega arith;
+      still = g .still;
+      alone = λ _. size;
+    })
+takes-lower k memory z z′ above (inr (inl g)) =
+    let size = ap length (g .holds) in
+    let long = length-append (z .path) (z .want ∷ []) in
+    inl (record {
+      same = g .same;
+      lowest = ap lowestOf (g .holds) ∙ ap (λ (p : List ℕ). getD p 0 0) (reverse-append (z .path) (z .want ∷ []));
+      some = omega arith;
+      most = omega arith;
+      still = g .still;
+      alone = λ second. not-both (second-safe (z .op) k (memory (z .want)) second) (g .unsafe);
+    })
+takes-lower k memory z z′ above (inr (inr (inl g))) = absurd (above (g .atLeaf))
+takes-lower k memory z z′ above (inr (inr (inr g))) = inr g
 
 -- ---- a slot that goes on
 
@@ -79,49 +105,81 @@ module _ (memory : ℕ → Page) (l : ℕ) (t : Tr l) (path : List ℕ) where
   pub low-at-leaf : Low memory l t path 1 → atItsLeaf memory (reverse path) ≡ true
   low-at-leaf w = at-its-leaf memory path (w .some) ∙ eq-eqb (memory (lowestOf path) .level) 1 (w .level)
 
--- the measure of what is held once a page is granted on the way down
-pub kept-left : (k : ℕ) (memory : ℕ → Page) (z : Stand) (level : ℕ) → memory (z .want) .level ≡ level
-    → leftOpen memory (kept k memory z) [] ≡ 2 * level + (length (kept k memory z) - 1) - 2
-kept-left k memory z level e =
-    let path′ : List ℕ = kept k memory z in
-    let how : KeptPath (z .path) path′ (z .want) = kept-path k memory z in
-    let there : memory (lowestOf path′) .level ≡ level = ap (λ (p : ℕ). memory p .level) (how .lowest) ∙ e in
-    left-some memory path′ [] (how .some) ∙ ap (λ (n : ℕ). 2 * n + (length path′ - 1) - 2 - 0) there ∙ omega arith
-
 -- the measure of a slot that stands here
 abbrev pub leftAt : (ℕ → Page) → Stand → ℕ
-leftAt memory z = leftOpen memory (z .path) (z .beside)
+leftAt memory z = leftOpen (z .op) memory (z .path) (z .beside)
 
-module _ (k : ℕ) (memory : ℕ → Page) (l : ℕ) (t : Tr l) (z : Stand) where
-  -- A slot that goes on has fewer grants left.
-  moved-falls : (z′ : Stand) → l + 1 ≤ tallest → Where memory l t z
-      → (atItsLeaf memory (reverse (z .path)) ≡ true → z′ ≡ wantsNext (wantBeside z) (z′ .want))
-      → (atItsLeaf memory (reverse (z .path)) ≡ false → z′ ≡ wantsNext (onPages z (kept k memory z) []) (z′ .want))
+-- the measure of what is held once a page is granted on the way down, by the first way and by the second
+pub lower-left : (memory : ℕ → Page) (z z′ : Stand) (level : ℕ) → Lower z z′ → isSecond (z .op) ≡ false → memory (z .want) .level ≡ level
+    → leftAt memory z′ ≡ 2 * level + (length (z′ .path) - 1) - 2
+lower-left memory z z′ level low first e =
+    let there : memory (lowestOf (z′ .path)) .level ≡ level = ap (λ (p : ℕ). memory p .level) (low .lowest) ∙ e in
+    left-by-first (z′ .op) memory (z′ .path) (z′ .beside) (ap isSecond (low .same) ∙ first)
+    ∙ left-some memory (z′ .path) (z′ .beside) (low .some)
+    ∙ omega (arith, there, ap length (low .still))
+
+lower-second : (memory : ℕ → Page) (z z′ : Stand) (level : ℕ) → Lower z z′ → isSecond (z .op) ≡ true → memory (z .want) .level ≡ level
+    → leftAt memory z′ ≡ wayGrants + (level - 1)
+lower-second memory z z′ level low second e =
+    left-by-second (z′ .op) memory (z′ .path) (z′ .beside) (ap isSecond (low .same) ∙ second)
+    ∙ second-some memory (z′ .path) (low .some)
+    ∙ ap (λ (m : ℕ). wayGrants + (m - 1)) (ap (λ (p : ℕ). memory p .level) (low .lowest) ∙ e)
+
+-- begun again it has what the first way takes
+again-left : (k : ℕ) (memory : ℕ → Page) (z z′ : Stand) → BeginsAgain k memory z z′ → leftAt memory z′ ≡ wayGrants
+again-left k memory z z′ g =
+    ap (leftAt memory) (g .fresh) ∙ left-by-first (firstWay (z .op)) memory [] [] (first-not-second (z .op))
+
+module _ (k : ℕ) (memory : ℕ → Page) (l : ℕ) (t : Tr l) (z z′ : Stand) where
+  -- coming down
+  start-falls : l + 1 ≤ tallest → z .path ≡ [] → memory (z .want) .level ≡ l + 1 → Lower z z′ ⊎ BeginsAgain k memory z z′ → leftAt memory z′ < leftAt memory z
+  start-falls h e g (inl low) =
+      by-test (isSecond (z .op))
+      (λ second.
+      omega
+      (arith, lower-second memory z z′ (l + 1) low second g, left-by-second (z .op) memory (z .path) (z .beside) second, second-start memory l t (z .path) e, grants-of-ways))
+      (λ first.
+      omega
+      (arith, lower-left memory z z′ (l + 1) low first g, left-by-first (z .op) memory (z .path) (z .beside) first, left-start memory l t (z .path) (z .beside) e, low .most, ap length e, grants-of-height))
+  start-falls h e g (inr a) =
+      omega
+      (arith, again-left k memory z z′ a, left-by-second (z .op) memory (z .path) (z .beside) (a .second), second-start memory l t (z .path) e, grants-of-ways)
+
+  way-falls : (low : ℕ) → Low memory l t (z .path) (low + 2) → z .beside ≡ [] → memory (z .want) .level ≡ low + 1 → Lower z z′ ⊎ BeginsAgain k memory z z′
       → leftAt memory z′ < leftAt memory z
-  moved-falls z′ h (atStart e f g) beside coming =
-      let went = coming (start-above memory l t (z .path) e) in
-      let is : leftAt memory z′ ≡ 2 * (l + 1) + (length (kept k memory z) - 1) - 2
-      = ap (leftAt memory) went ∙ kept-left k memory z (l + 1) g in
-      let was : leftAt memory z ≡ slotGrants = left-start memory l t (z .path) (z .beside) e in
-      omega (arith, is, was, kept-path k memory z .most, ap length e, grants-of-height)
-  moved-falls z′ h (onTheWay low w e g) beside coming =
-      let went = coming (low-above memory l t (z .path) low w) in
-      let is : leftAt memory z′ ≡ 2 * (low + 1) + (length (kept k memory z) - 1) - 2
-      = ap (leftAt memory) went ∙ kept-left k memory z (low + 1) g in
-      let was : leftAt memory z ≡ 2 * low + length (z .path) + 1 = left-coming memory l t (z .path) (z .beside) low w e in
-      let kept-most = kept-path k memory z .most in
-      let kept-some = kept-path k memory z .some in
-      omega (arith, is, was, kept-most, kept-some)
-  moved-falls z′ h (atTheLeaf w f d) beside coming =
-      let path : List ℕ = z .path in
-      let more : List ℕ = z .beside ++ z .want ∷ [] in
-      let went = beside (low-at-leaf memory l t path w) in
-      let one : memory (lowestOf path) .level ≡ 1 = w .level in
-      let longer : length more ≡ length (z .beside) + 1 = length-append (z .beside) (z .want ∷ []) in
-      let is : leftAt memory z′ ≡ 2 * memory (lowestOf path) .level + (length path - 1) - 2 - length more
-      = ap (leftAt memory) went ∙ left-some memory path more (w .some) in
-      let was : leftAt memory z ≡ length path - 1 - length (z .beside) = left-leaf memory l t path (z .beside) w f in
-      omega (arith, is, was, one, longer)
+  way-falls low w e g (inl down) =
+      by-test (isSecond (z .op))
+      (λ second.
+      omega
+      (arith, lower-second memory z z′ (low + 1) down second g, left-by-second (z .op) memory (z .path) (z .beside) second, second-coming memory l t (z .path) low w))
+      (λ first.
+      omega
+      (arith, lower-left memory z z′ (low + 1) down first g, left-by-first (z .op) memory (z .path) (z .beside) first, left-coming memory l t (z .path) (z .beside) low w e, down .most, down .some))
+  way-falls low w e g (inr a) =
+      omega
+      (arith, again-left k memory z z′ a, left-by-second (z .op) memory (z .path) (z .beside) (a .second), second-coming memory l t (z .path) low w)
+
+  -- at the leaf it takes a page beside its path
+  leaf-falls : Low memory l t (z .path) 1 → suc (length (z .beside)) < length (z .path) → goesBeside (z .op) ≡ true → Takes k memory z z′ → leftAt memory z′ < leftAt memory z
+  leaf-falls w f d (inl g) = absurd (g .comesDown (w .some, w .level))
+  leaf-falls w f d (inr (inl g)) = absurd (g .comesDown (w .some, w .level))
+  leaf-falls w f d (inr (inr (inl g))) =
+      let first = beside-first (z .op) d in
+      let was = left-by-first (z .op) memory (z .path) (z .beside) first ∙ left-leaf memory l t (z .path) (z .beside) w f in
+      let is : leftAt memory z′ ≡ 2 * memory (lowestOf (z .path)) .level + (length (z .path) - 1) - 2 - length (z .beside ++ z .want ∷ [])
+      = left-by-first (z′ .op) memory (z′ .path) (z′ .beside) (ap isSecond (g .same) ∙ first)
+      ∙ ap₂ (leftFirst memory) (g .still) (g .holds)
+      ∙ left-some memory (z .path) (z .beside ++ z .want ∷ []) (w .some) in
+      omega (arith, was, is, w .level, length-append (z .beside) (z .want ∷ []))
+  leaf-falls w f d (inr (inr (inr g))) = not-both (g .second) (beside-first (z .op) d)
+
+  -- A slot that goes on has fewer grants left.
+  moved-falls : l + 1 ≤ tallest → Where memory l t z → Takes k memory z z′ → leftAt memory z′ < leftAt memory z
+  moved-falls h (atStart e f g) takes =
+      start-falls h e g (takes-lower k memory z z′ (λ at. omega (arith, at .0, ap length e)) takes)
+  moved-falls h (onTheWay low w e g) takes =
+      way-falls low w e g (takes-lower k memory z z′ (λ at. omega (arith, at .1, w .level)) takes)
+  moved-falls h (atTheLeaf w f d) takes = leaf-falls w f d takes
 
 -- ---- one slot written
 
@@ -167,7 +225,7 @@ module _ (st : State) (ws : List ℕ) (inv : Invariant st ws) where
   pub not-too-tall : inv .height + 1 ≤ tallest
   not-too-tall = height-facts (st .k) (st .n) (pageAt (st .k) ws) (inv .height) (inv .tree) (inv .sound .kLeast) (inv .sound .nMost) (inv .forms .forms) .height
 
-  pub left-of-open : (s : ℕ) (op : Op) → Opened st s op → grantsLeft st ws s ≡ leftOpen (pageAt (st .k) ws) (pathOf (slotAt st s)) (besideOf (slotAt st s))
+  pub left-of-open : (s : ℕ) (op : Op) → Opened st s op → grantsLeft st ws s ≡ leftOpen op (pageAt (st .k) ws) (pathOf (slotAt st s)) (besideOf (slotAt st s))
   left-of-open s op runs = ap (λ (task : Task). leftTask (pageAt (st .k) ws) task (pathOf (slotAt st s)) (besideOf (slotAt st s))) runs
 
   -- An open slot has at least one grant left, and at most so many as document 01 allows a slot.
@@ -178,6 +236,12 @@ module _ (st : State) (ws : List ℕ) (inv : Invariant st ws) where
       let bounds = left-bounds (pageAt (st .k) ws) (inv .height) (inv .tree) (standOf (found .0) (slotAt st s))
       not-too-tall (where-slot s (found .0) b (found .1)) in
       (omega (arith, is, bounds .0), omega (arith, is, bounds .1))
+
+  -- by the first way, at most what that takes
+  pub measure-first : (s : ℕ) (op : Op) → s < slotCount → Opened st s op → isSecond op ≡ false → grantsLeft st ws s ≤ wayGrants
+  measure-first s op b runs first =
+      omega
+      (arith, left-of-open s op runs, left-first-most (pageAt (st .k) ws) (inv .height) (inv .tree) (standOf op (slotAt st s)) first not-too-tall (where-slot s op b runs))
 
 -- a closed slot has none
 pub measure-closed : (st : State) (ws : List ℕ) (s : ℕ) → openAt st s ≡ false → grantsLeft st ws s ≡ 0
@@ -200,7 +264,8 @@ left-same : (memory memory′ : ℕ → Page) (task : Task) (path siblings : Lis
     → (isOpen task ≡ true → 1 ≤ length path → memory′ (lowestOf path) .level ≡ memory (lowestOf path) .level) → leftTask memory′ task path siblings ≡ leftTask memory task path siblings
 left-same memory memory′ Closed path siblings h = refl
 left-same memory memory′ (Open op) [] siblings h = refl
-left-same memory memory′ (Open op) (p ∷ ps) siblings h = ap (λ (n : ℕ). 2 * n + length ps - 2 - length siblings) (h refl (omega arith))
+left-same memory memory′ (Open op) (p ∷ ps) siblings h =
+    ap (λ (n : ℕ). cond (isSecond op) (wayGrants + (n - 1)) (2 * n + length ps - 2 - length siblings)) (h refl (omega arith))
 
 pub undisturbed-measure : (st : State) (ws : List ℕ) (next : State) (after : List ℕ) (u : ℕ) → Undisturbed st ws next after u → grantsLeft next after u ≡ grantsLeft st ws u
 undisturbed-measure st ws next after u h =
@@ -245,7 +310,7 @@ module _ (st : State) (ws : List ℕ) (inv : Invariant st ws) (s : ℕ) (g : Goe
     where
       by-comes : Comes (st .k) (st .n) ws (inv .height) (inv .tree) (standAt st s op)
           → Undisturbed st ws (stepped st ws s .state) (stepped st ws s .words) u
-      by-comes (moves z′ e same stance takes) =
+      by-comes (moves z′ e same stance locked takes) =
           subst (λ (r : Left). Undisturbed st ws (r .state) (r .words) u) (sym (moved z′ e))
           (record {
             slot = goes-on-other st (inv .shaped) s (g .inside) z′ u n;
@@ -278,14 +343,12 @@ module _ (st : State) (ws : List ℕ) (inv : Invariant st ws) (s : ℕ) (g : Goe
     where
       by-comes : Comes (st .k) (st .n) ws (inv .height) (inv .tree) (standAt st s op)
           → grantsLeft (stepped st ws s .state) (stepped st ws s .words) s < grantsLeft st ws s
-      by-comes (moves z′ e same stance takes) =
+      by-comes (moves z′ e same stance locked takes) =
           let M : ℕ → Page = pageAt (st .k) ws in
           let z : Stand = standAt st s op in
           let was = left-of-open st ws inv s op (g .runs) in
           let falls = moved-falls (st .k) M (inv .height) (inv .tree) z z′ (not-too-tall st ws inv)
-          (where-slot st ws inv s op (g .inside) (g .runs))
-          (λ h. beside-goes (st .k) (st .n) ws z h z′ e)
-          (λ h. coming-goes (st .k) (st .n) ws z h z′ e) in
+          (where-slot st ws inv s op (g .inside) (g .runs)) takes in
           let is = after-moving z′ in
           subst (λ (r : Left). grantsLeft (r .state) (r .words) s < grantsLeft st ws s) (sym (moved z′ e)) (omega (arith, was, falls, is))
       by-comes (stops a writes e ended) =

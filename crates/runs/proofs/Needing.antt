@@ -18,6 +18,8 @@ use Rattle.page.specs.Place.{has}
 use Rattle.page.specs.Short.{neighbour}
 use Rattle.change.specs.Deletion.{Need, nothing, sibling, astray, satisfied, needs}
 use Rattle.slots.specs.declared.Op.the-variants.{Delete}
+use Rattle.slots.specs.declared.Way.the-variants.{First}
+use Rattle.slots.specs.declared.Lock.{Lock}
 use Rattle.slots.specs.Parts.{Stand, wantBeside, wantsNext, withOp}
 use Rattle.tree.specs.Tree.{Tr, entriesOf, way, Forms}
 use Rattle.tree.specs.Change.{HeldWay}
@@ -124,13 +126,13 @@ pub record AtLeaf (k n : ℕ) (memory : ℕ → Page) (l : ℕ) (t : Tr l) (x : 
   pub upward : reverse (z .path) ≡ leaf ∷ fathers
   pub upper : List ℕ
   pub whole : way x l t ≡ reverse (z .path) ++ upper
-  pub rightly : Rightly (Delete x) k memory (z .path)
+  pub rightly : Rightly (Delete x First) k memory (z .path)
   pub asked : Asked k memory x leaf fathers (z .beside)
 
 module _ {k n : ℕ} {memory : ℕ → Page} {l : ℕ} {t : Tr l} {x : ℕ} {z : Stand} {leaf : ℕ} {fathers : List ℕ}
     (a : AtLeaf k n memory l t x z leaf fathers) where
   leaf-held : HeldWay (canSpare k memory) x l t leaf fathers
-  leaf-held = held-way (Delete x) k n memory l t (z .path) leaf fathers (a .upper) (a .forms) (a .key) (a .rightly) (a .upward) (a .whole)
+  leaf-held = held-way (Delete x First) k n memory l t (z .path) leaf fathers (a .upper) (a .forms) (a .key) (a .rightly) (a .upward) (a .whole)
 
   -- what it holds and wants is there to be had
   pub leaf-needed : Needed k memory l t x leaf fathers (z .beside)
@@ -153,8 +155,8 @@ module _ {k n : ℕ} {memory : ℕ → Page} {l : ℕ} {t : Tr l} {x : ℕ} {z :
       omega (arith, times-append 0 (way x l t) (z .beside), distinct-times (way x l t ++ z .beside) (leaf-needed .different) 0)
 
   -- it needs a sibling: it stands as a slot that wants it
-  pub leaf-goes : (s : ℕ) → needs k memory x leaf fathers (z .beside) ≡ sibling s → WantsSibling k memory l t (wantsNext (withOp (Delete x) z) s)
-  leaf-goes s e =
+  pub leaf-goes : (s : ℕ) → needs k memory x leaf fathers (z .beside) ≡ sibling s → (lock : Lock) → WantsSibling k memory l t (wantsNext (withOp (Delete x First) z) s lock)
+  leaf-goes s e lock =
       let course = needs-course k memory x leaf fathers (z .beside) s e in
       let fewer = needs-length k memory x leaf fathers (z .beside) s e in
       let size : length (z .path) ≡ suc (length fathers) = sym (length-reverse (z .path)) ∙ ap length (a .upward) in
@@ -204,7 +206,7 @@ leaf-first (p ∷ up) h = (p, up, refl)
 
 -- a slot that wants a sibling stands at its leaf, and that sibling is the one it needs
 pub beside-leaf : {k n : ℕ} {memory : ℕ → Page} {l : ℕ} {t : Tr l} {x : ℕ} (z : Stand)
-    → Forms k n memory l t → 1 ≤ k → x < wordRange → WantsSibling k memory l t (withOp (Delete x) z)
+    → Forms k n memory l t → 1 ≤ k → x < wordRange → WantsSibling k memory l t (withOp (Delete x First) z)
     → (leaf : ℕ) × (fathers : List ℕ) × AtLeaf k n memory l t x z leaf fathers
     × (needs k memory x leaf fathers (z .beside) ≡ sibling (z .want))
 beside-leaf {k} {n} {memory} {l} {t} {x} z forms one key b =

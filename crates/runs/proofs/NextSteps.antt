@@ -21,15 +21,17 @@ use Rattle.page.proofs.PlaceLaws.{above-first}
 use Rattle.pool.specs.Pool.{pageAt, freePages}
 use Rattle.slots.specs.declared.Op.the-variants.{Next}
 use Rattle.slots.specs.declared.Answer.the-variants.{None as NoLot}
+use Rattle.slots.specs.declared.Lock.the-variants.{Rho}
 use Rattle.slots.specs.Parts.{onlyReads, Stand, onPages, wantBeside, wantsNext, withOp}
 use Rattle.footing.specs.Granted.{isSafe, nextAnswer, crosses, byNearest, atLeaf, goesLeft, besides}
 use Rattle.footing.specs.Fitting.{isNone, leftmost, turnsRight, rightlyAcross}
 use Rattle.tree.specs.Tree.{Tr, entriesOf, way, leafOn, Forms, PoolForms}
 use Rattle.tree.specs.Facts.{WayFacts, SameFirst, NextFacts}
 use Rattle.tree.proofs.Next.{next-facts}
-use Rattle.runs.specs.Stance.{Rightly, Crossing, StandsAtLeaf, Takes}
+use Rattle.runs.specs.Stance.{WantsWith, Rightly, Crossing, StandsAtLeaf, Takes}
 use Rattle.runs.specs.Plain.{plain}
 use Rattle.runs.specs.Step.{Ended}
+use Rattle.runs.proofs.Locking.{due-held}
 use Rattle.runs.proofs.PlainLaws.{above-key}
 use Rattle.runs.proofs.HeldPath.{below-unsafe}
 use Rattle.runs.proofs.Across.{Across, across, top-upward, first-facts, second-facts, second-level}
@@ -103,7 +105,7 @@ module _ (k n : ℕ) (ws : List ℕ) (l : ℕ) (t : Tr l) (pool : PoolForms k n 
   unfolding plain
   answers found same =
       nothing-ends k n ws l t pool z₀ (Next x) (nextAnswer found)
-      (inl (record { answer = same; entries = refl; room = λ y v e m. absurd (true≢false (ap onlyReads e)) }))
+      (inl (record { answer = same; entries = refl; room = λ y v w e m. absurd (true≢false (ap onlyReads e)) }))
 
   -- where it stands with this path
   abbrev down : List ℕ → Stand
@@ -111,7 +113,7 @@ module _ (k n : ℕ) (ws : List ℕ) (l : ℕ) (t : Tr l) (pool : PoolForms k n 
 
   module _ (path : List ℕ) (leaf : ℕ) (fathers upper : List ℕ) (upward : reverse path ≡ leaf ∷ fathers)
       (whole : way x l t ≡ leaf ∷ (fathers ++ upper)) (rightly : Rightly (Next x) k memory path)
-      (takes : (q : ℕ) → Takes k memory (withOp (Next x) z₀) (wantsNext (down path) q)) where
+      (takes : (q : ℕ) → Takes k memory (withOp (Next x) z₀) (wantsNext (down path) q Rho)) where
     onWay : way x l t ≡ reverse path ++ upper
     onWay = whole ∙ ap (λ (ps : List ℕ). ps ++ upper) (sym upward)
 
@@ -139,7 +141,7 @@ module _ (k n : ℕ) (ws : List ℕ) (l : ℕ) (t : Tr l) (pool : PoolForms k n 
 
     -- it goes on to the next child to the right of the top page
     goes-across : atOrAbove x (leafOn x l t) ≡ [] → isSafe (Next x) k (memory (getD path 0 0)) ≡ true
-        → Crossing k memory l t (wantsNext (down path) (neighbour x (memory (getD path 0 0))))
+        → Crossing k memory l t (wantsNext (down path) (neighbour x (memory (getD path 0 0))) Rho)
     goes-across none safe = record {
       asksNext = refl;
       upper = upper;
@@ -183,10 +185,11 @@ module _ (k n : ℕ) (ws : List ℕ) (l : ℕ) (t : Tr l) (pool : PoolForms k n 
         let first : getD path 0 0 ≡ top = ap (λ (ps : List ℕ). getD ps 0 0) e in
         cond-ind (Does k n ws l t (withOp (Next x) z₀)) (isSafe (Next x) k (memory top))
         (λ safe.
-        on (wantsNext (down path) (neighbour x (memory top))) refl refl
+        on (wantsNext (down path) (neighbour x (memory top)) Rho) refl refl
         (inr (inr (inr
-        (subst (λ (p : ℕ). Crossing k memory l t (wantsNext (down path) (neighbour x (memory p)))) first
+        (subst (λ (p : ℕ). Crossing k memory l t (wantsNext (down path) (neighbour x (memory p)) Rho)) first
         (goes-across none (ap (λ (p : ℕ). isSafe (Next x) k (memory p)) first ∙ safe))))))
+        (sym (due-held (Next x) memory (reverse path) refl))
         (takes (neighbour x (memory top))))
         (λ f.
         done NoLot [] refl
@@ -272,7 +275,7 @@ module _ (x k n : ℕ) (ws : List ℕ) (l : ℕ) (t : Tr l) (pool : PoolForms k 
   want-level = ap (λ (p : ℕ). pages p .level) (sym want-at) ∙ level-at (length (z .beside)) (omega arith)
 
   -- above the leaves it takes the page beside the others, and wants p0 of it
-  one-more : isLeaf (pages (z .want)) ≡ false → Crossing k pages l t (wantsNext (wantBeside z) (pointer 0 (pages (z .want))))
+  one-more : isLeaf (pages (z .want)) ≡ false → Crossing k pages l t (wantsNext (wantBeside z) (pointer 0 (pages (z .want))) Rho)
   one-more upperPage =
       let higher = eqb-false (pages (z .want) .level) 1 upperPage in
       let next : ℕ = pointer 0 (pages (z .want)) in
@@ -325,17 +328,18 @@ module _ (x k n : ℕ) (ws : List ℕ) (l : ℕ) (t : Tr l) (pool : PoolForms k 
       ∙ ap (λ (P : Page). nextAnswer (atOrAbove x (P .entries))) (second-facts k n pages l t forms z key two-ways .leaf)
       ∙ above-answers x (leafOn y l t) (entriesOf l t) (two-ways .beyond .nearest leaf-none none-lower)
 
-  left-does : Does k n ws l t z (goesLeft pages z)
+  left-does : WantsWith pages z → Does k n ws l t z (goesLeft pages z)
   unfolding goesLeft
-  left-does =
+  left-does locked =
       cond-ind (Does k n ws l t z) (isLeaf (pages (z .want)))
       (λ y.
       done (nextAnswer (atOrAbove x (pages (z .want) .entries))) [] refl
       (answers k n ws l t pool one z₀ x key first-way (atOrAbove x (pages (z .want) .entries)) (second-answers y)))
       (λ f.
-      on (wantsNext (wantBeside z) (pointer 0 (pages (z .want)))) refl refl (inr (inr (inr (one-more f))))
-      (inr (inr (record { beside = refl; atLeaf = crossing-leaf; still = refl; holds = refl }))))
+      on (wantsNext (wantBeside z) (pointer 0 (pages (z .want))) Rho) refl refl (inr (inr (inr (one-more f))))
+      (sym (due-held (Next x) pages (reverse (z .path)) refl))
+      (inr (inr (inl (record { same = refl; under = locked ∙ due-held (Next x) pages (reverse (z .path)) refl; beside = refl; atLeaf = crossing-leaf; still = refl; holds = refl })))))
 
-  pub crossing-does : Does k n ws l t z (besides k pages z)
+  pub crossing-does : WantsWith pages z → Does k n ws l t z (besides k pages z)
   unfolding besides
   crossing-does = left-does

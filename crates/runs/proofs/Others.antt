@@ -25,8 +25,9 @@ use Rattle.tree.specs.Change.{memoryAfter, writtenPages, Leads}
 use Rattle.tree.proofs.Memory.{absent-times, unwritten}
 use Rattle.tree.proofs.Search.{way-facts}
 use Rattle.tree.proofs.Ways.{place-facts}
-use Rattle.runs.specs.Stance.{Rightly, Coming, WantsSibling, Crossing, Stance}
+use Rattle.runs.specs.Stance.{WantsWith, Rightly, Coming, WantsSibling, Crossing, Stance}
 use Rattle.runs.proofs.Paths.{first-below, member-reverse, stretch}
+use Rattle.runs.proofs.Locking.{due-by}
 
 -- ---- the way of a key, before and after
 
@@ -227,6 +228,16 @@ module _ (k n : ℕ) (memory : ℕ → Page) (l : ℕ) (t : Tr l) (writes : List
         turns = c .turns ∙ ap (neighbour x) (sym top-same);
         leftmost = λ j h. c .leftmost j h ∙ ap (pointer 0) (sym (sibling-same j h));
       }
+
+-- and it still wants with the kind of lock that is due: the lowest page that it holds is as it was
+pub others-wait : (k n : ℕ) (memory : ℕ → Page) (l : ℕ) (t : Tr l) (writes : List Write) (es : List Entry) (z : Stand)
+    → keyOf (z .op) < wordRange → Forms k n memory l t → (leads : Leads k n memory l t writes es)
+    → ((q : ℕ) → member q (holding z) ≡ true → member q (writtenPages writes) ≡ false)
+    → WantsWith memory z
+    → WantsWith (memoryAfter memory writes) z
+others-wait k n memory l t writes es z key forms leads apart locked =
+    locked ∙ due-by (z .op) memory (memoryAfter memory writes) (reverse (z .path))
+    (λ q m. same k n memory l t writes es z key forms leads apart q (of-upward k n memory l t writes es z key forms leads apart q m))
 
 pub others-keep : (k n : ℕ) (memory : ℕ → Page) (l : ℕ) (t : Tr l) (writes : List Write) (es : List Entry) (z : Stand)
     → 1 ≤ k → keyOf (z .op) < wordRange → Forms k n memory l t → (leads : Leads k n memory l t writes es)

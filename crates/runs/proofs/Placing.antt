@@ -8,7 +8,7 @@ use mathlib.Core.Path.{_≡_, refl, sym, ap, _∙_, subst}
 use borrow.Author.Tests.{leb-true, leb-false, le-leb, lt-ltb, eqb-true, eq-eqb}
 use lib.Dec.{leb, ltb, eqb}
 use lib.ListN.{length, getD, length-append, length-reverse}
-use Rattle.ground.specs.Limits.{largestN, searchHolds, regradeHolds, pathHolds, siblingHolds, wordRange}
+use Rattle.ground.specs.Limits.{largestN, searchHolds, regradeHolds, secondHolds, pathHolds, siblingHolds, wordRange}
 use Rattle.ground.specs.Tests.{member, distinct}
 use Rattle.ground.proofs.Bools.{not-both, and-both, or-first, or-second}
 use Rattle.ground.proofs.Choice.{cond-false}
@@ -17,6 +17,7 @@ use Rattle.page.specs.Words.{Page}
 use Rattle.pool.specs.Pool.{pageAt}
 use Rattle.slots.specs.declared.Op.{Op}
 use Rattle.slots.specs.declared.Op.the-variants.{Search, Insert, Delete, Next, Regrade}
+use Rattle.slots.specs.declared.Way.the-variants.{First, Second}
 use Rattle.slots.specs.declared.Task.the-variants.{Open}
 use Rattle.slots.specs.Parts.{keyOf, isNext, goesBeside, Stand, holding, withOp}
 use Rattle.slots.specs.Sound.{limitsOf, withinLimits}
@@ -53,12 +54,13 @@ limits-alone op depth few =
 limits-beside : (op : Op) (depth beside : ℕ) → goesBeside op ≡ true → depth ≤ pathHolds → beside ≤ siblingHolds → beside < depth
     → withinLimits (Open op) depth beside ≡ true
 limits-beside (Search x) depth beside both deep few fewer = absurd (false≢true both)
-limits-beside (Insert x v) depth beside both deep few fewer = absurd (false≢true both)
-limits-beside (Delete x) depth beside both deep few fewer =
+limits-beside (Insert x v way) depth beside both deep few fewer = absurd (false≢true both)
+limits-beside (Delete x First) depth beside both deep few fewer =
     and-both (and-both (le-leb depth pathHolds deep) (le-leb beside siblingHolds few)) (or-second (eqb beside 0) (lt-ltb beside depth fewer))
+limits-beside (Delete x Second) depth beside both deep few fewer = absurd (false≢true both)
 limits-beside (Next x) depth beside both deep few fewer =
     and-both (and-both (le-leb depth pathHolds deep) (le-leb beside siblingHolds few)) (or-second (eqb beside 0) (lt-ltb beside depth fewer))
-limits-beside (Regrade x v) depth beside both deep few fewer = absurd (false≢true both)
+limits-beside (Regrade x v way) depth beside both deep few fewer = absurd (false≢true both)
 
 -- an operation for which every page is safe holds one
 pub one-held : (op : Op) (k : ℕ) (memory : ℕ → Page) (path : List ℕ) → ((P : Page) → isSafe op k P ≡ true) → Rightly op k memory path → length path ≤ 1
@@ -67,15 +69,18 @@ one-held op k memory path safe rightly =
     (λ t. leb-true (length path) 1 t)
     (λ f. not-both (safe (memory (getD path 1 0))) (rightly .unsafe 0 (leb-false (length path) 1 f)))
 
--- so do a search and a regrading; the others may hold as many as a way has
+-- so do a search, a regrading and an update by the second way; the others may hold as many as a way has
 path-limit : (op : Op) (k : ℕ) (memory : ℕ → Page) (path : List ℕ) → Rightly op k memory path → length path ≤ pathHolds
     → length path ≤ limitsOf (Open op) .onPath
-unfolding searchHolds regradeHolds
+unfolding searchHolds regradeHolds secondHolds
 path-limit (Search x) k memory path rightly deep = one-held (Search x) k memory path (λ P. refl) rightly
-path-limit (Insert x v) k memory path rightly deep = deep
-path-limit (Delete x) k memory path rightly deep = deep
+path-limit (Insert x v First) k memory path rightly deep = deep
+path-limit (Insert x v Second) k memory path rightly deep = one-held (Insert x v Second) k memory path (λ P. refl) rightly
+path-limit (Delete x First) k memory path rightly deep = deep
+path-limit (Delete x Second) k memory path rightly deep = one-held (Delete x Second) k memory path (λ P. refl) rightly
 path-limit (Next x) k memory path rightly deep = deep
-path-limit (Regrade x v) k memory path rightly deep = one-held (Regrade x v) k memory path (λ P. refl) rightly
+path-limit (Regrade x v First) k memory path rightly deep = one-held (Regrade x v First) k memory path (λ P. refl) rightly
+path-limit (Regrade x v Second) k memory path rightly deep = one-held (Regrade x v Second) k memory path (λ P. refl) rightly
 
 -- ---- all of the tree, none twice
 
@@ -132,7 +137,7 @@ module _ (k n : ℕ) (memory : ℕ → Page) (l : ℕ) (t : Tr l) (z : Stand)
 -- a deletion at its leaf holds the lower part of its way, and siblings beside it
 module _ (x k n : ℕ) (memory : ℕ → Page) (l : ℕ) (t : Tr l) (z : Stand)
     (one : 1 ≤ k) (most : n ≤ largestN) (key : x < wordRange) (forms : Forms k n memory l t) where
-  well-beside : WantsSibling k memory l t (withOp (Delete x) z) → WellHeld n l t (withOp (Delete x) z)
+  well-beside : WantsSibling k memory l t (withOp (Delete x First) z) → WellHeld n l t (withOp (Delete x First) z)
   well-beside b =
       let (leaf, fathers, a, need) = beside-leaf z forms one key b in
       let needed = leaf-needed a in
@@ -140,8 +145,8 @@ module _ (x k n : ℕ) (memory : ℕ → Page) (l : ℕ) (t : Tr l) (z : Stand)
       let height = height-facts k n memory l t one most forms .height in
       let size : l + 1 ≡ length (reverse (z .path)) + length (b .upper)
       = sym (way-facts k n memory l t forms x key .pages) ∙ ap length (b .whole) ∙ length-append (reverse (z .path)) (b .upper) in
-      counted k n memory l t (withOp (Delete x) z) forms
-      (limits-beside (Delete x) (length (z .path)) (length (z .beside)) refl
+      counted k n memory l t (withOp (Delete x First) z) forms
+      (limits-beside (Delete x First) (length (z .path)) (length (z .beside)) refl
       (omega (arith, length-reverse (z .path), path-is-way))
       (omega (arith, length-reverse (z .path), siblings-below-top, b .fewer))
       (omega (arith, b .fewer)))
@@ -173,18 +178,24 @@ module _ (x k n : ℕ) (memory : ℕ → Page) (l : ℕ) (t : Tr l) (z : Stand)
 well-beside-any : (op : Op) (k n : ℕ) (memory : ℕ → Page) (l : ℕ) (t : Tr l) (z : Stand) → 1 ≤ k → n ≤ largestN
     → keyOf op < wordRange → Forms k n memory l t → WantsSibling k memory l t (withOp op z) → WellHeld n l t (withOp op z)
 well-beside-any (Search x) k n memory l t z one most key forms b = absurd (false≢true (b .deletes))
-well-beside-any (Insert x v) k n memory l t z one most key forms b = absurd (false≢true (b .deletes))
-well-beside-any (Delete x) k n memory l t z one most key forms b = well-beside x k n memory l t z one most key forms b
+well-beside-any (Insert x v First) k n memory l t z one most key forms b = absurd (false≢true (b .deletes))
+well-beside-any (Insert x v Second) k n memory l t z one most key forms b = absurd (false≢true (b .deletes))
+well-beside-any (Delete x First) k n memory l t z one most key forms b = well-beside x k n memory l t z one most key forms b
+well-beside-any (Delete x Second) k n memory l t z one most key forms b = absurd (false≢true (b .deletes))
 well-beside-any (Next x) k n memory l t z one most key forms b = absurd (false≢true (b .deletes))
-well-beside-any (Regrade x v) k n memory l t z one most key forms b = absurd (false≢true (b .deletes))
+well-beside-any (Regrade x v First) k n memory l t z one most key forms b = absurd (false≢true (b .deletes))
+well-beside-any (Regrade x v Second) k n memory l t z one most key forms b = absurd (false≢true (b .deletes))
 
 -- a Next may hold pages beside its path
 pub next-beside : (op : Op) → isNext op ≡ true → goesBeside op ≡ true
 next-beside (Search x) asks = absurd (false≢true asks)
-next-beside (Insert x v) asks = absurd (false≢true asks)
-next-beside (Delete x) asks = absurd (false≢true asks)
+next-beside (Insert x v First) asks = absurd (false≢true asks)
+next-beside (Insert x v Second) asks = absurd (false≢true asks)
+next-beside (Delete x First) asks = absurd (false≢true asks)
+next-beside (Delete x Second) asks = absurd (false≢true asks)
 next-beside (Next x) asks = refl
-next-beside (Regrade x v) asks = absurd (false≢true asks)
+next-beside (Regrade x v First) asks = absurd (false≢true asks)
+next-beside (Regrade x v Second) asks = absurd (false≢true asks)
 
 -- past its leaf it holds the lower part of its way, and the upper part of its second way beside it
 well-crossing : (k n : ℕ) (memory : ℕ → Page) (l : ℕ) (t : Tr l) (z : Stand) → 1 ≤ k → n ≤ largestN

@@ -20,10 +20,11 @@ use Rattle.page.proofs.PutLaws.{put-entries, put-place-rises}
 use Rattle.page.proofs.RegradeLaws.{keys-regraded, rises-regraded, has-regraded, information-regraded, information-regraded-other, regraded-at}
 use Rattle.slots.specs.declared.Op.{Op}
 use Rattle.slots.specs.declared.Op.the-variants.{Search, Insert, Delete, Next, Regrade}
+use Rattle.slots.specs.declared.Way.the-variants.{First}
 use Rattle.slots.specs.declared.Answer.{Answer}
 use Rattle.slots.specs.declared.Answer.the-variants.{Found, NotFound, Inserted, AlreadyThere, Deleted, NoSuchKey, Next as NextLot, None as NoLot, Regraded}
 use Rattle.slots.specs.Heard.{heard, numberOf}
-use Rattle.slots.specs.Parts.{keyOf as keyOfOp}
+use Rattle.slots.specs.Parts.{keyOf as keyOfOp, firstWay}
 use Rattle.footing.specs.Granted.{nextAnswer}
 use Rattle.tree.specs.Sorted.{inserted}
 use Rattle.tree.proofs.Sorted.{has-inserted}
@@ -264,27 +265,27 @@ unfolding plain
 search-same x es fs h i = ap₂ (λ (b : Bool) (v : ℕ). cond b (Found v) NotFound) h i
 
 -- an insertion, a deletion and a regrading by whether the key stands
-insert-there : (x v : ℕ) (es : List Entry) → has x es ≡ true → plain (Insert x v) es ≡ reply (AlreadyThere (information x es)) es
+insert-there : (x v : ℕ) (es : List Entry) → has x es ≡ true → plain (Insert x v First) es ≡ reply (AlreadyThere (information x es)) es
 unfolding plain
 insert-there x v es h = cond-true (reply (AlreadyThere (information x es)) es) (reply Inserted (inserted x v es)) h
 
-insert-missing : (x v : ℕ) (es : List Entry) → has x es ≡ false → plain (Insert x v) es ≡ reply Inserted (inserted x v es)
+insert-missing : (x v : ℕ) (es : List Entry) → has x es ≡ false → plain (Insert x v First) es ≡ reply Inserted (inserted x v es)
 unfolding plain
 insert-missing x v es h = cond-false (reply (AlreadyThere (information x es)) es) (reply Inserted (inserted x v es)) h
 
-delete-there : (x : ℕ) (es : List Entry) → has x es ≡ true → plain (Delete x) es ≡ reply (Deleted (information x es)) (without x es)
+delete-there : (x : ℕ) (es : List Entry) → has x es ≡ true → plain (Delete x First) es ≡ reply (Deleted (information x es)) (without x es)
 unfolding plain
 delete-there x es h = cond-true (reply (Deleted (information x es)) (without x es)) (reply NoSuchKey es) h
 
-delete-missing : (x : ℕ) (es : List Entry) → has x es ≡ false → plain (Delete x) es ≡ reply NoSuchKey es
+delete-missing : (x : ℕ) (es : List Entry) → has x es ≡ false → plain (Delete x First) es ≡ reply NoSuchKey es
 unfolding plain
 delete-missing x es h = cond-false (reply (Deleted (information x es)) (without x es)) (reply NoSuchKey es) h
 
-regrade-there : (x w : ℕ) (es : List Entry) → has x es ≡ true → plain (Regrade x w) es ≡ reply (Regraded (information x es)) (regraded x w es)
+regrade-there : (x w : ℕ) (es : List Entry) → has x es ≡ true → plain (Regrade x w First) es ≡ reply (Regraded (information x es)) (regraded x w es)
 unfolding plain
 regrade-there x w es h = cond-true (reply (Regraded (information x es)) (regraded x w es)) (reply NoSuchKey es) h
 
-regrade-missing : (x w : ℕ) (es : List Entry) → has x es ≡ false → plain (Regrade x w) es ≡ reply NoSuchKey es
+regrade-missing : (x w : ℕ) (es : List Entry) → has x es ≡ false → plain (Regrade x w First) es ≡ reply NoSuchKey es
 unfolding plain
 regrade-missing x w es h = cond-false (reply (Regraded (information x es)) (regraded x w es)) (reply NoSuchKey es) h
 
@@ -316,25 +317,37 @@ toldToo a = getD (heard a) 2 0
 pub clashes : {a b : Answer} {X : Type 0} → a ≡ b → (numberOf a ≡ numberOf b → ⊥) → X
 clashes e n = absurd (n (ap numberOf e))
 
+-- an update does the same by either way
+pub plain-ways : (op : Op) (es : List Entry) → plain op es ≡ plain (firstWay op) es
+unfolding plain
+plain-ways (Search x) es = refl
+plain-ways (Insert x v way) es = refl
+plain-ways (Delete x way) es = refl
+plain-ways (Next x) es = refl
+plain-ways (Regrade x v way) es = refl
+
 module _ (es : List Entry) (r : rises es ≡ true) where
-  rising : (op : Op) → rises (plain op es .entries) ≡ true
-  rising (Search x) = ap rises (search-keeps x es) ∙ r
-  rising (Insert x v) =
+  rising-first : (op : Op) → rises (plain (firstWay op) es .entries) ≡ true
+  rising-first (Search x) = ap rises (search-keeps x es) ∙ r
+  rising-first (Insert x v way) =
       ⊎-elim
       (λ t. ap (λ (p : Reply). rises (p .entries)) (insert-there x v es t) ∙ r)
       (λ f. ap (λ (p : Reply). rises (p .entries)) (insert-missing x v es f) ∙ rises-inserted x v es r f)
       (true-or-false (has x es))
-  rising (Delete x) =
+  rising-first (Delete x way) =
       ⊎-elim
       (λ t. ap (λ (p : Reply). rises (p .entries)) (delete-there x es t) ∙ rises-without x es r)
       (λ f. ap (λ (p : Reply). rises (p .entries)) (delete-missing x es f) ∙ r)
       (true-or-false (has x es))
-  rising (Next x) = ap rises (next-keeps x es) ∙ r
-  rising (Regrade x w) =
+  rising-first (Next x) = ap rises (next-keeps x es) ∙ r
+  rising-first (Regrade x w way) =
       ⊎-elim
       (λ t. ap (λ (p : Reply). rises (p .entries)) (regrade-there x w es t) ∙ rises-regraded x w es ∙ r)
       (λ f. ap (λ (p : Reply). rises (p .entries)) (regrade-missing x w es f) ∙ r)
       (true-or-false (has x es))
+
+  rising : (op : Op) → rises (plain op es .entries) ≡ true
+  rising op = ap (λ (p : Reply). rises (p .entries)) (plain-ways op es) ∙ rising-first op
 
   found : (x v : ℕ) → plain (Search x) es .answer ≡ Found v → Among x v es
   found x v e =
@@ -343,7 +356,7 @@ module _ (es : List Entry) (r : rises es ≡ true) where
       (λ f. clashes (sym (search-missing x es f) ∙ e) (λ q. omega (arith, q)))
       (true-or-false (has x es))
 
-  inserted-found : (x v : ℕ) → plain (Insert x v) es .answer ≡ Inserted → plain (Search x) (plain (Insert x v) es .entries) .answer ≡ Found v
+  inserted-found : (x v : ℕ) → plain (Insert x v First) es .answer ≡ Inserted → plain (Search x) (plain (Insert x v First) es .entries) .answer ≡ Found v
   inserted-found x v e =
       ⊎-elim
       (λ t. clashes (sym (ap (λ (p : Reply). p .answer) (insert-there x v es t)) ∙ e) (λ q. omega (arith, q)))
@@ -352,14 +365,14 @@ module _ (es : List Entry) (r : rises es ≡ true) where
       ∙ ap (λ (w : ℕ). Found w) (information-inserted x v es f))
       (true-or-false (has x es))
 
-  deleted : (x v : ℕ) → plain (Delete x) es .answer ≡ Deleted v → Among x v es
+  deleted : (x v : ℕ) → plain (Delete x First) es .answer ≡ Deleted v → Among x v es
   deleted x v e =
       ⊎-elim
       (λ t. subst (λ (w : ℕ). Among x w es) (ap told (sym (ap (λ (p : Reply). p .answer) (delete-there x es t)) ∙ e)) (has-among x es t))
       (λ f. clashes (sym (ap (λ (p : Reply). p .answer) (delete-missing x es f)) ∙ e) (λ q. omega (arith, q)))
       (true-or-false (has x es))
 
-  deleted-gone : (x v : ℕ) → plain (Delete x) es .answer ≡ Deleted v → plain (Search x) (plain (Delete x) es .entries) .answer ≡ NotFound
+  deleted-gone : (x v : ℕ) → plain (Delete x First) es .answer ≡ Deleted v → plain (Search x) (plain (Delete x First) es .entries) .answer ≡ NotFound
   deleted-gone x v e =
       let t : has x es ≡ true = among-has x v es (deleted x v e) in
       ap (λ (p : Reply). plain (Search x) (p .entries) .answer) (delete-there x es t)
@@ -395,53 +408,57 @@ module _ (es : List Entry) (r : rises es ≡ true) where
       by-nearest (nowhere none) = none-below x es none
       by-nearest (begins e rest some first) = clashes (sym (next-begins x es e rest some) ∙ h) (λ q. omega (arith, q))
 
-  regraded-old : (x w v : ℕ) → plain (Regrade x w) es .answer ≡ Regraded v → Among x v es
+  regraded-old : (x w v : ℕ) → plain (Regrade x w First) es .answer ≡ Regraded v → Among x v es
   regraded-old x w v e =
       ⊎-elim
       (λ t. subst (λ (u : ℕ). Among x u es) (ap told (sym (ap (λ (p : Reply). p .answer) (regrade-there x w es t)) ∙ e)) (has-among x es t))
       (λ f. clashes (sym (ap (λ (p : Reply). p .answer) (regrade-missing x w es f)) ∙ e) (λ q. omega (arith, q)))
       (true-or-false (has x es))
 
-  regraded-found : (x w v : ℕ) → plain (Regrade x w) es .answer ≡ Regraded v → plain (Search x) (plain (Regrade x w) es .entries) .answer ≡ Found w
+  regraded-found : (x w v : ℕ) → plain (Regrade x w First) es .answer ≡ Regraded v → plain (Search x) (plain (Regrade x w First) es .entries) .answer ≡ Found w
   regraded-found x w v e =
       let t : has x es ≡ true = among-has x v es (regraded-old x w v e) in
       ap (λ (p : Reply). plain (Search x) (p .entries) .answer) (regrade-there x w es t)
       ∙ search-there x (regraded x w es) (has-regraded x w x es ∙ t)
       ∙ ap (λ (u : ℕ). Found u) (information-regraded x w es t)
 
-  regraded-keys : (x w : ℕ) → map keyOf (plain (Regrade x w) es .entries) ≡ map keyOf es
+  regraded-keys : (x w : ℕ) → map keyOf (plain (Regrade x w First) es .entries) ≡ map keyOf es
   regraded-keys x w =
       ⊎-elim
       (λ t. ap (λ (p : Reply). map keyOf (p .entries)) (regrade-there x w es t) ∙ keys-regraded x w es)
       (λ f. ap (λ (p : Reply). map keyOf (p .entries)) (regrade-missing x w es f))
       (true-or-false (has x es))
 
-  others : (op : Op) (y : ℕ) → y ≢ keyOfOp op → plain (Search y) (plain op es .entries) .answer ≡ plain (Search y) es .answer
-  others (Search x) y n = ap (λ (l : List Entry). plain (Search y) l .answer) (search-keeps x es)
-  others (Insert x v) y n =
+  others-first : (op : Op) (y : ℕ) → y ≢ keyOfOp op → plain (Search y) (plain (firstWay op) es .entries) .answer ≡ plain (Search y) es .answer
+  others-first (Search x) y n = ap (λ (l : List Entry). plain (Search y) l .answer) (search-keeps x es)
+  others-first (Insert x v way) y n =
       ⊎-elim
       (λ t. ap (λ (p : Reply). plain (Search y) (p .entries) .answer) (insert-there x v es t))
       (λ f. ap (λ (p : Reply). plain (Search y) (p .entries) .answer) (insert-missing x v es f)
       ∙ search-same y (inserted x v es) es (has-inserted-other x v es y n) (information-inserted-other x v es y n))
       (true-or-false (has x es))
-  others (Delete x) y n =
+  others-first (Delete x way) y n =
       ⊎-elim
       (λ t. ap (λ (p : Reply). plain (Search y) (p .entries) .answer) (delete-there x es t)
       ∙ search-same y (without x es) es (has-without-other x y es n) (information-without-other x y es n))
       (λ f. ap (λ (p : Reply). plain (Search y) (p .entries) .answer) (delete-missing x es f))
       (true-or-false (has x es))
-  others (Next x) y n = ap (λ (l : List Entry). plain (Search y) l .answer) (next-keeps x es)
-  others (Regrade x w) y n =
+  others-first (Next x) y n = ap (λ (l : List Entry). plain (Search y) l .answer) (next-keeps x es)
+  others-first (Regrade x w way) y n =
       ⊎-elim
       (λ t. ap (λ (p : Reply). plain (Search y) (p .entries) .answer) (regrade-there x w es t)
       ∙ search-same y (regraded x w es) es (has-regraded x w y es) (information-regraded-other x w y es n))
       (λ f. ap (λ (p : Reply). plain (Search y) (p .entries) .answer) (regrade-missing x w es f))
       (true-or-false (has x es))
 
+  others : (op : Op) (y : ℕ) → y ≢ keyOfOp op → plain (Search y) (plain op es .entries) .answer ≡ plain (Search y) es .answer
+  others op y n = ap (λ (p : Reply). plain (Search y) (p .entries) .answer) (plain-ways op es) ∙ others-first op y n
+
   -- The plain list's laws hold of every list whose keys rise.
   pub plain-facts : PlainFacts es
   plain-facts = record {
     rising = rising;
+    ways = λ op. plain-ways op es;
     finds = λ x v a. search-there x es (among-has x v es a) ∙ ap (λ (w : ℕ). Found w) (among-information x v es a r);
     found = found;
     notFound = λ x m. search-missing x es (missing-has x es m);

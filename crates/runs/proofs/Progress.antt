@@ -5,7 +5,7 @@ use Prim.Native.Nat.{ℕ, zero, suc, _+_, _-_, _*_, _≤_, _<_}
 use mathlib.Core.Bool.{true, false, not, _&&_, _||_}
 use mathlib.Core.List.{List, [], _∷_}
 use mathlib.Core.Logic.{_⊎_, inl, inr, ⊎-elim, _≢_}
-use mathlib.Core.Path.{_≡_, refl, sym, ap, _∙_, subst}
+use mathlib.Core.Path.{_≡_, refl, sym, ap, ap₂, _∙_, subst}
 use native.Mathlib.Nat.{mul-le-mul-right, suc-mul}
 use native.Mathlib.Omega.{arith}
 use borrow.Author.Tests.{eqb-true, eqb-false, eq-eqb, ne-eqb, not-true, not-false}
@@ -22,18 +22,22 @@ use Rattle.slots.specs.declared.Op.{Op}
 use Rattle.slots.specs.declared.Task.{Task}
 use Rattle.slots.specs.declared.Task.the-variants.{Closed, Open}
 use Rattle.slots.specs.declared.State.{State}
-use Rattle.slots.specs.Parts.{keyOf, isOpen, pathOf, standOf, slotAt, openAt, wantAt, holdsAt, waitingOrder}
-use Rattle.slots.specs.Locks.{lockHeldAt, lockWantedAt, clash}
+use Rattle.slots.specs.Parts.{keyOf, heldLock, isOpen, pathOf, standOf, slotAt, openAt, wantAt, holdsAt, waitingOrder}
+use Rattle.slots.specs.declared.Lock.{Lock}
+use Rattle.slots.specs.declared.Lock.the-variants.{Xi}
+use Rattle.slots.specs.Locks.{lockOf, lockHeldAt, lockWantedAt, clash}
 use Rattle.slots.specs.Grant.{olderThan, clashingWant, noClash, noOlder, grants}
+use Rattle.slots.proofs.LockLaws.{op-locks, xi-clashes, clash-swap}
 use Rattle.slots.proofs.Clashes.{no-two-locks-clash}
 use Rattle.slots.proofs.GrantLaws.{granted-no-clash, holder-open}
 use Rattle.slots.proofs.OrderLaws.{same-or-not}
 use Rattle.tree.specs.Tree.{Tr, Stands, Forms}
 use Rattle.tree.specs.Facts.{Placed}
-use Rattle.runs.specs.Stance.{Stance}
+use Rattle.runs.specs.Stance.{WantsWith, Stance}
 use Rattle.runs.specs.Waits.{Holder, Older, Barred}
 use Rattle.runs.proofs.Invariant.{Invariant}
 use Rattle.runs.proofs.Fathers.{Father, Top, one-father, root-fatherless, wants-under, held-under, wants-inside, wants-placed}
+use Rattle.runs.proofs.Barring.{Later, leaf-wanted, leaf-held}
 
 -- ---- what bars a want
 
@@ -157,6 +161,18 @@ inside-first st l s s′ level low level′ low′ later lower =
     let few : length (olderThan s′ (waitingOrder st)) ≤ m = older-most s′ (waitingOrder st) in
     omega (arith, suc-mul a′ (suc m))
 
+-- a page whose range begins later comes before it, whatever their levels and whatever wants are older
+later-first : (st : State) (l s s′ level low level′ low′ : ℕ) → low < low′ → low′ < wordRange → level′ ≤ l + 1 → rank st l s′ level′ low′ < rank st l s level low
+later-first st l s s′ level low level′ low′ later words inTree =
+    let m : ℕ = length (waitingOrder st) in
+    let a : ℕ = placeRank l level low in
+    let a′ : ℕ = placeRank l level′ low′ in
+    let parts : suc (wordRange - low′) * (l + 2) ≤ (wordRange - low) * (l + 2) = mul-le-mul-right (l + 2) (omega arith) in
+    let less : a′ < a = omega (arith, suc-mul (wordRange - low′) (l + 2)) in
+    let more : suc a′ * suc m ≤ a * suc m = mul-le-mul-right (suc m) less in
+    let few : length (olderThan s′ (waitingOrder st)) ≤ m = older-most s′ (waitingOrder st) in
+    omega (arith, suc-mul a′ (suc m))
+
 -- of two wants for one page the older comes first
 older-first : (st : State) (l s s′ level low : ℕ) → member s′ (olderThan s (waitingOrder st)) ≡ true → rank st l s′ level low < rank st l s level low
 older-first st l s s′ level low m = omega (arith, older-fewer s s′ (waitingOrder st) m)
@@ -184,20 +200,29 @@ module _ (st : State) (ws : List ℕ) (inv : Invariant st ws) where
   record OpenStance (s : ℕ) : Type 0 where
     op : Op
     key : keyOf op < wordRange
+    runs : slotAt st s .task ≡ Open op
     stance : Stance (st .k) (pageAt (st .k) ws) (inv .height) (inv .tree) (standOf op (slotAt st s))
+    locked : WantsWith (pageAt (st .k) ws) (standOf op (slotAt st s))
 
   standing : (s : ℕ) → s < slotCount → openAt st s ≡ true → OpenStance s
   standing s b o =
       let (op, runs) = opened (slotAt st s .task) o in
-      record { op = op; key = inv .keys s op b runs; stance = inv .stands s op b runs }
+      record { op = op; key = inv .keys s op b runs; runs = runs; stance = inv .stands s op b runs; locked = inv .locked s op b runs }
 
   holder-opens : (s : ℕ) (h : Holder st s) → openAt st (h .slot) ≡ true
   holder-opens s h = holder-open (st .n) (slotAt st (h .slot)) (wantAt st s) (inv .sound .slot (h .slot) (h .below)) (h .holds)
 
-  -- Who holds the wanted page with a clashing lock holds it as the top page of its path: otherwise it held the page's father
-  -- too, and so does the slot that wants the page. A slot has one kind for all that it holds and wants: so the two clash there too.
-  holder-at-top : (s : ℕ) → s < slotCount → openAt st s ≡ true → (h : Holder st s) → Top (pathOf (slotAt st (h .slot))) (wantAt st s)
-  holder-at-top s b o h =
+  -- the kinds under which a slot holds its pages are one
+  held-by : (s p : ℕ) (op : Op) → slotAt st s .task ≡ Open op → lockHeldAt st s p ≡ heldLock op
+  held-by s p op runs = ap lockOf runs
+
+  -- Who holds the wanted page with a clashing lock holds it as the top page of its path, or he holds its father too, as the slot does that
+  -- wants the page. Then the slot wants it with another kind than it holds the father under, and the holder wants a page to the right of it.
+  holder-at-top : (s : ℕ) (b : s < slotCount) (o : openAt st s ≡ true) (w : Placed (inv .height) (inv .tree) 0 wordRange (wantAt st s)) (h : Holder st s)
+      → Top (pathOf (slotAt st (h .slot))) (wantAt st s)
+      ⊎ Later (st .k) (st .n) (pageAt (st .k) ws) (inv .height) (inv .tree) (inv .sound .kLeast) (inv .forms .forms)
+      (standOf (standing (h .slot) (h .below) (holder-opens s h) .op) (slotAt st (h .slot))) (standing (h .slot) (h .below) (holder-opens s h) .key) (w .from)
+  holder-at-top s b o w h =
       let memory : ℕ → Page = pageAt (st .k) ws in
       let forms : Forms (st .k) (st .n) memory (inv .height) (inv .tree) = inv .forms .forms in
       let v : ℕ = h .slot in
@@ -205,14 +230,24 @@ module _ (st : State) (ws : List ℕ) (inv : Invariant st ws) where
       let me = standing s b o in
       let it = standing v (h .below) (holder-opens s h) in
       ⊎-elim
-      (λ top. top)
+      (λ top. inl top)
       (λ u. ⊎-elim
       (λ root. absurd (root-fatherless (st .k) (st .n) memory (inv .height) (inv .tree) forms (u .above)
       (subst (Father memory (inv .height) (inv .tree) (u .above)) root (u .father))))
-      (λ w.
-      let same = one-father (st .k) (st .n) memory (inv .height) (inv .tree) forms (w .above) (u .above) p (w .father) (u .father) in
-      not-both (h .clashes)
-      (no-two-locks-clash st (inv .sound) v s (u .above) (h .below) b (h .other) (u .held) (subst (λ (q : ℕ). holdsAt st s q ≡ true) same (w .held))))
+      (λ w′.
+      let same = one-father (st .k) (st .n) memory (inv .height) (inv .tree) forms (w′ .above) (u .above) p (w′ .father) (u .father) in
+      let apart : clash (heldLock (it .op)) (heldLock (me .op)) ≡ false
+      = sym (ap₂ clash (held-by v (u .above) (it .op) (it .runs)) (held-by s (u .above) (me .op) (me .runs)))
+      ∙ no-two-locks-clash st (inv .sound) v s (u .above) (h .below) b (h .other) (u .held) (subst (λ (q : ℕ). holdsAt st s q ≡ true) same (w′ .held)) in
+      let against : clash (heldLock (it .op)) (slotAt st s .lock) ≡ true
+      = ap (λ (lock : Lock). clash lock (slotAt st s .lock)) (sym (held-by v p (it .op) (it .runs))) ∙ h .clashes in
+      let other : slotAt st s .lock ≢ heldLock (me .op) = λ e. not-both (ap (clash (heldLock (it .op))) (sym e) ∙ against) apart in
+      inr
+      (leaf-held (st .k) (st .n) memory (inv .height) (inv .tree) (inv .sound .kLeast) forms (standOf (it .op) (slotAt st v)) (it .key) (it .stance)
+      (λ xi. not-both (clash-swap Xi (heldLock (me .op)) ∙ xi-clashes (heldLock (me .op)) (op-locks (me .op))) (ap (λ (lock : Lock). clash lock (heldLock (me .op))) (sym xi) ∙ apart))
+      p (h .holds)
+      (leaf-wanted (st .k) (st .n) memory (inv .height) (inv .tree) (inv .sound .kLeast) forms (standOf (me .op) (slotAt st s)) (me .key) (me .stance) (me .locked) other)
+      w))
       (wants-under (st .k) (st .n) memory (inv .height) (inv .tree) forms (standOf (me .op) (slotAt st s)) (me .key) (me .stance)))
       (held-under (st .k) (st .n) memory (inv .height) (inv .tree) forms (standOf (it .op) (slotAt st v)) (it .key) (it .stance) p (h .holds))
 
@@ -222,15 +257,26 @@ module _ (st : State) (ws : List ℕ) (inv : Invariant st ws) where
   better s b o w (inl h) =
       let v : ℕ = h .slot in
       let it = standing v (h .below) (holder-opens s h) in
+      ⊎-elim
+      (λ top.
       let i = wants-inside (st .k) (st .n) (pageAt (st .k) ws) (inv .height) (inv .tree) (inv .forms .forms) (standOf (it .op) (slotAt st v)) (it .key) (it .stance)
-      (wantAt st s) (w .level) (w .from) (w .to) (holder-at-top s b o h) (w .stands) in
+      (wantAt st s) (w .level) (w .from) (w .to) top (w .stands) in
       record {
         slot = v;
         below = h .below;
         runs = holder-opens s h;
         place = record { level = i .newLevel; from = i .from; to = i .to; stands = i .stands };
         less = inside-first st (inv .height) s v (w .level) (w .from) (i .newLevel) (i .from) (i .later) (i .lower);
-      }
+      })
+      (λ i.
+      record {
+        slot = v;
+        below = h .below;
+        runs = holder-opens s h;
+        place = record { level = i .level; from = i .from; to = i .to; stands = i .stands };
+        less = later-first st (inv .height) s v (w .level) (w .from) (i .level) (i .from) (i .later) (i .inWords) (i .inTree);
+      })
+      (holder-at-top s b o w h)
   better s b o w (inr e) =
       let waits = older-waits s (e .slot) (waitingOrder st) (e .older) in
       record {

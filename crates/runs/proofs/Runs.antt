@@ -96,7 +96,7 @@ unfolding goesOn closes
 stepped-numbers st ws inv s (noSlot b e) = subst (λ (r : Left). Numbers st (r .state)) (sym e) (refl, refl)
 stepped-numbers st ws inv s (idle b c e) = subst (λ (r : Left). Numbers st (r .state)) (sym e) (refl, refl)
 stepped-numbers st ws inv s (waits op b runs g e) = subst (λ (r : Left). Numbers st (r .state)) (sym e) (refl, refl)
-stepped-numbers st ws inv s (onward op z b runs g e same stance takes) = subst (λ (r : Left). Numbers st (r .state)) (sym e) (refl, refl)
+stepped-numbers st ws inv s (onward op z b runs g e same stance locked takes) = subst (λ (r : Left). Numbers st (r .state)) (sym e) (refl, refl)
 stepped-numbers st ws inv s (over op a writes b runs g e ended) = subst (λ (r : Left). Numbers st (r .state)) (sym e) (refl, refl)
 
 pub call-numbers : (st : State) (ws : List ℕ) → Invariant st ws → (c : Call) → Numbers st (called st ws c .state)
@@ -167,6 +167,7 @@ idle-ready k n ws l t h forms =
         forms = forms;
         keys = λ s op b runs. absurd (idle-shut k n s op runs);
         stands = λ s op b runs. absurd (idle-shut k n s op runs);
+        locked = λ s op b runs. absurd (idle-shut k n s op runs);
       };
       shut = idle-shut k n;
       entries = refl;

@@ -1,22 +1,22 @@
 -- A granted step of a slot that stands as it should: its pages are sound for the step, and it goes on and stands as it should
 -- again, or its operation ends. It is never broken.
 use Prim.Native.Nat.{ℕ, suc, _+_, _≤_, _<_}
-use mathlib.Core.Bool.{true, not, _&&_, _||_, or-false, true≢false, false≢true}
+use mathlib.Core.Bool.{Bool, true, false, not, _&&_, _||_, or-false, true≢false, false≢true}
 use mathlib.Core.List.{List, [], _∷_, _++_, reverse, append-nil}
-use mathlib.Core.Logic.{inl, inr, ⊎-elim}
+use mathlib.Core.Logic.{_⊎_, inl, inr, ⊎-elim, _≢_}
 use mathlib.Core.Path.{_≡_, refl, sym, ap, _∙_, subst}
 use native.Mathlib.Nat.{le-of-suc-le-suc}
 use native.Mathlib.Omega.{arith}
-use borrow.Author.Tests.{ltb-true, ltb-false, eq-eqb, eqb-true}
+use borrow.Author.Tests.{ltb-true, ltb-false, eq-eqb, eqb-true, eqb-false, not-true, not-false}
 use lib.Dec.{ltb, eqb}
 use lib.ListN.{length, getD, length-append, length-reverse, List·getD-append}
 use lib.Seq.{getD-at}
 use Rattle.ground.specs.Limits.{wordRange}
 use Rattle.ground.specs.Tests.{member, distinct}
-use Rattle.ground.proofs.Tests.{all-from-members, member-append, member-first, member-wider, member-behind}
-use Rattle.ground.proofs.Bools.{true-or-false, and-both, and-first, or-first, or-second, or-cases}
+use Rattle.ground.proofs.Tests.{all-from-members, member-one, member-here, member-cases, member-append, member-first, member-wider, member-behind}
+use Rattle.ground.proofs.Bools.{true-or-false, not-both, false-if-not-true, and-both, and-first, and-second, or-first, or-second, or-cases, or-first-fails, or-second-fails, not-of-true, not-of-false}
 use Rattle.ground.proofs.Choice.{cond-ind, cond-true, cond-false}
-use Rattle.page.specs.Words.{Page, isLeaf}
+use Rattle.page.specs.Words.{Page, μ, isLeaf}
 use Rattle.page.specs.Place.{route, has}
 use Rattle.page.specs.Sound.{soundByItself}
 use Rattle.page.specs.Short.{neighbour}
@@ -24,22 +24,30 @@ use Rattle.pool.specs.Pool.{wordsOf, pageAt, freePages}
 use Rattle.change.specs.Deletion.{Need, sibling, needs}
 use Rattle.slots.specs.declared.Op.{Op}
 use Rattle.slots.specs.declared.Op.the-variants.{Search, Insert, Delete, Next, Regrade}
+use Rattle.slots.specs.declared.Way.{Way}
+use Rattle.slots.specs.declared.Way.the-variants.{First, Second}
+use Rattle.slots.specs.declared.Lock.{Lock}
+use Rattle.slots.specs.declared.Lock.the-variants.{Rho, Xi}
 use Rattle.slots.specs.declared.Answer.the-variants.{NoSuchKey}
-use Rattle.slots.specs.Parts.{keyOf, Stand, holding, onPages, wantBeside, wantsNext, withOp}
-use Rattle.footing.specs.Granted.{Verdict, broken, goes, ends, isSafe, kept, deletes, atLeaf, fromLeaf, comesDown, besides, atItsLeaf, granted}
-use Rattle.footing.specs.Fitting.{pagesSound, descends, rightlyBeside, rightlyAcross, sameLevels, isSibling, isNone, fitting, nextIsNew, soundForStep, verdict}
+use Rattle.slots.specs.Parts.{keyOf, onlyReads, isSecond, firstWay, heldLock, Stand, freshStand, holding, onPages, wantBeside, wantsNext, withOp}
+use Rattle.slots.proofs.OperationLaws.{first-key}
+use Rattle.slots.proofs.LockLaws.{first-same, first-twice, first-not-second}
+use Rattle.footing.specs.Granted.{Verdict, broken, goes, ends, isSafe, lockBelow, kept, deletes, again, answeredAtOnce, staysSecond, atLeaf, fromLeaf, byWayAtLeaf, comesDown, besides, atItsLeaf, granted}
+use Rattle.footing.specs.Fitting.{pagesSound, descends, rightlyBeside, rightlyAcross, sameLevels, isSibling, isNone, lockDue, fitting, nextIsNew, soundForStep, verdict}
+use Rattle.footing.proofs.KeepLaws.{second-safe}
 use Rattle.tree.specs.Tree.{Tr, Stands, way, Forms, PoolForms}
 use Rattle.tree.specs.Facts.{WayFacts}
 use Rattle.ground.proofs.Choice.{by-test}
 use Rattle.tree.proofs.Search.{way-facts}
 use Rattle.tree.proofs.Ways.{place-facts}
 use Rattle.tree.proofs.SoundPages.{pool-sound}
-use Rattle.runs.specs.Stance.{Rightly, WantsSibling, Crossing, Stance, StandsAtLeaf, Takes}
-use Rattle.runs.specs.Step.{Scene, Comes, moves, stops}
+use Rattle.runs.specs.Stance.{Rightly, WantsWith, WantsSibling, Crossing, Stance, StandsAtLeaf, Takes}
+use Rattle.runs.specs.Step.{Scene, Writable, Comes, moves, stops}
 use Rattle.runs.proofs.Paths.{member-reverse}
 use Rattle.runs.proofs.Placing.{well-held}
-use Rattle.runs.proofs.Needing.{AtLeaf, beside-leaf, beside-asked}
-use Rattle.runs.proofs.Granting.{Down, Reached, descends-way, rightly-test, starting-down, coming-down, down-above, down-fitting, down-reached, reached-next, reached-leaf}
+use Rattle.runs.proofs.Needing.{AtLeaf, leaf-goes, beside-leaf, beside-asked}
+use Rattle.runs.proofs.Locking.{due-held, due-above, due-leaf, lock-test, update-xi}
+use Rattle.runs.proofs.Granting.{Down, Reached, descends-way, rightly-alone, rightly-test, starting-down, coming-down, down-above, down-fitting, down-reached, reached-next, reached-leaf}
 use Rattle.runs.proofs.Landing.{Does, on, done, leaf-is, leaf-has, search-does, insert-does, missing-ends, delete-does, regrade-does}
 use Rattle.runs.proofs.NextSteps.{next-does, crossing-leaf, crossing-test, crossing-does}
 
@@ -64,6 +72,10 @@ levels-from memory (p ∷ up) (s ∷ ss) h f =
     and-both
     (eq-eqb (memory p .level) (memory s .level) (f 0 (omega arith)))
     (levels-from memory up ss (le-of-suc-le-suc h) (λ j b. f (suc j) (omega arith)))
+
+-- operations that are one by the first way have one key
+pub same-key : (op op′ : Op) → firstWay op ≡ firstWay op′ → keyOf op ≡ keyOf op′
+same-key op op′ e = sym (first-key op) ∙ ap keyOf e ∙ first-key op′
 
 -- ---- sound for the step
 
@@ -93,11 +105,11 @@ module _ (k n : ℕ) (ws : List ℕ) (l : ℕ) (t : Tr l) (z : Stand) (scene : S
       (well-held k n ws l t z scene .pages q (member-first q (z .want) (holding z) m)))
 
   -- a page that it would want next is none that it would then hold
-  new-test : (z′ : Stand) → z′ .op ≡ z .op → Stance k memory l t z′ → nextIsNew (goes z′) ≡ true
+  new-test : (z′ : Stand) → firstWay (z′ .op) ≡ firstWay (z .op) → Stance k memory l t z′ → WantsWith memory z′ → nextIsNew (goes z′) ≡ true
   unfolding distinct
-  new-test z′ same stance =
+  new-test z′ same stance locked =
       let later : Scene k n ws l t z′
-      = record { kLeast = scene .kLeast; kMost = scene .kMost; nMost = scene .nMost; key = subst (λ (o : Op). keyOf o < wordRange) (sym same) (scene .key); forms = scene .forms; stance = stance } in
+      = record { kLeast = scene .kLeast; kMost = scene .kMost; nMost = scene .nMost; key = subst (λ (y : ℕ). y < wordRange) (sym (same-key (z′ .op) (z .op) same)) (scene .key); forms = scene .forms; stance = stance; locked = locked } in
       and-first (not (member (z′ .want) (holding z′))) (distinct (holding z′)) (well-held k n ws l t z′ later .different)
 
   verdict-is : (v : Verdict) → fitting k memory z ≡ true → granted k memory free z ≡ v → nextIsNew v ≡ true → verdict k n ws z ≡ v
@@ -105,7 +117,7 @@ module _ (k n : ℕ) (ws : List ℕ) (l : ℕ) (t : Tr l) (z : Stand) (scene : S
   verdict-is v fits is new = cond-true (granted k memory free z) broken (and-both (and-both pages-test fits) (ap nextIsNew is ∙ new)) ∙ is
 
   does-comes : fitting k memory z ≡ true → Does k n ws l t z (granted k memory free z) → Comes k n ws l t z
-  does-comes fits (on z′ is same stance takes) = moves z′ (verdict-is (goes z′) fits is (new-test z′ same stance)) same stance takes
+  does-comes fits (on z′ is same stance locked takes) = moves z′ (verdict-is (goes z′) fits is (new-test z′ same stance locked)) same stance locked takes
   does-comes fits (done a writes is ended) = stops a writes (verdict-is (ends a writes) fits is refl) ended
 
 -- ---- at its leaf or not
@@ -128,45 +140,82 @@ test-at-leaf memory path test =
 
 -- ---- coming down
 
--- at its leaf, by the operation
+-- at its leaf, by the operation; an update by the first way, or one by the second way that stays: `rightly` is known of it where it makes a change
 module _ (k n : ℕ) (ws : List ℕ) (l : ℕ) (t : Tr l) (pool : PoolForms k n ws l t) (one : 1 ≤ k) (z₀ : Stand) (path : List ℕ)
-    (leaf : ℕ) (last : leaf ≡ z₀ .want) (fathers upper : List ℕ) (upward : reverse path ≡ leaf ∷ fathers)
-    (inside : (q : ℕ) → member q path ≡ true → member q (z₀ .want ∷ holding z₀) ≡ true) where
-  landed-does : (op : Op) → keyOf op < wordRange → WayFacts (pageAt k ws) (keyOf op) l t → way (keyOf op) l t ≡ leaf ∷ (fathers ++ upper)
-      → Rightly op k (pageAt k ws) path
-      → ((q : ℕ) → Takes k (pageAt k ws) (withOp op z₀) (wantsNext (onPages (withOp op z₀) path []) q))
+    (leaf : ℕ) (last : leaf ≡ z₀ .want) (fathers upper : List ℕ) (upward : reverse path ≡ leaf ∷ fathers) where
+  -- what is known of an operation there
+  record Landed (op : Op) : Type 0 where
+    key : keyOf op < wordRange
+    facts : WayFacts (pageAt k ws) (keyOf op) l t
+    whole : way (keyOf op) l t ≡ leaf ∷ (fathers ++ upper)
+    rightly : (isSecond op ≡ true → answeredAtOnce op (pageAt k ws leaf .entries) ≡ false) → Rightly (firstWay op) k (pageAt k ws) path
+    alone : isSecond op ≡ true → answeredAtOnce op (pageAt k ws leaf .entries) ≡ false → isSafe (firstWay op) k (pageAt k ws leaf) ≡ true
+    takes : isSecond op ≡ false → (q : ℕ) → Takes k (pageAt k ws) (withOp op z₀) (wantsNext (onPages (withOp op z₀) path []) q (heldLock op))
+    inside : onlyReads op ≡ false → (q : ℕ) → member q path ≡ true → Writable (withOp op z₀) q
+
+  -- the leaf is on the path
+  leaf-inside : member (z₀ .want) path ≡ true
+  leaf-inside =
+      sym (member-reverse (z₀ .want) path) ∙ ap (member (z₀ .want)) (upward ∙ ap (λ (p : ℕ). p ∷ fathers) last) ∙ member-here (z₀ .want) fathers
+
+  -- a deletion whose key is there
+  module _ (y : ℕ) (way′ : Way) (at : Landed (Delete y way′)) (h : has y (pageAt k ws leaf .entries) ≡ true) where
+    deletion-leaf : AtLeaf k n (pageAt k ws) l t y (onPages z₀ path []) leaf fathers
+    deletion-leaf = record {
+      forms = pool .forms;
+      kLeast = one;
+      key = at .key;
+      there = sym (leaf-has (pageAt k ws) y l t (at .facts) leaf (fathers ++ upper) (at .whole)) ∙ h;
+      upward = upward;
+      upper = upper;
+      whole = at .whole ∙ ap (λ (ps : List ℕ). ps ++ upper) (sym upward);
+      rightly = at .rightly (λ _. not-of-true h);
+      asked = λ before s after e. absurd (omega (arith, ap length e, length-append before (s ∷ after)));
+    }
+
+    deletion-inside : (q : ℕ) → member q (leaf ∷ fathers ++ []) ≡ true → Writable (withOp (Delete y way′) z₀) q
+    deletion-inside q m =
+        at .inside refl q (sym (member-reverse q path) ∙ ap (member q) (upward ∙ sym (append-nil (leaf ∷ fathers))) ∙ m)
+
+  -- it goes on to the sibling; by the second way its leaf can spare an entry, and it needs none
+  further : (y : ℕ) (way′ : Way) (at : Landed (Delete y way′)) (h : has y (pageAt k ws leaf .entries) ≡ true) (s : ℕ)
+      → needs k (pageAt k ws) y leaf fathers [] ≡ sibling s
+      → Does k n ws l t (withOp (Delete y way′) z₀) (goes (wantsNext (onPages (withOp (Delete y way′) z₀) path []) s (heldLock (Delete y way′))))
+  further y First at h s e =
+      on (wantsNext (onPages (withOp (Delete y First) z₀) path []) s Xi) refl refl
+      (inr (inr (inl (leaf-goes (deletion-leaf y First at h) s e Xi))))
+      (sym (due-held (Delete y First) (pageAt k ws) (reverse path) refl))
+      (at .takes refl s)
+  further y Second at h s e =
+      let stands = leaf-goes (deletion-leaf y Second at h) s e Xi in
+      let short : μ (pageAt k ws leaf) ≡ k
+      = ap (λ (up : List ℕ). μ (pageAt k ws (getD up 0 0))) (sym upward) ∙ stands .short 0 (omega arith) in
+      absurd (omega (arith, short, ltb-true k (μ (pageAt k ws leaf)) (at .alone refl (not-of-true h))))
+
+  landed-does : (op : Op) → Landed op
       → Does k n ws l t (withOp op z₀) (atLeaf op k (pageAt k ws) (freePages k n ws) (onPages (withOp op z₀) path []) leaf fathers)
   unfolding atLeaf
-  landed-does (Search y) key facts whole rightly takes =
-      search-does k n ws l t pool z₀ y facts leaf (fathers ++ upper) whole (onPages (withOp (Search y) z₀) path []) fathers
-  landed-does (Insert y v) key facts whole rightly takes =
-      insert-does k n ws l t pool z₀ y facts leaf (fathers ++ upper) whole key v (onPages (withOp (Insert y v) z₀) path []) fathers upper upward
-      (whole ∙ ap (λ (ps : List ℕ). ps ++ upper) (sym upward)) rightly one inside
-  landed-does (Delete y) key facts whole rightly takes =
-      cond-ind (Does k n ws l t (withOp (Delete y) z₀)) (has y (pageAt k ws leaf .entries))
+  landed-does (Search y) at =
+      search-does k n ws l t pool z₀ y (at .facts) leaf (fathers ++ upper) (at .whole) (onPages (withOp (Search y) z₀) path []) fathers
+  landed-does (Insert y v way′) at =
+      insert-does k n ws l t pool z₀ y (at .facts) leaf (fathers ++ upper) (at .whole) (at .key) v way′ (onPages (withOp (Insert y v way′) z₀) path []) fathers upper upward
+      (at .whole ∙ ap (λ (ps : List ℕ). ps ++ upper) (sym upward))
+      (λ new. at .rightly (λ _. leaf-has (pageAt k ws) y l t (at .facts) leaf (fathers ++ upper) (at .whole) ∙ new))
+      one (at .inside refl)
+  landed-does (Delete y way′) at =
+      cond-ind (Does k n ws l t (withOp (Delete y way′) z₀)) (has y (pageAt k ws leaf .entries))
       (λ h.
-      delete-does k n ws l t pool z₀ y facts leaf (fathers ++ upper) whole (onPages z₀ path []) fathers
-      (record {
-        forms = pool .forms;
-        kLeast = one;
-        key = key;
-        there = sym (leaf-has (pageAt k ws) y l t facts leaf (fathers ++ upper) whole) ∙ h;
-        upward = upward;
-        upper = upper;
-        whole = whole ∙ ap (λ (ps : List ℕ). ps ++ upper) (sym upward);
-        rightly = rightly;
-        asked = λ before s after e. absurd (omega (arith, ap length e, length-append before (s ∷ after)));
-      })
-      takes
-      (λ q m. inside q (sym (member-reverse q path) ∙ ap (member q) (upward ∙ sym (append-nil (leaf ∷ fathers))) ∙ m)))
+      delete-does k n ws l t pool z₀ y (at .facts) leaf (fathers ++ upper) (at .whole) way′ (onPages z₀ path []) fathers
+      (deletion-leaf y way′ at h) (further y way′ at h) (deletion-inside y way′ at h))
       (λ f.
       done NoSuchKey [] refl
-      (missing-ends k n ws l t pool z₀ y facts leaf (fathers ++ upper) whole
-      (sym (leaf-has (pageAt k ws) y l t facts leaf (fathers ++ upper) whole) ∙ f)))
-  landed-does (Next y) key facts whole rightly takes =
-      next-does k n ws l t pool one z₀ y key facts path leaf fathers upper upward whole rightly takes
-  landed-does (Regrade y v) key facts whole rightly takes =
-      regrade-does k n ws l t pool z₀ y facts leaf (fathers ++ upper) whole key v last (onPages (withOp (Regrade y v) z₀) path []) fathers
+      (missing-ends k n ws l t pool z₀ y (at .facts) leaf (fathers ++ upper) (at .whole) way′
+      (sym (leaf-has (pageAt k ws) y l t (at .facts) leaf (fathers ++ upper) (at .whole)) ∙ f)))
+  landed-does (Next y) at =
+      next-does k n ws l t pool one z₀ y (at .key) (at .facts) path leaf fathers upper upward (at .whole) (at .rightly (λ s. absurd (false≢true s))) (at .takes refl)
+  landed-does (Regrade y v way′) at =
+      regrade-does k n ws l t pool z₀ y (at .facts) leaf (fathers ++ upper) (at .whole) (at .key) v way′ last
+      (at .inside refl (z₀ .want) leaf-inside) (onPages (withOp (Regrade y v way′) z₀) path []) fathers
 
 module _ (k n : ℕ) (ws : List ℕ) (l : ℕ) (t : Tr l) (z : Stand) (scene : Scene k n ws l t z) (none : z .beside ≡ []) (down : Down k (pageAt k ws) l t z) where
   abbrev path′ : List ℕ
@@ -177,15 +226,132 @@ module _ (k n : ℕ) (ws : List ℕ) (l : ℕ) (t : Tr l) (z : Stand) (scene : S
   above at = true≢false (sym (at-leaf-test (pageAt k ws) (z .path) at) ∙ down-above k (pageAt k ws) l t z (facts k n ws l t z scene) down)
 
   -- "if the page has μ < 2k, all its ancestors are given up", or nothing is
-  down-takes : (q : ℕ) → Takes k (pageAt k ws) z (wantsNext (onPages z path′ []) q)
-  down-takes q =
+  down-takes : z .lock ≡ heldLock (z .op) → (q : ℕ) (lock : Lock) → Takes k (pageAt k ws) z (wantsNext (onPages z path′ []) q lock)
+  down-takes under q lock =
       ⊎-elim
-      (λ y. inl (record { comesDown = above; safe = y; noSiblings = none; holds = cond-true (z .want ∷ []) (z .path ++ z .want ∷ []) y; still = refl }))
-      (λ f. inr (inl (record { comesDown = above; unsafe = f; noSiblings = none; holds = cond-false (z .want ∷ []) (z .path ++ z .want ∷ []) f; still = refl })))
+      (λ y. inl (record { same = refl; under = under; comesDown = above; safe = y; noSiblings = none; holds = cond-true (z .want ∷ []) (z .path ++ z .want ∷ []) y; still = refl }))
+      (λ f. inr (inl (record { same = refl; under = under; comesDown = above; unsafe = f; noSiblings = none; holds = cond-false (z .want ∷ []) (z .path ++ z .want ∷ []) f; still = refl })))
       (true-or-false (isSafe (z .op) k (pageAt k ws (z .want))))
 
   reached : Reached (z .op) k (pageAt k ws) l t path′ (z .want)
   reached = down-reached k (pageAt k ws) l t z (facts k n ws l t z scene) down
+
+  abbrev stays-here : Bool
+  stays-here = staysSecond (z .op) k (pageAt k ws) (z .want)
+
+  -- ---- beginning again
+
+  -- why it does
+  why-again : stays-here ≡ false → (z .want ≡ 0)
+      ⊎ ((answeredAtOnce (z .op) (pageAt k ws (z .want) .entries) ≡ false) × (isSafe (firstWay (z .op)) k (pageAt k ws (z .want)) ≡ false))
+  why-again gone =
+      let answered = answeredAtOnce (z .op) (pageAt k ws (z .want) .entries) in
+      let safe = isSafe (firstWay (z .op)) k (pageAt k ws (z .want)) in
+      by-test (eqb (z .want) 0)
+      (λ y. inl (eqb-true (z .want) 0 y))
+      (λ o.
+      let neither : answered || safe ≡ false = false-if-not-true (answered || safe) (λ e. not-both (and-both (not-of-false o) e) gone) in
+      inr (or-first-fails answered safe neither, or-second-fails answered safe neither))
+
+  again-does : isLeaf (pageAt k ws (z .want)) ≡ true → isSecond (z .op) ≡ true → stays-here ≡ false → Does k n ws l t z (again (z .op))
+  again-does leafPage second gone =
+      on (freshStand (firstWay (z .op))) refl (first-twice (z .op))
+      (inl (record { noPath = refl; noSiblings = refl; wantsRoot = refl }))
+      refl
+      (inr (inr (inr (record {
+        second = second;
+        leaf = eqb-true (pageAt k ws (z .want) .level) 1 leafPage;
+        why = why-again gone;
+        fresh = refl;
+      }))))
+
+  -- ---- staying
+
+  module _ (leafPage : isLeaf (pageAt k ws (z .want)) ≡ true) (here : isSecond (z .op) ≡ true → stays-here ≡ true) where
+    -- by the second way: its leaf is not page 0, and what makes a change is safe for it
+    not-root : isSecond (z .op) ≡ true → z .want ≢ 0
+    not-root second e =
+        let answered = answeredAtOnce (z .op) (pageAt k ws (z .want) .entries) in
+        let safe = isSafe (firstWay (z .op)) k (pageAt k ws (z .want)) in
+        not-both (and-first (not (eqb (z .want) 0)) (answered || safe) (here second)) (not-of-true (eq-eqb (z .want) 0 e))
+
+    safe-here : isSecond (z .op) ≡ true → answeredAtOnce (z .op) (pageAt k ws (z .want) .entries) ≡ false
+        → isSafe (firstWay (z .op)) k (pageAt k ws (z .want)) ≡ true
+    safe-here second unanswered =
+        let answered = answeredAtOnce (z .op) (pageAt k ws (z .want) .entries) in
+        let safe = isSafe (firstWay (z .op)) k (pageAt k ws (z .want)) in
+        ⊎-elim (λ a. not-both a unanswered) (λ e. e)
+        (or-cases answered safe (and-second (not (eqb (z .want) 0)) (answered || safe) (here second)))
+
+    -- it holds the leaf alone
+    path-alone : isSecond (z .op) ≡ true → path′ ≡ z .want ∷ []
+    path-alone second = cond-true (z .want ∷ []) (z .path ++ z .want ∷ []) (second-safe (z .op) k (pageAt k ws (z .want)) second)
+
+    -- it wanted the leaf with ξ
+    xi-by : (up : List ℕ) → reverse (z .path) ≡ up → isSecond (z .op) ≡ true → z .lock ≡ Xi
+    xi-by [] e second =
+        ⊎-elim
+        (λ h. absurd (not-root second (h .1)))
+        (λ r. absurd (omega (arith, r .some, length-reverse (z .path), ap length e)))
+        (down .held)
+    xi-by (p ∷ up) e second =
+        let level = eqb-true (pageAt k ws (z .want) .level) 1 leafPage in
+        let next = facts k n ws l t z scene .father (down .lower) (z .want) p (up ++ down .upper)
+        (down .whole ∙ ap (λ (ps : List ℕ). down .lower ++ z .want ∷ (ps ++ down .upper)) e) in
+        scene .locked
+        ∙ ap (lockDue (z .op) (pageAt k ws)) e
+        ∙ due-leaf (z .op) (pageAt k ws) p up second (omega (arith, next .1, level))
+
+    inside-here : onlyReads (z .op) ≡ false → (q : ℕ) → member q path′ ≡ true → Writable z q
+    inside-here updates q m =
+        by-test (isSecond (z .op))
+        (λ second.
+        inl
+        (member-one q (z .want) (subst (λ (ps : List ℕ). member q ps ≡ true) (path-alone second) m), xi-by (reverse (z .path)) refl second))
+        (λ first.
+        let xi = update-xi (z .op) updates first in
+        ⊎-elim
+        (λ e. inl (e, scene .locked ∙ due-held (z .op) (pageAt k ws) (reverse (z .path)) first ∙ xi))
+        (λ h. inr (h, xi))
+        (member-cases q (z .want) (holding z) (kept-inside k (pageAt k ws) z q m)))
+
+    landed-here : Landed k n ws l t (scene .forms) (scene .kLeast) z path′ (z .want) refl (reached .fathers) (reached .upper) (reached .upward) (z .op)
+    landed-here =
+        let way-of = facts k n ws l t z scene in
+        record {
+          key = scene .key;
+          facts = way-of;
+          whole = reached-leaf k (pageAt k ws) l t z way-of path′ reached leafPage;
+          rightly = λ unanswered.
+              by-test (isSecond (z .op))
+              (λ second.
+              subst (Rightly (firstWay (z .op)) k (pageAt k ws)) (sym (path-alone second))
+              (rightly-alone (firstWay (z .op)) k (pageAt k ws) (z .want) (safe-here second (unanswered second))))
+              (λ first. subst (λ (o : Op). Rightly o k (pageAt k ws) path′) (sym (first-same (z .op) first)) (reached .rightly));
+          alone = safe-here;
+          takes = λ first q. down-takes (scene .locked ∙ due-held (z .op) (pageAt k ws) (reverse (z .path)) first) q (heldLock (z .op));
+          inside = inside-here;
+        }
+
+    stays-does : Does k n ws l t z (atLeaf (z .op) k (pageAt k ws) (freePages k n ws) (onPages z path′ []) (z .want) (reached .fathers))
+    stays-does =
+        landed-does k n ws l t (scene .forms) (scene .kLeast) z path′ (z .want) refl (reached .fathers) (reached .upper) (reached .upward)
+        (z .op) landed-here
+
+  -- above the leaves: it was wanted with the kind under which it is held
+  upper-lock : (up : List ℕ) → reverse (z .path) ≡ up → isLeaf (pageAt k ws (z .want)) ≡ false → z .lock ≡ heldLock (z .op)
+  upper-lock [] e upperPage = scene .locked ∙ ap (lockDue (z .op) (pageAt k ws)) e
+  upper-lock (p ∷ up) e upperPage =
+      let higher = eqb-false (pageAt k ws (z .want) .level) 1 upperPage in
+      let next = facts k n ws l t z scene .father (down .lower) (z .want) p (up ++ down .upper)
+      (down .whole ∙ ap (λ (ps : List ℕ). down .lower ++ z .want ∷ (ps ++ down .upper)) e) in
+      scene .locked
+      ∙ ap (lockDue (z .op) (pageAt k ws)) e
+      ∙ due-above (z .op) (pageAt k ws) p up (λ two. higher (omega (arith, next .1)))
+
+  -- and the kind of lock of the next want
+  next-locked : (q : ℕ) → WantsWith (pageAt k ws) (wantsNext (onPages z path′ []) q (lockBelow (z .op) (pageAt k ws (z .want))))
+  next-locked q = ap (lockDue (z .op) (pageAt k ws)) (sym (reached .upward))
 
   comes-down : Does k n ws l t z (comesDown k (pageAt k ws) (freePages k n ws) z)
   unfolding comesDown
@@ -194,24 +360,23 @@ module _ (k n : ℕ) (ws : List ℕ) (l : ℕ) (t : Tr l) (z : Stand) (scene : S
       cond-ind (Does k n ws l t z) (isLeaf (pageAt k ws (z .want)))
       (λ y.
       subst
-      (λ (up : List ℕ).
-      Does k n ws l t z
-      (fromLeaf (λ (leaf : ℕ) (fathers : List ℕ). atLeaf (z .op) k (pageAt k ws) (freePages k n ws) (onPages z path′ []) leaf fathers) up))
+      (λ (up : List ℕ). Does k n ws l t z (fromLeaf (byWayAtLeaf k (pageAt k ws) (freePages k n ws) (onPages z path′ [])) up))
       (sym (reached .upward))
-      (landed-does k n ws l t (scene .forms) (scene .kLeast) z path′ (z .want) refl (reached .fathers) (reached .upper) (reached .upward)
-      (kept-inside k (pageAt k ws) z)
-      (z .op) (scene .key) way-of (reached-leaf k (pageAt k ws) l t z way-of path′ reached y) (reached .rightly) down-takes))
+      (cond-ind (Does k n ws l t z) (isSecond (z .op) && not stays-here)
+      (λ a. again-does y (and-first (isSecond (z .op)) (not stays-here) a) (not-true stays-here (and-second (isSecond (z .op)) (not stays-here) a)))
+      (λ s. stays-does y (λ second. not-false stays-here (false-if-not-true (not stays-here) (λ g. not-both (and-both second g) s))))))
       (λ f.
-      on (wantsNext (onPages z path′ []) (route (keyOf (z .op)) (pageAt k ws (z .want)))) refl refl
-      (inr (inl (reached-next k (pageAt k ws) l t z way-of path′ reached f)))
-      (down-takes (route (keyOf (z .op)) (pageAt k ws (z .want)))))
+      on (wantsNext (onPages z path′ []) (route (keyOf (z .op)) (pageAt k ws (z .want))) (lockBelow (z .op) (pageAt k ws (z .want)))) refl refl
+      (inr (inl (reached-next k (pageAt k ws) l t z way-of path′ reached f (lockBelow (z .op) (pageAt k ws (z .want))))))
+      (next-locked (route (keyOf (z .op)) (pageAt k ws (z .want))))
+      (down-takes (upper-lock (reverse (z .path)) refl f) (route (keyOf (z .op)) (pageAt k ws (z .want))) (lockBelow (z .op) (pageAt k ws (z .want)))))
 
   down-comes : Comes k n ws l t z
   unfolding granted
   down-comes =
       let way-of = facts k n ws l t z scene in
       does-comes k n ws l t z scene
-      (down-fitting k (pageAt k ws) l t z way-of down none)
+      (down-fitting k (pageAt k ws) l t z way-of down none (scene .locked))
       (subst (Does k n ws l t z)
       (sym
       (cond-false
@@ -223,9 +388,9 @@ module _ (k n : ℕ) (ws : List ℕ) (l : ℕ) (t : Tr l) (z : Stand) (scene : S
 -- ---- at its leaf
 
 module _ (y k n : ℕ) (ws : List ℕ) (l : ℕ) (t : Tr l) (z₀ : Stand)
-    (scene : Scene k n ws l t (withOp (Delete y) z₀)) (b : WantsSibling k (pageAt k ws) l t (withOp (Delete y) z₀)) where
+    (scene : Scene k n ws l t (withOp (Delete y First) z₀)) (b : WantsSibling k (pageAt k ws) l t (withOp (Delete y First) z₀)) where
   abbrev z : Stand
-  z = withOp (Delete y) z₀
+  z = withOp (Delete y First) z₀
 
   beside-facts : WayFacts (pageAt k ws) y l t
   beside-facts = facts k n ws l t z scene
@@ -302,7 +467,7 @@ module _ (y k n : ℕ) (ws : List ℕ) (l : ℕ) (t : Tr l) (z₀ : Stand)
     unfolding fitting
     beside-fitting =
         and-both
-        (rightly-test (Delete y) k (pageAt k ws) (z .path) (z .want) (at .rightly))
+        (and-both (rightly-test (Delete y First) k (pageAt k ws) (z .path) (z .want) (at .rightly)) (lock-test (pageAt k ws) z (scene .locked)))
         (cond-true
         (descends (pageAt k ws) y (z .path)
         && (rightlyBeside k (pageAt k ws) z (reverse (z .path)) || rightlyAcross k (pageAt k ws) z (z .path)))
@@ -325,6 +490,23 @@ module _ (y k n : ℕ) (ws : List ℕ) (l : ℕ) (t : Tr l) (z₀ : Stand)
         (or-cases (member q (leaf ∷ fathers)) (member q (z .beside ++ z .want ∷ []))
         (sym (member-append q (leaf ∷ fathers) (z .beside ++ z .want ∷ [])) ∙ m))
 
+    -- it has ξ-locks on them
+    beside-writable : (q : ℕ) → member q (leaf ∷ fathers ++ (z .beside ++ z .want ∷ [])) ≡ true → Writable z q
+    beside-writable q m =
+        ⊎-elim
+        (λ e. inl (e, scene .locked ∙ due-held (Delete y First) (pageAt k ws) (reverse (z .path)) refl))
+        (λ h. inr (h, refl))
+        (member-cases q (z .want) (holding z) (beside-inside q m))
+
+    -- one sibling more is needed
+    beside-further : (s : ℕ) → needs k (pageAt k ws) y leaf fathers (z .beside ++ z .want ∷ []) ≡ sibling s
+        → Does k n ws l t z (goes (wantsNext (wantBeside z) s Xi))
+    beside-further s e =
+        on (wantsNext (wantBeside z) s Xi) refl refl
+        (inr (inr (inl (leaf-goes (beside-asked at asks) s e Xi))))
+        (sym (due-held (Delete y First) (pageAt k ws) (reverse (z .path)) refl))
+        (inr (inr (inl (record { same = refl; under = scene .locked ∙ due-held (Delete y First) (pageAt k ws) (reverse (z .path)) refl; beside = refl; atLeaf = test-at-leaf (pageAt k ws) (z .path) at-leaf; still = refl; holds = refl }))))
+
     beside-does : Does k n ws l t z (besides k (pageAt k ws) z)
     unfolding besides
     beside-does =
@@ -333,8 +515,8 @@ module _ (y k n : ℕ) (ws : List ℕ) (l : ℕ) (t : Tr l) (z₀ : Stand)
         Does k n ws l t z
         (fromLeaf (λ (p : ℕ) (ps : List ℕ). deletes k (pageAt k ws) y (wantBeside z) p ps) up))
         (sym (at .upward))
-        (delete-does k n ws l t (scene .forms) z y beside-facts leaf (fathers ++ at .upper) from-leaf
-        (wantBeside z) fathers (beside-asked at asks) (λ q. inr (inr (record { beside = refl; atLeaf = test-at-leaf (pageAt k ws) (z .path) at-leaf; still = refl; holds = refl }))) beside-inside)
+        (delete-does k n ws l t (scene .forms) z y beside-facts leaf (fathers ++ at .upper) from-leaf First
+        (wantBeside z) fathers (beside-asked at asks) beside-further beside-writable)
 
     beside-comes : Comes k n ws l t z
     unfolding granted
@@ -357,10 +539,13 @@ module _ (y k n : ℕ) (ws : List ℕ) (l : ℕ) (t : Tr l) (z₀ : Stand)
 stays : (op : Op) (k n : ℕ) (ws : List ℕ) (l : ℕ) (t : Tr l) (z : Stand) → Scene k n ws l t (withOp op z)
     → WantsSibling k (pageAt k ws) l t (withOp op z) → Comes k n ws l t (withOp op z)
 stays (Search y) k n ws l t z scene b = absurd (false≢true (b .deletes))
-stays (Insert y v) k n ws l t z scene b = absurd (false≢true (b .deletes))
-stays (Delete y) k n ws l t z scene b = deletion-comes y k n ws l t z scene b
+stays (Insert y v First) k n ws l t z scene b = absurd (false≢true (b .deletes))
+stays (Insert y v Second) k n ws l t z scene b = absurd (false≢true (b .deletes))
+stays (Delete y First) k n ws l t z scene b = deletion-comes y k n ws l t z scene b
+stays (Delete y Second) k n ws l t z scene b = absurd (false≢true (b .deletes))
 stays (Next y) k n ws l t z scene b = absurd (false≢true (b .deletes))
-stays (Regrade y v) k n ws l t z scene b = absurd (false≢true (b .deletes))
+stays (Regrade y v First) k n ws l t z scene b = absurd (false≢true (b .deletes))
+stays (Regrade y v Second) k n ws l t z scene b = absurd (false≢true (b .deletes))
 
 -- ---- past its leaf
 
@@ -377,7 +562,7 @@ module _ (y k n : ℕ) (ws : List ℕ) (l : ℕ) (t : Tr l) (z₀ : Stand)
   unfolding fitting
   crossing-fitting =
       and-both
-      (rightly-test (Next y) k (pageAt k ws) (past .path) (past .want) (c .rightly))
+      (and-both (rightly-test (Next y) k (pageAt k ws) (past .path) (past .want) (c .rightly)) (lock-test (pageAt k ws) past (scene .locked)))
       (cond-true
       (descends (pageAt k ws) y (past .path)
       && (rightlyBeside k (pageAt k ws) past (reverse (past .path)) || rightlyAcross k (pageAt k ws) past (past .path)))
@@ -398,16 +583,19 @@ module _ (y k n : ℕ) (ws : List ℕ) (l : ℕ) (t : Tr l) (z₀ : Stand)
       (besides k (pageAt k ws) past)
       (comesDown k (pageAt k ws) (freePages k n ws) past)
       past-leaf))
-      (crossing-does y k n ws l t (scene .forms) (scene .kLeast) (scene .key) z₀ c))
+      (crossing-does y k n ws l t (scene .forms) (scene .kLeast) (scene .key) z₀ c (scene .locked)))
 
 -- only a Next goes down a second way
 crosses-over : (op : Op) (k n : ℕ) (ws : List ℕ) (l : ℕ) (t : Tr l) (z : Stand) → Scene k n ws l t (withOp op z)
     → Crossing k (pageAt k ws) l t (withOp op z) → Comes k n ws l t (withOp op z)
 crosses-over (Search y) k n ws l t z scene c = absurd (false≢true (c .asksNext))
-crosses-over (Insert y v) k n ws l t z scene c = absurd (false≢true (c .asksNext))
-crosses-over (Delete y) k n ws l t z scene c = absurd (false≢true (c .asksNext))
+crosses-over (Insert y v First) k n ws l t z scene c = absurd (false≢true (c .asksNext))
+crosses-over (Insert y v Second) k n ws l t z scene c = absurd (false≢true (c .asksNext))
+crosses-over (Delete y First) k n ws l t z scene c = absurd (false≢true (c .asksNext))
+crosses-over (Delete y Second) k n ws l t z scene c = absurd (false≢true (c .asksNext))
 crosses-over (Next y) k n ws l t z scene c = next-comes y k n ws l t z scene c
-crosses-over (Regrade y v) k n ws l t z scene c = absurd (false≢true (c .asksNext))
+crosses-over (Regrade y v First) k n ws l t z scene c = absurd (false≢true (c .asksNext))
+crosses-over (Regrade y v Second) k n ws l t z scene c = absurd (false≢true (c .asksNext))
 
 -- A granted step of a slot that stands as it should.
 pub granted-comes : (k n : ℕ) (ws : List ℕ) (l : ℕ) (t : Tr l) (z : Stand) → Scene k n ws l t z → Comes k n ws l t z

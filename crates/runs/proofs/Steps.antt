@@ -36,7 +36,7 @@ by-step : (st : State) (ws : List ℕ) (inv : Invariant st ws) (s : ℕ) → Ste
 by-step st ws inv s (noSlot b e) = inl (record { says = BadSlot; nothing = refl; does = e; barred = λ c _. absurd (omega (arith, b, c)) })
 by-step st ws inv s (idle b c e) = inl (record { says = SlotIdle; nothing = refl; does = e; barred = λ _ o. not-both o c })
 by-step st ws inv s (waits op b runs g e) = inl (record { says = Waiting; nothing = refl; does = e; barred = λ _ _. g })
-by-step st ws inv s (onward op z b runs g e same stance takes) = inr (record { op = op; inside = b; runs = runs; granted = g })
+by-step st ws inv s (onward op z b runs g e same stance locked takes) = inr (record { op = op; inside = b; runs = runs; granted = g })
 by-step st ws inv s (over op a writes b runs g e ended) = inr (record { op = op; inside = b; runs = runs; granted = g })
 
 pub step-cases : (st : State) (ws : List ℕ) → Invariant st ws → (s : ℕ) → Rests st ws s ⊎ Goes st s

@@ -1,105 +1,149 @@
--- What a granted step comes to, read off the rule: what the slot holds if it goes on, and where it can end.
-use Prim.Native.Nat.{ℕ}
-use mathlib.Core.Bool.{Bool, true, false}
-use mathlib.Core.List.{List, [], _∷_, reverse}
-use mathlib.Core.Path.{_≡_, refl, sym, subst}
-use lib.Dec.{ltb}
+-- What a granted step comes to, read off the rule: an operation that comes down ends only at a leaf, and an update by the second way only
+-- where it does not begin again, and never for want of room.
+use Prim.Native.Nat.{ℕ, _+_, _*_, _<_}
+use mathlib.Core.Bool.{Bool, true, false, cond, not, _&&_, _||_}
+use mathlib.Core.List.{List, [], _∷_, _++_, reverse, reverse-append}
+use mathlib.Core.Logic.{⊎-elim}
+use mathlib.Core.Path.{_≡_, refl, sym, ap, subst}
+use native.Mathlib.Omega.{arith}
+use lib.Dec.{eqb, ltb}
 use lib.ListN.{length}
+use borrow.Author.Tests.{ltb-true, not-false}
+use Rattle.ground.specs.Tests.{count, member}
+use Rattle.ground.proofs.Bools.{not-both, and-second, or-cases}
 use Rattle.ground.proofs.Choice.{cond-ind, cond-true, cond-false}
-use Rattle.page.specs.Words.{Entry, Page, isLeaf}
-use Rattle.page.specs.Place.{has, atOrAbove}
+use Rattle.page.specs.Words.{Page, μ, isLeaf}
+use Rattle.page.specs.Place.{has, information}
 use Rattle.pool.specs.Pool.{Write, pageAt, freePages}
-use Rattle.change.specs.Insertion.{room}
-use Rattle.change.specs.Deletion.{Need, nothing, sibling, astray, needs}
+use Rattle.change.specs.Insertion.{isFull, room}
+use Rattle.change.specs.Deletion.{Need, nothing, sibling, astray, needs, deletion}
 use Rattle.slots.specs.declared.Op.{Op}
 use Rattle.slots.specs.declared.Op.the-variants.{Search, Insert, Delete, Next, Regrade}
+use Rattle.slots.specs.declared.Way.the-variants.{First, Second}
 use Rattle.slots.specs.declared.Answer.{Answer}
-use Rattle.slots.specs.Parts.{keyOf, isNext, Stand, onPages, wantBeside, wantsNext}
-use Rattle.footing.specs.Granted.{Verdict, broken, goes, ends, isSafe, kept, byNeed, deletes, crosses, byNearest, atLeaf, fromLeaf, comesDown, goesLeft, besides, atItsLeaf, granted}
+use Rattle.slots.specs.declared.Answer.the-variants.{Inserted, AlreadyThere, Deleted, NoSuchKey, NoRoom, Regraded}
+use Rattle.slots.specs.Heard.{numberOf}
+use Rattle.slots.specs.Parts.{isSecond, Stand, onPages}
+use Rattle.footing.specs.Granted.{Verdict, broken, goes, ends, isSafe, kept, byNeed, deletes, staysSecond, atLeaf, fromLeaf, byWayAtLeaf, comesDown, besides, atItsLeaf, granted}
 use Rattle.footing.specs.Fitting.{soundForStep, verdict}
 
--- a slot that goes on stands here, but for its want
-abbrev GoesTo : Stand → Verdict → Type 0
-GoesTo here broken = Unit {0}
-GoesTo here (goes z) = z ≡ wantsNext here (z .want)
-GoesTo here (ends answer writes) = Unit {0}
-
 -- an operation ends only if this test holds
-abbrev EndsIf : Bool → Verdict → Type 0
+abbrev pub EndsIf : Bool → Verdict → Type 0
 EndsIf test broken = Unit {0}
 EndsIf test (goes z) = Unit {0}
 EndsIf test (ends answer writes) = test ≡ true
 
-by-need-goes : (z : Stand) (whole : Verdict) (n : Need) → GoesTo z whole → GoesTo z (byNeed z whole n)
-by-need-goes z whole nothing h = h
-by-need-goes z whole (sibling s) h = refl
-by-need-goes z whole astray h = tt
+ends-if : {test : Bool} → test ≡ true → (v : Verdict) → EndsIf test v
+ends-if h broken = tt
+ends-if h (goes y) = tt
+ends-if h (ends a writes) = h
 
-deletes-goes : (k : ℕ) (memory : ℕ → Page) (x : ℕ) (z : Stand) (leaf : ℕ) (fathers : List ℕ) → GoesTo z (deletes k memory x z leaf fathers)
-unfolding deletes
-deletes-goes k memory x z leaf fathers = by-need-goes z _ (needs k memory x leaf fathers (z .beside)) tt
+comes-down-ends : (k : ℕ) (memory : ℕ → Page) (free : List ℕ) (z : Stand) → EndsIf (isLeaf (memory (z .want))) (comesDown k memory free z)
+unfolding comesDown
+comes-down-ends k memory free z =
+    let down : Stand = onPages z (kept k memory z) [] in
+    cond-ind (EndsIf (isLeaf (memory (z .want)))) (isLeaf (memory (z .want)))
+    (λ h. ends-if h (fromLeaf (byWayAtLeaf k memory free down) (reverse (down .path))))
+    (λ _. tt)
 
--- a Next whose leaf has no such key, and one on its second way
-crosses-goes : (x k : ℕ) (memory : ℕ → Page) (z : Stand) (path : List ℕ) → GoesTo z (crosses x k memory z path)
-crosses-goes x k memory z [] = tt
-crosses-goes x k memory z (top ∷ below) = cond-ind (GoesTo z) (isSafe (Next x) k (memory top)) (λ _. refl) (λ _. tt)
+-- it does not go by the second way, or does not begin again at this leaf
+abbrev pub stillBy : Op → ℕ → (ℕ → Page) → ℕ → Bool
+stillBy op k memory leaf = not (isSecond op) || staysSecond op k memory leaf
 
-by-nearest-goes : (z : Stand) (further : Verdict) (es : List Entry) → GoesTo z further → GoesTo z (byNearest further es)
-by-nearest-goes z further [] h = h
-by-nearest-goes z further (e ∷ es) h = tt
+still-by : (second stays : Bool) → second && not stays ≡ false → not second || stays ≡ true
+still-by true true e = refl
+still-by true false e = sym e
+still-by false stays e = refl
 
-left-goes : (memory : ℕ → Page) (z : Stand) → GoesTo (wantBeside z) (goesLeft memory z)
-unfolding goesLeft
-left-goes memory z = cond-ind (GoesTo (wantBeside z)) (isLeaf (memory (z .want))) (λ _. tt) (λ _. refl)
+way-ends : (k : ℕ) (memory : ℕ → Page) (free : List ℕ) (z : Stand) (leaf : ℕ) (fathers : List ℕ)
+    → EndsIf (stillBy (z .op) k memory leaf) (byWayAtLeaf k memory free z leaf fathers)
+way-ends k memory free z leaf fathers =
+    cond-ind (EndsIf (stillBy (z .op) k memory leaf)) (isSecond (z .op) && not (staysSecond (z .op) k memory leaf))
+    (λ _. tt)
+    (λ no. ends-if (still-by (isSecond (z .op)) (staysSecond (z .op) k memory leaf) no) (atLeaf (z .op) k memory free z leaf fathers))
 
-leaf-goes : (op : Op) (k : ℕ) (memory : ℕ → Page) (free : List ℕ) (z : Stand) (leaf : ℕ) (fathers : List ℕ)
-    → GoesTo z (atLeaf op k memory free z leaf fathers)
-unfolding atLeaf
-leaf-goes (Search x) k memory free z leaf fathers = tt
-leaf-goes (Insert x v) k memory free z leaf fathers =
-    cond-ind (GoesTo z) (has x (memory leaf .entries)) (λ _. tt)
-    (λ _. cond-ind (GoesTo z) (ltb (length free) (room k memory leaf (z .path))) (λ _. tt) (λ _. tt))
-leaf-goes (Delete x) k memory free z leaf fathers =
-    cond-ind (GoesTo z) (has x (memory leaf .entries)) (λ _. deletes-goes k memory x z leaf fathers) (λ _. tt)
-leaf-goes (Next x) k memory free z leaf fathers =
-    by-nearest-goes z (crosses x k memory z (z .path)) (atOrAbove x (memory leaf .entries)) (crosses-goes x k memory z (z .path))
-leaf-goes (Regrade x v) k memory free z leaf fathers = cond-ind (GoesTo z) (has x (memory leaf .entries)) (λ _. tt) (λ _. tt)
+comes-down-stays : (k : ℕ) (memory : ℕ → Page) (free : List ℕ) (z : Stand) → EndsIf (stillBy (z .op) k memory (z .want)) (comesDown k memory free z)
+unfolding comesDown
+comes-down-stays k memory free z =
+    let P : Verdict → Type 0 = EndsIf (stillBy (z .op) k memory (z .want)) in
+    let down : List ℕ → Stand = λ (path : List ℕ). onPages z path [] in
+    cond-ind P (isLeaf (memory (z .want)))
+    (λ _. cond-ind (λ (path : List ℕ). P (fromLeaf (byWayAtLeaf k memory free (onPages z path [])) (reverse path))) (isSafe (z .op) k (memory (z .want)))
+    (λ _. way-ends k memory free (down (z .want ∷ [])) (z .want) [])
+    (λ _. subst (λ (up : List ℕ). P (fromLeaf (byWayAtLeaf k memory free (down (z .path ++ z .want ∷ []))) up)) (sym (reverse-append (z .path) (z .want ∷ [])))
+    (way-ends k memory free (down (z .path ++ z .want ∷ [])) (z .want) (reverse (z .path)))))
+    (λ _. tt)
 
-from-leaf-goes : (z : Stand) (act : ℕ → List ℕ → Verdict) → ((leaf : ℕ) (fathers : List ℕ) → GoesTo z (act leaf fathers))
-    → (up : List ℕ) → GoesTo z (fromLeaf act up)
-from-leaf-goes z act h [] = tt
-from-leaf-goes z act h (leaf ∷ fathers) = h leaf fathers
+-- ---- room
 
-module _ (k : ℕ) (memory : ℕ → Page) (free : List ℕ) (z : Stand) where
-  besides-goes : GoesTo (wantBeside z) (besides k memory z)
-  unfolding besides
-  besides-goes =
-      cond-ind (GoesTo (wantBeside z)) (isNext (z .op))
-      (λ _. left-goes memory z)
-      (λ _. from-leaf-goes (wantBeside z) _ (λ leaf fathers. deletes-goes k memory (keyOf (z .op)) (wantBeside z) leaf fathers) (reverse (z .path)))
+-- an operation that ends for want of room does not go by the second way
+abbrev pub FirstLacks : Op → Verdict → Type 0
+FirstLacks op broken = Unit {0}
+FirstLacks op (goes z) = Unit {0}
+FirstLacks op (ends answer writes) = answer ≡ NoRoom → isSecond op ≡ false
 
-  -- where it stands on the page that it came down to
-  abbrev down : Stand
-  down = onPages z (kept k memory z) []
+first-lacks : (op : Op) → isSecond op ≡ false → (v : Verdict) → FirstLacks op v
+first-lacks op first broken = tt
+first-lacks op first (goes z) = tt
+first-lacks op first (ends a writes) = λ _. first
 
-  comes-down-goes : GoesTo down (comesDown k memory free z)
-  unfolding comesDown
-  comes-down-goes =
-      cond-ind (GoesTo down) (isLeaf (memory (z .want)))
-      (λ _. from-leaf-goes down _ (λ leaf fathers. leaf-goes (z .op) k memory free down leaf fathers) (reverse (down .path)))
-      (λ _. refl)
+-- every other answer is not NoRoom
+another : {A : Type 0} (a : Answer) → eqb (numberOf a) (numberOf NoRoom) ≡ false → a ≡ NoRoom → A
+another a other e = not-both (ap (λ (b : Answer). eqb (numberOf b) (numberOf NoRoom)) e) other
 
-  comes-down-ends : EndsIf (isLeaf (memory (z .want))) (comesDown k memory free z)
-  unfolding comesDown
-  comes-down-ends =
-      cond-ind (EndsIf (isLeaf (memory (z .want)))) (isLeaf (memory (z .want)))
-      (λ h. ends-if h (fromLeaf (λ (leaf : ℕ) (fathers : List ℕ). atLeaf (z .op) k memory free down leaf fathers) (reverse (down .path))))
-      (λ _. tt)
-    where
-      ends-if : {test : Bool} → test ≡ true → (v : Verdict) → EndsIf test v
-      ends-if h broken = tt
-      ends-if h (goes y) = tt
-      ends-if h (ends a writes) = h
+-- a leaf that is safe for an insertion needs no page
+safe-room : (k : ℕ) (memory : ℕ → Page) (leaf : ℕ) (held : List ℕ) (free : List ℕ) → ltb (μ (memory leaf)) (2 * k) ≡ true
+    → ltb (length free) (room k memory leaf held) ≡ true → ⊥
+unfolding room
+safe-room k memory leaf held free safe few =
+    let none = cond-true 0 (count (isFull k memory) held + cond (member 0 held && isFull k memory 0) 1 0) safe in
+    let less = ltb-true (length free) (room k memory leaf held) few in
+    omega (arith, subst (λ (m : ℕ). length free < m) none less)
+
+need-lacks : (op : Op) (z : Stand) (i : ℕ) (writes : List Write) (need : Need) → FirstLacks op (byNeed z (ends (Deleted i) writes) need)
+need-lacks op z i writes nothing = another (Deleted i) refl
+need-lacks op z i writes (sibling s) = tt
+need-lacks op z i writes astray = tt
+
+leaf-lacks : (op : Op) (k : ℕ) (memory : ℕ → Page) (free : List ℕ) (z : Stand) (leaf : ℕ) (fathers : List ℕ)
+    → isSecond op && not (staysSecond op k memory leaf) ≡ false → FirstLacks op (atLeaf op k memory free z leaf fathers)
+unfolding atLeaf deletes
+leaf-lacks (Search x) k memory free z leaf fathers still = λ _. refl
+leaf-lacks (Insert x v First) k memory free z leaf fathers still = first-lacks (Insert x v First) refl (atLeaf (Insert x v First) k memory free z leaf fathers)
+leaf-lacks (Insert x v Second) k memory free z leaf fathers still =
+    let there : Bool = has x (memory leaf .entries) in
+    let safe : Bool = ltb (μ (memory leaf)) (2 * k) in
+    let stays : there || safe ≡ true = and-second (not (eqb leaf 0)) (there || safe) (not-false (staysSecond (Insert x v Second) k memory leaf) still) in
+    cond-ind (FirstLacks (Insert x v Second)) there
+    (λ _. another (AlreadyThere (information x (memory leaf .entries))) refl)
+    (λ missing. cond-ind (FirstLacks (Insert x v Second)) (ltb (length free) (room k memory leaf (z .path)))
+    (λ few _. absurd (safe-room k memory leaf (z .path) free (⊎-elim (λ t. not-both t missing) (λ t. t) (or-cases there safe stays)) few))
+    (λ _. another Inserted refl))
+leaf-lacks (Delete x First) k memory free z leaf fathers still = first-lacks (Delete x First) refl (atLeaf (Delete x First) k memory free z leaf fathers)
+leaf-lacks (Delete x Second) k memory free z leaf fathers still =
+    cond-ind (FirstLacks (Delete x Second)) (has x (memory leaf .entries))
+    (λ _. need-lacks (Delete x Second) z (information x (memory leaf .entries)) (deletion k memory x leaf fathers (z .beside)) (needs k memory x leaf fathers (z .beside)))
+    (λ _. another NoSuchKey refl)
+leaf-lacks (Next x) k memory free z leaf fathers still = first-lacks (Next x) refl (atLeaf (Next x) k memory free z leaf fathers)
+leaf-lacks (Regrade x v First) k memory free z leaf fathers still = first-lacks (Regrade x v First) refl (atLeaf (Regrade x v First) k memory free z leaf fathers)
+leaf-lacks (Regrade x v Second) k memory free z leaf fathers still =
+    cond-ind (FirstLacks (Regrade x v Second)) (has x (memory leaf .entries))
+    (λ _. another (Regraded (information x (memory leaf .entries))) refl)
+    (λ _. another NoSuchKey refl)
+
+way-lacks : (k : ℕ) (memory : ℕ → Page) (free : List ℕ) (z : Stand) (leaf : ℕ) (fathers : List ℕ) → FirstLacks (z .op) (byWayAtLeaf k memory free z leaf fathers)
+way-lacks k memory free z leaf fathers =
+    cond-ind (FirstLacks (z .op)) (isSecond (z .op) && not (staysSecond (z .op) k memory leaf)) (λ _. tt) (λ still. leaf-lacks (z .op) k memory free z leaf fathers still)
+
+comes-down-lacks : (k : ℕ) (memory : ℕ → Page) (free : List ℕ) (z : Stand) → FirstLacks (z .op) (comesDown k memory free z)
+unfolding comesDown
+comes-down-lacks k memory free z =
+    let down : Stand = onPages z (kept k memory z) [] in
+    cond-ind (FirstLacks (z .op)) (isLeaf (memory (z .want))) (λ _. from-up (byWayAtLeaf k memory free down) (way-lacks k memory free down) (reverse (down .path))) (λ _. tt)
+  where
+    from-up : (act : ℕ → List ℕ → Verdict) → ((leaf : ℕ) (fathers : List ℕ) → FirstLacks (z .op) (act leaf fathers)) → (up : List ℕ) → FirstLacks (z .op) (fromLeaf act up)
+    from-up act h [] = tt
+    from-up act h (leaf ∷ fathers) = h leaf fathers
 
 -- What the step comes to in these words.
 module _ (k n : ℕ) (ws : List ℕ) (z : Stand) where
@@ -109,29 +153,11 @@ module _ (k n : ℕ) (ws : List ℕ) (z : Stand) where
   unfolding verdict
   by-verdict P b f = cond-ind P (soundForStep k n ws z) f (λ _. b)
 
-  -- standing at its leaf it is granted a page beside its path, above it the next page of its way
-  at-leaf-rule : atItsLeaf (pageAt k ws) (reverse (z .path)) ≡ true → granted k (pageAt k ws) (freePages k n ws) z ≡ besides k (pageAt k ws) z
-  unfolding granted
-  at-leaf-rule at = cond-true (besides k (pageAt k ws) z) (comesDown k (pageAt k ws) (freePages k n ws) z) at
-
+  -- above its leaf it is granted the next page of its way
   above-rule : atItsLeaf (pageAt k ws) (reverse (z .path)) ≡ false
       → granted k (pageAt k ws) (freePages k n ws) z ≡ comesDown k (pageAt k ws) (freePages k n ws) z
   unfolding granted
   above-rule at = cond-false (besides k (pageAt k ws) z) (comesDown k (pageAt k ws) (freePages k n ws) z) at
-
-  -- at its leaf, a slot that goes on holds one page more beside its path
-  pub beside-goes : atItsLeaf (pageAt k ws) (reverse (z .path)) ≡ true → (z′ : Stand) → verdict k n ws z ≡ goes z′
-      → z′ ≡ wantsNext (wantBeside z) (z′ .want)
-  beside-goes at z′ e =
-      let P : Verdict → Type 0 = GoesTo (wantBeside z) in
-      subst P e (by-verdict P tt (λ _. subst P (sym (at-leaf-rule at)) (besides-goes k (pageAt k ws) (freePages k n ws) z)))
-
-  -- above it, the wanted page and what it keeps of its path
-  pub coming-goes : atItsLeaf (pageAt k ws) (reverse (z .path)) ≡ false → (z′ : Stand) → verdict k n ws z ≡ goes z′
-      → z′ ≡ wantsNext (onPages z (kept k (pageAt k ws) z) []) (z′ .want)
-  coming-goes at z′ e =
-      let P : Verdict → Type 0 = GoesTo (onPages z (kept k (pageAt k ws) z) []) in
-      subst P e (by-verdict P tt (λ _. subst P (sym (above-rule at)) (comes-down-goes k (pageAt k ws) (freePages k n ws) z)))
 
   -- an operation that comes down ends only at a leaf
   pub coming-ends : atItsLeaf (pageAt k ws) (reverse (z .path)) ≡ false → (a : Answer) (writes : List Write)
@@ -139,3 +165,13 @@ module _ (k n : ℕ) (ws : List ℕ) (z : Stand) where
   coming-ends at a writes e =
       let P : Verdict → Type 0 = EndsIf (isLeaf (pageAt k ws (z .want))) in
       subst P e (by-verdict P tt (λ _. subst P (sym (above-rule at)) (comes-down-ends k (pageAt k ws) (freePages k n ws) z)))
+
+  -- and an update by the second way only where it does not begin again
+  pub coming-stays : atItsLeaf (pageAt k ws) (reverse (z .path)) ≡ false → EndsIf (stillBy (z .op) k (pageAt k ws) (z .want)) (verdict k n ws z)
+  coming-stays at =
+      let P : Verdict → Type 0 = EndsIf (stillBy (z .op) k (pageAt k ws) (z .want)) in
+      by-verdict P tt (λ _. subst P (sym (above-rule at)) (comes-down-stays k (pageAt k ws) (freePages k n ws) z))
+
+  -- nor does it end for want of room
+  pub coming-lacks : atItsLeaf (pageAt k ws) (reverse (z .path)) ≡ false → FirstLacks (z .op) (verdict k n ws z)
+  coming-lacks at = by-verdict (FirstLacks (z .op)) tt (λ _. subst (FirstLacks (z .op)) (sym (above-rule at)) (comes-down-lacks k (pageAt k ws) (freePages k n ws) z))

@@ -1,5 +1,5 @@
 -- "A plain sorted list, worked through one operation after another": what it answers to an operation, and the list afterwards.
--- It knows no pages. Its laws are in `proofs/PlainLaws.antt`.
+-- It knows no pages, and no ways: by whatever way an update goes down, it is asked for the same. Its laws are in `proofs/PlainLaws.antt`.
 use mathlib.Core.Bool.{cond}
 use mathlib.Core.List.{List}
 use Rattle.page.specs.Words.{Entry}
@@ -21,7 +21,7 @@ reply a es = record { answer = a; entries = es }
 
 unfoldable pub plain : Op → List Entry → Reply
 plain (Search x) es = reply (cond (has x es) (Found (information x es)) NotFound) es
-plain (Insert x v) es = cond (has x es) (reply (AlreadyThere (information x es)) es) (reply Inserted (inserted x v es))
-plain (Delete x) es = cond (has x es) (reply (Deleted (information x es)) (without x es)) (reply NoSuchKey es)
+plain (Insert x v way) es = cond (has x es) (reply (AlreadyThere (information x es)) es) (reply Inserted (inserted x v es))
+plain (Delete x way) es = cond (has x es) (reply (Deleted (information x es)) (without x es)) (reply NoSuchKey es)
 plain (Next x) es = reply (nextAnswer (atOrAbove x es)) es
-plain (Regrade x v) es = cond (has x es) (reply (Regraded (information x es)) (regraded x v es)) (reply NoSuchKey es)
+plain (Regrade x v way) es = cond (has x es) (reply (Regraded (information x es)) (regraded x v es)) (reply NoSuchKey es)

@@ -12,22 +12,28 @@ use Rattle.page.specs.Place.{place, pointer, has, atOrAbove}
 use Rattle.page.specs.Short.{neighbour}
 use Rattle.slots.specs.declared.Op.{Op}
 use Rattle.slots.specs.declared.Op.the-variants.{Search, Insert, Delete, Next, Regrade}
-use Rattle.slots.specs.Parts.{keyOf, isDelete, isNext, goesBeside, Stand}
-use Rattle.footing.specs.Granted.{isSafe}
+use Rattle.slots.specs.declared.Way.the-variants.{First, Second}
+use Rattle.slots.specs.Parts.{keyOf, isDelete, isNext, isSecond, firstWay, heldLock, goesBeside, Stand, freshStand}
+use Rattle.footing.specs.Granted.{isSafe, answeredAtOnce}
+use Rattle.footing.specs.Fitting.{lockDue}
 use Rattle.tree.specs.Tree.{Tr, entriesOf, way}
 
 -- When a page is safe for an operation: then all its ancestors are given up. "Search gives up the father." "Insertion: if the page
 -- has μ < 2k". "Deletion: the same with μ > k". Next: it is no leaf, and "still has a child to the right of the route".
--- Regrading: "every page is safe for it". The rule's test of it is `isSafe`, proved to be this.
+-- Regrading: "every page is safe for it". By the second way an update gives up the father as a search does. The rule's test of it is
+-- `isSafe`, proved to be this.
 abbrev pub Safe : Op → ℕ → Page → Type 0
 Safe (Search x) k P = Unit {0}
-Safe (Insert x v) k P = μ P < 2 * k
-Safe (Delete x) k P = k < μ P
+Safe (Insert x v First) k P = μ P < 2 * k
+Safe (Insert x v Second) k P = Unit {0}
+Safe (Delete x First) k P = k < μ P
+Safe (Delete x Second) k P = Unit {0}
 Safe (Next x) k P = (P .level ≢ 1) × (place x (P .entries) < μ P)
-Safe (Regrade x v) k P = Unit {0}
+Safe (Regrade x v First) k P = Unit {0}
+Safe (Regrade x v Second) k P = Unit {0}
 
 -- The pages of a path are those whose ancestors could not be given up: the top one is page 0 or safe for the operation, and
--- none below it is safe. (For a search and a regrading every page is safe: so they hold one.)
+-- none below it is safe. (For a search, a regrading and an update by the second way every page is safe: so they hold one.)
 pub record Rightly (op : Op) (k : ℕ) (memory : ℕ → Page) (path : List ℕ) : Type 0 where
   pub some : 1 ≤ length path
   pub top : (getD path 0 0 ≡ 0) ⊎ (isSafe op k (memory (getD path 0 0)) ≡ true)
@@ -83,11 +89,19 @@ pub record Crossing (k : ℕ) (memory : ℕ → Page) (l : ℕ) (t : Tr l) (z : 
   pub turns : getD (z .beside ++ z .want ∷ []) 0 0 ≡ neighbour (keyOf (z .op)) (memory (getD (z .path) 0 0))
   pub leftmost : (j : ℕ) → j < length (z .beside) → getD (z .beside ++ z .want ∷ []) (suc j) 0 ≡ pointer 0 (memory (getD (z .beside) j 0))
 
+-- The kind of lock with which it wants its next page: the kind under which its operation holds; by the second way "a ξ-lock wanted on the
+-- leaf": ξ exactly if the lowest page that it holds is on level 2.
+abbrev pub WantsWith : (ℕ → Page) → Stand → Type 0
+WantsWith memory z = z .lock ≡ lockDue (z .op) memory (reverse (z .path))
+
 -- An open slot stands in the tree as the rules would have it.
 abbrev pub Stance : ℕ → (ℕ → Page) → (l : ℕ) → Tr l → Stand → Type 0
 Stance k memory l t z = Starting z ⊎ (Coming k memory l t z ⊎ (WantsSibling k memory l t z ⊎ Crossing k memory l t z))
 
 -- ---- what a slot that stands at z and goes on holds afterwards, at z′
+
+-- In the first three cases it goes on with its operation (same), and holds the page that it takes under the kind of lock that it wanted it with
+-- (under).
 
 -- the lowest page of its path is a leaf
 abbrev pub StandsAtLeaf : (ℕ → Page) → List ℕ → Type 0
@@ -97,6 +111,8 @@ StandsAtLeaf memory path = (1 ≤ length path) × (memory (getD (reverse path) 0
 -- μ > k". Next keeps its locks "from the lowest page on its way that still has a child to the right". Regrading: "every page is safe
 -- for it". Coming down to a page that is safe for the operation, it holds that page alone.
 pub record GivesUp (k : ℕ) (memory : ℕ → Page) (z z′ : Stand) : Type 0 where
+  pub same : z′ .op ≡ z .op
+  pub under : z .lock ≡ heldLock (z .op)
   pub comesDown : StandsAtLeaf memory (z .path) → ⊥
   pub safe : isSafe (z .op) k (memory (z .want)) ≡ true
   pub noSiblings : z .beside ≡ []
@@ -105,6 +121,8 @@ pub record GivesUp (k : ℕ) (memory : ℕ → Page) (z z′ : Stand) : Type 0 w
 
 -- coming down to one that is not safe, it gives up nothing
 pub record Keeps (k : ℕ) (memory : ℕ → Page) (z z′ : Stand) : Type 0 where
+  pub same : z′ .op ≡ z .op
+  pub under : z .lock ≡ heldLock (z .op)
   pub comesDown : StandsAtLeaf memory (z .path) → ⊥
   pub unsafe : isSafe (z .op) k (memory (z .want)) ≡ false
   pub noSiblings : z .beside ≡ []
@@ -113,11 +131,23 @@ pub record Keeps (k : ℕ) (memory : ℕ → Page) (z z′ : Stand) : Type 0 whe
 
 -- a deletion at its leaf takes the sibling, and a Next the page of its second way, beside all that it holds
 pub record TakesBeside (memory : ℕ → Page) (z z′ : Stand) : Type 0 where
+  pub same : z′ .op ≡ z .op
+  pub under : z .lock ≡ heldLock (z .op)
   pub beside : goesBeside (z .op) ≡ true
   pub atLeaf : StandsAtLeaf memory (z .path)
   pub still : z′ .path ≡ z .path
   pub holds : z′ .beside ≡ z .beside ++ z .want ∷ []
 
--- one of the three; of the operation and the pages at most one can be
+-- 02 (v): "A key already there or missing is answered at once; a safe leaf is changed; otherwise all locks are given up and the operation
+-- begins again by the first way. If page 0 is a leaf, it begins again in any case." Then it holds nothing and wants page 0, as an operation
+-- of the first way that has just begun.
+pub record BeginsAgain (k : ℕ) (memory : ℕ → Page) (z z′ : Stand) : Type 0 where
+  pub second : isSecond (z .op) ≡ true
+  pub leaf : memory (z .want) .level ≡ 1
+  pub why : (z .want ≡ 0)
+      ⊎ ((answeredAtOnce (z .op) (memory (z .want) .entries) ≡ false) × (isSafe (firstWay (z .op)) k (memory (z .want)) ≡ false))
+  pub fresh : z′ ≡ freshStand (firstWay (z .op))
+
+-- one of the four; of the operation and the pages at most one can be
 abbrev pub Takes : ℕ → (ℕ → Page) → Stand → Stand → Type 0
-Takes k memory z z′ = GivesUp k memory z z′ ⊎ (Keeps k memory z z′ ⊎ TakesBeside memory z z′)
+Takes k memory z z′ = GivesUp k memory z z′ ⊎ (Keeps k memory z z′ ⊎ (TakesBeside memory z z′ ⊎ BeginsAgain k memory z z′))

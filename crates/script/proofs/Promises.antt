@@ -1,4 +1,4 @@
--- Demands 2 and 3 and 02 (iv) for the little program.
+-- Demands 2 and 3, 02 (iv) and (v) for the little program.
 use Prim.Native.Nat.{ℕ}
 use mathlib.Core.Bool.{true}
 use mathlib.Core.List.{List, []}
@@ -18,9 +18,11 @@ use Rattle.runs.specs.Run.{run, runFrom, Run}
 use Rattle.runs.proofs.Invariant.{Invariant}
 use Rattle.runs.proofs.Runs.{holds-after}
 use Rattle.runs.proofs.Agreement.{agreement}
+use Rattle.promises.proofs.Demand3.{run-before}
+use Rattle.promises.proofs.TopOpen.{top-open-holds}
 use Rattle.promises.proofs.Regrading.{regrading-holds}
 use Rattle.script.specs.Script.{commandsIn, callsBy, scriptCalls, scriptStart, scriptRun}
-use Rattle.script.specs.Promises.{quiet, NeverSaid, ScriptAgrees, ScriptKeepsLots}
+use Rattle.script.specs.Promises.{quiet, NeverSaid, ScriptAgrees, ScriptKeepsLots, ScriptTopOpen}
 use Rattle.script.proofs.Script.{program-is-run, script-in-words, script-runs}
 use Rattle.script.proofs.Heard.{isSpoken, script-hears, said-quiet}
 use Rattle.script.proofs.Reading.{answers-once, each-answered}
@@ -61,3 +63,7 @@ script-agrees input h = record {
 pub script-keeps-lots : ScriptKeepsLots
 script-keeps-lots input before between x e =
     regrading-holds scriptStart before between x (subst (Run scriptStart) e (script-runs input))
+
+pub script-top-open : ScriptTopOpen
+script-top-open input before rest e =
+    top-open-holds scriptStart before (run-before scriptStart (scriptCalls input) before rest e (script-runs input))

@@ -56,10 +56,10 @@ number-word h = omega (arith, h)
 good-in-words : (line : List ℕ) {c : Command} (rest : List Command) → Good line c → InWords (callsBy rest) → InWords (callsBy (c ∷ rest))
 unfolding callsBy
 good-in-words line rest (toSearch ss ks hs hk e) h = ((number-word (hk .small), number-word {n = 0} (omega arith)), h)
-good-in-words line rest (toInsert ss ks is hs hk hi e) h = ((number-word (hk .small), number-word (hi .small)), h)
-good-in-words line rest (toDelete ss ks hs hk e) h = ((number-word (hk .small), number-word {n = 0} (omega arith)), h)
+good-in-words line rest (toInsert way ss ks is hs hk hi e) h = ((number-word (hk .small), number-word (hi .small)), h)
+good-in-words line rest (toDelete way ss ks hs hk e) h = ((number-word (hk .small), number-word {n = 0} (omega arith)), h)
 good-in-words line rest (toNext ss ks hs hk e) h = ((number-word (hk .small), number-word {n = 0} (omega arith)), h)
-good-in-words line rest (toRegrade ss ks is hs hk hi e) h = ((number-word (hk .small), number-word (hi .small)), h)
+good-in-words line rest (toRegrade way ss ks is hs hk hi e) h = ((number-word (hk .small), number-word (hi .small)), h)
 good-in-words line rest (toStep ss hs e) h = (tt, h)
 
 -- keys and informations of good lines are words

@@ -1,4 +1,4 @@
--- What demands 2 and 3 come to for the little program: of the bytes that it reads and writes. And 02 (iv), of the calls of its lines.
+-- What demands 2 and 3 come to for the little program: of the bytes that it reads and writes. And 02 (iv) and (v), of the calls of its lines.
 use Prim.Native.Nat.{ℕ, _≤_}
 use mathlib.Core.Bool.{Bool, true, not, _||_}
 use mathlib.Core.List.{List, [], _++_, flatten}
@@ -9,8 +9,9 @@ use Rattle.slots.specs.declared.Answer.{Answer}
 use Rattle.lines.specs.Text.{bytes, startsWith}
 use Rattle.talk.specs.Split.{Line, ended, unended, linesOf}
 use Rattle.talk.specs.Talk.{mostBytes, programWrites}
-use Rattle.runs.specs.Run.{Call}
+use Rattle.runs.specs.Run.{Call, runFrom}
 use Rattle.runs.specs.Done.{Done, nobody, done, plainAnswers, opsOf, answersIn}
+use Rattle.promises.specs.TopOpen.{TopOpen}
 use Rattle.promises.specs.Regrading.{LotStays}
 use Rattle.script.specs.Script.{saidBy, scriptCalls, scriptStart}
 
@@ -59,3 +60,10 @@ abbrev pub ScriptKeepsLots : Type 0
 ScriptKeepsLots =
     (input : List ℕ) (before between : List Call) (x : ℕ) → scriptCalls input ≡ before ++ between
     → LotStays scriptStart before between x
+
+-- ---- 02 (v): after any of these calls, nobody waits for page 0 or an upper page but for an update by the first way.
+
+abbrev pub ScriptTopOpen : Type 0
+ScriptTopOpen =
+    (input : List ℕ) (before rest : List Call) → scriptCalls input ≡ before ++ rest
+    → TopOpen (runFrom scriptStart before .state) (runFrom scriptStart before .words)

@@ -22,7 +22,7 @@ use Rattle.slots.specs.Locks.{lockHeld, lockHeldAt, lockWantedAt, clash}
 use Rattle.slots.specs.Sound.{withinLimits}
 use Rattle.slots.specs.Grant.{noClash, noOlder, grants}
 use Rattle.slots.proofs.SoundFacts.{SoundSlot, SoundState}
-use Rattle.slots.proofs.LockLaws.{clash-swap, kept-lock, taken-lock, others-go}
+use Rattle.slots.proofs.LockLaws.{clash-swap, others-go}
 
 -- No other slot holds the wanted page of a granted slot with a clashing lock.
 pub granted-no-clash : (st : State) (s : ℕ) → grants st s ≡ true → (t : ℕ) → t < slotCount → t ≢ s → holdsAt st t (wantAt st s) ≡ true → clash (lockHeldAt st t (wantAt st s)) (lockWantedAt st s) ≡ false
@@ -43,15 +43,19 @@ pub holder-open : (n : ℕ) (s : Slot) (p : ℕ) → SoundSlot n s → member p 
 unfolding pathOf besideOf
 holder-open n s p f m = holder-task (s .task) (s .depth) (s .breadth) p (s .path) (s .beside) (f .limits) m
 
--- A granted slot that goes on with its operation and holds from now on a page that it held or wanted clashes with no other slot that
--- holds it: what `goes-on-sound` asks.
-pub taking-fits : (st : State) → SoundState st → (s : ℕ) → s < slotCount → grants st s ≡ true → (slot : Slot) → slot .task ≡ slotAt st s .task
-    → (p : ℕ) → (holdsAt st s p ≡ true) ⊎ (p ≡ wantAt st s)
+-- A granted slot that holds from now on a page that it held, under the same kind, or the one that it wanted, under the kind that it wanted,
+-- clashes with no other slot that holds it: what `goes-on-sound` asks.
+abbrev pub Takable : State → ℕ → Slot → ℕ → Type 0
+Takable st s slot p =
+    ((holdsAt st s p ≡ true) × (lockHeld slot p ≡ lockHeldAt st s p)) ⊎ ((p ≡ wantAt st s) × (lockHeld slot p ≡ lockWantedAt st s))
+
+pub taking-fits : (st : State) → SoundState st → (s : ℕ) → s < slotCount → grants st s ≡ true → (slot : Slot)
+    → (p : ℕ) → Takable st s slot p
     → (t : ℕ) → t < slotCount → t ≢ s → holdsAt st t p ≡ true → clash (lockHeld slot p) (lockHeldAt st t p) ≡ false
-taking-fits st f s b g slot same p (inl h) t c n m =
-    ap (λ (lock : Lock). clash lock (lockHeldAt st t p)) (kept-lock slot (slotAt st s) same p) ∙ f .locks s t b c (λ e. n (sym e)) p h m
-taking-fits st f s b g slot same p (inr e) t c n m =
-    ap (λ (lock : Lock). clash lock (lockHeldAt st t p)) (taken-lock slot (slotAt st s) same p)
+taking-fits st f s b g slot p (inl (h, same)) t c n m =
+    ap (λ (lock : Lock). clash lock (lockHeldAt st t p)) same ∙ f .locks s t b c (λ e. n (sym e)) p h m
+taking-fits st f s b g slot p (inr (e, same)) t c n m =
+    ap (λ (lock : Lock). clash lock (lockHeldAt st t p)) same
     ∙ clash-swap (lockWantedAt st s) (lockHeldAt st t p)
     ∙ subst (λ (q : ℕ). clash (lockHeldAt st t q) (lockWantedAt st s) ≡ false) (sym e)
     (granted-no-clash st s g t c n (subst (λ (q : ℕ). holdsAt st t q ≡ true) e m))

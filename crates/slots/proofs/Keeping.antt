@@ -8,21 +8,22 @@ use mathlib.Core.List.{List, [], _∷_, _++_}
 use native.Mathlib.Omega.{arith}
 use lib.ListN.{length, getD, take, drop, set, replicate, length-set, length-append, length-drop, length-replicate}
 use lib.Seq.{getD-set-same, getD-set-other, take-append-seam}
-use Rattle.ground.specs.Limits.{largestK, largestN, slotCount, searchHolds, regradeHolds, pathHolds, siblingHolds}
+use Rattle.ground.specs.Limits.{largestK, largestN, slotCount, searchHolds, regradeHolds, secondHolds, pathHolds, siblingHolds}
 use Rattle.ground.specs.Tests.{member, distinct, padded}
 use Rattle.ground.proofs.Bools.{false-if-not-true, not-both, and-both}
 use Rattle.ground.proofs.Tests.{member-none, member-one, member-append, member-inside, member-last, distinct-none, distinct-snoc}
 use Rattle.slots.specs.declared.Op.{Op}
 use Rattle.slots.specs.declared.Op.the-variants.{Search, Insert, Delete, Next, Regrade}
+use Rattle.slots.specs.declared.Way.the-variants.{First, Second}
 use Rattle.slots.specs.declared.Task.the-variants.{Open}
 use Rattle.slots.specs.declared.Slot.{Slot}
 use Rattle.slots.specs.declared.State.{State}
-use Rattle.slots.specs.Parts.{isOpen, held, pathOf, besideOf, Stand, stand, holding, onPages, standOf, slotOf, slotAt, openAt, holdsAt, waitingOrder, openSlot, closedSlot, idleState}
-use Rattle.slots.specs.Locks.{lockHeld, lockHeldAt, clash}
+use Rattle.slots.specs.Parts.{isOpen, held, pathOf, besideOf, Stand, holding, onPages, freshStand, standOf, slotOf, slotAt, openAt, holdsAt, waitingOrder, closedSlot, idleState}
+use Rattle.slots.specs.Locks.{lockHeld, lockHeldAt, canWant, clash}
 use Rattle.slots.specs.Sound.{withinLimits}
 use Rattle.slots.specs.Book.{rewritten, leaving, begins, goesOn, closes}
 use Rattle.slots.proofs.SoundFacts.{SoundSlot, SoundState}
-use Rattle.slots.proofs.LockLaws.{clash-swap}
+use Rattle.slots.proofs.LockLaws.{clash-swap, can-want-held}
 use Rattle.slots.proofs.OrderLaws.{same-or-not, length-waiting, length-leaving, member-leaving, leaving-gone, distinct-leaving, leaving-was, order-has-room, waiting-begins, waiting-requeued, waiting-closes}
 
 -- the arrays have the lengths of their types
@@ -120,15 +121,18 @@ unfolding pathOf besideOf padded
 closed-holds-nothing = refl
 
 closed-sound : (n : ℕ) → SoundSlot n closedSlot
-closed-sound n = record { limits = refl; below = λ o. not-both o refl; different = λ o. not-both o refl }
+closed-sound n = record { limits = refl; below = λ o. not-both o refl; different = λ o. not-both o refl; rightly = refl }
 
 begun-limits : (op : Op) → withinLimits (Open op) 0 0 ≡ true
-unfolding searchHolds regradeHolds pathHolds siblingHolds
+unfolding searchHolds regradeHolds secondHolds pathHolds siblingHolds
 begun-limits (Search x) = refl
-begun-limits (Insert x v) = refl
-begun-limits (Delete x) = refl
+begun-limits (Insert x v First) = refl
+begun-limits (Insert x v Second) = refl
+begun-limits (Delete x First) = refl
+begun-limits (Delete x Second) = refl
 begun-limits (Next x) = refl
-begun-limits (Regrade x v) = refl
+begun-limits (Regrade x v First) = refl
+begun-limits (Regrade x v Second) = refl
 
 -- another number behind a list
 member-before : (t s : ℕ) (xs : List ℕ) → t ≢ s → member t (xs ++ s ∷ []) ≡ member t xs
@@ -137,14 +141,15 @@ member-before t s xs n =
     ∙ ap (λ (h : Bool). member t xs || h) (false-if-not-true (member t (s ∷ [])) (λ h. n (member-one t s h)))
     ∙ or-false (member t xs)
 
-begun-sound : (n : ℕ) (op : Op) → 1 ≤ n → SoundSlot n (openSlot op 0 [] [])
+begun-sound : (n : ℕ) (op : Op) → 1 ≤ n → SoundSlot n (slotOf (freshStand op))
 unfolding distinct member
 begun-sound n op h =
-    let holds : held (openSlot op 0 [] []) ≡ [] = held-new (stand op [] [] 0) in
+    let holds : held (slotOf (freshStand op)) ≡ [] = held-new (freshStand op) in
     record {
       limits = begun-limits op;
       below = λ _ p m. subst (λ (q : ℕ). q < n) (sym (member-one p 0 (subst (λ (l : List ℕ). member p (0 ∷ l) ≡ true) holds m))) h;
       different = λ _. subst (λ (l : List ℕ). distinct (0 ∷ l) ≡ true) (sym holds) refl;
+      rightly = can-want-held op;
     }
 
 -- ---- the three ways a slot changes
@@ -154,7 +159,7 @@ module _ (st : State) (shaped : Shaped st) (f : SoundState st) (s : ℕ) (b : s 
   order-long = subst (λ (m : ℕ). st .waiting ≤ m) (sym (shaped .order)) (f .waits)
 
   -- Beginning in a closed slot keeps a sound state sound, with the new want last.
-  begins-fits : (op : Op) → openAt st s ≡ false → Fits st s (openSlot op 0 [] []) (waitingOrder st ++ s ∷ []) (st .waiting + 1)
+  begins-fits : (op : Op) → openAt st s ≡ false → Fits st s (slotOf (freshStand op)) (waitingOrder st ++ s ∷ []) (st .waiting + 1)
   begins-fits op closed =
       let room : st .waiting < slotCount = order-has-room st (shaped .order) f s b closed in
       let absent : member s (waitingOrder st) ≡ false = false-if-not-true (member s (waitingOrder st)) (λ m. not-both (f .orderOpen s m) closed) in
@@ -165,15 +170,15 @@ module _ (st : State) (shaped : Shaped st) (f : SoundState st) (s : ℕ) (b : s 
         others = λ t n. member-before t s (waitingOrder st) n;
         itself = member-inside s (waitingOrder st) [];
         sound = begun-sound (st .n) op (f .nLeast);
-        locks = λ t c n p m _. holds-none (openSlot op 0 [] []) (held-new (stand op [] [] 0)) p m;
+        locks = λ t c n p m _. holds-none (slotOf (freshStand op)) (held-new (freshStand op)) p m;
       }
 
   pub begins-sound : (op : Op) → openAt st s ≡ false → SoundState (begins st s op)
   unfolding begins
   begins-sound op closed =
       let room : st .waiting < length (st .order) = subst (λ (m : ℕ). st .waiting < m) (sym (shaped .order)) (order-has-room st (shaped .order) f s b closed) in
-      keeps-sound st shaped f s b (openSlot op 0 [] []) (set (st .order) (st .waiting) s) (st .waiting + 1)
-      (subst (λ (l : List ℕ). Fits st s (openSlot op 0 [] []) l (st .waiting + 1)) (sym (waiting-begins st s op room)) (begins-fits op closed))
+      keeps-sound st shaped f s b (slotOf (freshStand op)) (set (st .order) (st .waiting) s) (st .waiting + 1)
+      (subst (λ (l : List ℕ). Fits st s (slotOf (freshStand op)) l (st .waiting + 1)) (sym (waiting-begins st s op room)) (begins-fits op closed))
 
   -- Closing keeps a sound state sound: the slot leaves the order.
   closes-fits : openAt st s ≡ true → Fits st s closedSlot (leaving s (waitingOrder st)) (st .waiting - 1)
@@ -216,17 +221,19 @@ module _ (st : State) (shaped : Shaped st) (f : SoundState st) (s : ℕ) (b : s 
       → withinLimits (Open (z .op)) (length (z .path)) (length (z .beside)) ≡ true
       → ((p : ℕ) → member p (z .want ∷ holding z) ≡ true → p < st .n)
       → distinct (z .want ∷ holding z) ≡ true
+      → canWant (z .op) (z .lock) ≡ true
       → ((t : ℕ) → t < slotCount → t ≢ s → (p : ℕ) → member p (holding z) ≡ true → holdsAt st t p ≡ true
       → clash (lockHeld (slotOf z) p) (lockHeldAt st t p) ≡ false)
       → SoundState (goesOn st s z)
   unfolding goesOn
-  goes-on-sound z opened limits below different locks =
+  goes-on-sound z opened limits below different rightly locks =
       let slot = slotOf z in
       let holds : holding z ≡ held slot = sym (held-new z) in
       let g : SoundSlot (st .n) slot = record {
         limits = limits;
         below = λ _ p m. below p (subst (λ (l : List ℕ). member p (z .want ∷ l) ≡ true) (sym holds) m);
         different = λ _. subst (λ (l : List ℕ). distinct (z .want ∷ l) ≡ true) holds different;
+        rightly = rightly;
       } in
       keeps-sound st shaped f s b slot (leaving s (waitingOrder st) ++ s ∷ drop (st .waiting) (st .order)) (st .waiting)
       (subst (λ (l : List ℕ). Fits st s slot l (st .waiting)) (sym (waiting-requeued st s order-long (f .orderNames s b opened) slot))
@@ -236,7 +243,7 @@ module _ (st : State) (shaped : Shaped st) (f : SoundState st) (s : ℕ) (b : s 
   pub begins-shaped : (op : Op) → Shaped (begins st s op)
   unfolding begins
   begins-shaped op = record {
-    slots = length-set (st .slots) s (openSlot op 0 [] []) ∙ shaped .slots;
+    slots = length-set (st .slots) s (slotOf (freshStand op)) ∙ shaped .slots;
     order = length-set (st .order) (st .waiting) s ∙ shaped .order;
   }
 

@@ -15,7 +15,7 @@ use Rattle.slots.specs.declared.Slot.{Slot}
 use Rattle.slots.specs.declared.State.{State}
 use Rattle.slots.specs.Parts.{isOpen, held, slotAt, openAt, holdsAt, waitingOrder, idleState}
 use Rattle.slots.specs.Locks.{lockHeldAt, clash, noClashOn}
-use Rattle.slots.specs.Sound.{namesEach, orderSound, withinLimits, belowAndOnce, ifOpen, slotSound, noClashingHolds, sound}
+use Rattle.slots.specs.Sound.{namesEach, orderSound, withinLimits, belowAndOnce, ifOpen, wantsRightly, slotSound, noClashingHolds, sound}
 use Rattle.slots.proofs.LockLaws.{others-go, others-go-from}
 
 -- one slot, in a pool of n pages
@@ -25,6 +25,8 @@ pub record SoundSlot (n : ℕ) (s : Slot) : Type 0 where
   pub below : isOpen (s .task) ≡ true → (p : ℕ) → member p (s .want ∷ held s) ≡ true → p < n
   -- "no slot holds a page twice or wants one it holds"
   pub different : isOpen (s .task) ≡ true → distinct (s .want ∷ held s) ≡ true
+  -- its want is for a kind of lock that its operation can want
+  pub rightly : wantsRightly (s .task) (s .lock) ≡ true
 
 pub record SoundState (st : State) : Type 0 where
   pub kLeast : 1 ≤ st .k
@@ -55,19 +57,25 @@ unfolding slotSound
 sound-slot n s h =
     let within = withinLimits (s .task) (s .depth) (s .breadth) in
     let names = all (λ (p : ℕ). ltb p n) (s .want ∷ held s) in
-    let pages : isOpen (s .task) ≡ true → belowAndOnce n s ≡ true = if-open (s .task) (belowAndOnce n s) (and-second within (ifOpen (s .task) (belowAndOnce n s)) h) in
+    let opened = ifOpen (s .task) (belowAndOnce n s) in
+    let wants = wantsRightly (s .task) (s .lock) in
+    let both = and-first (within && opened) wants h in
+    let pages : isOpen (s .task) ≡ true → belowAndOnce n s ≡ true = if-open (s .task) (belowAndOnce n s) (and-second within opened both) in
     record {
-      limits = and-first within (ifOpen (s .task) (belowAndOnce n s)) h;
+      limits = and-first within opened both;
       below = λ o p m. ltb-true p n (all-member (λ (q : ℕ). ltb q n) (s .want ∷ held s) (and-first names (distinct (s .want ∷ held s)) (pages o)) p m);
       different = λ o. and-second names (distinct (s .want ∷ held s)) (pages o);
+      rightly = and-second (within && opened) wants h;
     }
 
 pub slot-sound : (n : ℕ) (s : Slot) → SoundSlot n s → slotSound n s ≡ true
 unfolding slotSound
 slot-sound n s h =
-    and-both (h .limits)
+    and-both
+    (and-both (h .limits)
     (if-open-from (s .task) (belowAndOnce n s)
-    (λ o. and-both (all-from-members (λ (q : ℕ). ltb q n) (s .want ∷ held s) (λ p m. lt-ltb p n (h .below o p m))) (h .different o)))
+    (λ o. and-both (all-from-members (λ (q : ℕ). ltb q n) (s .want ∷ held s) (λ p m. lt-ltb p n (h .below o p m))) (h .different o))))
+    (h .rightly)
 
 -- the test of k and N, and those that go through the slots, by name
 abbrev numbersTest : State → Bool

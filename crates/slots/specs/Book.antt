@@ -9,7 +9,7 @@ use lib.ListN.{drop, set}
 use Rattle.slots.specs.declared.Op.{Op}
 use Rattle.slots.specs.declared.Slot.{Slot}
 use Rattle.slots.specs.declared.State.{State}
-use Rattle.slots.specs.Parts.{Stand, slotOf, openSlot, closedSlot, waitingOrder}
+use Rattle.slots.specs.Parts.{Stand, freshStand, slotOf, closedSlot, waitingOrder}
 
 -- the state with slot s and the waiting order written anew
 abbrev pub rewritten : State → ℕ → Slot → List ℕ → ℕ → State
@@ -22,7 +22,7 @@ leaving s (t ∷ ts) = cond (eqb t s) ts (t ∷ leaving s ts)
 
 -- "Beginning an operation makes the slot want page 0."
 unfoldable pub begins : State → ℕ → Op → State
-begins st s op = rewritten st s (openSlot op 0 [] []) (set (st .order) (st .waiting) s) (st .waiting + 1)
+begins st s op = rewritten st s (slotOf (freshStand op)) (set (st .order) (st .waiting) s) (st .waiting + 1)
 
 -- "A new want goes to the end of the waiting order."
 abbrev pub requeued : State → ℕ → Slot → State

@@ -4,31 +4,35 @@ use mathlib.Core.Bool.{Bool, true, false, not, _&&_, _||_}
 use lib.Dec.{eqb}
 use Rattle.ground.specs.Limits.{slotCount}
 use Rattle.ground.specs.Tests.{allBelow}
-use Rattle.slots.specs.declared.Op.the-variants.{Search, Insert, Delete, Next, Regrade}
+use Rattle.slots.specs.declared.Op.{Op}
 use Rattle.slots.specs.declared.Task.{Task}
 use Rattle.slots.specs.declared.Task.the-variants.{Closed, Open}
 use Rattle.slots.specs.declared.Lock.{Lock}
 use Rattle.slots.specs.declared.Lock.the-variants.{None, Rho, Xi}
 use Rattle.slots.specs.declared.Slot.{Slot}
 use Rattle.slots.specs.declared.State.{State}
+use Rattle.slots.specs.Operations.{heldLock, isSecond}
+use Rattle.slots.specs.Heard.{lockNumber}
 use Rattle.slots.specs.Parts.{slotAt, holdsAt}
 
--- "Searches use ρ-locks, insertions and deletions ξ-locks." Next: "It uses ρ-locks".
--- Regrading: "It takes ξ-locks".
+-- the kind under which a task holds its pages, by the table of operations
 abbrev pub lockOf : Task → Lock
 lockOf Closed = None
-lockOf (Open (Search x)) = Rho
-lockOf (Open (Insert x v)) = Xi
-lockOf (Open (Delete x)) = Xi
-lockOf (Open (Next x)) = Rho
-lockOf (Open (Regrade x v)) = Xi
+lockOf (Open op) = heldLock op
 
 -- the kind under which a slot holds page p, and the kind that it wants. Whatever asks for a lock asks one of these two.
 abbrev pub lockHeld : Slot → ℕ → Lock
 lockHeld s p = lockOf (s .task)
 
 abbrev pub lockWanted : Slot → Lock
-lockWanted s = lockOf (s .task)
+lockWanted s = s .lock
+
+abbrev pub sameLock : Lock → Lock → Bool
+sameLock a b = eqb (lockNumber a) (lockNumber b)
+
+-- the kinds that an operation can want at all: the one under which it holds, and by the second way "a ξ-lock wanted on the leaf"
+abbrev pub canWant : Op → Lock → Bool
+canWant op lock = sameLock lock (heldLock op) || (isSecond op && sameLock lock Xi)
 
 -- the same of slot t of a state
 abbrev pub lockHeldAt : State → ℕ → ℕ → Lock

@@ -1,9 +1,13 @@
 -- What is listed by operation, in one table. A new operation is a row of `rowOf` and a place in `operations`.
--- (Its lock stands in Locks, and how many pages it may hold in Sound.)
+-- (How many pages it may hold stands in Sound.)
 use Prim.Native.Nat.{ℕ}
 use mathlib.Core.Bool.{Bool, true, false, cond}
 use mathlib.Core.List.{List, [], _∷_}
 use lib.Dec.{eqb}
+use Rattle.slots.specs.declared.Way.{Way}
+use Rattle.slots.specs.declared.Way.the-variants.{First, Second}
+use Rattle.slots.specs.declared.Lock.{Lock}
+use Rattle.slots.specs.declared.Lock.the-variants.{Rho, Xi}
 use Rattle.slots.specs.declared.Op.{Op}
 use Rattle.slots.specs.declared.Op.the-variants.{Search, Insert, Delete, Next, Regrade}
 use Rattle.slots.specs.declared.operations.Asked.{Asked}
@@ -19,24 +23,42 @@ pub record Row : Type 0 where
   pub reads : Bool
   -- it may hold pages beside its path: a deletion's siblings, the second way of a Next. The others go straight down.
   pub beside : Bool
+  -- the kind of lock under which it holds its pages
+  pub lock : Lock
 
-abbrev pub row : ℕ → ℕ → ℕ → Bool → Bool → Row
-row kind key information reads beside = record { kind = kind; key = key; information = information; reads = reads; beside = beside }
+abbrev pub row : ℕ → ℕ → ℕ → Bool → Bool → Lock → Row
+row kind key information reads beside lock = record { kind = kind; key = key; information = information; reads = reads; beside = beside; lock = lock }
 
--- kind, key, information, reads, beside
+-- what goes by the way of an update
+abbrev pub byWay : {A : Type 0} → Way → A → A → A
+byWay First first second = first
+byWay Second first second = second
+
+-- kind, key, information, reads, beside, lock.
+-- "Searches use ρ-locks, insertions and deletions ξ-locks." Next: "It uses ρ-locks". Regrading: "It takes ξ-locks". 02 (v), the second way:
+-- "ρ-locks down, a ξ-lock wanted on the leaf". There a deletion takes no siblings.
 abbrev pub rowOf : Op → Row
-rowOf (Search x) = row 1 x 0 true false
-rowOf (Insert x v) = row 2 x v false false
-rowOf (Delete x) = row 3 x 0 false true
-rowOf (Next x) = row 4 x 0 true true
-rowOf (Regrade x v) = row 5 x v false false
+rowOf (Search x) = row 1 x 0 true false Rho
+rowOf (Insert x v way) = row (byWay way 2 6) x v false false (byWay way Xi Rho)
+rowOf (Delete x way) = row (byWay way 3 7) x 0 false (byWay way true false) (byWay way Xi Rho)
+rowOf (Next x) = row 4 x 0 true true Rho
+rowOf (Regrade x v way) = row (byWay way 5 8) x v false false (byWay way Xi Rho)
 
 -- all operations with this key and information, in the order of their kinds
 abbrev pub operations : ℕ → ℕ → List Op
-operations key information = Search key ∷ Insert key information ∷ Delete key ∷ Next key ∷ Regrade key information ∷ []
+operations key information =
+    Search key
+    ∷ Insert key information First
+    ∷ Delete key First
+    ∷ Next key
+    ∷ Regrade key information First
+    ∷ Insert key information Second
+    ∷ Delete key Second
+    ∷ Regrade key information Second
+    ∷ []
 
 abbrev pub highestKind : ℕ
-highestKind = 5
+highestKind = 8
 
 -- ---- the columns
 
@@ -58,11 +80,34 @@ onlyReads op = rowOf op .reads
 abbrev pub goesBeside : Op → Bool
 goesBeside op = rowOf op .beside
 
+-- the kind of lock under which an operation holds its pages
+abbrev pub heldLock : Op → Lock
+heldLock op = rowOf op .lock
+
+-- a deletion by the first way: it alone takes siblings
 abbrev pub isDelete : Op → Bool
-isDelete op = eqb (kindNumber op) (kindNumber (Delete 0))
+isDelete op = eqb (kindNumber op) (kindNumber (Delete 0 First))
 
 abbrev pub isNext : Op → Bool
 isNext op = eqb (kindNumber op) (kindNumber (Next 0))
+
+-- ---- ways
+
+-- it goes down by the second way
+abbrev pub isSecond : Op → Bool
+isSecond (Search x) = false
+isSecond (Insert x v way) = byWay way false true
+isSecond (Delete x way) = byWay way false true
+isSecond (Next x) = false
+isSecond (Regrade x v way) = byWay way false true
+
+-- the same operation by the first way
+abbrev pub firstWay : Op → Op
+firstWay (Search x) = Search x
+firstWay (Insert x v way) = Insert x v First
+firstWay (Delete x way) = Delete x First
+firstWay (Next x) = Next x
+firstWay (Regrade x v way) = Regrade x v First
 
 -- ---- an operation as numbers
 

@@ -6,25 +6,27 @@ use mathlib.Core.Path.{_≡_}
 use lib.ListN.{length, getD, take, replicate}
 use Rattle.ground.specs.Limits.{pathHolds, slotCount}
 use Rattle.ground.specs.Tests.{member, padded}
+use Rattle.slots.specs.declared.Lock.{Lock}
+use Rattle.slots.specs.declared.Lock.the-variants.{None}
 use Rattle.slots.specs.declared.Op.{Op}
 use Rattle.slots.specs.declared.Task.{Task}
 use Rattle.slots.specs.declared.Task.the-variants.{Closed, Open}
 use Rattle.slots.specs.declared.Slot.{Slot}
 use Rattle.slots.specs.declared.State.{State}
-pub use Rattle.slots.specs.Operations.{keyOf, onlyReads, isDelete, isNext, goesBeside}
+pub use Rattle.slots.specs.Operations.{keyOf, onlyReads, isDelete, isNext, goesBeside, heldLock, isSecond, firstWay}
 
 abbrev pub isOpen : Task → Bool
 isOpen Closed = false
 isOpen (Open op) = true
 
 -- "An open slot holds pages and wants exactly one more."
--- A slot of this operation, want, path and pages beside it; cells behind a length are 0.
-abbrev pub openSlot : Op → ℕ → List ℕ → List ℕ → Slot
-openSlot op want path beside = record { task = Open op; want = want; path = padded pathHolds path; depth = length path; beside = padded pathHolds beside; breadth = length beside }
+-- A slot of this operation, want, lock wanted, path and pages beside it; cells behind a length are 0.
+abbrev pub openSlot : Op → ℕ → Lock → List ℕ → List ℕ → Slot
+openSlot op want lock path beside = record { task = Open op; want = want; lock = lock; path = padded pathHolds path; depth = length path; beside = padded pathHolds beside; breadth = length beside }
 
 -- "a closed slot holds nothing"; its cells are 0
 abbrev pub closedSlot : Slot
-closedSlot = record { task = Closed; want = 0; path = padded pathHolds []; depth = 0; beside = padded pathHolds []; breadth = 0 }
+closedSlot = record { task = Closed; want = 0; lock = None; path = padded pathHolds []; depth = 0; beside = padded pathHolds []; breadth = 0 }
 
 -- the pages of a slot's path, from the top downward, those beside it, and all that it holds. Beside the path stand a deletion's
 -- siblings, from the leaf's upward, or the second way of a Next, from the top downward.
@@ -37,41 +39,47 @@ besideOf s = take (s .breadth) (s .beside)
 abbrev pub held : Slot → List ℕ
 held s = pathOf s ++ besideOf s
 
--- Where an open slot stands: its operation, the pages of its path, those beside it, and the page that it wants.
+-- Where an open slot stands: its operation, the pages of its path, those beside it, the page that it wants, and the kind of lock that it
+-- wants it with.
 pub record Stand : Type 0 where
   pub op : Op
   pub path : List ℕ
   pub beside : List ℕ
   pub want : ℕ
+  pub lock : Lock
 
-abbrev pub stand : Op → List ℕ → List ℕ → ℕ → Stand
-stand op path beside want = record { op = op; path = path; beside = beside; want = want }
+abbrev pub stand : Op → List ℕ → List ℕ → ℕ → Lock → Stand
+stand op path beside want lock = record { op = op; path = path; beside = beside; want = want; lock = lock }
+
+-- "Beginning an operation makes the slot want page 0.": with the kind under which it holds
+abbrev pub freshStand : Op → Stand
+freshStand op = stand op [] [] 0 (heldLock op)
 
 -- all pages that it holds
 abbrev pub holding : Stand → List ℕ
 holding z = z .path ++ z .beside
 
 -- A stand made from another one, here and nowhere else, so that what a stand has besides is carried along: the same slot on these pages,
--- with the wanted page beside its path, with this page as its next want, and with this operation.
+-- with the wanted page beside its path, with this page as its next want under this kind of lock, and with this operation.
 abbrev pub onPages : Stand → List ℕ → List ℕ → Stand
-onPages z path beside = stand (z .op) path beside (z .want)
+onPages z path beside = stand (z .op) path beside (z .want) (z .lock)
 
 abbrev pub wantBeside : Stand → Stand
 wantBeside z = onPages z (z .path) (z .beside ++ z .want ∷ [])
 
-abbrev pub wantsNext : Stand → ℕ → Stand
-wantsNext z want = stand (z .op) (z .path) (z .beside) want
+abbrev pub wantsNext : Stand → ℕ → Lock → Stand
+wantsNext z want lock = stand (z .op) (z .path) (z .beside) want lock
 
 abbrev pub withOp : Op → Stand → Stand
-withOp op z = stand op (z .path) (z .beside) (z .want)
+withOp op z = stand op (z .path) (z .beside) (z .want) (z .lock)
 
 -- where a slot stands that is open with this operation
 abbrev pub standOf : Op → Slot → Stand
-standOf op s = stand op (pathOf s) (besideOf s) (s .want)
+standOf op s = stand op (pathOf s) (besideOf s) (s .want) (s .lock)
 
 -- the slot that stands there
 abbrev pub slotOf : Stand → Slot
-slotOf z = openSlot (z .op) (z .want) (z .path) (z .beside)
+slotOf z = openSlot (z .op) (z .want) (z .lock) (z .path) (z .beside)
 
 -- slot i of a state
 abbrev pub slotAt : State → ℕ → Slot

@@ -4,15 +4,17 @@ use mathlib.Core.Bool.{Bool, true, not, _&&_, _||_}
 use mathlib.Core.List.{List, _∷_}
 use lib.Dec.{leb, ltb, eqb}
 use lib.ListN.{take}
-use Rattle.ground.specs.Limits.{kInRange, nInRange, slotCount, searchHolds, regradeHolds, pathHolds, siblingHolds}
+use Rattle.ground.specs.Limits.{kInRange, nInRange, slotCount, searchHolds, regradeHolds, secondHolds, pathHolds, siblingHolds}
 use Rattle.ground.specs.Tests.{all, allBelow, member, distinct}
 use Rattle.slots.specs.declared.Op.the-variants.{Search, Insert, Delete, Next, Regrade}
 use Rattle.slots.specs.declared.Task.{Task}
 use Rattle.slots.specs.declared.Task.the-variants.{Closed, Open}
 use Rattle.slots.specs.declared.Slot.{Slot}
 use Rattle.slots.specs.declared.State.{State}
+use Rattle.slots.specs.declared.Lock.{Lock}
+use Rattle.slots.specs.Operations.{byWay}
 use Rattle.slots.specs.Parts.{held, slotAt, openAt}
-use Rattle.slots.specs.Locks.{lockHeldAt, noClashOn}
+use Rattle.slots.specs.Locks.{lockHeldAt, canWant, noClashOn}
 
 -- the first so many cells of an order name each open slot once and no other
 unfoldable pub namesEach : (ℕ → Bool) → ℕ → List ℕ → Bool
@@ -36,14 +38,14 @@ mayHold onPath beside = record { onPath = onPath; beside = beside }
 
 -- "a search holds at most 1 page, an insertion at most 10, a deletion at most 10 on its path and 9 siblings ..; siblings only in
 -- deletions; a closed slot holds nothing". Next: "In a sound state it may hold up to 19 pages", 10 on its first way and 9 on
--- the second. Regrading: "every page is safe for it, so it holds at most 1".
+-- the second. Regrading: "every page is safe for it, so it holds at most 1". By the second way an update holds 1.
 abbrev pub limitsOf : Task → MayHold
 limitsOf Closed = mayHold 0 0
 limitsOf (Open (Search x)) = mayHold searchHolds 0
-limitsOf (Open (Insert x v)) = mayHold pathHolds 0
-limitsOf (Open (Delete x)) = mayHold pathHolds siblingHolds
+limitsOf (Open (Insert x v way)) = byWay way (mayHold pathHolds 0) (mayHold secondHolds 0)
+limitsOf (Open (Delete x way)) = byWay way (mayHold pathHolds siblingHolds) (mayHold secondHolds 0)
 limitsOf (Open (Next x)) = mayHold pathHolds siblingHolds
-limitsOf (Open (Regrade x v)) = mayHold regradeHolds 0
+limitsOf (Open (Regrade x v way)) = byWay way (mayHold regradeHolds 0) (mayHold secondHolds 0)
 
 -- within these limits, and "with no siblings or fewer of them than path pages": so the limit beside the path is never what binds
 abbrev pub withinLimits : Task → ℕ → ℕ → Bool
@@ -54,12 +56,19 @@ withinLimits task depth beside =
 abbrev pub belowAndOnce : ℕ → Slot → Bool
 belowAndOnce n s = all (λ (p : ℕ). ltb p n) (s .want ∷ held s) && distinct (s .want ∷ held s)
 
+-- a test of an open slot
 abbrev pub ifOpen : Task → Bool → Bool
 ifOpen Closed test = true
 ifOpen (Open op) test = test
 
+-- the want of an open slot is for a kind that its operation can want. A closed slot's is not looked at.
+abbrev pub wantsRightly : Task → Lock → Bool
+wantsRightly Closed lock = true
+wantsRightly (Open op) lock = canWant op lock
+
 unfoldable pub slotSound : ℕ → Slot → Bool
-slotSound n s = withinLimits (s .task) (s .depth) (s .breadth) && ifOpen (s .task) (belowAndOnce n s)
+slotSound n s =
+    withinLimits (s .task) (s .depth) (s .breadth) && ifOpen (s .task) (belowAndOnce n s) && wantsRightly (s .task) (s .lock)
 
 -- "no ξ-held page is held by another slot": page by page, no two slots hold one under kinds that clash
 unfoldable pub noClashingHolds : State → Bool

@@ -8,7 +8,7 @@ ghost use Rattle.slots.specs.Heard.{lockNumber, numbersOf, listed};
 pub struct Heard(pub u32, pub u32, pub u32, pub u32, pub u32);
 
 // none, ρ, ξ
-fn lock_number(lock: Lock) -> u32
+pub fn lock_number(lock: Lock) -> u32
     ensures { λ r. ⌜ r ≡ lockNumber lock ⌝ }
 {
     match lock {

@@ -1,8 +1,8 @@
 // The lock of a task, and whether a slot holds a page.
 use crate::Lock;
-use crate::Op;
 use crate::Slot;
 use crate::Task;
+use crate::operations::held_lock;
 use ground::HELD;
 ghost use mathlib.Core.Path.{_≡_};
 ghost use lib.ListN.{take};
@@ -10,19 +10,13 @@ ghost use Rattle.ground.specs.Tests.{member};
 ghost use Rattle.slots.specs.Parts.{held};
 ghost use Rattle.slots.specs.Locks.{lockOf};
 
-// Searches and Next use ρ-locks, insertions, deletions and regradings ξ-locks.
+// The lock under which a task holds its pages: none, if it is closed.
 pub fn lock_of(task: Task) -> Lock
     ensures { λ r. ⌜ r ≡ lockOf task ⌝ }
 {
     match task {
         Task::Closed => Lock::None,
-        Task::Open(op) => match op {
-            Op::Search(_) => Lock::Rho,
-            Op::Insert(_, _) => Lock::Xi,
-            Op::Delete(_) => Lock::Xi,
-            Op::Next(_) => Lock::Rho,
-            Op::Regrade(_, _) => Lock::Xi,
-        },
+        Task::Open(op) => held_lock(op),
     }
 }
 

@@ -7,16 +7,22 @@ pub mod operations;
 use ground::HELD;
 use ground::SLOTS;
 
-// What a buyer asks for. Keys and information are any 32-bit unsigned numbers.
+// How an update goes down: with ξ-locks, or as a reader does and with ξ on its leaf alone.
+pub enum Way {
+    First,
+    Second,
+}
+
+// What a buyer asks for. Keys and information are any 32-bit unsigned numbers. An update has a way; who only reads has none.
 pub enum Op {
     Search(u32),
     // key, information
-    Insert(u32, u32),
-    Delete(u32),
+    Insert(u32, u32, Way),
+    Delete(u32, Way),
     // the first lot at or above this key
     Next(u32),
     // key, new information
-    Regrade(u32, u32),
+    Regrade(u32, u32, Way),
 }
 
 // A slot is closed, or open with an operation.
@@ -26,11 +32,12 @@ pub enum Task {
 }
 
 // An open slot holds the pages of its path, from the top downward, and pages beside it: a deletion's siblings, from the leaf's
-// upward, or the second way of a Next, from the top downward. It wants exactly one more page. Cells behind a length are not
-// looked at.
+// upward, or the second way of a Next, from the top downward. It wants exactly one more page, with a lock of this kind. Cells behind a
+// length are not looked at.
 pub struct Slot {
     pub task: Task,
     pub want: u32,
+    pub lock: Lock,
     pub path: [u32; HELD],
     pub depth: usize,
     pub beside: [u32; HELD],

@@ -1,7 +1,9 @@
 // Slots as the rules make them: closed, fresh, and with one page more.
+use crate::Lock;
 use crate::Op;
 use crate::Slot;
 use crate::Task;
+use crate::operations::held_lock;
 use ground::HELD;
 ghost use mathlib.Core.Path.{_≡_};
 ghost use mathlib.Core.List.{[], _∷_, _++_};
@@ -9,7 +11,7 @@ ghost use Prim.Native.Nat.{_≤_, _<_};
 ghost use lib.ListN.{take};
 ghost use Rattle.ground.specs.Limits.{pathHolds};
 ghost use Rattle.ground.specs.Tests.{padded};
-ghost use Rattle.slots.specs.Parts.{closedSlot, openSlot, pathOf, besideOf};
+ghost use Rattle.slots.specs.Parts.{closedSlot, pathOf, besideOf, onPages, freshStand, standOf, slotOf};
 
 // A closed slot holds nothing; its cells are 0.
 pub fn closed_slot() -> Slot
@@ -18,6 +20,7 @@ pub fn closed_slot() -> Slot
     Slot {
         task: Task::Closed,
         want: 0,
+        lock: Lock::None,
         path: [0u32; HELD],
         depth: 0,
         beside: [0u32; HELD],
@@ -49,13 +52,14 @@ pub fn with_page(cells: [u32; HELD], count: usize, p: u32) -> [u32; HELD]
     next
 }
 
-// A slot that wants page 0 and holds nothing yet.
+// A slot that wants page 0, with the lock under which its operation holds, and holds nothing yet.
 pub fn fresh_slot(op: Op) -> Slot
-    ensures { λ r. ⌜ r ≡ openSlot op 0 [] [] ⌝ }
+    ensures { λ r. ⌜ r ≡ slotOf (freshStand op) ⌝ }
 {
     Slot {
         task: Task::Open(op),
         want: 0,
+        lock: held_lock(op),
         path: [0u32; HELD],
         depth: 0,
         beside: [0u32; HELD],
@@ -63,15 +67,17 @@ pub fn fresh_slot(op: Op) -> Slot
     }
 }
 
-// A slot that holds page p alone.
-pub fn holding_one(op: Op, want: u32, p: u32) -> Slot
-    ensures { λ r. ⌜ r ≡ openSlot op want (p ∷ []) [] ⌝ }
+// A slot that holds page p alone. Its want and the lock of it stay, here and below.
+pub fn holding_one(op: Op, slot: Slot, p: u32) -> Slot
+    ensures { λ r. ⌜ r ≡ slotOf (onPages (standOf op slot) (p ∷ []) []) ⌝ }
 {
     let mut path = [0u32; HELD];
     path[0] = p;
+    let lock = slot.lock;
     Slot {
         task: Task::Open(op),
-        want,
+        want: slot.want,
+        lock,
         path,
         depth: 1,
         beside: [0u32; HELD],
@@ -80,15 +86,17 @@ pub fn holding_one(op: Op, want: u32, p: u32) -> Slot
 }
 
 // A slot that holds page p at the end of the path it held.
-pub fn holding_more(op: Op, want: u32, slot: Slot, p: u32) -> Slot
+pub fn holding_more(op: Op, slot: Slot, p: u32) -> Slot
     requires { ⌜ slot .depth < pathHolds ⌝ }
-    ensures { λ r. ⌜ r ≡ openSlot op want (pathOf slot ++ p ∷ []) [] ⌝ }
+    ensures { λ r. ⌜ r ≡ slotOf (onPages (standOf op slot) (pathOf slot ++ p ∷ []) []) ⌝ }
 {
     let path = slot.path;
     let depth = slot.depth;
+    let lock = slot.lock;
     Slot {
         task: Task::Open(op),
-        want,
+        want: slot.want,
+        lock,
         path: with_page(path, depth, p),
         depth: depth + 1,
         beside: [0u32; HELD],
@@ -97,17 +105,19 @@ pub fn holding_more(op: Op, want: u32, slot: Slot, p: u32) -> Slot
 }
 
 // A slot that holds page p behind the siblings it held.
-pub fn holding_beside(op: Op, want: u32, slot: Slot, p: u32) -> Slot
+pub fn holding_beside(op: Op, slot: Slot, p: u32) -> Slot
     requires { ⌜ (slot .depth ≤ pathHolds) × (slot .breadth < pathHolds) ⌝ }
-    ensures { λ r. ⌜ r ≡ openSlot op want (pathOf slot) (besideOf slot ++ p ∷ []) ⌝ }
+    ensures { λ r. ⌜ r ≡ slotOf (onPages (standOf op slot) (pathOf slot) (besideOf slot ++ p ∷ [])) ⌝ }
 {
     let path = slot.path;
     let depth = slot.depth;
     let beside = slot.beside;
     let breadth = slot.breadth;
+    let lock = slot.lock;
     Slot {
         task: Task::Open(op),
-        want,
+        want: slot.want,
+        lock,
         path: tidy(path, depth),
         depth,
         beside: with_page(beside, breadth, p),

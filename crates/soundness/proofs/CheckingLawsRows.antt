@@ -1,7 +1,7 @@
 -- Laws for the rows of the slots: what they tell of a slot's pages, and that with the slots that hold more than one page they
 -- are the rule of a sound slot.
 use Prim.Native.Nat.{ℕ, zero, suc, _-_, _≤_, _<_}
-use mathlib.Core.Bool.{Bool, true, false, not, _&&_, _||_, and-true, and-false}
+use mathlib.Core.Bool.{Bool, true, false, cond, not, _&&_, _||_, and-true, and-false}
 use mathlib.Core.List.{List, [], _∷_, _++_}
 use mathlib.Core.Logic.{_⊎_, inl, inr, ⊎-elim}
 use mathlib.Core.Path.{_≡_, refl, sym, ap, ap₂, _∙_}
@@ -9,18 +9,20 @@ use native.Mathlib.Omega.{arith}
 use borrow.Author.Tests.{eq-eqb, eqb-true, le-leb, lt-leb, leb-true, ltb-true, ltb-false, not-true}
 use lib.Dec.{eqb, ltb, leb}
 use lib.ListN.{length, getD, take}
-use Rattle.ground.specs.Limits.{searchHolds, regradeHolds, pathHolds, siblingHolds}
+use Rattle.ground.specs.Limits.{searchHolds, regradeHolds, secondHolds, pathHolds, siblingHolds}
 use Rattle.ground.specs.Tests.{all, allBelow, member, distinct}
-use Rattle.ground.proofs.Bools.{and-first, and-second, and-both, or-cases, or-second, or-first-fails, or-second-fails, not-of-false, same-if-true-together, true-or-false}
+use Rattle.ground.proofs.Bools.{and-first, and-second, and-both, or-cases, or-second, or-first-fails, or-second-fails, not-of-false, same-if-true-together, true-or-false, not-both}
 use Rattle.ground.proofs.Tests.{allBelow-at}
+use Rattle.slots.specs.declared.Lock.the-variants.{None, Rho, Xi}
+use Rattle.slots.specs.Heard.{lockNumber}
 use Rattle.slots.specs.Parts.{pathOf, besideOf}
-use Rattle.slots.specs.Sound.{withinLimits, belowAndOnce, ifOpen, slotSound}
-use Rattle.lent.specs.Layout.{rowLength, columnLength, kindRow, keyRow, informationRow, wantRow, depthRow, breadthRow, pathRow, besideRow}
-use Rattle.lent.specs.Words.{cell, column, highestKind, taskFrom, slotIn}
+use Rattle.slots.specs.Sound.{withinLimits, belowAndOnce, ifOpen, wantsRightly, slotSound}
+use Rattle.lent.specs.Layout.{rowLength, columnLength, kindRow, keyRow, informationRow, wantRow, lockRow, depthRow, breadthRow, pathRow, besideRow}
+use Rattle.lent.specs.Words.{cell, column, highestKind, taskFrom, lockRead, slotIn}
 use Rattle.lent.specs.Holds.{WithinRows}
 use Rattle.lent.proofs.HoldLaws.{by-kind}
 use Rattle.lent.proofs.StateLaws.{length-column, column-cell}
-use Rattle.soundness.specs.Checking.{fineRow, rowFine, mayHoldMore, deepFine}
+use Rattle.soundness.specs.Checking.{pagesRow, kindWants, rowFine, mayHoldMore, deepFine}
 
 -- ---- what the rows tell of the pages
 
@@ -90,7 +92,7 @@ pub record Row (kind depth breadth : ℕ) : Type 0 where
   pub beside : breadth ≤ columnLength
   pub closed : kind ≡ 0 → (depth ≡ 0) × (breadth ≡ 0)
 
-pub row-says : (kind depth breadth n want top : ℕ) → fineRow kind depth breadth n want top ≡ true → Row kind depth breadth
+pub row-says : (kind depth breadth n want top : ℕ) → pagesRow kind depth breadth n want top ≡ true → Row kind depth breadth
 row-says kind depth breadth n want top e =
     let g = not (eqb kind 0) || eqb depth 0 in
     let w = eqb kind 0 || ltb want n in
@@ -179,7 +181,7 @@ fits true w t true true false f g = and-false (w && t)
 module _ (key information depth breadth n want top : ℕ) (pages : Bool)
     (same : more depth breadth ≡ false → named depth n want top ≡ pages) (told : pages ≡ true → named depth n want top ≡ true) where
   abbrev Fits : ℕ → Type 0
-  Fits kind = fineRow kind depth breadth n want top && (not (more depth breadth) || (mayHoldMore kind breadth && pages))
+  Fits kind = pagesRow kind depth breadth n want top && (not (more depth breadth) || (mayHoldMore kind breadth && pages))
       ≡ withinLimits (taskFrom kind key information) depth breadth && ifOpen (taskFrom kind key information) pages
 
   -- the limits of an open kind are the rule's; what is left are the pages
@@ -193,9 +195,9 @@ module _ (key information depth breadth n want top : ℕ) (pages : Bool)
   -- a closed slot: nothing is held, and nothing asked of its pages
   nothing : Fits 0
   nothing =
-      same-if-true-together (fineRow 0 depth breadth n want top && (not (more depth breadth) || false)) (most 0 0 depth breadth && true)
+      same-if-true-together (pagesRow 0 depth breadth n want top && (not (more depth breadth) || false)) (most 0 0 depth breadth && true)
       (λ e.
-      let none = row-says 0 depth breadth n want top (and-first (fineRow 0 depth breadth n want top) (not (more depth breadth) || false) e) .closed refl in
+      let none = row-says 0 depth breadth n want top (and-first (pagesRow 0 depth breadth n want top) (not (more depth breadth) || false) e) .closed refl in
       ap₂ (λ (d b : ℕ). most 0 0 d b && true) (none .0) (none .1))
       (λ e.
       let both = and-first (leb depth 0 && leb breadth 0) (fewer depth breadth) (and-first (most 0 0 depth breadth) true e) in
@@ -203,9 +205,9 @@ module _ (key information depth breadth n want top : ℕ) (pages : Bool)
       let aside = leb-true breadth 0 (and-second (leb depth 0) (leb breadth 0) both) in
       let no-path : depth ≡ 0 = omega arith in
       let none-aside : breadth ≡ 0 = omega arith in
-      ap₂ (λ (d b : ℕ). fineRow 0 d b n want top && (not (more d b) || false)) no-path none-aside)
+      ap₂ (λ (d b : ℕ). pagesRow 0 d b n want top && (not (more d b) || false)) no-path none-aside)
 
-  -- a search, and a regrading
+  -- a search, a regrading, and the updates by the second way
   at-most-one : Fits 1
   unfolding searchHolds
   at-most-one =
@@ -214,7 +216,7 @@ module _ (key information depth breadth n want top : ℕ) (pages : Bool)
       ∙ ap₂ (λ (a b : Bool). a && b && fewer depth breadth) (at-most depth 1) (at-most breadth 0))
 
   kind-fits : (kind : ℕ) → kind ≤ highestKind → Fits kind
-  unfolding searchHolds regradeHolds pathHolds siblingHolds
+  unfolding searchHolds regradeHolds secondHolds pathHolds siblingHolds
   kind-fits =
       by-kind Fits
       nothing
@@ -226,6 +228,55 @@ module _ (key information depth breadth n want top : ℕ) (pages : Bool)
       (limited columnLength (columnLength - 1) true (beside-too depth breadth))
       (limited columnLength (columnLength - 1) true (beside-too depth breadth))
       at-most-one
+      at-most-one
+      at-most-one
+      at-most-one
+
+-- ---- the lock of the want
+
+-- a number reads as ρ, or as ξ, if it is that lock's
+read-rho : (i : ℕ) → eqb i (lockNumber Rho) ≡ eqb (lockNumber (lockRead i)) (lockNumber Rho)
+read-rho i = by-two (eqb i (lockNumber Rho)) (eqb i (lockNumber Xi))
+  where
+    by-two : (rho xi : Bool) → rho ≡ eqb (lockNumber (cond rho Rho (cond xi Xi None))) (lockNumber Rho)
+    by-two true xi = refl
+    by-two false true = refl
+    by-two false false = refl
+
+read-xi : (i : ℕ) → eqb i (lockNumber Xi) ≡ eqb (lockNumber (lockRead i)) (lockNumber Xi)
+read-xi i =
+    by-two (eqb i (lockNumber Rho)) (eqb i (lockNumber Xi)) (λ t. ap (λ (j : ℕ). eqb j (lockNumber Xi)) (eqb-true i (lockNumber Rho) t))
+  where
+    by-two : (rho xi : Bool) → (rho ≡ true → xi ≡ false) → xi ≡ eqb (lockNumber (cond rho Rho (cond xi Xi None))) (lockNumber Xi)
+    by-two true true apart = not-both refl (apart refl)
+    by-two true false apart = refl
+    by-two false true apart = refl
+    by-two false false apart = refl
+
+-- kind by kind: the lock that it can want is the rule's
+module _ (key information lock : ℕ) where
+  abbrev Wants : ℕ → Type 0
+  Wants kind = eqb kind 0 || kindWants kind lock ≡ wantsRightly (taskFrom kind key information) (lockRead lock)
+
+  reads : eqb lock (lockNumber Rho) || false ≡ eqb (lockNumber (lockRead lock)) (lockNumber Rho) || false
+  reads = ap (λ (b : Bool). b || false) (read-rho lock)
+
+  updates : eqb lock (lockNumber Xi) || false ≡ eqb (lockNumber (lockRead lock)) (lockNumber Xi) || false
+  updates = ap (λ (b : Bool). b || false) (read-xi lock)
+
+  either : eqb lock (lockNumber Rho) || eqb lock (lockNumber Xi) ≡ eqb (lockNumber (lockRead lock)) (lockNumber Rho) || eqb (lockNumber (lockRead lock)) (lockNumber Xi)
+  either = ap₂ (λ (a b : Bool). a || b) (read-rho lock) (read-xi lock)
+
+  wants-fit : (kind : ℕ) → kind ≤ highestKind → Wants kind
+  wants-fit = by-kind Wants refl reads updates updates reads updates either either either
+
+-- ---- one slot
+
+-- the test of the lock stands among those of the pages in the rows, and behind them in the rule
+lock-last : (r k d : Bool) → r && k && d ≡ r && d && k
+lock-last false k d = refl
+lock-last true true d = sym (and-true d)
+lock-last true false d = sym (and-false d)
 
 -- the rows and the pages of a slot that holds more are the rule
 pub slot-fits : (ws : List ℕ) (n s : ℕ) → cell ws kindRow s ≤ highestKind → rowFine ws n s && deepFine ws n s ≡ slotSound n (slotIn ws s)
@@ -233,17 +284,23 @@ unfolding slotSound pathOf besideOf
 slot-fits ws n s known =
     let path : List ℕ = column ws pathRow s in
     let first : getD path 0 0 ≡ cell ws pathRow s = column-cell ws pathRow s 0 (omega arith) in
-    kind-fits (cell ws keyRow s) (cell ws informationRow s) (cell ws depthRow s) (cell ws breadthRow s) n (cell ws wantRow s) (cell ws pathRow s) (belowAndOnce n (slotIn ws s))
+    lock-last (pagesRow (cell ws kindRow s) (cell ws depthRow s) (cell ws breadthRow s) n (cell ws wantRow s) (cell ws pathRow s)) (eqb (cell ws kindRow s) 0 || kindWants (cell ws kindRow s) (cell ws lockRow s)) (deepFine ws n s)
+    ∙ ap₂ (λ (a b : Bool). a && b)
+    (kind-fits (cell ws keyRow s) (cell ws informationRow s) (cell ws depthRow s) (cell ws breadthRow s) n (cell ws wantRow s) (cell ws pathRow s) (belowAndOnce n (slotIn ws s))
     (λ e. ap (named (cell ws depthRow s) n (cell ws wantRow s)) (sym first) ∙ shallow n (cell ws wantRow s) (cell ws depthRow s) (cell ws breadthRow s) path (column ws besideRow s) (length-column ws pathRow s) e)
     (λ e. ap (named (cell ws depthRow s) n (cell ws wantRow s)) (sym first)
     ∙ rows-of-pages n (cell ws wantRow s) (cell ws depthRow s) path (take (cell ws breadthRow s) (column ws besideRow s)) (length-column ws pathRow s) e)
-    (cell ws kindRow s) known
+    (cell ws kindRow s) known)
+    (wants-fit (cell ws keyRow s) (cell ws informationRow s) (cell ws lockRow s) (cell ws kindRow s) known)
 
 -- ---- the rows of every slot
 
 module _ (ws : List ℕ) (n : ℕ) (e : allBelow rowLength (rowFine ws n) ≡ true) where
   pub row-at : (s : ℕ) → s < rowLength → Row (cell ws kindRow s) (cell ws depthRow s) (cell ws breadthRow s)
-  row-at s h = row-says (cell ws kindRow s) (cell ws depthRow s) (cell ws breadthRow s) n (cell ws wantRow s) (cell ws pathRow s) (allBelow-at (rowFine ws n) rowLength e s h)
+  row-at s h =
+      row-says (cell ws kindRow s) (cell ws depthRow s) (cell ws breadthRow s) n (cell ws wantRow s) (cell ws pathRow s)
+      (and-first (pagesRow (cell ws kindRow s) (cell ws depthRow s) (cell ws breadthRow s) n (cell ws wantRow s) (cell ws pathRow s)) (eqb (cell ws kindRow s) 0 || kindWants (cell ws kindRow s) (cell ws lockRow s))
+      (allBelow-at (rowFine ws n) rowLength e s h))
 
   -- no path and no list of siblings is longer than its rows, and a closed slot holds nothing
   pub rows-short : WithinRows ws

@@ -8,9 +8,9 @@ use Rattle.slots.specs.declared.Lock.the-variants.{Xi}
 use Rattle.slots.specs.Parts.{held}
 use Rattle.slots.specs.Heard.{lockNumber}
 use Rattle.slots.specs.Sound.{belowAndOnce}
-use Rattle.lent.specs.Layout.{columnLength, kindRow, wantRow, depthRow, breadthRow, pathRow}
+use Rattle.lent.specs.Layout.{columnLength, kindRow, wantRow, lockRow, depthRow, breadthRow, pathRow}
 use Rattle.lent.specs.Words.{cell, highestKind, slotIn}
-use Rattle.lent.specs.Holds.{updatesKind, isDeep, othersHold}
+use Rattle.lent.specs.Holds.{updatesKind, kindLock, isDeep, othersHold}
 
 -- a page below n, neither the wanted one nor one of the slot's own so far
 abbrev pub enters : ℕ → ℕ → List ℕ → ℕ → Bool
@@ -22,10 +22,10 @@ mayEnter n want own pages = all (enters n want own) pages && distinct pages
 
 -- ---- the same of a state in words
 
--- what the rows tell of a slot: it holds nothing if it is closed, and fewer pages beside its path than on it, if any; the wanted page and
--- the top of the path, if there is one, are below n and not the same
-abbrev pub fineRow : ℕ → ℕ → ℕ → ℕ → ℕ → ℕ → Bool
-fineRow kind depth breadth n want top =
+-- what the rows tell of a slot's pages: it holds nothing if it is closed, and fewer pages beside its path than on it, if any; the wanted
+-- page and the top of the path, if there is one, are below n and not the same
+abbrev pub pagesRow : ℕ → ℕ → ℕ → ℕ → ℕ → ℕ → Bool
+pagesRow kind depth breadth n want top =
     leb kind highestKind
     && leb depth columnLength
     && (not (eqb kind 0) || eqb depth 0)
@@ -33,8 +33,18 @@ fineRow kind depth breadth n want top =
     && (eqb kind 0 || ltb want n)
     && (eqb depth 0 || (ltb top n && not (eqb want top)))
 
+-- a slot of this kind can want with the lock of this number: with the one under which it holds, and by the second way (the kinds above 5)
+-- with ξ too
+abbrev pub kindWants : ℕ → ℕ → Bool
+kindWants kind lock = eqb lock (kindLock kind) || (ltb 5 kind && eqb lock (lockNumber Xi))
+
+-- what they tell of a slot: its pages, and the lock that it wants if it is open
+abbrev pub fineRow : ℕ → ℕ → ℕ → ℕ → ℕ → ℕ → ℕ → Bool
+fineRow kind depth breadth n want lock top = pagesRow kind depth breadth n want top && (eqb kind 0 || kindWants kind lock)
+
 abbrev pub rowFine : List ℕ → ℕ → ℕ → Bool
-rowFine ws n s = fineRow (cell ws kindRow s) (cell ws depthRow s) (cell ws breadthRow s) n (cell ws wantRow s) (cell ws pathRow s)
+rowFine ws n s =
+    fineRow (cell ws kindRow s) (cell ws depthRow s) (cell ws breadthRow s) n (cell ws wantRow s) (cell ws lockRow s) (cell ws pathRow s)
 
 -- the kinds that may hold more than one page: deletions and Next, and insertions if none is beside the path
 abbrev pub mayHoldMore : ℕ → ℕ → Bool

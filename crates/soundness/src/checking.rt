@@ -1,5 +1,5 @@
-// Whether a state is sound. First kind, numbers of pages held, want and top of the path of every slot, with no way out in between,
-// so that several slots are looked at in one go. Then the waiting order is held against the open slots; then the slots that hold
+// Whether a state is sound. First kind, numbers of pages held, want, its lock and top of the path of every slot, with no way out in
+// between, so that several slots are looked at in one go. Then the waiting order is held against the open slots; then the slots that hold
 // more than one page are looked at; then each page held under ξ is looked for in the other slots.
 use ground::HELD;
 use ground::LARGEST_K;
@@ -12,6 +12,7 @@ use lent::cells::breadth_at;
 use lent::cells::depth_at;
 use lent::cells::k_of;
 use lent::cells::kind_at;
+use lent::cells::lock_at;
 use lent::cells::n_of;
 use lent::cells::order_at;
 use lent::cells::sized;
@@ -24,12 +25,14 @@ use lent::granting::XI;
 use lent::granting::column_has;
 use lent::granting::is_deep;
 use lent::granting::is_update;
+use lent::granting::kind_lock;
 use lent::granting::others_hold;
 use lent::granting::some_deep;
 use slots::operations::DELETES;
 use slots::operations::HIGHEST_KIND;
 use slots::operations::INSERTS;
 use slots::operations::NEXTS;
+use slots::operations::REGRADES;
 ghost use Prim.Native.Nat.{ℕ, _≤_, _<_};
 ghost use mathlib.Core.Bool.{false, not, _&&_};
 ghost use mathlib.Core.Path.{_≡_};
@@ -43,7 +46,7 @@ ghost use Rattle.slots.specs.Sound.{namesEach, belowAndOnce, sound};
 ghost use Rattle.lent.specs.Layout.{waitingAt, rowLength, columnLength, kindRow, wantRow, pathRow, besideRow};
 ghost use Rattle.lent.specs.Words.{cell, column, slotIn, orderIn, stateOf};
 ghost use Rattle.lent.specs.Holds.{WithinRows, othersHold};
-ghost use Rattle.soundness.specs.Checking.{mayEnter, fineRow, rowFine, mayHoldMore, moreFine, deepFine, openKind, aloneIn, updates, xiAlone};
+ghost use Rattle.soundness.specs.Checking.{mayEnter, kindWants, fineRow, rowFine, mayHoldMore, moreFine, deepFine, openKind, aloneIn, updates, xiAlone};
 
 // The longest path, as the words have it.
 const DEPTH_LIMIT: u32 = HELD as u32;
@@ -64,11 +67,20 @@ pub fn numbers_in_range(k: usize, n: usize) -> bool
     n <= LARGEST_N
 }
 
-// A slot with these numbers may be sound, as far as the rows tell. A closed slot holds nothing. No open kind is told from another
-// here, which keeps the rows quick: one page is within the limits of each, and what a kind may hold beyond that is asked only of the
-// slots that do (`more_fine`). Pages beside the path are fewer than on it, so within their limit.
-fn is_fine(kind: u32, depth: u32, breadth: u32, n: u32, want: u32, top: u32) -> bool
-    ensures { λ r. ⌜ r ≡ fineRow kind depth breadth n want top ⌝ }
+// An open slot of this kind can want with the lock of this number: with the one under which it holds, and by the second way (the kinds
+// behind the first way's) with ξ.
+fn kind_wants(kind: u32, lock: u32) -> bool
+    ensures { λ r. ⌜ r ≡ kindWants kind lock ⌝ }
+{
+    (lock == kind_lock(kind)) | ((REGRADES < kind) & (lock == XI))
+}
+
+// A slot with these numbers may be sound, as far as the rows tell. A closed slot holds nothing, and its want is not looked at. The open
+// kinds are told from one another by their locks alone here, which keeps the rows quick: one page is within the limits of each, and what
+// a kind may hold beyond that is asked only of the slots that do (`more_fine`). Pages beside the path are fewer than on it, so within
+// their limit.
+fn is_fine(kind: u32, depth: u32, breadth: u32, n: u32, want: u32, lock: u32, top: u32) -> bool
+    ensures { λ r. ⌜ r ≡ fineRow kind depth breadth n want lock top ⌝ }
 {
     (kind <= HIGHEST_KIND)
         & (depth <= DEPTH_LIMIT)
@@ -76,6 +88,7 @@ fn is_fine(kind: u32, depth: u32, breadth: u32, n: u32, want: u32, top: u32) -> 
         & ((breadth == 0) | (breadth < depth))
         & ((kind == 0) | (want < n))
         & ((depth == 0) | ((top < n) & (want != top)))
+        & ((kind == 0) | kind_wants(kind, lock))
 }
 
 // Every slot does.
@@ -92,6 +105,7 @@ fn rows_fine(cells: &[u32; STATE], n: u32) -> bool
                 breadth_at(cells, s),
                 n,
                 want_at(cells, s),
+                lock_at(cells, s),
                 top_at(cells, s),
             );
         s += 1;
@@ -143,7 +157,7 @@ fn pages_fine(cells: &[u32; STATE], s: usize, n: u32) -> bool
 }
 
 // A slot of this kind may hold more than one page, with so many beside its path: a deletion and a Next may, an insertion on its
-// path alone. A search and a regrading hold one page at most.
+// path alone. A search, a regrading and an update by the second way hold one page at most.
 fn may_hold_more(kind: u32, breadth: u32) -> bool
     ensures { λ r. ⌜ r ≡ mayHoldMore kind breadth ⌝ }
 {
@@ -264,7 +278,7 @@ fn is_alone(cells: &[u32; STATE], s: usize) -> bool
     column_alone(cells, s, BESIDE, wide(breadth_at(cells, s)))
 }
 
-// The slots whose lock is ξ, one bit for each.
+// The slots that hold under ξ, one bit for each.
 fn updating(cells: &[u32; STATE]) -> u16
     ensures { λ r. ⌜ r ≡ maskBelow rowLength (updates (now (cells .entry))) ⌝ }
 {

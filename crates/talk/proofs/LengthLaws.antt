@@ -7,6 +7,7 @@ use mathlib.Core.Path.{ap, subst⁻¹}
 use native.Mathlib.Omega.{arith}
 use lib.ListN.{length, length-append}
 use Rattle.slots.specs.declared.State.{State}
+use Rattle.slots.specs.Operations.{byWay}
 use Rattle.lines.specs.declared.Command.{Command}
 use Rattle.lines.specs.Text.{bytes}
 use Rattle.lines.specs.Meaning.{meaning}
@@ -17,12 +18,12 @@ use Rattle.talk.specs.Talk.{commanded}
 -- the shortest good line is `t` with a slot of one digit
 good-long : (line : List ℕ) {c : Command} → Good line c → 3 ≤ length line
 good-long line (toSearch ss ks hs hk e) = omega (arith, ap length e, hs .some, length-append ss (bytes " s " ++ ks))
-good-long line (toInsert ss ks is hs hk hi e) =
-    omega (arith, ap length e, hs .some, length-append ss (bytes " i " ++ (ks ++ (bytes " " ++ is))))
-good-long line (toDelete ss ks hs hk e) = omega (arith, ap length e, hs .some, length-append ss (bytes " d " ++ ks))
+good-long line (toInsert way ss ks is hs hk hi e) =
+    omega (arith, ap length e, hs .some, length-append ss (bytes (byWay way " i " " i2 ") ++ (ks ++ (bytes " " ++ is))))
+good-long line (toDelete way ss ks hs hk e) = omega (arith, ap length e, hs .some, length-append ss (bytes (byWay way " d " " d2 ") ++ ks))
 good-long line (toNext ss ks hs hk e) = omega (arith, ap length e, hs .some, length-append ss (bytes " n " ++ ks))
-good-long line (toRegrade ss ks is hs hk hi e) =
-    omega (arith, ap length e, hs .some, length-append ss (bytes " g " ++ (ks ++ (bytes " " ++ is))))
+good-long line (toRegrade way ss ks is hs hk hi e) =
+    omega (arith, ap length e, hs .some, length-append ss (bytes (byWay way " g " " g2 ") ++ (ks ++ (bytes " " ++ is))))
 good-long line (toStep ss hs e) = omega (arith, ap length e, hs .some)
 
 pub reply-short : (st : State) (ws line : List ℕ) → length (commanded st ws (meaning line) .said) ≤ 32

@@ -1,7 +1,7 @@
 //! Names for what a call did, to count how much the claims cover.
 
 use moments::{Call, Moment};
-use twin::{free_pages, page_words, Answer, Op, Slot};
+use twin::{free_pages, page_words, Answer, Op, Slot, Way};
 
 /// The name of what a call did from one moment to the next.
 pub fn kind(before: &Moment, call: Call, answer: Answer, after: &Moment) -> String {
@@ -9,11 +9,13 @@ pub fn kind(before: &Moment, call: Call, answer: Answer, after: &Moment) -> Stri
         (Call::Step(_), Answer::Inserted) => inserted(before, after),
         (Call::Step(slot), Answer::Deleted(_)) => deleted(before, &before.state.slots[slot], after),
         (Call::Step(slot), Answer::Damaged | Answer::Moved | Answer::Next(..) | Answer::None) => {
-            format!(
-                "{} {}",
-                answer.name(),
-                stand(before, &before.state.slots[slot])
-            )
+            let (was, is) = (&before.state.slots[slot], &after.state.slots[slot]);
+            let again = if was.op == is.op || answer != Answer::Moved {
+                ""
+            } else {
+                ", begins again"
+            };
+            format!("{} {}{again}", answer.name(), stand(before, was))
         }
         _ => answer.name().to_string(),
     }
@@ -75,12 +77,16 @@ fn stand(moment: &Moment, slot: &Slot) -> String {
         Some(Op::Regrade(..)) => "regrading",
         _ => "deletion",
     };
+    let way = match slot.op.and_then(Op::way) {
+        Some(Way::Second) => " by the second way",
+        _ => "",
+    };
     let leaf = if has_leaf(moment, slot) {
         " at its leaf"
     } else {
         ""
     };
-    format!("{op}{leaf} {}+{}", slot.depth, slot.beside)
+    format!("{op}{way}{leaf} {}+{}", slot.depth, slot.beside)
 }
 
 /// Whether the lowest path page is a leaf.

@@ -1,7 +1,7 @@
 //! Calls, states and words as antt text.
 
 use moments::Call;
-use twin::{Answer, Op, Slot, State};
+use twin::{Answer, Lock, Op, Slot, State, Way};
 
 /// What stands at the head of every file of claims; `calls` there opens the rules to them.
 pub const HEAD: &str = include_str!("head.txt");
@@ -25,10 +25,27 @@ pub fn numbers<T: ToString + Copy>(numbers: &[T]) -> String {
 fn op(op: Op) -> String {
     match op {
         Op::Search(key) => format!("(Search {key})"),
-        Op::Insert(key, information) => format!("(Insert {key} {information})"),
-        Op::Delete(key) => format!("(Delete {key})"),
+        Op::Insert(key, information, by) => format!("(Insert {key} {information} {})", way(by)),
+        Op::Delete(key, by) => format!("(Delete {key} {})", way(by)),
         Op::Next(key) => format!("(Next {key})"),
-        Op::Regrade(key, information) => format!("(Regrade {key} {information})"),
+        Op::Regrade(key, information, by) => format!("(Regrade {key} {information} {})", way(by)),
+    }
+}
+
+/// A way.
+fn way(way: Way) -> &'static str {
+    match way {
+        Way::First => "First",
+        Way::Second => "Second",
+    }
+}
+
+/// A kind of lock.
+fn lock(lock: Lock) -> &'static str {
+    match lock {
+        Lock::None => "None",
+        Lock::Rho => "Rho",
+        Lock::Xi => "Xi",
     }
 }
 
@@ -50,8 +67,9 @@ fn slot(slot: &Slot) -> String {
         format!("(Open {})", op(asked))
     });
     format!(
-        "slot {task} {} {} {} {} {}",
+        "slot {task} {} {} {} {} {} {}",
         slot.want,
+        lock(slot.lock),
         numbers(&slot.path),
         slot.depth,
         numbers(&slot.siblings),

@@ -1,6 +1,9 @@
 //! The lots on the bench and the shortcuts that lose a lot, each as document 01 says it; and the next lot, who waits behind
-//! whom, and regrading, as 02 does.
+//! whom, regrading, and updates that go down like readers, as 02 does.
 
+mod like_readers;
+
+use twin::Way::First;
 use twin::{kind, Answer, Op};
 
 use crate::program::Program;
@@ -24,10 +27,10 @@ pub struct Case {
 
 /// Operations on one key, for cases of who waits.
 const SEARCH: Op = Op::Search(5);
-const INSERT: Op = Op::Insert(5, INFORMATION);
-const DELETE: Op = Op::Delete(5);
+const INSERT: Op = Op::Insert(5, INFORMATION, First);
+const DELETE: Op = Op::Delete(5, First);
 const NEXT: Op = Op::Next(5);
-const REGRADE: Op = Op::Regrade(5, INFORMATION);
+const REGRADE: Op = Op::Regrade(5, INFORMATION, First);
 
 /// Answers that carry the information.
 const FOUND: Answer = Answer::Found(INFORMATION);
@@ -97,11 +100,11 @@ impl Case {
     }
 
     fn insert(&mut self, key: u32, grants: usize, answer: Answer) {
-        self.alone(Op::Insert(key, INFORMATION), grants, answer);
+        self.alone(Op::Insert(key, INFORMATION, First), grants, answer);
     }
 
     fn delete(&mut self, key: u32, grants: usize, answer: Answer) {
-        self.alone(Op::Delete(key), grants, answer);
+        self.alone(Op::Delete(key, First), grants, answer);
     }
 
     fn next(&mut self, key: u32, grants: usize, answer: Answer) {
@@ -109,7 +112,7 @@ impl Case {
     }
 
     fn regrade(&mut self, key: u32, with: u32, grants: usize, answer: Answer) {
-        self.alone(Op::Regrade(key, with), grants, answer);
+        self.alone(Op::Regrade(key, with, First), grants, answer);
     }
 
     /// What the program says otherwise, if anything.
@@ -145,6 +148,7 @@ pub fn cases() -> Vec<Case> {
         nexts(),
         regraded(),
         regrade_locks(),
+        like_readers::cases(),
     ]
     .into_iter()
     .flatten()
@@ -209,7 +213,7 @@ fn together() -> Vec<Case> {
     let mut j = Case::from_e("J");
     j.begin(0, Op::Search(10), Answer::Begun);
     j.call("t 0", Answer::Moved);
-    j.begin(1, Op::Delete(20), Answer::Begun);
+    j.begin(1, Op::Delete(20, First), Answer::Begun);
     j.call("t 1", Answer::Waiting);
     j.call("t 0", FOUND);
     j.call("t 1", Answer::Moved);
@@ -265,7 +269,7 @@ fn limits() -> Vec<Case> {
 
     let mut kinds = Case::fresh("kinds", 1);
     kinds.call(&begin_line(0, (kind::CLOSED, 5, 0)), Answer::BadKind);
-    kinds.call(&begin_line(0, (kind::REGRADE + 1, 5, 0)), Answer::BadKind);
+    kinds.call(&begin_line(0, (kind::LAST + 1, 5, 0)), Answer::BadKind);
     kinds.call(&begin_line(16, (u32::MAX, 5, 0)), Answer::BadKind);
 
     vec![
@@ -302,7 +306,7 @@ fn shortcuts() -> Vec<Case> {
 
     // "the father is given up though it must change"
     let mut safe = Case::from_e("testing μ < 2k on a deletion");
-    safe.begin(0, Op::Delete(10), Answer::Begun);
+    safe.begin(0, Op::Delete(10, First), Answer::Begun);
     safe.call("t 0", Answer::Moved);
     safe.call("t 0", Answer::Moved);
     safe.call("r 0", Answer::Reported(2, 1, 0));
@@ -314,7 +318,7 @@ fn shortcuts() -> Vec<Case> {
     sibling.call("t 0", Answer::Moved);
     sibling.call("t 0", Answer::Moved);
     sibling.call("r 6", Answer::Reported(1, 1, 0));
-    sibling.begin(1, Op::Delete(10), Answer::Begun);
+    sibling.begin(1, Op::Delete(10, First), Answer::Begun);
     for _ in 0..4 {
         sibling.call("t 1", Answer::Moved);
     }
@@ -406,7 +410,7 @@ fn next_child() -> Case {
 fn next_keeps() -> Case {
     let mut case = three_levels("next over three levels keeps both ways");
     case.begin(0, Op::Next(25), Answer::Begun);
-    case.begin(1, Op::Insert(26, 7), Answer::Begun);
+    case.begin(1, Op::Insert(26, 7, First), Answer::Begun);
     for page in [0, 5, 2, 6] {
         case.call("t 0", Answer::Moved);
         case.call("t 1", Answer::Waiting);
@@ -461,7 +465,7 @@ fn next_shares() -> Case {
 fn regraded() -> Vec<Case> {
     // "AlreadyThere shall now carry the information there", and not what was to be entered
     let mut there = Case::from_e("AlreadyThere with what is there");
-    there.alone(Op::Insert(20, 9), 2, ALREADY_THERE);
+    there.alone(Op::Insert(20, 9, First), 2, ALREADY_THERE);
     there.words(&E);
 
     // "puts new information under a key that is there and answers Regraded with the old information"
@@ -519,7 +523,7 @@ fn regrade_locks() -> Vec<Case> {
 /// "It takes ξ-locks; every page is safe for it, so it holds at most 1"
 fn regrade_holds() -> Case {
     let mut case = three_levels("regrading holds one page, alone");
-    case.begin(0, Op::Regrade(20, 9), Answer::Begun);
+    case.begin(0, Op::Regrade(20, 9, First), Answer::Begun);
     case.call("t 0", Answer::Moved);
     case.call("r 0", Answer::Reported(2, 1, 0));
     case.call("t 0", Answer::Moved);
@@ -536,7 +540,7 @@ fn regrade_waits() -> Case {
     let mut case = three_levels("a lot is searched for while it is regraded");
     case.begin(0, Op::Search(20), Answer::Begun);
     case.call("t 0", Answer::Moved);
-    case.begin(1, Op::Regrade(20, 9), Answer::Begun);
+    case.begin(1, Op::Regrade(20, 9, First), Answer::Begun);
     case.begin(2, Op::Search(20), Answer::Begun);
     case.call("t 1", Answer::Waiting);
     case.call("t 0", Answer::Moved);

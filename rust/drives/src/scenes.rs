@@ -3,7 +3,9 @@
 
 use draw::Random;
 use moments::{built, draw, limits, next_call, operation, Call, Draw, Moment};
-use twin::{at, is_sound, kind, page_words, row, state_of, Op, State, FRONT, SLOTS, STATE};
+use twin::{
+    at, is_sound, kind, page_words, row, state_of, Lock, Op, State, Way, FRONT, SLOTS, STATE,
+};
 use versus::spoiled;
 
 use crate::scene::{call_line, Scene};
@@ -277,7 +279,24 @@ fn state_place(random: &mut Random, scene: &Scene) -> usize {
 
 /// Another word: near the one that was, or at some limit.
 fn changed(random: &mut Random, draw: &Draw, was: u32) -> u32 {
-    let limits = [0, 1, 2, 5, 6, 9, 10, 11, 15, 16, 17, 1024, 1025, u32::MAX];
+    let limits = [
+        0,
+        1,
+        2,
+        3,
+        5,
+        6,
+        8,
+        9,
+        10,
+        11,
+        15,
+        16,
+        17,
+        1024,
+        1025,
+        u32::MAX,
+    ];
     match random.below(8) {
         0 | 1 => was.wrapping_add(1),
         2 => was.wrapping_sub(1),
@@ -336,11 +355,12 @@ fn raw_scene(random: &mut Random, scene: &mut Scene) {
             for row in 0..row::COUNT {
                 state[at(row, slot)] = random.below(most) as u32;
             }
-            state[at(row::KIND, slot)] =
-                random.from(u64::from(kind::SEARCH), u64::from(kind::REGRADE)) as u32;
+            let kind = random.from(u64::from(kind::SEARCH), u64::from(kind::LAST)) as u32;
+            state[at(row::KIND, slot)] = kind;
+            state[at(row::LOCK, slot)] = raw_lock(random, kind);
         } else if random.percent(20) {
-            // a closed slot's key, information and want are not looked at
-            let any = random.from(row::KEY as u64, row::WANT as u64) as usize;
+            // a closed slot's key, information, want and lock are not looked at
+            let any = random.from(row::KEY as u64, row::LOCK as u64) as usize;
             state[at(any, slot)] = 7;
         }
     }
@@ -355,11 +375,24 @@ fn raw_scene(random: &mut Random, scene: &mut Scene) {
     for _ in 0..4 {
         let slot = random.below(17);
         let line = match random.below(4) {
-            0 => format!("b {slot} {} {} 5", random.below(7), random.below(4)),
+            0 => {
+                let kind = random.below(u64::from(kind::LAST) + 2);
+                format!("b {slot} {kind} {} 5", random.below(4))
+            }
             1 => format!("r {}", random.below(u64::from(n) + 2)),
             _ => format!("t {slot}"),
         };
         scene.text(&line);
+    }
+}
+
+/// The number of a lock: mostly one that an operation of this kind wants.
+fn raw_lock(random: &mut Random, kind: u32) -> u32 {
+    let own = Op::of(kind, 0, 0).map_or(Lock::None, Op::holds);
+    if random.percent(80) {
+        own.number()
+    } else {
+        random.below(4) as u32
     }
 }
 
@@ -389,8 +422,9 @@ fn making(random: &mut Random) -> Scene {
             random.below(9)
         ));
         scene.text(&format!("m {k} {n}"));
+        let way = random.one(&Way::BOTH);
         for call in [
-            Call::Begin(3, Op::Insert(4, 5)),
+            Call::Begin(3, Op::Insert(4, 5, way)),
             Call::Step(3),
             Call::Report(0),
         ] {

@@ -1,12 +1,19 @@
 //! The comparison can fail: each bug that is put into the calls of the second program is found.
 
+#[path = "bugs/like_readers.rs"]
+mod like_readers;
+
+use std::fmt::Debug;
+
 use draw::Random;
 use drive_twin::{Calls, Twin};
 use drives::{cases, compare, draw_scene, smallest, Scene, KINDS};
-use twin::row::{BESIDE, DEPTH, INFORMATION, KEY, KIND, PATH, WANT};
+use like_readers::{SecondBug, SECOND_BUGS, SECOND_STATE_BUGS};
+use twin::row::{BESIDE, DEPTH, INFORMATION, KEY, KIND, LOCK, PATH, WANT};
+use twin::Way::First;
 use twin::{
     at, begin_lent, free_pages, kind, make_lent, page_words, report_lent, step_lent, words_of,
-    Answer, Op, State, STATE,
+    Answer, Lock, Op, State, STATE,
 };
 
 /// A call that something is wrong with.
@@ -317,7 +324,9 @@ impl Bug {
                 words.copy_from_slice(pages);
                 answer
             }
-            (Bug::RegradeReads, Answer::Found(_)) => alone(before, words, Op::Regrade(key, new)),
+            (Bug::RegradeReads, Answer::Found(_)) => {
+                alone(before, words, Op::Regrade(key, new, First))
+            }
             (Bug::RegradeReads, Answer::NotFound) => Answer::NoSuchKey,
             (Bug::RegradeKeepsFather, Answer::Moved) if before[at(DEPTH, slot)] == 1 => {
                 state[at(DEPTH, slot)] = 2;
@@ -327,11 +336,13 @@ impl Bug {
             }
             (Bug::RegradeTakesOut, Answer::Regraded(_)) => {
                 words.copy_from_slice(pages);
-                alone(before, words, Op::Delete(key));
-                alone(before, words, Op::Insert(key, new));
+                alone(before, words, Op::Delete(key, First));
+                alone(before, words, Op::Insert(key, new, First));
                 answer
             }
-            (Bug::RegradeEnters, Answer::NoSuchKey) => alone(before, words, Op::Insert(key, new)),
+            (Bug::RegradeEnters, Answer::NoSuchKey) => {
+                alone(before, words, Op::Insert(key, new, First))
+            }
             _ => answer,
         }
     }
@@ -342,9 +353,9 @@ impl Bug {
         state: &mut [u32; STATE],
         call: impl FnOnce(&mut [u32; STATE]) -> Answer,
     ) -> Answer {
-        let (disguise, depths) = match self {
-            Bug::RegradeReads => (kind::SEARCH, 0..2),
-            Bug::RegradeHoldsTwo => (kind::INSERT, 2..3),
+        let (disguise, lock, depths) = match self {
+            Bug::RegradeReads => (kind::SEARCH, Lock::Rho, 0..2),
+            Bug::RegradeHoldsTwo => (kind::INSERT, Lock::Xi, 2..3),
             _ => return call(state),
         };
         let before = *state;
@@ -354,11 +365,13 @@ impl Bug {
         let meant: Vec<usize> = (0..16).filter(is_meant).collect();
         for &slot in &meant {
             state[at(KIND, slot)] = disguise;
+            state[at(LOCK, slot)] = lock.number();
         }
         let answer = call(state);
         for slot in meant {
             if state[at(KIND, slot)] == disguise {
                 state[at(KIND, slot)] = kind::REGRADE;
+                state[at(LOCK, slot)] = Lock::Xi.number();
                 state[at(INFORMATION, slot)] = before[at(INFORMATION, slot)];
             }
         }
@@ -371,16 +384,21 @@ impl Bug {
             Bug::LongOrderCut => state[2] = state[2].min(16),
             Bug::UnknownKindClosed => state[at(KIND, 0)..at(KEY, 0)]
                 .iter_mut()
-                .filter(|its| **its > kind::REGRADE)
+                .filter(|its| **its > kind::LAST)
                 .for_each(|its| *its = kind::CLOSED),
             _ => {}
         }
     }
 }
 
-/// Whether a slot of a sound state only reads.
+/// Whether a slot's operation goes the second way.
+fn is_second(state: &[u32; STATE], slot: usize) -> bool {
+    (kind::INSERT_SECOND..=kind::REGRADE_SECOND).contains(&state[at(KIND, slot)])
+}
+
+/// Whether a slot of a sound state wants its page with ρ.
 fn reads(state: &[u32; STATE], slot: usize) -> bool {
-    matches!(state[at(KIND, slot)], kind::SEARCH | kind::NEXT)
+    state[at(LOCK, slot)] == Lock::Rho.number()
 }
 
 /// The slots of a sound state that have wanted a slot's page for longer.
@@ -441,17 +459,31 @@ fn scenes() -> Vec<Scene> {
         .collect()
 }
 
+/// A bug is found in some of the scenes, and told.
+fn is_found(bug: impl Calls + Copy + Debug, scenes: &[Scene]) {
+    let program = || bug;
+    let found = scenes
+        .chunks(28)
+        .find_map(|batch| compare(&program, batch).map(|at| &batch[at]));
+    let scene = found.unwrap_or_else(|| panic!("{bug:?} is not found"));
+    let text = smallest(&program, &scene.lines);
+    assert!(text.contains("by the twin"), "{bug:?}: {text}");
+}
+
+/// A case of the documents is answered otherwise.
+fn is_refuted<C: Calls + Copy + Debug>(bug: C) {
+    let refuted = cases().iter().any(|case| case.refuted(&|| bug).is_some());
+    assert!(refuted, "{bug:?}");
+}
+
 #[test]
 fn each_bug_is_found() {
     let scenes = scenes();
     for bug in BUGS.into_iter().chain(request_bugs()) {
-        let program = || bug;
-        let found = scenes
-            .chunks(28)
-            .find_map(|batch| compare(&program, batch).map(|at| &batch[at]));
-        let scene = found.unwrap_or_else(|| panic!("{bug:?} is not found"));
-        let text = smallest(&program, &scene.lines);
-        assert!(text.contains("by the twin"), "{bug:?}: {text}");
+        is_found(bug, &scenes);
+    }
+    for bug in SECOND_BUGS.into_iter().chain(SECOND_STATE_BUGS) {
+        is_found(bug, &scenes);
     }
 }
 
@@ -483,8 +515,9 @@ fn a_case_of_the_documents_finds_each_shortcut() {
         Bug::FreedNotZeroed,
         Bug::LastPageKept,
     ];
-    for bug in shortcuts.into_iter().chain(request_bugs()) {
-        let refuted = cases().iter().any(|case| case.refuted(&|| bug).is_some());
-        assert!(refuted, "{bug:?}");
-    }
+    shortcuts
+        .into_iter()
+        .chain(request_bugs())
+        .for_each(is_refuted::<Bug>);
+    SECOND_BUGS.into_iter().for_each(is_refuted::<SecondBug>);
 }

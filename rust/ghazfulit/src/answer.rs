@@ -6,7 +6,33 @@ use std::fmt::{self, Display, Formatter};
 use crate::numbers;
 use crate::raw::Answer;
 
+/// How an update goes down. It does the same by both ways.
+#[derive(Clone, Copy, Debug, Default, PartialEq, Eq, Hash)]
+pub enum Way {
+    /// With ξ-locks from page 0 on: what it holds nobody else can read.
+    #[default]
+    First,
+    /// With ρ-locks like a search, beside all who read, and a ξ-lock on its leaf alone. Where the change would reach beyond the leaf, and
+    /// where page 0 is a leaf, it gives up what it holds and begins again by the first way, which is answered [`Step::Moved`].
+    Second,
+}
+
+impl Way {
+    /// Each of them once.
+    pub const BOTH: [Way; 2] = [Way::First, Way::Second];
+}
+
 /// What a buyer asks for.
+///
+/// The functions of the same names make updates by the first way; [`Op::by`] chooses.
+///
+/// ```
+/// # use ghazfulit::{Op, Way};
+/// let op = Op::Insert { key: 12, information: 3, way: Way::First };
+/// assert_eq!(Op::insert(12, 3), op);
+/// let op = Op::Delete { key: 12, way: Way::Second };
+/// assert_eq!(Op::delete(12).by(Way::Second), op);
+/// ```
 #[derive(Clone, Copy, Debug, PartialEq, Eq, Hash)]
 #[non_exhaustive]
 pub enum Op {
@@ -21,11 +47,15 @@ pub enum Op {
         key: u32,
         /// What stands with it.
         information: u32,
+        /// How it goes down.
+        way: Way,
     },
     /// A lot to be taken out.
     Delete {
         /// Its key.
         key: u32,
+        /// How it goes down.
+        way: Way,
     },
     /// The first lot at or above a key.
     Next {
@@ -38,18 +68,88 @@ pub enum Op {
         key: u32,
         /// What is to stand with it from now on.
         information: u32,
+        /// How it goes down.
+        way: Way,
     },
 }
 
 impl Op {
+    /// A search.
+    pub const fn search(key: u32) -> Op {
+        Op::Search { key }
+    }
+
+    /// An insertion by the first way.
+    pub const fn insert(key: u32, information: u32) -> Op {
+        let way = Way::First;
+        Op::Insert {
+            key,
+            information,
+            way,
+        }
+    }
+
+    /// A deletion by the first way.
+    pub const fn delete(key: u32) -> Op {
+        let way = Way::First;
+        Op::Delete { key, way }
+    }
+
+    /// The first lot at or above a key.
+    pub const fn next(key: u32) -> Op {
+        Op::Next { key }
+    }
+
+    /// A regrading by the first way.
+    pub const fn regrade(key: u32, information: u32) -> Op {
+        let way = Way::First;
+        Op::Regrade {
+            key,
+            information,
+            way,
+        }
+    }
+
+    /// The same update by this way. Who only reads has none, and stays as it is.
+    pub const fn by(mut self, chosen: Way) -> Op {
+        match &mut self {
+            Op::Search { .. } | Op::Next { .. } => {}
+            Op::Insert { way, .. } | Op::Delete { way, .. } | Op::Regrade { way, .. } => {
+                *way = chosen;
+            }
+        }
+        self
+    }
+
     /// Kind, key and information, as the library takes them; 0 where there is no information.
     pub fn numbers(self) -> (u32, u32, u32) {
+        let by = |way, first, second| match way {
+            Way::First => first,
+            Way::Second => second,
+        };
         match self {
             Op::Search { key } => (numbers::SEARCH, key, 0),
-            Op::Insert { key, information } => (numbers::INSERT, key, information),
-            Op::Delete { key } => (numbers::DELETE, key, 0),
+            Op::Insert {
+                key,
+                information,
+                way,
+            } => {
+                let kind = by(way, numbers::INSERT, numbers::INSERT_SECOND);
+                (kind, key, information)
+            }
+            Op::Delete { key, way } => {
+                let kind = by(way, numbers::DELETE, numbers::DELETE_SECOND);
+                (kind, key, 0)
+            }
             Op::Next { key } => (numbers::NEXT, key, 0),
-            Op::Regrade { key, information } => (numbers::REGRADE, key, information),
+            Op::Regrade {
+                key,
+                information,
+                way,
+            } => {
+                let kind = by(way, numbers::REGRADE, numbers::REGRADE_SECOND);
+                (kind, key, information)
+            }
         }
     }
 }
@@ -60,7 +160,7 @@ impl Op {
 pub enum Step {
     /// The lock is not to be had yet; nothing has changed.
     Waiting,
-    /// One lock more.
+    /// One lock more; or an update of the second way has given up what it held, and begins again by the first.
     Moved,
     /// The key is there, with this information.
     Found(u32),
@@ -199,9 +299,9 @@ impl Error for Refusal {}
 #[derive(Clone, Copy, Debug, PartialEq, Eq, Hash)]
 #[non_exhaustive]
 pub enum Lock {
-    /// Of a search or a next: others may read there too.
+    /// Of a search, a next or an update by the second way: others may read there too.
     Rho,
-    /// An update's: it goes with nothing.
+    /// Of an update by the first way: it goes with nothing.
     Xi,
 }
 

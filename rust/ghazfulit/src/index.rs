@@ -72,7 +72,7 @@ impl Index<'static> {
     /// ```
     /// # use ghazfulit::{Index, Op, Refusal, Step};
     /// let mut index = Index::new(1, 3)?;
-    /// index.begin(0, Op::Insert { key: 10, information: 7 })?;
+    /// index.begin(0, Op::insert(10, 7))?;
     /// let (state, words) = index.into_parts();
     /// // kept somewhere, and taken up again
     /// let mut index = Index::from_parts(state, words);
@@ -91,7 +91,7 @@ impl<'w> Index<'w> {
     /// # use ghazfulit::{pool_words, Index, Op, Refusal, Step};
     /// let mut words = vec![0; pool_words(1, 1)];
     /// let mut index = Index::over(1, 1, &mut words)?;
-    /// index.begin(0, Op::Insert { key: 10, information: 7 })?;
+    /// index.begin(0, Op::insert(10, 7))?;
     /// assert_eq!(index.step(0)?, Step::Inserted);
     /// assert_eq!(words, [1, 1, 10, 7, 0, 0, 0]);
     /// # Ok::<(), Refusal>(())
@@ -120,7 +120,7 @@ impl<'w> Index<'w> {
         Index { state, words }
     }
 
-    /// Begins an operation in a closed slot.
+    /// Begins an operation in a closed slot. An update chooses its [`Way`](crate::Way) here.
     pub fn begin(&mut self, slot: u32, op: Op) -> Result<(), Refusal> {
         let (kind, key, information) = op.numbers();
         done(raw::begin(&mut self.state, slot, kind, key, information))
@@ -132,16 +132,16 @@ impl<'w> Index<'w> {
     }
 
     /// Steps a slot until its operation is answered, or has to wait for another slot: then `Waiting` is told, and the slot stays
-    /// open. It ends: no operation takes more than 19 locks.
+    /// open. It ends: no operation takes more than 29 locks, 10 of them before an update of the second way begins again.
     ///
     /// ```
     /// # use ghazfulit::{Index, Op, Refusal, Step};
     /// let mut index = Index::new(1, 3)?;
     /// for key in [10, 20, 30] {
-    ///     index.begin(0, Op::Insert { key, information: 7 })?;
+    ///     index.begin(0, Op::insert(key, 7))?;
     ///     assert_eq!(index.finish(0)?, Step::Inserted);
     /// }
-    /// index.begin(0, Op::Search { key: 20 })?;
+    /// index.begin(0, Op::search(20))?;
     /// assert_eq!(index.finish(0)?, Step::Found(7));
     /// # Ok::<(), Refusal>(())
     /// ```
@@ -161,7 +161,7 @@ impl<'w> Index<'w> {
     /// # use ghazfulit::{Index, Op, Stop};
     /// let mut index = Index::new(1, 3)?;
     /// for key in [30, 10, 20] {
-    ///     index.begin(0, Op::Insert { key, information: key + 1 })?;
+    ///     index.begin(0, Op::insert(key, key + 1))?;
     ///     index.finish(0)?;
     /// }
     /// let mut keys = Vec::new();
@@ -224,7 +224,7 @@ mod tests {
     }
 
     #[test]
-    #[should_panic = "the archive is of version 1, and this crate of version 2"]
+    #[should_panic = "the archive is of version 1, and this crate of version 3"]
     fn another_version_is_refused() {
         hold_version(1);
     }

@@ -9,8 +9,8 @@
 //!
 //! fn main() -> Result<(), Stop> {
 //!     let mut index = Index::new(16, 1024)?; // 1,024 pages, up to 32 lots in each
-//!     index.begin(0, Op::Insert { key: 12, information: 3 })?;
-//!     index.begin(1, Op::Search { key: 12 })?;
+//!     index.begin(0, Op::insert(12, 3))?;
+//!     index.begin(1, Op::search(12))?;
 //!     assert_eq!(index.step(1)?, Step::Waiting); // slot 0 asked first, and is to change the page
 //!     assert_eq!(index.step(0)?, Step::Inserted);
 //!     assert_eq!(index.finish(1)?, Step::Found(3)); // steps it to its end
@@ -25,14 +25,34 @@
 //! use ghazfulit::{Index, Op, Step};
 //!
 //! let mut index = Index::new(2, 64)?;
-//! index.begin(0, Op::Insert { key: 12, information: 3 })?;
+//! index.begin(0, Op::insert(12, 3))?;
 //! assert_eq!(index.step(0)?, Step::Inserted);
-//! index.begin(1, Op::Next { key: 10 })?;
+//! index.begin(1, Op::next(10))?;
 //! assert_eq!(index.step(1)?, Step::Next { key: 12, information: 3 });
-//! index.begin(0, Op::Regrade { key: 12, information: 4 })?;
+//! index.begin(0, Op::regrade(12, 4))?;
 //! assert_eq!(index.step(0)?, Step::Regraded(3));
-//! index.begin(0, Op::Delete { key: 12 })?;
+//! index.begin(0, Op::delete(12))?;
 //! assert_eq!(index.step(0)?, Step::Deleted(4));
+//! # Ok::<(), ghazfulit::Refusal>(())
+//! ```
+//!
+//! An update goes one of two ways, chosen when it is begun. By the second it holds nobody out of the pages above its leaf, as long as the
+//! leaf is all that has to be changed:
+//!
+//! ```
+//! use ghazfulit::{Index, Op, Step, Way};
+//!
+//! let mut index = Index::new(1, 8)?;
+//! for key in [10, 20, 30] {
+//!     index.begin(0, Op::insert(key, 7))?;
+//!     index.finish(0)?;
+//! }
+//! index.begin(0, Op::insert(5, 7).by(Way::Second))?;
+//! index.begin(1, Op::search(30))?;
+//! assert_eq!(index.step(0)?, Step::Moved); // page 0, and the search holds it too
+//! assert_eq!(index.step(1)?, Step::Moved);
+//! assert_eq!(index.step(1)?, Step::Found(7));
+//! assert_eq!(index.step(0)?, Step::Inserted);
 //! # Ok::<(), ghazfulit::Refusal>(())
 //! ```
 //!
@@ -43,7 +63,7 @@
 //!
 //! let mut index = Index::new(2, 64)?;
 //! assert_eq!(index.step(0), Err(Refusal::SlotIdle));
-//! assert_eq!(index.begin(16, Op::Search { key: 1 }), Err(Refusal::BadSlot));
+//! assert_eq!(index.begin(16, Op::search(1)), Err(Refusal::BadSlot));
 //! assert_eq!(Refusal::BadSlot.to_string(), "the slot is above 15");
 //! # Ok::<(), Refusal>(())
 //! ```
@@ -56,7 +76,7 @@ mod lots;
 pub mod numbers;
 mod raw;
 
-pub use answer::{Lock, Op, Refusal, Report, Step};
+pub use answer::{Lock, Op, Refusal, Report, Step, Way};
 pub use index::Index;
 pub use lots::{Lot, Lots, Stop};
 pub use raw::{ANSWER, STATE};

@@ -84,7 +84,7 @@ impl<'i, 'w> Lots<'i, 'w> {
     fn ask(&mut self) -> Result<Option<Lot>, Stop> {
         match std::mem::replace(&mut self.asked, Asked::All) {
             Asked::All => return Ok(None),
-            Asked::From(key) => self.index.begin(self.slot, Op::Next { key })?,
+            Asked::From(key) => self.index.begin(self.slot, Op::next(key))?,
             Asked::Open => {}
         }
         match self.index.finish(self.slot)? {

@@ -2,7 +2,7 @@
 //! the functions ask for, and nobody else's while a call runs, which the types of the parameters say.
 
 /// Words of a state.
-pub const STATE: usize = 435;
+pub const STATE: usize = 451;
 /// Words of an answer.
 pub const ANSWER: usize = 4;
 

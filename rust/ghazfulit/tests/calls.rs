@@ -61,6 +61,33 @@ fn every_answer_of_the_header_has_a_row() {
     assert_eq!(missing, None);
 }
 
+/// The kinds of operation in a text, by name: those of the header, or of the second table.
+fn kinds(text: &str, pair: impl Fn(&str) -> Option<(String, u32)>) -> Vec<(String, u32)> {
+    text.lines().filter_map(pair).collect()
+}
+
+#[test]
+fn every_kind_of_the_header_has_a_row() {
+    let enumeration = HEADER.split("/* Kinds of operation.").nth(1);
+    let list = enumeration.and_then(|text| text.split("};").next());
+    let in_header = kinds(list.expect("they are there"), |line| {
+        let (name, number) = line.trim().split_once(" = ")?;
+        let number = number.split([',', ' ']).next()?;
+        let name = name.strip_prefix("GHAZFULIT_")?;
+        Some((name.to_string(), number.parse().ok()?))
+    });
+    let table = TABLE.split("| kind | in the header |").nth(1);
+    let in_table = kinds(table.expect("it is there"), |line| {
+        let cells: Vec<&str> = line.split('|').map(str::trim).collect();
+        let [_, number, name, ..] = cells[..] else {
+            return None;
+        };
+        Some((name.trim_matches('`').to_string(), number.parse().ok()?))
+    });
+    assert_eq!(in_header, in_table);
+    assert_eq!(in_header.len(), 8);
+}
+
 #[test]
 fn a_c_compiler_reads_the_header_so() {
     let held = |(at, row): (usize, Row)| {
@@ -209,7 +236,7 @@ fn each_row_is_met_and_nothing_else() {
     let mut random = Random(1);
     for _ in 0..4000 {
         let (slot, key) = (random.below(4) as u32, random.below(9) as u32);
-        let kind = random.from(1, 5) as u32;
+        let kind = random.from(1, numbers::REGRADE_SECOND.into()) as u32;
         met.call(match random.below(8) {
             0 | 1 => Call::Begin(slot, kind, key),
             2 => Call::Report(random.below(6) as u32),
@@ -223,7 +250,7 @@ fn each_row_is_met_and_nothing_else() {
                 state[2] = 17
             }),
             3 => met.call(random.one(&[Call::Begin(SLOTS, kind, key), Call::Step(SLOTS)])),
-            4 => met.call(Call::Begin(slot, random.one(&[0, 6, 31, u32::MAX]), key)),
+            4 => met.call(Call::Begin(slot, random.one(&[0, 9, 31, u32::MAX]), key)),
             _ => {}
         }
     }

@@ -1,11 +1,10 @@
 //! What the crate has beside the calls: parts by value, an operation stepped to its end, the lots in order, sizes and texts.
 
-use ghazfulit::{numbers, pool_words, Index, Lot, Op, Refusal, Step, Stop, SLOTS, STATE};
+use ghazfulit::{numbers, pool_words, Index, Lot, Op, Refusal, Step, Stop, Way, SLOTS, STATE};
 
 /// An insertion of a lot whose information is its key and 1.
 fn insert(key: u32) -> Op {
-    let information = key.wrapping_add(1);
-    Op::Insert { key, information }
+    Op::insert(key, key.wrapping_add(1))
 }
 
 /// A pool with these lots.
@@ -48,7 +47,7 @@ fn the_size_of_a_pool_saturates() {
 #[test]
 fn parts_go_out_and_in_by_value() {
     let mut index = entered(3, &[10, 20, 30]);
-    index.begin(4, Op::Search { key: 20 }).expect("begun");
+    index.begin(4, Op::search(20)).expect("begun");
     assert_eq!(index.step(4), Ok(Step::Moved));
     let (state, words) = index.into_parts();
     let mut index = Index::from_parts(state, words.clone());
@@ -65,9 +64,9 @@ fn parts_go_out_and_in_by_value() {
 #[test]
 fn an_operation_is_finished_or_waits() {
     let mut index = entered(8, &[10, 20, 30, 40, 50]);
-    index.begin(1, Op::Search { key: 50 }).expect("begun");
+    index.begin(1, Op::search(50)).expect("begun");
     assert_eq!(index.step(1), Ok(Step::Moved));
-    index.begin(0, Op::Delete { key: 10 }).expect("begun");
+    index.begin(0, Op::delete(10)).expect("begun");
     assert_eq!(index.finish(0), Ok(Step::Waiting));
     assert_eq!(index.finish(1), Ok(Step::Found(51)));
     assert_eq!(index.finish(0), Ok(Step::Deleted(11)));
@@ -94,7 +93,7 @@ fn each_lot_is_a_question_of_its_own() {
     let mut index = entered(20, &[10, 20, 30]);
     let mut lots = index.lots(3, 0);
     assert_eq!(lots.next().map(|lot| lot.map(|lot| lot.key)), Some(Ok(10)));
-    for op in [insert(5), insert(25), Op::Delete { key: 30 }] {
+    for op in [insert(5), insert(25), Op::delete(30)] {
         lots.index().begin(0, op).expect("begun");
         assert!(lots.index().finish(0).expect("answered").is_end());
     }
@@ -106,15 +105,7 @@ fn each_lot_is_a_question_of_its_own() {
 #[test]
 fn the_lots_wait_for_an_update() {
     let mut index = entered(3, &[10, 20, 30]);
-    index
-        .begin(
-            0,
-            Op::Regrade {
-                key: 10,
-                information: 7,
-            },
-        )
-        .expect("begun");
+    index.begin(0, Op::regrade(10, 7)).expect("begun");
     let mut lots = index.lots(3, 0);
     assert_eq!(lots.next(), Some(Err(Stop::Waiting)));
     assert_eq!(lots.next(), Some(Err(Stop::Waiting)));
@@ -124,6 +115,23 @@ fn the_lots_wait_for_an_update() {
     assert_eq!(lots.count(), 2);
 }
 
+/// Above its leaf an update of the second way bars nobody who reads; it has to wait for the leaf itself.
+#[test]
+fn the_lots_go_on_beside_the_second_way() {
+    let mut index = entered(3, &[10, 20, 30]);
+    let regrade = Op::regrade(30, 7).by(Way::Second);
+    index.begin(0, regrade).expect("begun");
+    assert_eq!(index.step(0), Ok(Step::Moved));
+    let mut lots = index.lots(3, 0);
+    assert_eq!(lots.next().map(|lot| lot.map(|lot| lot.key)), Some(Ok(10)));
+    // the next one is in the leaf that the regrading wants
+    assert_eq!(lots.next(), Some(Err(Stop::Waiting)));
+    assert_eq!(lots.index().finish(0), Ok(Step::Regraded(31)));
+    assert_eq!(lots.next().map(|lot| lot.map(|lot| lot.key)), Some(Ok(20)));
+    let (key, information) = (30, 7);
+    assert_eq!(lots.next(), Some(Ok(Lot { key, information })));
+}
+
 #[test]
 fn the_lots_end_where_they_are_refused() {
     let mut index = entered(3, &[10]);
@@ -131,7 +139,7 @@ fn the_lots_end_where_they_are_refused() {
     let mut lots = index.lots(SLOTS, 0);
     assert_eq!(lots.next(), refused(Refusal::BadSlot));
     assert_eq!(lots.next(), None);
-    index.begin(2, Op::Search { key: 10 }).expect("begun");
+    index.begin(2, Op::search(10)).expect("begun");
     let mut lots = index.lots(2, 0);
     assert_eq!(lots.next(), refused(Refusal::SlotBusy));
     assert_eq!(lots.next(), None);
@@ -144,7 +152,7 @@ fn the_lots_end_where_they_are_refused() {
 #[test]
 fn texts_and_numbers() {
     let mut index = entered(3, &[10]);
-    index.begin(2, Op::Search { key: 10 }).expect("begun");
+    index.begin(2, Op::search(10)).expect("begun");
     let text = format!("{index:?}");
     assert_eq!(text, "Index { k: 1, n: 3, open: 1, words: 21, .. }");
     let (key, information) = (4, 5);
@@ -152,6 +160,25 @@ fn texts_and_numbers() {
     assert_eq!(next.told(), [numbers::NEXT_LOT, 4, 5, 0]);
     assert_eq!(Refusal::Damaged.number(), numbers::DAMAGED);
     assert_eq!(insert(4).numbers(), (numbers::INSERT, 4, 5));
+}
+
+#[test]
+fn the_way_is_chosen() {
+    let kinds = |op: Op| (op.numbers().0, op.by(Way::Second).numbers().0);
+    for (op, first, second) in [
+        (Op::insert(4, 5), numbers::INSERT, numbers::INSERT_SECOND),
+        (Op::delete(4), numbers::DELETE, numbers::DELETE_SECOND),
+        (Op::regrade(4, 5), numbers::REGRADE, numbers::REGRADE_SECOND),
+        // who only reads has no way
+        (Op::search(4), numbers::SEARCH, numbers::SEARCH),
+        (Op::next(4), numbers::NEXT, numbers::NEXT),
+    ] {
+        assert_eq!(kinds(op), (first, second));
+        assert_eq!(op.by(Way::Second).by(Way::default()), op);
+        let (_, key, information) = op.numbers();
+        let (_, same, too) = op.by(Way::Second).numbers();
+        assert_eq!((key, information), (same, too));
+    }
 }
 
 #[test]

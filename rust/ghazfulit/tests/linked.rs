@@ -1,6 +1,6 @@
 //! The archive as it is linked: its sizes, its numbers and its refusals.
 
-use ghazfulit::{pool_words, Index, Lock, Op, Refusal, Step, STATE};
+use ghazfulit::{pool_words, Index, Lock, Op, Refusal, Step, Way, STATE};
 
 #[test]
 fn a_state_has_just_so_many_words() {
@@ -15,15 +15,7 @@ fn a_state_has_just_so_many_words() {
 fn case_e_and_its_locks() {
     let mut index = Index::new(1, 3).expect("in range");
     for key in [10, 20, 30] {
-        index
-            .begin(
-                0,
-                Op::Insert {
-                    key,
-                    information: 7,
-                },
-            )
-            .expect("begun");
+        index.begin(0, Op::insert(key, 7)).expect("begun");
         assert_eq!(index.step(0), Ok(Step::Inserted));
     }
     let pages = [
@@ -32,7 +24,7 @@ fn case_e_and_its_locks() {
         [1, 2, 20, 7, 30, 7, 0],
     ];
     assert_eq!(index.words(), pages.concat());
-    index.begin(0, Op::Search { key: 20 }).expect("begun");
+    index.begin(0, Op::search(20)).expect("begun");
     assert_eq!(index.step(0), Ok(Step::Moved));
     let report = index.report(0).expect("a page");
     assert_eq!((report.held, report.holders), (Some((Lock::Rho, 0)), 1));
@@ -42,17 +34,14 @@ fn case_e_and_its_locks() {
 #[test]
 fn the_next_lot() {
     let mut index = Index::new(1, 3).expect("in range");
-    index.begin(0, Op::Next { key: 10 }).expect("begun");
+    index.begin(0, Op::next(10)).expect("begun");
     assert_eq!(index.step(0), Ok(Step::None));
     for key in [10, 20, 30] {
-        let information = key + 1;
-        index
-            .begin(0, Op::Insert { key, information })
-            .expect("begun");
+        index.begin(0, Op::insert(key, key + 1)).expect("begun");
         assert_eq!(index.step(0), Ok(Step::Inserted));
     }
     // its leaf has nothing for it, and it keeps both while it wants the second one
-    index.begin(2, Op::Next { key: 11 }).expect("begun");
+    index.begin(2, Op::next(11)).expect("begun");
     for holders in [0, 1] {
         assert_eq!(index.step(2), Ok(Step::Moved));
         assert_eq!(index.report(1).expect("a page").holders, holders);
@@ -75,8 +64,8 @@ fn the_next_lot() {
 fn a_lot_is_regraded() {
     let mut index = Index::new(1, 1).expect("in range");
     let key = 10;
-    let regrade = |information| Op::Regrade { key, information };
-    let insert = |information| Op::Insert { key, information };
+    let regrade = |information| Op::regrade(key, information);
+    let insert = |information| Op::insert(key, information);
     for (op, answer, text, found) in [
         (regrade(9), Step::NoSuchKey, "NoSuchKey", Step::NotFound),
         (insert(7), Step::Inserted, "Inserted", Step::Found(7)),
@@ -89,7 +78,7 @@ fn a_lot_is_regraded() {
         ),
     ] {
         index.begin(0, op).expect("begun");
-        index.begin(1, Op::Search { key }).expect("begun");
+        index.begin(1, Op::search(key)).expect("begun");
         // it goes with nothing, and the search behind it finds what it left
         assert_eq!(index.step(1), Ok(Step::Waiting));
         assert_eq!(index.step(0), Ok(answer));
@@ -102,12 +91,11 @@ fn a_lot_is_regraded() {
 #[test]
 fn a_search_does_not_wait_for_a_search() {
     let mut index = Index::new(1, 1).expect("in range");
-    let (key, information) = (5, 7);
     let ops = [
-        Op::Search { key },
-        Op::Search { key },
-        Op::Insert { key, information },
-        Op::Search { key },
+        Op::search(5),
+        Op::search(5),
+        Op::insert(5, 7),
+        Op::search(5),
     ];
     for (slot, op) in ops.into_iter().enumerate() {
         index.begin(slot as u32, op).expect("begun");
@@ -122,15 +110,55 @@ fn a_search_does_not_wait_for_a_search() {
 }
 
 #[test]
+fn an_update_goes_down_like_a_reader() {
+    let mut index = Index::new(1, 4).expect("in range");
+    for key in [10, 20, 30] {
+        index.begin(0, Op::insert(key, 7)).expect("begun");
+        assert_eq!(index.step(0), Ok(Step::Inserted));
+    }
+    let second = |op: Op| op.by(Way::Second);
+    // a search holds page 0 with it; its leaf has room
+    index.begin(0, second(Op::insert(5, 7))).expect("begun");
+    index.begin(1, Op::search(20)).expect("begun");
+    assert_eq!(index.step(0), Ok(Step::Moved));
+    assert_eq!(index.step(1), Ok(Step::Moved));
+    let report = index.report(0).expect("a page");
+    assert_eq!((report.held, report.holders), (Some((Lock::Rho, 0)), 2));
+    assert_eq!(index.step(0), Ok(Step::Inserted));
+    assert_eq!(index.step(1), Ok(Step::Found(7)));
+    // the leaf is full: it gives up all, and begins again by the first way
+    index.begin(0, second(Op::insert(25, 7))).expect("begun");
+    for lock in [Some((Lock::Rho, 0)), None, Some((Lock::Xi, 0))] {
+        assert_eq!(index.step(0), Ok(Step::Moved));
+        assert_eq!(index.report(0).expect("a page").held, lock);
+    }
+    assert_eq!(index.step(0), Ok(Step::Inserted));
+    for (op, answer) in [
+        (Op::insert(25, 9), Step::AlreadyThere(7)),
+        (Op::regrade(25, 9), Step::Regraded(7)),
+        (Op::delete(25), Step::Deleted(9)),
+        (Op::delete(25), Step::NoSuchKey),
+    ] {
+        index.begin(2, second(op)).expect("begun");
+        assert_eq!(index.step(2), Ok(Step::Moved));
+        assert_eq!(index.step(2), Ok(answer));
+    }
+    let pages = [
+        [2, 2, 1, 20, 2, 25, 3],
+        [1, 2, 5, 7, 10, 7, 0],
+        [1, 1, 20, 7, 0, 0, 0],
+        [1, 1, 30, 7, 0, 0, 0],
+    ];
+    assert_eq!(index.words(), pages.concat());
+}
+
+#[test]
 fn a_refused_call_leaves_all_as_it_was() {
     let mut words = vec![5; 9];
     assert_eq!(Index::over(1, 1, &mut words).err(), Some(Refusal::BadPool));
     let mut index = Index::from_words([3; STATE], &mut words);
     assert_eq!(index.step(0), Err(Refusal::BadState));
-    assert_eq!(
-        index.begin(0, Op::Delete { key: 1 }),
-        Err(Refusal::BadState)
-    );
+    assert_eq!(index.begin(0, Op::delete(1)), Err(Refusal::BadState));
     assert_eq!(index.report(0), Err(Refusal::BadState));
     assert_eq!(index.state(), &[3; STATE]);
     assert_eq!(words, [5; 9]);

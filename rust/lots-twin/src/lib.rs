@@ -1,5 +1,6 @@
 //! The little program of documents 01 and 02 as one function from its input to its output.
 
+use twin::Way::{First, Second};
 use twin::{begin, make, page_words, step, Answer, Op, State};
 
 /// The most bytes the program reads.
@@ -67,24 +68,32 @@ impl Talk {
     }
 }
 
-/// What a line asks for, if it is one of the six.
+/// What a line asks for, if it is one.
 fn parse(line: &[u8]) -> Option<Line> {
     let parts: Vec<&[u8]> = line.split(|&byte| byte == b' ').collect();
     match parts[..] {
-        [b"b", slot, b"s", key] => Some(Line::Begin(number(slot)?, Op::Search(number(key)?))),
-        [b"b", slot, b"i", key, information] => Some(Line::Begin(
-            number(slot)?,
-            Op::Insert(number(key)?, number(information)?),
-        )),
-        [b"b", slot, b"d", key] => Some(Line::Begin(number(slot)?, Op::Delete(number(key)?))),
-        [b"b", slot, b"n", key] => Some(Line::Begin(number(slot)?, Op::Next(number(key)?))),
-        [b"b", slot, b"g", key, information] => Some(Line::Begin(
-            number(slot)?,
-            Op::Regrade(number(key)?, number(information)?),
-        )),
+        [b"b", slot, letter, ref rest @ ..] => {
+            Some(Line::Begin(number(slot)?, operation(letter, rest)?))
+        }
         [b"t", slot] => Some(Line::Step(number(slot)?)),
         _ => None,
     }
+}
+
+/// The operation that a letter asks for, with the numbers behind it; a 2 at the letter chooses the second way.
+fn operation(letter: &[u8], rest: &[&[u8]]) -> Option<Op> {
+    let numbers: Option<Vec<u32>> = rest.iter().map(|digits| number(digits)).collect();
+    Some(match (letter, &numbers?[..]) {
+        (b"s", &[key]) => Op::Search(key),
+        (b"n", &[key]) => Op::Next(key),
+        (b"i", &[key, information]) => Op::Insert(key, information, First),
+        (b"i2", &[key, information]) => Op::Insert(key, information, Second),
+        (b"d", &[key]) => Op::Delete(key, First),
+        (b"d2", &[key]) => Op::Delete(key, Second),
+        (b"g", &[key, information]) => Op::Regrade(key, information, First),
+        (b"g2", &[key, information]) => Op::Regrade(key, information, Second),
+        _ => return None,
+    })
 }
 
 /// A decimal number of 32 bits: digits only, leading zeros allowed.

@@ -66,6 +66,31 @@ fn bad_lines() {
         "b 0 G 1 2\n",
         "g 0 1 2\n",
         "b 0 g 1 2",
+        "b 0 i2\n",
+        "b 0 i2 1\n",
+        "b 0 i2 1 2 3\n",
+        "b 0 i2 1  2\n",
+        "b 0 i2 1 4294967296\n",
+        "b 0 i 2 1 2\n",
+        "b 0 i1 1 2\n",
+        "b 0 i02 1 2\n",
+        "b 0 i22 1 2\n",
+        "b 0 I2 1 2\n",
+        "b 0 2i 1 2\n",
+        "b 0 2 1 2\n",
+        "b 0 i2 1 2",
+        "b 0 d2\n",
+        "b 0 d2 1 2\n",
+        "b 0 d2 4294967296\n",
+        "b 0 d3 1\n",
+        "b 0 g2 1\n",
+        "b 0 g2 1 2 3\n",
+        "b 0 g21 2\n",
+        "b 0 s2 1\n",
+        "b 0 n2 1\n",
+        "t2 0\n",
+        "b2 0 s 1\n",
+        "i2 0 1 2\n",
         "b 0 x 1\n",
         "b s 1\n",
         "t 4294967296\n",
@@ -143,6 +168,28 @@ fn a_search_while_a_lot_is_regraded() {
         written(input),
         "Begun\nInserted\nBegun\nBegun\nWaiting\nRegraded 3\nFound 4\nBegun\nBegun\nWaiting\nFound 4\nRegraded 4\n"
     );
+}
+
+/// Behind the letter of an update a 2 chooses the second way. Page 0 is a leaf here, so that each begins again.
+#[test]
+fn the_second_way() {
+    let input = "b 0 i2 12 3\nt 0\nt 0\nb 0 i2 012 4\nt 0\nt 0\nb 1 g2 12 5\nt 1\nt 1\nb 1 d2 12\nt 1\nt 1\nb 16 d2 0\n";
+    assert_eq!(
+        written(input),
+        "Begun\nMoved\nInserted\nBegun\nMoved\nAlreadyThere 3\nBegun\nMoved\nRegraded 3\nBegun\nMoved\nDeleted 5\nBadSlot\n"
+    );
+}
+
+/// A buyer's search is not held out of the top page; on the leaf the two clash.
+#[test]
+fn a_search_beside_the_second_way() {
+    let mut input = String::new();
+    for key in [10, 20, 30, 40, 50] {
+        input += &format!("b 0 i {key} {key}\nt 0\n");
+    }
+    input += "b 0 d2 30\nb 1 s 30\nt 0\nt 1\nt 1\nt 0\nt 1\n";
+    let told = "Begun\nBegun\nMoved\nMoved\nWaiting\nDeleted 30\nNotFound\n";
+    assert!(written(&input).ends_with(told), "{}", written(&input));
 }
 
 #[test]

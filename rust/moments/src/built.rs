@@ -2,9 +2,9 @@
 //! wants is sound by itself and in its place, but keys, pointers and all other pages are drawn.
 
 use draw::Random;
-use twin::{page_words, Op, Slot, State};
+use twin::{page_words, Lock, Op, Slot, State, Way};
 
-use crate::moment::{Call, Moment};
+use crate::moment::{ask, Call, Moment};
 use crate::pages::{leads, operation, path_count, places, rubbish, write, Build};
 use crate::second_way::place_next;
 
@@ -38,11 +38,21 @@ fn spoil(random: &mut Random, build: &mut Build, slot: &mut Slot) {
     let other = random.below(u64::from(build.n)) as u32;
     let key = slot.op.map_or(0, Op::key);
     let drawn = random.below(build.keys) as u32;
-    match random.below(16) {
+    let way = random.one(&Way::BOTH);
+    match random.below(18) {
         12..=15 => turn_back(random, build, slot),
-        0 => slot.op = Some(random.one(&[Op::Delete(key), Op::Next(key), Op::Regrade(key, 1)])),
-        1 => slot.op = Some(Op::Insert(key, 1)),
-        2 => slot.op = Some(random.one(&[Op::Delete(drawn), Op::Next(drawn)])),
+        16 => slot.lock = random.one(&[Lock::Rho, Lock::Xi]),
+        17 => slot.op = slot.op.map(|op| op.by(way)),
+        0 => ask(
+            slot,
+            random.one(&[
+                Op::Delete(key, way),
+                Op::Next(key),
+                Op::Regrade(key, 1, way),
+            ]),
+        ),
+        1 => ask(slot, Op::Insert(key, 1, way)),
+        2 => ask(slot, random.one(&[Op::Delete(drawn, way), Op::Next(drawn)])),
         3 | 4 => recount(random, build, page),
         5 => build.words[start] = (build.words[start] + random.one(&[1, 2, 10])) % 12,
         6 => want_copy(build, slot, other),
@@ -125,7 +135,9 @@ fn want_copy(build: &mut Build, slot: &mut Slot, other: u32) {
 fn add_others(random: &mut Random, state: &mut State, number: usize) {
     for other in 0..16 {
         if other != number && random.percent(10) {
-            state.slots[other] = Slot::open(Op::Search(other as u32), 0, &[], &[]);
+            let key = other as u32;
+            let op = random.one(&[Op::Search(key), Op::Delete(key, Way::Second)]);
+            state.slots[other] = Slot::open(op, 0, &[], &[]);
             state.order[state.waiting] = other;
             state.waiting += 1;
         }
@@ -148,9 +160,9 @@ fn place_slot(random: &mut Random, build: &mut Build, op: Op) -> Option<Slot> {
 
 /// The same for an operation that holds something and is no `Next`.
 fn place_held(random: &mut Random, build: &mut Build, op: Op) -> Option<Slot> {
-    let is_beside = matches!(op, Op::Delete(_)) && random.percent(65);
-    let held = match op {
-        Op::Search(_) | Op::Regrade(..) => 1,
+    let is_beside = matches!(op, Op::Delete(_, Way::First)) && random.percent(65);
+    let held = match (op, op.way()) {
+        (Op::Search(_) | Op::Regrade(..), _) | (_, Some(Way::Second)) => 1,
         _ => random.one(&[1, 1, 2, 2, 2, 3, 3, 4, 5, 7, 9]) + u32::from(is_beside),
     };
     let last = if is_beside {
@@ -205,7 +217,7 @@ fn lead_anew(
     None
 }
 
-/// Going down: the want is the route of the lowest page.
+/// Going down: the want is the route of the lowest page; by the second way a leaf is wanted with ξ.
 fn place_want(
     random: &mut Random,
     build: &mut Build,
@@ -227,7 +239,13 @@ fn place_want(
         count,
         (there && level == 1).then_some(op.key()),
     );
-    Some(Slot::open(op, want, path, &[]))
+    let slot = Slot::open(op, want, path, &[]);
+    let is_alone = op.way() == Some(Way::Second) && level == 1;
+    Some(if is_alone {
+        slot.wanting(Lock::Xi)
+    } else {
+        slot
+    })
 }
 
 /// At its leaf: some siblings held that joined, and the next one wanted. The siblings are given

@@ -1,7 +1,7 @@
 //! Random schedules from fresh pools.
 
 use draw::Random;
-use twin::{make, page_words, Op};
+use twin::{make, page_words, Op, Way};
 
 use crate::moment::{Call, Moment};
 
@@ -79,21 +79,23 @@ fn odd_call(random: &mut Random, draw: &Draw) -> Call {
     }
 }
 
-/// A random operation; a deletion or a regrading is mostly of a key that is there, and a `Next` is often from just behind one.
+/// A random operation; a deletion or a regrading is mostly of a key that is there, and a `Next` is often from just behind one. Updates go one
+/// way or the other.
 pub fn operation(random: &mut Random, draw: &Draw, grows: bool, there: &[u32]) -> Op {
     let key = match random.below(50) {
         0 => u32::MAX,
         _ => random.below(draw.keys) as u32,
     };
     let (inserts, deletes) = if grows { (70, 8) } else { (6, 68) };
+    let way = random.one(&Way::BOTH);
     match random.below(100) {
-        drawn if drawn < inserts => Op::Insert(key, random.below(1000) as u32),
+        drawn if drawn < inserts => Op::Insert(key, random.below(1000) as u32, way),
         drawn if drawn < inserts + deletes && !there.is_empty() && random.percent(85) => {
-            Op::Delete(random.one(there))
+            Op::Delete(random.one(there), way)
         }
-        drawn if drawn < inserts + deletes => Op::Delete(key),
+        drawn if drawn < inserts + deletes => Op::Delete(key, way),
         drawn if drawn >= 95 => Op::Search(key),
-        drawn if drawn >= 90 => regrade(random, key, there),
+        drawn if drawn >= 90 => regrade(random, key, way, there),
         _ if !there.is_empty() && random.percent(70) => {
             Op::Next(random.one(there).saturating_add(1))
         }
@@ -102,13 +104,13 @@ pub fn operation(random: &mut Random, draw: &Draw, grows: bool, there: &[u32]) -
 }
 
 /// A regrading, mostly of a key that is there.
-fn regrade(random: &mut Random, key: u32, there: &[u32]) -> Op {
+fn regrade(random: &mut Random, key: u32, way: Way, there: &[u32]) -> Op {
     let key = if !there.is_empty() && random.percent(85) {
         random.one(there)
     } else {
         key
     };
-    Op::Regrade(key, random.below(1000) as u32)
+    Op::Regrade(key, random.below(1000) as u32, way)
 }
 
 /// Draws calls by trying them on a copy.

@@ -1,7 +1,7 @@
 //! States drawn near the limits of soundness; the calls read no page.
 
 use draw::Random;
-use twin::{Op, Slot, State};
+use twin::{Lock, Op, Slot, State, Way};
 
 use crate::moment::{Call, Moment};
 
@@ -47,29 +47,50 @@ fn drawn_counts(random: &mut Random) -> (Op, usize, usize) {
     let more = usize::from(random.percent(5));
     let both = random.one(&[1, 2, 5, 9, 10, 10]) + usize::from(random.percent(3));
     let beside = random.one(&[0, both / 2, both - 1]) + more;
-    match random.below(8) {
-        0 => (Op::Search(key), random.one(&[0, 1, 1]) + more, 0),
-        7 => (Op::Regrade(key, 3), random.one(&[0, 1, 1]) + more, 0),
+    let one = random.one(&[0, 1, 1]) + usize::from(random.percent(15));
+    match random.below(10) {
+        0 => (Op::Search(key), one, 0),
+        7 => (Op::Regrade(key, 3, Way::First), one, 0),
+        8 | 9 => (second(random, key), one, 0),
         1 | 2 => (
-            Op::Insert(key, 3),
+            Op::Insert(key, 3, Way::First),
             random.one(&[0, 1, 5, 9, 10, 10]) + more,
             0,
         ),
-        3 | 4 => (Op::Delete(key), both, beside),
+        3 | 4 => (Op::Delete(key, Way::First), both, beside),
         _ => (Op::Next(key), both, beside),
+    }
+}
+
+/// An update of the second way.
+fn second(random: &mut Random, key: u32) -> Op {
+    random.one(&[
+        Op::Insert(key, 3, Way::Second),
+        Op::Delete(key, Way::Second),
+        Op::Regrade(key, 3, Way::Second),
+    ])
+}
+
+/// A kind of lock that the operation can want, or now and then another.
+fn drawn_lock(random: &mut Random, op: Op) -> Lock {
+    match op.way() {
+        _ if random.percent(3) => random.one(&[Lock::None, Lock::Rho, Lock::Xi]),
+        Some(Way::Second) => random.one(&[Lock::Rho, Lock::Xi]),
+        _ => op.holds(),
     }
 }
 
 /// An open slot; its pages go on from the last slot's.
 fn drawn_slot(random: &mut Random, n: u32, next: &mut u32) -> Slot {
     let (op, depth, beside) = drawn_counts(random);
-    // some share pages with the last slot: only two that read may
-    if matches!(op, Op::Next(_) | Op::Search(_)) && random.percent(20) {
+    // some share pages with the last slot: only two that hold with ρ may
+    if op.holds() == Lock::Rho && random.percent(20) {
         *next = next.saturating_sub(random.below(12) as u32);
     }
     let beside = beside + usize::from(random.percent(2));
     let mut slot = Slot {
         op: Some(op),
+        lock: drawn_lock(random, op),
         depth,
         beside,
         ..Slot::CLOSED

@@ -1,6 +1,6 @@
 //! A moment of the twin: state and words, and the calls made on it.
 
-use twin::{begin, must_wait, page_words, report, step, Answer, Op, State};
+use twin::{begin, must_wait, page_words, report, step, Answer, Op, Slot, State};
 
 /// One call of a run.
 #[derive(Clone, Copy, Debug)]
@@ -64,4 +64,10 @@ impl Moment {
             .filter(|&slot| self.state.slots[slot].op.is_some())
             .collect()
     }
+}
+
+/// Puts another operation into a slot; it wants the page with the lock that it begins with.
+pub(crate) fn ask(slot: &mut Slot, op: Op) {
+    slot.op = Some(op);
+    slot.lock = op.holds();
 }

@@ -2,7 +2,7 @@
 //! in such a pool, and what breaks a clause there, rest on it.
 
 use draw::Random;
-use twin::{page_words, Op, Page};
+use twin::{page_words, Op, Page, Way};
 
 /// A pool being built, and what its pages must be.
 pub(crate) struct Build {
@@ -37,16 +37,18 @@ pub(crate) fn rubbish(random: &mut Random) -> Build {
 /// An operation on a key near the middle. There are enough keys below that of a `Next` to fill a page, and one above it.
 pub(crate) fn operation(random: &mut Random, build: &Build) -> Op {
     let key = random.below(build.keys) as u32;
+    // by the first way there is more to hold
+    let way = random.one(&[Way::First, Way::First, Way::Second]);
     match random.below(16) {
         0 => Op::Search(key),
-        14 | 15 => Op::Regrade(key, random.below(1000) as u32),
-        1..=4 => Op::Insert(key, random.below(1000) as u32),
+        14 | 15 => Op::Regrade(key, random.below(1000) as u32, way),
+        1..=4 => Op::Insert(key, random.below(1000) as u32, way),
         5..=8 => Op::Next(random.from(2 * u64::from(build.k), build.keys - 2) as u32),
-        _ => Op::Delete(key),
+        _ => Op::Delete(key, way),
     }
 }
 
-/// How many keys a page of the path has: the top one is page 0 or safe, none below is safe.
+/// How many keys a page of the path has: the top one is page 0 or safe, none below is safe. By the second way every page is, but the leaf.
 pub(crate) fn path_count(
     random: &mut Random,
     build: &Build,
@@ -63,16 +65,17 @@ pub(crate) fn path_count(
     };
     let (from, to) = match (op, is_top, page) {
         (Op::Search(_) | Op::Next(_) | Op::Regrade(..), ..) | (_, true, 0) => (least, 2 * k),
+        (Op::Insert(_, _, Way::Second) | Op::Delete(_, Way::Second), ..) => (least, 2 * k),
         (Op::Insert(..), true, _) => (least, 2 * k - 1),
         (Op::Insert(..), false, _) => (2 * k, 2 * k),
-        (Op::Delete(_), true, _) => (k + 1, 2 * k),
-        (Op::Delete(_), false, _) => (k, k),
+        (Op::Delete(..), true, _) => (k + 1, 2 * k),
+        (Op::Delete(..), false, _) => (k, k),
     };
     let drawn = random.from(u64::from(from), u64::from(to)) as u32;
     // full and nearly empty ones prevail: they change their fathers
     match op {
         Op::Insert(..) if random.percent(40) => to,
-        Op::Delete(_) if random.percent(40) => from,
+        Op::Delete(..) if random.percent(40) => from,
         _ => drawn,
     }
 }

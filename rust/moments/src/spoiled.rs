@@ -2,10 +2,10 @@
 //! slot holds or wants, or cells of the state.
 
 use draw::Random;
-use twin::{page_words, Op, Slot, State};
+use twin::{page_words, Lock, Op, Slot, State, Way};
 
 use crate::fresh::{draw, made, next_call, operation, Draw};
-use crate::moment::{Call, Moment};
+use crate::moment::{ask, Call, Moment};
 
 /// A moment in the middle of a random run, grown first and then mostly shrunk; best one where a
 /// deletion or a `Next` holds pages beside its path, or its leaf at least.
@@ -141,8 +141,9 @@ fn spoil_state(random: &mut Random, draw: &Draw, state: &mut State, number: usiz
     let odd = random.one(&[0, 1, 2, 9, 10, 11, 15, 16, 17, 1024, 1025, u32::MAX]);
     let cell = random.one(&[0, 0, 0, 1, 1, 2, 3, 9]);
     let key = random.below(draw.keys) as u32;
+    let way = random.one(&Way::BOTH);
     let slot = &mut state.slots[number];
-    match random.below(20) {
+    match random.below(22) {
         0 => state.k = odd,
         1 => state.n = random.one(&[odd, draw.n - 1, draw.n + 1]),
         2 => {
@@ -176,10 +177,12 @@ fn spoil_state(random: &mut Random, draw: &Draw, state: &mut State, number: usiz
         12 => slot.siblings[cell] = page,
         13 => slot.siblings[cell] = odd,
         14 => slot.op = None,
-        15 => slot.op = Some(Op::Delete(key)),
-        16 => slot.op = Some(Op::Insert(key, odd)),
-        17 => slot.op = Some(Op::Next(key)),
-        18 => slot.op = Some(Op::Regrade(key, odd)),
-        _ => slot.op = Some(Op::Search(key)),
+        15 => ask(slot, Op::Delete(key, way)),
+        16 => ask(slot, Op::Insert(key, odd, way)),
+        17 => ask(slot, Op::Next(key)),
+        18 => ask(slot, Op::Regrade(key, odd, way)),
+        19 => slot.op = slot.op.map(|op| op.by(way)),
+        20 => slot.lock = random.one(&[Lock::None, Lock::Rho, Lock::Xi]),
+        _ => ask(slot, Op::Search(key)),
     }
 }

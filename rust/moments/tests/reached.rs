@@ -1,8 +1,9 @@
-//! The draws reach what they are for: long and broken second ways of a `Next`, and regradings of every outcome.
+//! The draws reach what they are for: long and broken second ways of a `Next`, regradings of every outcome, and updates of the second way
+//! that end at their leaf or begin again.
 
 use draw::Random;
 use moments::{built, draw, draw_calls, made, spoiled_words, Call, Moment};
-use twin::{Answer, Op, Slot};
+use twin::{Answer, Op, Slot, Way};
 
 /// A moment's slot that is stepped, and its answer.
 fn stepped((mut moment, calls): (Moment, Vec<Call>)) -> Option<(Slot, Answer)> {
@@ -66,9 +67,9 @@ fn regradings_on_built_and_spoiled_pages() {
     assert!(count_regradings(&on_spoiled, "Damaged") > 10);
 }
 
-#[test]
-fn regradings_in_schedules() {
-    let mut random = Random(7);
+/// The steps of some schedules from fresh pools: the slot before each, its answer, and whether it began again.
+fn scheduled(seed: u64) -> Vec<(Slot, Answer, bool)> {
+    let mut random = Random(seed);
     let mut steps = Vec::new();
     for _ in 0..100 {
         let draw = draw(&mut random);
@@ -77,11 +78,74 @@ fn regradings_in_schedules() {
             let before = moment.state;
             let answer = moment.call(call);
             if let Call::Step(slot @ ..16) = call {
-                steps.push((before.slots[slot], answer));
+                let (was, is) = (before.slots[slot], moment.state.slots[slot]);
+                steps.push((
+                    was,
+                    answer,
+                    is_second(&was) && is.op.is_some() && !is_second(&is),
+                ));
             }
         }
     }
+    steps
+}
+
+#[test]
+fn regradings_in_schedules() {
+    let steps: Vec<(Slot, Answer)> = scheduled(7)
+        .into_iter()
+        .map(|(slot, answer, _)| (slot, answer))
+        .collect();
     for name in ["Waiting", "Moved", "Regraded", "NoSuchKey"] {
         assert!(count_regradings(&steps, name) > 50, "{name}");
     }
+}
+
+/// Whether a slot's operation goes the second way.
+fn is_second(slot: &Slot) -> bool {
+    slot.op.is_some_and(|op| op.way() == Some(Way::Second))
+}
+
+/// What an update of the second way can be answered.
+const SECOND_ANSWERS: [&str; 6] = [
+    "Moved",
+    "Inserted",
+    "AlreadyThere",
+    "Deleted",
+    "NoSuchKey",
+    "Regraded",
+];
+
+#[test]
+fn second_ways_on_built_and_spoiled_pages() {
+    let mut random = Random(8);
+    let drawn = (0..8000).filter_map(|_| built(&mut random));
+    let on_built: Vec<(Slot, Answer)> = drawn.filter_map(stepped).collect();
+    let drawn = (0..2000).filter_map(|_| spoiled_words(&mut random));
+    let on_spoiled: Vec<(Slot, Answer)> = drawn.filter_map(stepped).collect();
+    let count = |steps: &[(Slot, Answer)], name: &str| {
+        let is_so = |(slot, answer): &&(Slot, Answer)| is_second(slot) && answer.name() == name;
+        steps.iter().filter(is_so).count()
+    };
+    for name in SECOND_ANSWERS {
+        assert!(count(&on_built, name) > 20, "{name}");
+    }
+    assert!(count(&on_built, "Damaged") > 20);
+    assert!(count(&on_spoiled, "Damaged") > 20);
+}
+
+#[test]
+fn second_ways_in_schedules() {
+    let steps = scheduled(9);
+    for name in SECOND_ANSWERS.into_iter().chain(["Waiting"]) {
+        let is_so =
+            |(slot, answer, _): &&(Slot, Answer, bool)| is_second(slot) && answer.name() == name;
+        assert!(steps.iter().filter(is_so).count() > 50, "{name}");
+    }
+    let again = |least: usize| {
+        let is_so = |(slot, _, again): &&(Slot, Answer, bool)| *again && slot.depth >= least;
+        steps.iter().filter(is_so).count()
+    };
+    // at page 0, and at a leaf below it
+    assert!(again(0) - again(1) > 50 && again(1) > 50);
 }

@@ -1,6 +1,9 @@
 //! The state of a rival in two layouts: one struct a slot, and in columns.
 
-use ghazfulit::numbers::{self, DELETE, INSERT, LARGEST_K, LARGEST_N, NEXT, REGRADE, SEARCH};
+use ghazfulit::numbers::{
+    self, DELETE, DELETE_SECOND, INSERT, INSERT_SECOND, LARGEST_K, LARGEST_N, LOCK_RHO, LOCK_XI,
+    NEXT, REGRADE, REGRADE_SECOND, SEARCH,
+};
 
 /// How many slots there are.
 pub const SLOTS: usize = numbers::SLOTS as usize;
@@ -9,7 +12,7 @@ pub const CLOSED: u32 = 0;
 /// The most pages on a path, and cells for siblings.
 pub const HELD: usize = 10;
 /// Words of a state in columns.
-pub const STATE: usize = 19 + SLOTS * 26;
+pub const STATE: usize = 19 + SLOTS * 27;
 
 /// A set of pages.
 pub type Pages = [u64; 16];
@@ -29,6 +32,8 @@ pub struct Slot {
     pub key: u32,
     pub information: u32,
     pub want: u32,
+    /// The kind of lock that it wants there.
+    pub lock: u32,
     pub depth: u32,
     pub beside: u32,
     pub path: [u32; HELD],
@@ -36,6 +41,17 @@ pub struct Slot {
 }
 
 impl Slot {
+    /// A slot that has just begun, or begun again: it wants page 0.
+    pub fn begun(kind: u32, key: u32, information: u32) -> Slot {
+        Slot {
+            kind,
+            key,
+            information,
+            lock: lock_held(kind),
+            ..Slot::default()
+        }
+    }
+
     /// All pages held.
     pub fn held(&self) -> impl Iterator<Item = u32> + '_ {
         let path = &self.path[..self.depth as usize];
@@ -96,10 +112,25 @@ fn named(order: &[u32; SLOTS], waiting: usize) -> Option<u16> {
     Some(mask)
 }
 
+/// Whether a kind goes the second way.
+pub fn is_second(kind: u32) -> bool {
+    (INSERT_SECOND..=REGRADE_SECOND).contains(&kind)
+}
+
+/// The kind by the first way.
+pub fn first(kind: u32) -> u32 {
+    match kind {
+        INSERT_SECOND => INSERT,
+        DELETE_SECOND => DELETE,
+        REGRADE_SECOND => REGRADE,
+        _ => kind,
+    }
+}
+
 /// Whether a kind may hold so many pages.
 fn holds_so_many(kind: u32, depth: u32, beside: u32) -> bool {
     let none = (kind == CLOSED) & (depth == 0) & (beside == 0);
-    let single = (kind == SEARCH) | (kind == REGRADE);
+    let single = (kind == SEARCH) | (kind == REGRADE) | is_second(kind);
     let one = single & (depth <= 1) & (beside == 0);
     let insertion = (kind == INSERT) & (depth <= 10) & (beside == 0);
     let few = (beside == 0) | (beside < depth);
@@ -107,9 +138,23 @@ fn holds_so_many(kind: u32, depth: u32, beside: u32) -> bool {
     none | one | insertion | (both & (depth <= 10) & (beside <= 9) & few)
 }
 
-/// Whether a kind's locks go together: searches, and the next lot.
-fn reads(kind: u32) -> bool {
-    (kind == SEARCH) | (kind == NEXT)
+/// Whether a kind holds with ρ: searches, the next lot, and the second way.
+fn shares(kind: u32) -> bool {
+    (kind == SEARCH) | (kind == NEXT) | is_second(kind)
+}
+
+/// The kind of lock that a kind holds with.
+pub fn lock_held(kind: u32) -> u32 {
+    if shares(kind) {
+        LOCK_RHO
+    } else {
+        LOCK_XI
+    }
+}
+
+/// Whether a kind can want a lock at all.
+fn may_want(kind: u32, lock: u32) -> bool {
+    (lock == lock_held(kind)) | (is_second(kind) & (lock == LOCK_XI)) | (kind == CLOSED)
 }
 
 /// Whether a page is named twice.
@@ -172,17 +217,16 @@ impl Layout for Structs {
     }
 
     fn grants(&self, s: usize) -> bool {
-        let (want, kind) = (self.slots[s].want, self.slots[s].kind);
-        let clash = |slot: &Slot| !reads(slot.kind) || !reads(kind);
-        let held =
-            self.slots.iter().enumerate().any(|(other, slot)| {
-                other != s && clash(slot) && slot.held().any(|page| page == want)
-            });
+        let (want, is_rho) = (self.slots[s].want, self.slots[s].lock == LOCK_RHO);
+        let held = self.slots.iter().enumerate().any(|(other, slot)| {
+            let clash = !(is_rho && shares(slot.kind));
+            other != s && clash && slot.held().any(|page| page == want)
+        });
         let mut older = self.order[..self.waiting]
             .iter()
             .take_while(|&&other| other as usize != s)
             .map(|&other| &self.slots[other as usize]);
-        !held && !older.any(|slot| slot.want == want && clash(slot))
+        !held && !older.any(|slot| slot.want == want && !(is_rho && slot.lock == LOCK_RHO))
     }
 
     fn is_sound(&self) -> bool {
@@ -201,14 +245,14 @@ impl Layout for Structs {
                 continue;
             }
             open |= 1 << s;
-            if slot.want >= self.n {
+            if slot.want >= self.n || !may_want(slot.kind, slot.lock) {
                 return false;
             }
             for page in slot.held() {
                 if page >= self.n || page == slot.want {
                     return false;
                 }
-                if reads(slot.kind) {
+                if shares(slot.kind) {
                     put(&mut shared, page);
                 } else if put(&mut alone, page) {
                     return false;
@@ -240,11 +284,14 @@ pub struct Columns {
 
 /// Rows by what they are.
 const KIND: usize = 0;
+const KEY: usize = 1;
+const INFORMATION: usize = 2;
 const WANT: usize = 3;
-const DEPTH: usize = 4;
-const BESIDE: usize = 5;
-const PATH: usize = 6;
-const SIBLINGS: usize = 16;
+const LOCK: usize = 4;
+const DEPTH: usize = 5;
+const BESIDE: usize = 6;
+const PATH: usize = 7;
+const SIBLINGS: usize = 17;
 
 /// Where a row has the word of a slot.
 fn at(row: usize, s: usize) -> usize {
@@ -263,7 +310,7 @@ impl Columns {
     /// Whether a slot other than s holds the page with a lock that clashes; rows only as far as some slot has them.
     fn is_held(&self, s: usize, page: u32) -> bool {
         let kinds = self.row(KIND);
-        let is_reader = reads(kinds[s]);
+        let is_rho = self.row(LOCK)[s] == LOCK_RHO;
         let mut hit = false;
         for (first, length) in [(PATH, DEPTH), (SIBLINGS, BESIDE)] {
             let lengths = self.row(length);
@@ -271,7 +318,7 @@ impl Columns {
             for i in 0..most.min(HELD as u32) {
                 let row = self.row(first + i as usize);
                 for other in 0..SLOTS {
-                    let clashes = !reads(kinds[other]) | !is_reader;
+                    let clashes = !(shares(kinds[other]) & is_rho);
                     hit |= (row[other] == page) & (i < lengths[other]) & clashes & (other != s);
                 }
             }
@@ -307,18 +354,20 @@ impl Layout for Columns {
     fn slot(&self, s: usize) -> Slot {
         let word = |row: usize| self.words[at(row, s)];
         let mut slot = Slot {
-            kind: word(0),
-            key: word(1),
-            information: word(2),
-            want: word(3),
-            depth: word(4),
-            beside: word(5),
+            kind: word(KIND),
+            key: word(KEY),
+            information: word(INFORMATION),
+            want: word(WANT),
+            lock: word(LOCK),
+            depth: word(DEPTH),
+            beside: word(BESIDE),
             ..Slot::default()
         };
-        for (i, cell) in slot.path.iter_mut().enumerate().take(word(4) as usize) {
+        let (depth, beside) = (slot.depth as usize, slot.beside as usize);
+        for (i, cell) in slot.path.iter_mut().enumerate().take(depth) {
             *cell = word(PATH + i);
         }
-        for (i, cell) in slot.siblings.iter_mut().enumerate().take(word(5) as usize) {
+        for (i, cell) in slot.siblings.iter_mut().enumerate().take(beside) {
             *cell = word(SIBLINGS + i);
         }
         slot
@@ -330,6 +379,7 @@ impl Layout for Columns {
             slot.key,
             slot.information,
             slot.want,
+            slot.lock,
             slot.depth,
             slot.beside,
         ];
@@ -356,14 +406,15 @@ impl Layout for Columns {
     }
 
     fn grants(&self, s: usize) -> bool {
-        let (wants, kinds) = (self.row(WANT), self.row(KIND));
+        let (wants, locks) = (self.row(WANT), self.row(LOCK));
         let want = wants[s];
-        let is_reader = reads(kinds[s]);
+        let is_rho = locks[s] == LOCK_RHO;
         let mut older = self.order()[..self.waiting()]
             .iter()
             .map(|&other| other as usize)
             .take_while(|&other| other != s);
-        let barred = older.any(|other| wants[other] == want && !(is_reader && reads(kinds[other])));
+        let barred =
+            older.any(|other| wants[other] == want && !(is_rho && locks[other] == LOCK_RHO));
         !barred && !self.is_held(s, want)
     }
 
@@ -375,13 +426,14 @@ impl Layout for Columns {
         let Some(named) = named(self.order(), self.waiting()) else {
             return false;
         };
-        let (kinds, wants) = (self.row(KIND), self.row(WANT));
+        let (kinds, wants, locks) = (self.row(KIND), self.row(WANT), self.row(LOCK));
         let (depths, besides) = (self.row(DEPTH), self.row(BESIDE));
         let (mut bad, mut open) = (false, 0u16);
         for s in 0..SLOTS {
             let (kind, depth, beside) = (kinds[s], depths[s], besides[s]);
             bad |= !holds_so_many(kind, depth, beside);
             bad |= (kind != CLOSED) & (wants[s] >= n);
+            bad |= !may_want(kind, locks[s]);
             open |= u16::from(kind != CLOSED) << s;
         }
         if bad || open != named {
@@ -397,7 +449,7 @@ impl Layout for Columns {
             let pages = path.chain((0..besides[s] as usize).map(|i| word(SIBLINGS + i)));
             for page in pages.clone() {
                 bad |= (page >= n) | (page == wants[s]);
-                if reads(kinds[s]) {
+                if shares(kinds[s]) {
                     put(&mut shared, page);
                 } else {
                     bad |= put(&mut alone, page);

@@ -12,11 +12,12 @@ use std::env::args;
 use std::fs::{read_to_string, write};
 use std::time::Instant;
 
+use ghazfulit::Way;
 use layout::{Columns, Structs};
 use plot::{svg, Table};
 use proved::Proved;
 use rival::Rival;
-use schedule::{run, with_others, Outcome, Program, Schedule};
+use schedule::{run, with_others, with_ways, Outcome, Program, Schedule};
 use second::Second;
 
 /// A program by name, as a function from a schedule to its nanoseconds a call and its outcome.
@@ -58,7 +59,7 @@ fn timed<P: Program>(schedule: &Schedule) -> (f64, Outcome) {
     run(&mut program, 1, &schedule.filling);
     let clock = Instant::now();
     let start = now(&clock);
-    let (answers, calls) = run(&mut program, schedule.slots, &schedule.ops);
+    let (answers, calls, waiting) = run(&mut program, schedule.slots, &schedule.ops);
     let time = (now(&clock) - start) as f64 / calls as f64;
     let left = program.left();
     (
@@ -66,6 +67,7 @@ fn timed<P: Program>(schedule: &Schedule) -> (f64, Outcome) {
         Outcome {
             answers,
             calls,
+            waiting,
             left,
         },
     )
@@ -103,8 +105,7 @@ fn main() {
     println!("nanoseconds a call, medians of {runs} runs; nine searches to one update; same answers, same words");
     println!("\nk = 16, 1,024 pages, 16 slots, {count} operations");
     let schedule = Schedule::draw(16, 1024, 16, count, 1);
-    // the next lot and regradings are compared, and not timed
-    medians(&with_others(&schedule), 1, &PROGRAMS);
+    compare(&schedule);
     let all = medians(&schedule, runs, &PROGRAMS);
     for ((name, _), time) in PROGRAMS.iter().zip(&all) {
         println!("{time:8.1}  {name:40} proved / this {:6.2}", all[0] / time);
@@ -123,9 +124,49 @@ fn main() {
     let slots = table("open slots", &[1, 2, 4, 8, 16], |slots| {
         medians(&Schedule::draw(16, 1024, slots, count / 4, 3), runs, RIVALS)
     });
+    by_way(runs, count);
     if let Some(file) = words.get(2) {
         let names: Vec<&str> = RIVALS.iter().map(|(name, _)| *name).collect();
         write(file, svg(&[pages, slots], &names)).expect("the picture is written");
+    }
+}
+
+/// The next lot, regradings and both ways together: compared, and not timed. In pages of one or two lots updates of the second way often begin
+/// again, and where page 0 is the only page each one does.
+fn compare(schedule: &Schedule) {
+    let count = schedule.ops.len();
+    let small = [64, 1].map(|n| Schedule::draw_with(1, [1, n, 16], count, 5));
+    for schedule in small.iter().chain([schedule]) {
+        medians(&with_others(schedule), 1, &PROGRAMS);
+    }
+}
+
+/// The ways of updates, each alone and both in turn.
+const WAYS: [(&str, &[Way]); 3] = [
+    ("first", &[Way::First]),
+    ("second", &[Way::Second]),
+    ("both in turn", &Way::BOTH),
+];
+
+/// What each way costs an operation: calls, steps that wait, and nanoseconds.
+fn by_way(runs: usize, count: usize) {
+    println!("\nby the way of updates, an operation: calls, steps answered Waiting, and nanoseconds, proved and then the four rivals");
+    for (searches, mix) in [(9, "nine searches to one update"), (1, "one to one")] {
+        println!("{mix}");
+        let drawn = Schedule::draw_with(searches, [16, 1024, 16], count, 4);
+        for (name, ways) in WAYS {
+            let schedule = with_ways(&drawn, ways);
+            let times = medians(&schedule, runs, RIVALS);
+            let (_, outcome) = timed::<Proved>(&schedule);
+            let each = |all: u64| all as f64 / count as f64;
+            let calls = each(outcome.calls);
+            let times: Vec<String> = times
+                .iter()
+                .map(|time| format!("{:8.0}", calls * time))
+                .collect();
+            let waiting = each(outcome.waiting);
+            println!("{name:14} {calls:6.2} {waiting:6.2} {}", times.join(" "));
+        }
     }
 }
 

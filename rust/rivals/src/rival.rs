@@ -1,10 +1,12 @@
 //! An unproved index with the same pages, locks and schedule, written for speed: with all tests of the proved one, or with
 //! none.
 
-use ghazfulit::numbers::{self, DELETE, INSERT, NEXT, REGRADE, SEARCH};
+use ghazfulit::numbers::{
+    self, DELETE, DELETE_SECOND, INSERT, INSERT_SECOND, NEXT, REGRADE, SEARCH,
+};
 use ghazfulit::Op;
 
-use crate::layout::{Layout, Slot, CLOSED, HELD, SLOTS};
+use crate::layout::{first, is_second, lock_held, Layout, Slot, CLOSED, HELD, SLOTS};
 use crate::pages::Pool;
 use crate::schedule::{plain, with, Answer, Program};
 
@@ -37,12 +39,7 @@ impl<L: Layout, const TESTS: bool> Program for Rival<L, TESTS> {
             return plain(numbers::SLOT_BUSY);
         }
         let (kind, key, information) = op.numbers();
-        let slot = Slot {
-            kind,
-            key,
-            information,
-            ..Slot::default()
-        };
+        let slot = Slot::begun(kind, key, information);
         let all = if TESTS { HELD } else { 0 };
         state.set_slot(s, &slot, all, all);
         state.enqueue(s);
@@ -84,8 +81,15 @@ impl<L: Layout, const TESTS: bool> Program for Rival<L, TESTS> {
         take(&pool, &mut slot);
         match judge::<TESTS>(&mut pool, n, &slot) {
             Course::Goes(next) => {
+                slot.lock = lock_due(&pool, &slot);
                 slot.want = next;
                 self.state.set_slot(s, &slot, path, siblings);
+                self.state.requeue(s, true);
+                plain(numbers::MOVED)
+            }
+            Course::Again => {
+                let begun = Slot::begun(first(slot.kind), slot.key, slot.information);
+                self.state.set_slot(s, &begun, path, siblings);
                 self.state.requeue(s, true);
                 plain(numbers::MOVED)
             }
@@ -106,18 +110,41 @@ impl<L: Layout, const TESTS: bool> Program for Rival<L, TESTS> {
 /// What a granted step does.
 enum Course {
     Goes(u32),
+    /// By the first way.
+    Again,
     Ends(Answer),
     Broken,
 }
 
-/// Whether a page's ancestors are needed no more.
+/// Whether a page's ancestors are needed no more; by the second way they never are.
 fn is_safe(pool: &Pool, slot: &Slot, p: u32) -> bool {
     match slot.kind {
-        SEARCH | REGRADE => true,
         INSERT => pool.count(p) < 2 * pool.k,
         DELETE => pool.count(p) > pool.k,
-        _ => pool.right_of(p, slot.key).is_some(),
+        NEXT => pool.right_of(p, slot.key).is_some(),
+        _ => true,
     }
+}
+
+/// The lock that the next page is wanted with: by the second way ξ on a leaf.
+fn lock_due(pool: &Pool, slot: &Slot) -> u32 {
+    let is_above_leaf = slot.depth > 0 && pool.level(slot.path[slot.depth as usize - 1]) == 2;
+    if is_second(slot.kind) && is_above_leaf {
+        numbers::LOCK_XI
+    } else {
+        lock_held(slot.kind)
+    }
+}
+
+/// Whether an update of the second way begins again at its leaf: if that is page 0, or the change would reach beyond it.
+fn begins_again(pool: &Pool, slot: &Slot, leaf: u32) -> bool {
+    let is_there = || pool.find(leaf, slot.key).is_some();
+    leaf == 0
+        || match slot.kind {
+            INSERT_SECOND => pool.count(leaf) == 2 * pool.k && !is_there(),
+            DELETE_SECOND => pool.count(leaf) == pool.k && is_there(),
+            _ => false,
+        }
 }
 
 /// Whether the slot holds its leaf.
@@ -172,6 +199,9 @@ fn fits(pool: &Pool, n: u32, slot: &Slot) -> bool {
         return false;
     }
     let depth = slot.depth as usize;
+    if slot.lock != lock_due(pool, slot) {
+        return false;
+    }
     if depth == 0 {
         return slot.want == 0;
     }
@@ -239,8 +269,11 @@ fn judge<const TESTS: bool>(pool: &mut Pool, n: u32, slot: &Slot) -> Course {
             Err(want) => goes(want),
         };
     }
+    if is_second(slot.kind) && begins_again(pool, slot, lowest) {
+        return Course::Again;
+    }
     let found = pool.find(lowest, slot.key);
-    match (slot.kind, found) {
+    match (first(slot.kind), found) {
         (SEARCH, Some(information)) => Course::Ends(with(numbers::FOUND, information)),
         (SEARCH, None) => Course::Ends(plain(numbers::NOT_FOUND)),
         (INSERT, Some(information)) => Course::Ends(with(numbers::ALREADY_THERE, information)),

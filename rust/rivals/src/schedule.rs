@@ -2,7 +2,7 @@
 //! those of the proved index's crate.
 
 use draw::Random;
-use ghazfulit::{numbers, Op, ANSWER};
+use ghazfulit::{numbers, Op, Way, ANSWER};
 
 /// An answer as the library tells it: its number and its values, 0 behind them.
 pub type Answer = [u32; ANSWER];
@@ -40,22 +40,23 @@ pub struct Schedule {
 impl Schedule {
     /// Nine searches to one update, on a pool that is half full of keys.
     pub fn draw(k: u32, n: u32, slots: u32, count: usize, seed: u64) -> Schedule {
+        Schedule::draw_with(9, [k, n, slots], count, seed)
+    }
+
+    /// So many searches to one update.
+    pub fn draw_with(searches: u64, [k, n, slots]: [u32; 3], count: usize, seed: u64) -> Schedule {
         let mut random = Random(seed);
         let lots = u64::from(n) * u64::from(k) * 3 / 4;
         let range = 2 * lots.max(1);
         let key = |random: &mut Random| random.below(range) as u32;
         let filling = (0..lots)
-            .map(|i| insert(key(&mut random), i as u32))
+            .map(|i| Op::insert(key(&mut random), i as u32))
             .collect();
         let ops = (0..count)
-            .map(|i| match random.below(20) {
-                0 => insert(key(&mut random), i as u32),
-                1 => Op::Delete {
-                    key: key(&mut random),
-                },
-                _ => Op::Search {
-                    key: key(&mut random),
-                },
+            .map(|i| match random.below(2 * (searches + 1)) {
+                0 => Op::insert(key(&mut random), i as u32),
+                1 => Op::delete(key(&mut random)),
+                _ => Op::search(key(&mut random)),
             })
             .collect();
         Schedule {
@@ -68,22 +69,28 @@ impl Schedule {
     }
 }
 
-fn insert(key: u32, information: u32) -> Op {
-    Op::Insert { key, information }
-}
-
-/// The same operations, but every other search asks for the next lot, and every other deletion regrades the lot.
+/// The same operations, but of those at even places a search asks for the next lot and a deletion regrades the lot, and of every three updates
+/// about one goes the second way.
 pub fn with_others(schedule: &Schedule) -> Schedule {
     let mut other = schedule.clone();
-    for (i, op) in other.ops.iter_mut().enumerate().step_by(2) {
+    for (i, op) in other.ops.iter_mut().enumerate() {
         match *op {
-            Op::Search { key } => *op = Op::Next { key },
-            Op::Delete { key } => {
-                let information = i as u32;
-                *op = Op::Regrade { key, information };
-            }
+            Op::Search { key } if i % 2 == 0 => *op = Op::next(key),
+            Op::Delete { key, .. } if i % 2 == 0 => *op = Op::regrade(key, i as u32),
             _ => {}
         }
+        if i % 3 == 0 {
+            *op = op.by(Way::Second);
+        }
+    }
+    other
+}
+
+/// The same operations, each update by the way whose turn it is at its place.
+pub fn with_ways(schedule: &Schedule, ways: &[Way]) -> Schedule {
+    let mut other = schedule.clone();
+    for (op, &way) in other.ops.iter_mut().zip(ways.iter().cycle()) {
+        *op = op.by(way);
     }
     other
 }
@@ -94,6 +101,8 @@ pub struct Outcome {
     /// All answers, in one number.
     pub answers: u64,
     pub calls: u64,
+    /// Steps that were answered Waiting.
+    pub waiting: u64,
     pub left: (Vec<u32>, Vec<u32>),
 }
 
@@ -103,9 +112,10 @@ fn add(answers: u64, answer: Answer) -> u64 {
     (answers.rotate_left(5) ^ u64::from(answer[0]) ^ values).wrapping_mul(0x9E37_79B9_7F4A_7C15)
 }
 
-/// Runs operations: each slot that is free takes the next, and the slots are stepped in turn.
-pub fn run<P: Program>(program: &mut P, slots: u32, ops: &[Op]) -> (u64, u64) {
-    let (mut answers, mut calls) = (0, 0);
+/// Runs operations: each slot that is free takes the next, and the slots are stepped in turn. Gives all answers in one number, the calls, and
+/// how many of them were answered Waiting.
+pub fn run<P: Program>(program: &mut P, slots: u32, ops: &[Op]) -> (u64, u64, u64) {
+    let (mut answers, mut calls, mut waiting) = (0, 0, 0);
     let mut is_open = [false; 16];
     let (mut next, mut open) = (0, 0);
     loop {
@@ -121,6 +131,7 @@ pub fn run<P: Program>(program: &mut P, slots: u32, ops: &[Op]) -> (u64, u64) {
                 continue;
             };
             calls += 1;
+            waiting += u64::from(answer[0] == numbers::WAITING);
             answers = add(answers, answer);
             if numbers::ends(answer[0]) {
                 is_open[slot as usize] = false;
@@ -128,7 +139,7 @@ pub fn run<P: Program>(program: &mut P, slots: u32, ops: &[Op]) -> (u64, u64) {
             }
         }
         if open == 0 && next == ops.len() {
-            return (answers, calls);
+            return (answers, calls, waiting);
         }
     }
 }

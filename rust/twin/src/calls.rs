@@ -3,7 +3,7 @@
 use crate::answer::Answer;
 use crate::grant::{grant, Outcome};
 use crate::locks::{lock_report, must_wait};
-use crate::op::Op;
+use crate::op::{Op, Way};
 use crate::page::page_words;
 use crate::reach::Shape;
 use crate::state::{is_sound, Slot, State, SLOTS};
@@ -31,10 +31,15 @@ pub fn begin(given: &State, slot: usize, op: Op) -> (Answer, State) {
         return (Answer::SlotBusy, *given);
     }
     let mut state = *given;
-    state.slots[slot] = Slot::open(op, 0, &[], &[]);
+    state.slots[slot] = begun(op);
     state.order[state.waiting] = slot;
     state.waiting += 1;
     (Answer::Begun, state)
+}
+
+/// A slot whose operation has just begun, or begun again.
+fn begun(op: Op) -> Slot {
+    Slot::open(op, 0, &[], &[])
 }
 
 /// Steps a slot: grants its want and does what follows, or leaves all as given.
@@ -62,11 +67,16 @@ pub fn step(given: &State, words: &mut [u32], slot: usize) -> (Answer, State) {
         Outcome::Damaged => (Answer::Damaged, *given),
         Outcome::GoesOn {
             want,
+            lock,
             path,
             siblings,
         } => {
-            let went = Slot::open(op, want, &path, &siblings);
+            let went = Slot::open(op, want, &path, &siblings).wanting(lock);
             (Answer::Moved, with_slot(given, slot, went))
+        }
+        Outcome::BeginsAgain => {
+            let begun = begun(op.by(Way::First));
+            (Answer::Moved, with_slot(given, slot, begun))
         }
         Outcome::Ends(answer) => (answer, with_slot(given, slot, Slot::CLOSED)),
     }

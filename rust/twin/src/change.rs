@@ -133,7 +133,7 @@ pub fn delete(shape: Shape, words: &mut [u32], key: u32, reach: Reach) -> Answer
 fn mend(shape: Shape, words: &mut [u32], short: Held, sibling: Held, father: &mut Page) {
     let short_place = father.place_of(short.number);
     let sibling_place = father.place_of(sibling.number);
-    let does_move = sibling.page.count() > shape.k as usize;
+    let does_move = sibling.page.can_spare(shape.k);
     let is_short_left = short_place < sibling_place;
     let between = short_place.min(sibling_place);
     let (mut left, mut right) = if is_short_left {

@@ -3,7 +3,9 @@
 
 use crate::answer::Answer;
 use crate::change::{delete, insert, regrade, room_is_short};
-use crate::op::Op;
+use crate::like_readers::{begins_again, lock_due};
+use crate::lock::Lock;
+use crate::op::{Op, Way};
 use crate::page::{read_page, Page};
 use crate::reach::{Held, Reach, Shape};
 use crate::second_way;
@@ -13,9 +15,12 @@ use crate::state::Slot;
 pub enum Outcome {
     GoesOn {
         want: u32,
+        lock: Lock,
         path: Vec<u32>,
         siblings: Vec<u32>,
     },
+    /// By the first way; nothing is held any more.
+    BeginsAgain,
     Ends(Answer),
     Damaged,
 }
@@ -26,11 +31,14 @@ pub fn grant(shape: Shape, words: &mut [u32], slot: &Slot, op: Op) -> Outcome {
         return Outcome::Damaged;
     };
     let reach = take(shape.k, op, reach, wanted);
+    if lowest_leaf(&reach).is_some_and(|leaf| begins_again(shape.k, op, leaf)) {
+        return Outcome::BeginsAgain;
+    }
     if let Some(answer) = answer_at_leaf(op, &reach) {
         return Outcome::Ends(answer);
     }
     match next_want(shape.k, op, &reach) {
-        Some(want) => go_on(want, &reach),
+        Some(want) => go_on(op, want, &reach),
         None => Outcome::Ends(change(shape, words, op, reach)),
     }
 }
@@ -48,8 +56,9 @@ fn read_sound(shape: Shape, words: &[u32], slot: &Slot, op: Op) -> Option<(Reach
         siblings: siblings?,
     };
     let wanted = read(slot.want)?;
-    let is_right =
-        is_reach_right(shape.k, op, &reach) && is_want_right(shape.k, op, &reach, &wanted);
+    let is_right = is_reach_right(shape.k, op, &reach)
+        && is_want_right(shape.k, op, &reach, &wanted)
+        && slot.lock == lock_due(op, &reach);
     is_right.then_some((reach, wanted))
 }
 
@@ -59,7 +68,7 @@ fn is_reach_right(k: u32, op: Op, reach: &Reach) -> bool {
         && is_top_right(k, op, &reach.path)
         && match lowest_leaf(reach) {
             None => reach.siblings.is_empty(),
-            Some(leaf) => is_beside_right(k, op, leaf, reach),
+            Some(leaf) => is_beside_right(k, op, &leaf.page, reach),
         }
 }
 
@@ -67,9 +76,9 @@ fn is_reach_right(k: u32, op: Op, reach: &Reach) -> bool {
 /// `Next` whose leaf has nothing for it, with its second way.
 fn is_beside_right(k: u32, op: Op, leaf: &Page, reach: &Reach) -> bool {
     match op {
-        Op::Delete(key) => leaf.find(key).is_some() && are_siblings_right(k, op, reach),
+        Op::Delete(key, Way::First) => leaf.find(key).is_some() && are_siblings_right(k, op, reach),
         Op::Next(key) => leaf.first_from(key).is_none() && second_way::is_right(key, reach),
-        Op::Search(_) | Op::Insert(..) | Op::Regrade(..) => false,
+        Op::Search(_) | Op::Insert(..) | Op::Delete(_, Way::Second) | Op::Regrade(..) => false,
     }
 }
 
@@ -93,21 +102,21 @@ fn is_top_right(k: u32, op: Op, path: &[Held]) -> bool {
         && below.iter().all(|held| !is_safe(k, op, &held.page))
 }
 
-/// Whether the operation can do without the page's ancestors: they cannot be changed by it, or, for
-/// a `Next`, the page itself has a child to the right of the route.
+/// Whether the operation can do without the page's ancestors: they cannot be changed by it, or not before it has begun again; for a
+/// `Next`, the page itself has a child to the right of the route.
 fn is_safe(k: u32, op: Op, page: &Page) -> bool {
     match op {
         Op::Search(_) | Op::Regrade(..) => true,
-        Op::Insert(..) => page.count() < 2 * k as usize,
-        Op::Delete(_) => page.count() > k as usize,
+        Op::Insert(_, _, Way::Second) | Op::Delete(_, Way::Second) => true,
+        Op::Insert(_, _, Way::First) => page.has_room(k),
+        Op::Delete(_, Way::First) => page.can_spare(k),
         Op::Next(key) => page.right_of_route(key).is_some(),
     }
 }
 
 /// The lowest path page, if it is a leaf.
-fn lowest_leaf(reach: &Reach) -> Option<&Page> {
-    let lowest = &reach.path.last()?.page;
-    lowest.is_leaf().then_some(lowest)
+fn lowest_leaf(reach: &Reach) -> Option<&Held> {
+    reach.path.last().filter(|lowest| lowest.page.is_leaf())
 }
 
 /// Each sibling held is the one the rules took, all of them join, and each left the father short.
@@ -125,7 +134,7 @@ fn are_siblings_right(k: u32, op: Op, reach: &Reach) -> bool {
 fn sibling_at(k: u32, op: Op, reach: &Reach, height: usize) -> Option<u32> {
     let at = reach.path.len().checked_sub(1 + height)?;
     let short = &reach.path[at];
-    if short.number == 0 || short.page.count() > k as usize {
+    if short.number == 0 || short.page.can_spare(k) {
         return None;
     }
     let father = &reach.path[at.checked_sub(1)?].page;
@@ -158,9 +167,9 @@ fn next_want(k: u32, op: Op, reach: &Reach) -> Option<u32> {
         return Some(lowest.route(op.key()));
     }
     match op {
-        Op::Delete(_) => next_sibling(k, op, reach),
+        Op::Delete(_, Way::First) => next_sibling(k, op, reach),
         Op::Next(key) => second_way::next_want(key, reach),
-        Op::Search(_) | Op::Insert(..) | Op::Regrade(..) => None,
+        Op::Search(_) | Op::Insert(..) | Op::Delete(_, Way::Second) | Op::Regrade(..) => None,
     }
 }
 
@@ -176,7 +185,7 @@ fn next_sibling(k: u32, op: Op, reach: &Reach) -> Option<u32> {
     sibling_at(k, op, reach, reach.siblings.len())
 }
 
-/// What is held after the grant: a safe page gives up its ancestors, and so a search or a regrading its father.
+/// What is held after the grant: a safe page gives up its ancestors, and so a search, a regrading or who goes the second way its father.
 fn take(k: u32, op: Op, reach: Reach, wanted: Held) -> Reach {
     let Reach {
         mut path,
@@ -195,14 +204,14 @@ fn take(k: u32, op: Op, reach: Reach, wanted: Held) -> Reach {
 
 /// The answers that a leaf just granted gives without any change.
 fn answer_at_leaf(op: Op, reach: &Reach) -> Option<Answer> {
-    let leaf = lowest_leaf(reach)?;
+    let leaf = &lowest_leaf(reach)?.page;
     let found = leaf.find(op.key()).map(|at| leaf.with[at]);
     match (op, found) {
         (Op::Next(key), _) => next_entry(key, leaf, reach),
         (Op::Search(_), Some(information)) => Some(Answer::Found(information)),
         (Op::Search(_), None) => Some(Answer::NotFound),
         (Op::Insert(..), Some(information)) => Some(Answer::AlreadyThere(information)),
-        (Op::Delete(_) | Op::Regrade(..), None) => Some(Answer::NoSuchKey),
+        (Op::Delete(..) | Op::Regrade(..), None) => Some(Answer::NoSuchKey),
         _ => None,
     }
 }
@@ -220,7 +229,7 @@ fn next_entry(key: u32, leaf: &Page, reach: &Reach) -> Option<Answer> {
 }
 
 /// Goes on with a new want, if it is none of the pages then held.
-fn go_on(want: u32, reach: &Reach) -> Outcome {
+fn go_on(op: Op, want: u32, reach: &Reach) -> Outcome {
     let numbers = |held: &[Held]| held.iter().map(|held| held.number).collect::<Vec<u32>>();
     let (path, siblings) = (numbers(&reach.path), numbers(&reach.siblings));
     if path.contains(&want) || siblings.contains(&want) {
@@ -228,6 +237,7 @@ fn go_on(want: u32, reach: &Reach) -> Outcome {
     }
     Outcome::GoesOn {
         want,
+        lock: lock_due(op, reach),
         path,
         siblings,
     }
@@ -237,9 +247,9 @@ fn go_on(want: u32, reach: &Reach) -> Outcome {
 fn change(shape: Shape, words: &mut [u32], op: Op, reach: Reach) -> Answer {
     match op {
         Op::Insert(..) if room_is_short(shape, words, &reach.path) => Answer::NoRoom,
-        Op::Insert(key, information) => insert(shape, words, key, information, reach.path),
-        Op::Delete(key) => delete(shape, words, key, reach),
-        Op::Regrade(key, information) => regrade(shape, words, key, information, reach.path),
+        Op::Insert(key, information, _) => insert(shape, words, key, information, reach.path),
+        Op::Delete(key, _) => delete(shape, words, key, reach),
+        Op::Regrade(key, information, _) => regrade(shape, words, key, information, reach.path),
         Op::Search(_) | Op::Next(_) => unreachable!("it changes no page"),
     }
 }

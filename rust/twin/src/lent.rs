@@ -4,13 +4,14 @@
 //! |---|---|
 //! | 0, 1, 2 | k, N, how many wait |
 //! | 3 to 18 | the waiting order, oldest first |
-//! | from 19 | rows of 16, one word a slot: kind, key, information, want, depth, number of pages beside, then 10 rows of the path and 10 of the pages beside |
+//! | from 19 | rows of 16, one word a slot: kind, key, information, want, lock of the want, depth, number of pages beside, then 10 rows of the path and 10 of the pages beside |
 //!
-//! A kind is one of `kind`; any other is no state at all.
+//! A kind is one of `kind`, and an open slot's lock one of `Lock`; any other is no state at all.
 //! Words that a slot's kind does not use are not looked at, and are 0 where a call writes the slot.
 
 use crate::answer::Answer;
 use crate::calls;
+use crate::lock::Lock;
 use crate::op::{kind, Op};
 use crate::state::{Slot, State, SLOTS};
 
@@ -27,12 +28,14 @@ pub mod row {
     pub const INFORMATION: usize = 2;
     /// The page that it wants.
     pub const WANT: usize = 3;
+    /// The kind of lock that it wants there.
+    pub const LOCK: usize = 4;
     /// How long its path is.
-    pub const DEPTH: usize = 4;
+    pub const DEPTH: usize = 5;
     /// How many pages stand beside it.
-    pub const BESIDE: usize = 5;
+    pub const BESIDE: usize = 6;
     /// From here on the path.
-    pub const PATH: usize = 6;
+    pub const PATH: usize = 7;
     /// From here on the pages beside it.
     pub const SIBLINGS: usize = PATH + crate::state::PATH;
     /// Rows in all.
@@ -47,7 +50,7 @@ pub fn at(row: usize, slot: usize) -> usize {
     FRONT + SLOTS * row + slot
 }
 
-/// The state that the words say; `None` where a slot has a kind that does not exist.
+/// The state that the words say; `None` where an open slot has a kind of operation or of lock that does not exist.
 pub fn state_of(words: &[u32; STATE]) -> Option<State> {
     let mut state = State::empty(words[0], words[1]);
     state.waiting = words[2] as usize;
@@ -63,13 +66,19 @@ pub fn state_of(words: &[u32; STATE]) -> Option<State> {
 /// One slot of the words.
 fn slot_of(words: &[u32; STATE], number: usize) -> Option<Slot> {
     let word = |row: usize| words[at(row, number)];
-    let op = match word(row::KIND) {
-        kind::CLOSED => None,
-        kind => Some(Op::of(kind, word(row::KEY), word(row::INFORMATION))?),
+    let lock = Lock::of(word(row::LOCK));
+    let (op, lock) = match word(row::KIND) {
+        // a closed slot's lock is not looked at
+        kind::CLOSED => (None, lock.unwrap_or(Lock::None)),
+        kind => {
+            let op = Op::of(kind, word(row::KEY), word(row::INFORMATION))?;
+            (Some(op), lock?)
+        }
     };
     Some(Slot {
         op,
         want: word(row::WANT),
+        lock,
         depth: word(row::DEPTH) as usize,
         beside: word(row::BESIDE) as usize,
         path: std::array::from_fn(|i| word(row::PATH + i)),
@@ -106,6 +115,7 @@ fn write_slot(words: &mut [u32; STATE], state: &State, number: usize) {
     write(row::KEY, key);
     write(row::INFORMATION, information);
     write(row::WANT, slot.want);
+    write(row::LOCK, slot.lock.number());
     write(row::DEPTH, slot.depth as u32);
     write(row::BESIDE, slot.beside as u32);
     for (i, &page) in slot.path.iter().enumerate() {

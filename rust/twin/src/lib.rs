@@ -4,11 +4,11 @@
 //! It decodes every page it reads into lists, changes the lists and writes them back.
 //!
 //! ```
-//! use twin::{begin, make, step, Answer, Op};
+//! use twin::{begin, make, step, Answer, Op, Way};
 //! let mut words = [9; 7];
 //! let (made, state) = make(1, 1, &mut words);
 //! assert_eq!(made, Answer::Made);
-//! let (_, state) = begin(&state, 0, Op::Insert(10, 7));
+//! let (_, state) = begin(&state, 0, Op::Insert(10, 7, Way::First));
 //! let (answer, _) = step(&state, &mut words, 0);
 //! assert_eq!(answer, Answer::Inserted);
 //! assert_eq!(words, [1, 1, 10, 7, 0, 0, 0]);
@@ -19,6 +19,8 @@ mod calls;
 mod change;
 mod grant;
 mod lent;
+mod like_readers;
+mod lock;
 mod locks;
 mod op;
 mod page;
@@ -31,7 +33,8 @@ pub use calls::{begin, make, report, step};
 pub use lent::{
     at, begin_lent, make_lent, report_lent, row, state_of, step_lent, words_of, FRONT, STATE,
 };
+pub use lock::Lock;
 pub use locks::must_wait;
-pub use op::{kind, Op};
+pub use op::{kind, Op, Way};
 pub use page::{free_pages, page_words, read_page, Page};
 pub use state::{is_sound, Slot, State, PATH, SIBLINGS, SLOTS};

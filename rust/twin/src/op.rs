@@ -1,5 +1,7 @@
 //! What a buyer asks for, and its numbers: as a caller gives them, and as the state's words have them.
 
+use crate::lock::Lock;
+
 /// The kinds of operation by number.
 pub mod kind {
     /// A closed slot's.
@@ -9,18 +11,37 @@ pub mod kind {
     pub const DELETE: u32 = 3;
     pub const NEXT: u32 = 4;
     pub const REGRADE: u32 = 5;
+    /// The same three updates by the second way.
+    pub const INSERT_SECOND: u32 = 6;
+    pub const DELETE_SECOND: u32 = 7;
+    pub const REGRADE_SECOND: u32 = 8;
+    /// The highest.
+    pub const LAST: u32 = REGRADE_SECOND;
 }
 
-/// What a buyer asks for: a key, and for an insertion or a regrading its information.
+/// How an update goes down.
+#[derive(Clone, Copy, Debug, PartialEq, Eq)]
+pub enum Way {
+    /// With ξ-locks all the way.
+    First,
+    /// With ρ-locks like a reader, and a ξ-lock wanted on its leaf.
+    Second,
+}
+
+impl Way {
+    pub const BOTH: [Way; 2] = [Way::First, Way::Second];
+}
+
+/// What a buyer asks for: a key, for an insertion or a regrading its information, and for an update its way.
 #[derive(Clone, Copy, Debug, PartialEq, Eq)]
 pub enum Op {
     Search(u32),
-    Insert(u32, u32),
-    Delete(u32),
+    Insert(u32, u32, Way),
+    Delete(u32, Way),
     /// The first entry at or above the key.
     Next(u32),
     /// New information under a key that is there.
-    Regrade(u32, u32),
+    Regrade(u32, u32, Way),
 }
 
 impl Op {
@@ -28,10 +49,13 @@ impl Op {
     pub fn of(kind: u32, key: u32, information: u32) -> Option<Op> {
         Some(match kind {
             kind::SEARCH => Op::Search(key),
-            kind::INSERT => Op::Insert(key, information),
-            kind::DELETE => Op::Delete(key),
+            kind::INSERT => Op::Insert(key, information, Way::First),
+            kind::DELETE => Op::Delete(key, Way::First),
             kind::NEXT => Op::Next(key),
-            kind::REGRADE => Op::Regrade(key, information),
+            kind::REGRADE => Op::Regrade(key, information, Way::First),
+            kind::INSERT_SECOND => Op::Insert(key, information, Way::Second),
+            kind::DELETE_SECOND => Op::Delete(key, Way::Second),
+            kind::REGRADE_SECOND => Op::Regrade(key, information, Way::Second),
             _ => return None,
         })
     }
@@ -40,10 +64,13 @@ impl Op {
     pub fn numbers(self) -> (u32, u32, u32) {
         match self {
             Op::Search(key) => (kind::SEARCH, key, 0),
-            Op::Insert(key, information) => (kind::INSERT, key, information),
-            Op::Delete(key) => (kind::DELETE, key, 0),
+            Op::Insert(key, information, Way::First) => (kind::INSERT, key, information),
+            Op::Delete(key, Way::First) => (kind::DELETE, key, 0),
             Op::Next(key) => (kind::NEXT, key, 0),
-            Op::Regrade(key, information) => (kind::REGRADE, key, information),
+            Op::Regrade(key, information, Way::First) => (kind::REGRADE, key, information),
+            Op::Insert(key, information, Way::Second) => (kind::INSERT_SECOND, key, information),
+            Op::Delete(key, Way::Second) => (kind::DELETE_SECOND, key, 0),
+            Op::Regrade(key, information, Way::Second) => (kind::REGRADE_SECOND, key, information),
         }
     }
 
@@ -52,8 +79,35 @@ impl Op {
         self.numbers().1
     }
 
-    /// Whether its locks are ρ-locks.
-    pub fn reads(self) -> bool {
-        matches!(self, Op::Search(_) | Op::Next(_))
+    /// An update's way; who only reads has none.
+    pub fn way(self) -> Option<Way> {
+        match self {
+            Op::Search(_) | Op::Next(_) => None,
+            Op::Insert(_, _, way) | Op::Delete(_, way) | Op::Regrade(_, _, way) => Some(way),
+        }
+    }
+
+    /// The same by another way; who only reads stays as it is.
+    pub fn by(self, way: Way) -> Op {
+        match self {
+            Op::Search(_) | Op::Next(_) => self,
+            Op::Insert(key, information, _) => Op::Insert(key, information, way),
+            Op::Delete(key, _) => Op::Delete(key, way),
+            Op::Regrade(key, information, _) => Op::Regrade(key, information, way),
+        }
+    }
+
+    /// The kind of lock under which it holds its pages.
+    pub fn holds(self) -> Lock {
+        match self.way() {
+            None | Some(Way::Second) => Lock::Rho,
+            Some(Way::First) => Lock::Xi,
+        }
+    }
+
+    /// Whether it can want a page with a lock of this kind at all: the kind under which it holds, and by the second way also ξ, for
+    /// its leaf.
+    pub fn may_want(self, lock: Lock) -> bool {
+        lock == self.holds() || (self.way() == Some(Way::Second) && lock == Lock::Xi)
     }
 }

@@ -20,6 +20,16 @@ impl Page {
         self.keys.len()
     }
 
+    /// Whether one more fits in: μ < 2k.
+    pub fn has_room(&self, k: u32) -> bool {
+        self.count() < 2 * k as usize
+    }
+
+    /// Whether it is not short with one less: μ > k.
+    pub fn can_spare(&self, k: u32) -> bool {
+        self.count() > k as usize
+    }
+
     /// How many keys are at most this one.
     pub fn place(&self, key: u32) -> usize {
         self.keys.iter().filter(|&&own| own <= key).count()

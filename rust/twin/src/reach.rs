@@ -1,4 +1,4 @@
-//! The pages that an operation holds, as they were read: what a granted step, its change and its second way all speak of.
+//! The pages that an operation holds, as they were read: what a granted step, its change and the second way of a `Next` all speak of.
 
 use crate::page::Page;
 

@@ -1,6 +1,7 @@
 //! The state of the 16 slots, as raw as a caller may hand it in, and when it is sound.
 
-use crate::op::Op;
+use crate::lock::Lock;
+use crate::op::{Op, Way};
 
 /// How many slots there are.
 pub const SLOTS: usize = 16;
@@ -9,7 +10,7 @@ pub const PATH: usize = 10;
 /// How many pages beside its path a slot has cells for.
 pub const SIBLINGS: usize = 10;
 
-/// One slot: closed, or open with an operation, the page it wants and the pages it holds.
+/// One slot: closed, or open with an operation, the page it wants, the kind of lock that it wants there, and the pages it holds.
 ///
 /// The path goes from the top downward. A deletion's siblings go from the leaf's upward; a
 /// `Next` has its second way there, from the top downward. The counts may be any numbers, even
@@ -18,6 +19,7 @@ pub const SIBLINGS: usize = 10;
 pub struct Slot {
     pub op: Option<Op>,
     pub want: u32,
+    pub lock: Lock,
     pub path: [u32; PATH],
     pub depth: usize,
     pub siblings: [u32; SIBLINGS],
@@ -40,17 +42,19 @@ impl Slot {
     pub const CLOSED: Slot = Slot {
         op: None,
         want: 0,
+        lock: Lock::None,
         path: [0; PATH],
         depth: 0,
         siblings: [0; SIBLINGS],
         beside: 0,
     };
 
-    /// A slot that holds just these pages and wants this one.
+    /// A slot that holds just these pages and wants this one, with the kind of lock under which it holds.
     pub fn open(op: Op, want: u32, path: &[u32], siblings: &[u32]) -> Slot {
         let mut slot = Slot {
             op: Some(op),
             want,
+            lock: op.holds(),
             ..Slot::CLOSED
         };
         slot.path[..path.len()].copy_from_slice(path);
@@ -58,6 +62,11 @@ impl Slot {
         slot.depth = path.len();
         slot.beside = siblings.len();
         slot
+    }
+
+    /// The same with another kind of lock wanted.
+    pub fn wanting(self, lock: Lock) -> Slot {
+        Slot { lock, ..self }
     }
 
     /// The path pages held, for counts within the arrays.
@@ -128,23 +137,27 @@ fn is_slot_sound(slot: &Slot, n: u32) -> bool {
     if !are_counts_sound(slot) {
         return false;
     }
-    if slot.op.is_none() {
+    let Some(op) = slot.op else {
         return true;
-    }
+    };
     let held = slot.held();
     let is_twice = (1..held.len()).any(|i| held[..i].contains(&held[i]));
-    slot.want < n && held.iter().all(|&page| page < n) && !is_twice && !slot.holds(slot.want)
+    slot.want < n
+        && op.may_want(slot.lock)
+        && held.iter().all(|&page| page < n)
+        && !is_twice
+        && !slot.holds(slot.want)
 }
 
 /// The most pages that a slot may hold, on its path and beside it.
 fn limits(op: Option<Op>) -> (usize, usize) {
     match op {
         None => (0, 0),
-        Some(Op::Search(_)) => (1, 0),
-        Some(Op::Insert(..)) => (10, 0),
-        Some(Op::Delete(_)) => (10, 9),
+        Some(Op::Search(_) | Op::Regrade(..)) => (1, 0),
+        Some(Op::Insert(_, _, Way::Second) | Op::Delete(_, Way::Second)) => (1, 0),
+        Some(Op::Insert(_, _, Way::First)) => (10, 0),
+        Some(Op::Delete(_, Way::First)) => (10, 9),
         Some(Op::Next(_)) => (10, 9),
-        Some(Op::Regrade(..)) => (1, 0),
     }
 }
 
@@ -157,7 +170,7 @@ fn are_counts_sound(slot: &Slot) -> bool {
 /// No ξ-held page is held by another slot; the slots are sound by themselves.
 fn are_locks_sound(state: &State) -> bool {
     state.slots.iter().enumerate().all(|(number, slot)| {
-        let is_exclusive = slot.op.is_some_and(|op| !op.reads());
+        let is_exclusive = slot.op.is_some_and(|op| op.holds() == Lock::Xi);
         let is_elsewhere = |page: &u32| {
             state
                 .slots

@@ -4,6 +4,7 @@ mod common;
 
 use common::pools::two_levels;
 use common::Run;
+use twin::Way::{First, Second};
 use twin::{begin, make, page_words, report, step, Answer, Op};
 
 /// Runs operations one after the other in slot 0; gives each one's grants and last answer.
@@ -40,15 +41,24 @@ fn b_search_in_a() {
 #[test]
 fn c_two_entries() {
     let mut run = Run::new(1, 1);
-    alone(&mut run, &[Op::Insert(10, 7), Op::Insert(20, 7)]);
+    alone(
+        &mut run,
+        &[Op::Insert(10, 7, First), Op::Insert(20, 7, First)],
+    );
     assert_eq!(run.words, [1, 2, 10, 7, 20, 7, 0]);
 }
 
 #[test]
 fn d_no_room() {
     let mut run = Run::new(1, 2);
-    alone(&mut run, &[Op::Insert(10, 7), Op::Insert(20, 7)]);
-    assert_eq!(alone(&mut run, &[Op::Insert(30, 7)]), [(1, Answer::NoRoom)]);
+    alone(
+        &mut run,
+        &[Op::Insert(10, 7, First), Op::Insert(20, 7, First)],
+    );
+    assert_eq!(
+        alone(&mut run, &[Op::Insert(30, 7, First)]),
+        [(1, Answer::NoRoom)]
+    );
     assert_eq!(run.words[..7], [1, 2, 10, 7, 20, 7, 0]);
 }
 
@@ -75,7 +85,7 @@ fn f_equal_key_goes_right() {
 fn g_move() {
     let mut run = case_e();
     assert_eq!(
-        alone(&mut run, &[Op::Delete(10)]),
+        alone(&mut run, &[Op::Delete(10, First)]),
         [(3, Answer::Deleted(7))]
     );
     let words = [
@@ -89,7 +99,7 @@ fn g_move() {
 #[test]
 fn h_join_and_collapse() {
     let mut run = case_e();
-    alone(&mut run, &[Op::Delete(10), Op::Delete(20)]);
+    alone(&mut run, &[Op::Delete(10, First), Op::Delete(20, First)]);
     assert_eq!(run.words[..7], [1, 1, 30, 7, 0, 0, 0]);
     assert_eq!(run.words[7..], [0; 14]);
 }
@@ -101,7 +111,7 @@ fn i_already_there() {
         let mut run = case_e();
         let words = run.words.clone();
         assert_eq!(
-            alone(&mut run, &[Op::Insert(20, information)]),
+            alone(&mut run, &[Op::Insert(20, information, First)]),
             [(2, Answer::AlreadyThere(7))]
         );
         assert_eq!(run.words, words);
@@ -113,7 +123,7 @@ fn j_deletion_waits_for_search() {
     let mut run = case_e();
     run.begin(0, Op::Search(10));
     assert_eq!(run.step(0), Answer::Moved);
-    run.begin(1, Op::Delete(20));
+    run.begin(1, Op::Delete(20, First));
     assert_eq!(run.step(1), Answer::Waiting);
     assert_eq!(run.step(0), Answer::Found(7));
     assert_eq!(run.step(1), Answer::Moved);
@@ -134,17 +144,21 @@ fn older_wants_that_clash() {
     let ops = [
         Op::Search(5),
         Op::Next(5),
-        Op::Insert(5, 7),
-        Op::Delete(5),
-        Op::Regrade(5, 7),
+        // these want page 0 with ρ, and what follows with ξ
+        Op::Insert(5, 7, Second),
+        Op::Delete(5, Second),
+        Op::Regrade(5, 7, Second),
+        Op::Insert(5, 7, First),
+        Op::Delete(5, First),
+        Op::Regrade(5, 7, First),
     ];
     for (i, older) in ops.into_iter().enumerate() {
         for (j, younger) in ops.into_iter().enumerate() {
             let mut run = Run::new(1, 1);
             run.begin(0, older);
             run.begin(1, younger);
-            let both_read = i < 2 && j < 2;
-            assert_eq!(run.step(1) != Answer::Waiting, both_read, "{i} {j}");
+            let both_rho = i < 5 && j < 5;
+            assert_eq!(run.step(1) != Answer::Waiting, both_rho, "{i} {j}");
             // nobody is older than the first
             assert_ne!(run.step(0), Answer::Waiting);
         }
@@ -156,7 +170,7 @@ fn older_wants_that_clash() {
 fn a_search_does_not_pass_an_insertion() {
     let mut run = Run::new(1, 1);
     run.begin(0, Op::Search(5));
-    run.begin(1, Op::Insert(5, 7));
+    run.begin(1, Op::Insert(5, 7, First));
     run.begin(2, Op::Search(5));
     assert_eq!(run.step(2), Answer::Waiting);
     assert_eq!(run.step(1), Answer::Waiting);

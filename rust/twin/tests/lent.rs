@@ -1,6 +1,7 @@
 //! The state as lent words: both ways, and what a call leaves of them.
 
 use draw::Random;
+use twin::Way::{First, Second};
 use twin::{
     begin_lent, is_sound, make_lent, report_lent, state_of, step_lent, words_of, Answer, Op, STATE,
 };
@@ -13,8 +14,8 @@ fn fresh() -> ([u32; STATE], [u32; 7]) {
 }
 
 #[test]
-fn it_has_435_words() {
-    assert_eq!(STATE, 435);
+fn it_has_451_words() {
+    assert_eq!(STATE, 451);
 }
 
 #[test]
@@ -31,12 +32,17 @@ fn making_writes_every_word() {
 #[test]
 fn columns_stand_where_they_are_said_to() {
     let (mut state, _) = fresh();
-    assert_eq!(begin_lent(&mut state, 5, Op::Insert(10, 7)), Answer::Begun);
+    assert_eq!(
+        begin_lent(&mut state, 5, Op::Insert(10, 7, First)),
+        Answer::Begun
+    );
     let mut expected = [0; STATE];
     expected[..4].copy_from_slice(&[1, 1, 1, 5]);
     expected[19 + 5] = 2;
     expected[19 + 16 + 5] = 10;
     expected[19 + 32 + 5] = 7;
+    // it wants page 0 with ξ
+    expected[19 + 64 + 5] = 2;
     assert_eq!(state, expected);
 }
 
@@ -48,6 +54,7 @@ fn a_next_is_kind_4_with_no_information() {
     expected[..4].copy_from_slice(&[1, 1, 1, 2]);
     expected[19 + 2] = 4;
     expected[19 + 16 + 2] = 10;
+    expected[19 + 64 + 2] = 1;
     assert_eq!(state, expected);
     assert_eq!(step_lent(&mut state, &mut words, 2), Answer::None);
     assert_eq!(state[..3], [1, 1, 0]);
@@ -57,17 +64,45 @@ fn a_next_is_kind_4_with_no_information() {
 #[test]
 fn a_regrading_is_kind_5_with_its_information() {
     let (mut state, mut words) = fresh();
-    let op = Op::Regrade(10, 7);
+    let op = Op::Regrade(10, 7, First);
     assert_eq!(begin_lent(&mut state, 2, op), Answer::Begun);
     let mut expected = [0; STATE];
     expected[..4].copy_from_slice(&[1, 1, 1, 2]);
     expected[19 + 2] = 5;
     expected[19 + 16 + 2] = 10;
     expected[19 + 32 + 2] = 7;
+    expected[19 + 64 + 2] = 2;
     assert_eq!(state, expected);
     assert_eq!(step_lent(&mut state, &mut words, 2), Answer::NoSuchKey);
     assert_eq!(state[..3], [1, 1, 0]);
     assert_eq!(state[3..], [0; STATE - 3]);
+}
+
+/// "chosen per operation at begin": kinds 6 to 8. They want page 0 with ρ, and by the first way with ξ.
+#[test]
+fn the_second_way_has_kinds_of_its_own() {
+    for (op, kind, information) in [
+        (Op::Insert(10, 7, Second), 6, 7),
+        (Op::Delete(10, Second), 7, 0),
+        (Op::Regrade(10, 7, Second), 8, 7),
+    ] {
+        let (mut state, mut words) = fresh();
+        assert_eq!(begin_lent(&mut state, 2, op), Answer::Begun);
+        let mut expected = [0; STATE];
+        expected[..4].copy_from_slice(&[1, 1, 1, 2]);
+        expected[19 + 2] = kind;
+        expected[19 + 16 + 2] = 10;
+        expected[19 + 32 + 2] = information;
+        expected[19 + 64 + 2] = 1;
+        assert_eq!(state, expected);
+        assert_eq!(Op::of(kind, 10, information), Some(op));
+        // page 0 is a leaf: it begins again, as kind 2, 3 or 5
+        assert_eq!(step_lent(&mut state, &mut words, 2), Answer::Moved);
+        expected[19 + 2] = [2, 3, 5][kind as usize - 6];
+        expected[19 + 64 + 2] = 2;
+        assert_eq!(state, expected);
+    }
+    assert_eq!(Op::of(9, 10, 7), None);
 }
 
 #[test]
@@ -75,7 +110,8 @@ fn words_and_state_give_each_other_back() {
     let mut random = Random(1);
     for _ in 0..2000 {
         let words: [u32; STATE] = std::array::from_fn(|at| match at {
-            19..=34 => random.below(6) as u32,
+            19..=34 => random.below(9) as u32,
+            83..=98 => random.below(3) as u32,
             _ => random.bits() as u32 >> random.below(32),
         });
         let state = state_of(&words).expect("all kinds exist");
@@ -86,7 +122,7 @@ fn words_and_state_give_each_other_back() {
 #[test]
 fn a_kind_that_does_not_exist_is_no_state() {
     let (mut state, mut words) = fresh();
-    state[19 + 3] = 6;
+    state[19 + 3] = 9;
     let given = state;
     assert_eq!(begin_lent(&mut state, 0, Op::Search(1)), Answer::BadState);
     assert_eq!(step_lent(&mut state, &mut words, 0), Answer::BadState);
@@ -94,12 +130,46 @@ fn a_kind_that_does_not_exist_is_no_state() {
     assert_eq!(state, given);
 }
 
+/// Each number that is no kind, and each kind that the operation cannot want at all.
+#[test]
+fn a_lock_that_is_not_to_be_wanted_is_no_state() {
+    let locks = [0, 1, 2, 3, 4, u32::MAX];
+    for (kind, sound) in [
+        (1, &[1][..]),
+        (2, &[2]),
+        (3, &[2]),
+        (4, &[1]),
+        (5, &[2]),
+        (6, &[1, 2]),
+        (7, &[1, 2]),
+        (8, &[1, 2]),
+        // a closed slot's is not looked at
+        (0, &locks),
+    ] {
+        for lock in locks {
+            let (mut state, mut words) = fresh();
+            if let Some(op) = Op::of(kind, 10, 7) {
+                begin_lent(&mut state, 3, op);
+            }
+            state[19 + 64 + 3] = lock;
+            let given = state;
+            let is_sound = sound.contains(&lock);
+            assert_eq!(report_lent(&state, 0) != Answer::BadState, is_sound);
+            if !is_sound {
+                assert_eq!(begin_lent(&mut state, 0, Op::Search(1)), Answer::BadState);
+                assert_eq!(step_lent(&mut state, &mut words, 3), Answer::BadState);
+                assert_eq!(state, given);
+            }
+        }
+    }
+}
+
 #[test]
 fn unused_words_are_not_looked_at() {
     let (mut state, mut words) = fresh();
     begin_lent(&mut state, 1, Op::Search(3));
-    // a closed slot's key, a search's information, a cell behind the depth, a cell behind the order
-    for at in [19 + 16 + 7, 19 + 32 + 1, 19 + 16 * 6 + 1, 18] {
+    // a closed slot's key and lock, a search's information, a cell behind the depth, a cell behind the order
+    for at in [19 + 16 + 7, 19 + 64 + 7, 19 + 32 + 1, 19 + 16 * 7 + 1, 18] {
         state[at] = 77;
     }
     assert!(is_sound(&state_of(&state).expect("a state")));
@@ -107,6 +177,7 @@ fn unused_words_are_not_looked_at() {
     let mut expected = [0; STATE];
     expected[..2].copy_from_slice(&[1, 1]);
     expected[19 + 16 + 7] = 77;
+    expected[19 + 64 + 7] = 77;
     expected[18] = 77;
     assert_eq!(state, expected);
 }

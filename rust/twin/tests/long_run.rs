@@ -3,29 +3,38 @@
 mod common;
 
 use common::Run;
-use twin::Answer;
 use twin::Op::{self, Delete, Insert, Search};
+use twin::{Answer, Way};
 
 /// The proved table of what is heard in this run.
 const TABLE: &str = include_str!("../../../crates/promises/specs/LongRun.antt");
+
+/// The updates of this run, all by the first way.
+const fn insert(key: u32) -> Op {
+    Insert(key, 7, Way::First)
+}
+
+const fn delete(key: u32) -> Op {
+    Delete(key, Way::First)
+}
 
 /// Three operations, and how many rounds by all three slots, by the last two, by the last.
 type Three = ([Op; 3], [usize; 3]);
 
 const RUN: [Three; 13] = [
-    ([Insert(1, 7), Delete(11), Insert(14, 7)], [1, 0, 0]),
-    ([Insert(14, 7), Insert(7, 7), Insert(8, 7)], [1, 0, 1]),
-    ([Insert(2, 7), Insert(16, 7), Insert(7, 7)], [2, 1, 2]),
-    ([Insert(13, 7), Insert(3, 7), Insert(4, 7)], [3, 1, 1]),
-    ([Insert(9, 7), Search(17), Insert(15, 7)], [3, 1, 1]),
-    ([Insert(6, 7), Insert(5, 7), Delete(14)], [4, 1, 2]),
-    ([Delete(7), Insert(11, 7), Delete(15)], [5, 0, 4]),
-    ([Search(16), Insert(10, 7), Delete(3)], [4, 1, 4]),
-    ([Search(9), Delete(5), Delete(8)], [4, 3, 6]),
-    ([Insert(12, 7), Delete(2), Delete(9)], [3, 6, 4]),
-    ([Delete(4), Delete(1), Delete(6)], [4, 3, 4]),
-    ([Delete(12), Delete(13), Delete(10)], [2, 2, 2]),
-    ([Delete(16), Search(16), Delete(16)], [1, 0, 0]),
+    ([insert(1), delete(11), insert(14)], [1, 0, 0]),
+    ([insert(14), insert(7), insert(8)], [1, 0, 1]),
+    ([insert(2), insert(16), insert(7)], [2, 1, 2]),
+    ([insert(13), insert(3), insert(4)], [3, 1, 1]),
+    ([insert(9), Search(17), insert(15)], [3, 1, 1]),
+    ([insert(6), insert(5), delete(14)], [4, 1, 2]),
+    ([delete(7), insert(11), delete(15)], [5, 0, 4]),
+    ([Search(16), insert(10), delete(3)], [4, 1, 4]),
+    ([Search(9), delete(5), delete(8)], [4, 3, 6]),
+    ([insert(12), delete(2), delete(9)], [3, 6, 4]),
+    ([delete(4), delete(1), delete(6)], [4, 3, 4]),
+    ([delete(12), delete(13), delete(10)], [2, 2, 2]),
+    ([delete(16), Search(16), delete(16)], [1, 0, 0]),
 ];
 
 /// The answers of the table, by the names that it gives them.

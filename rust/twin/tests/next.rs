@@ -5,6 +5,7 @@ mod common;
 
 use common::pools::{entered, three_levels, two_levels};
 use common::Run;
+use twin::Way::First;
 use twin::{is_sound, make, page_words, report, step, Answer, Op, Slot, State};
 
 const NONE: &[u32] = &[];
@@ -53,7 +54,7 @@ fn a_root_leaf_answers_at_once() {
 #[test]
 fn it_tells_the_information() {
     let mut run = Run::new(1, 1);
-    run.begin(0, Op::Insert(u32::MAX, 3));
+    run.begin(0, Op::Insert(u32::MAX, 3, First));
     run.finish();
     judge(&mut run, 9, &[], Answer::Next(u32::MAX, 3));
 }
@@ -163,7 +164,7 @@ fn its_locks_are_shared() {
 fn an_insertion_waits_above_it_until_its_answer() {
     let mut run = three_levels();
     run.begin(0, Op::Next(25));
-    run.begin(1, Op::Insert(26, 1));
+    run.begin(1, Op::Insert(26, 1, First));
     for _ in 0..4 {
         assert_eq!(run.step(0), Answer::Moved);
         assert_eq!(run.step(1), Answer::Waiting);
@@ -179,7 +180,7 @@ fn an_insertion_comes_in_where_it_gave_up() {
     run.begin(0, Op::Next(15));
     run.step(0);
     run.step(0);
-    run.begin(1, Op::Insert(16, 1));
+    run.begin(1, Op::Insert(16, 1, First));
     assert_eq!(run.step(1), Answer::Moved);
     // page 5 is held, and the lot comes too late
     assert_eq!(run.step(1), Answer::Waiting);
@@ -198,7 +199,7 @@ fn an_insertion_comes_in_where_it_gave_up() {
 #[test]
 fn it_waits_on_its_second_way_for_an_insertion() {
     let mut run = three_levels();
-    run.begin(1, Op::Insert(45, 1));
+    run.begin(1, Op::Insert(45, 1, First));
     run.step(1);
     run.step(1);
     assert_eq!(report(&run.state, 6), Answer::Reported(2, 1, 1));

@@ -5,7 +5,7 @@ mod common;
 
 use common::Run;
 use draw::Random;
-use twin::{begin, is_sound, make, page_words, report, step, Answer, Op, State};
+use twin::{begin, is_sound, make, page_words, report, step, Answer, Lock, Op, State, Way};
 
 /// A run stopped somewhere in the middle.
 fn middle(random: &mut Random, k: u32, n: u32) -> Run {
@@ -13,12 +13,13 @@ fn middle(random: &mut Random, k: u32, n: u32) -> Run {
     for _ in 0..200 + random.below(100) {
         let slot = random.below(16) as usize;
         let key = random.below(40) as u32;
+        let way = random.one(&Way::BOTH);
         match random.below(10) {
-            0 | 1 => run.begin(slot, Op::Insert(key, key)),
-            2 => run.begin(slot, Op::Delete(key)),
+            0 | 1 => run.begin(slot, Op::Insert(key, key, way)),
+            2 => run.begin(slot, Op::Delete(key, way)),
             3 => run.begin(slot, Op::Search(key)),
             4 => run.begin(slot, Op::Next(key)),
-            5 => run.begin(slot, Op::Regrade(key, key + 1)),
+            5 => run.begin(slot, Op::Regrade(key, key + 1, way)),
             _ => run.step(slot),
         };
     }
@@ -31,8 +32,9 @@ fn spoil(random: &mut Random, state: &mut State) {
     let drawn = odd[random.below(odd.len() as u64) as usize];
     let cell = random.below(10) as usize;
     let number = random.below(16) as usize;
+    let way = random.one(&Way::BOTH);
     let slot = &mut state.slots[number];
-    match random.below(13) {
+    match random.below(15) {
         0 => state.k = drawn,
         1 => state.n = drawn,
         2 => state.waiting = drawn as usize,
@@ -44,8 +46,10 @@ fn spoil(random: &mut Random, state: &mut State) {
         8 => slot.siblings[cell] = drawn,
         9 => slot.op = None,
         10 => slot.op = Some(Op::Next(drawn)),
-        11 => slot.op = Some(Op::Regrade(drawn, 1)),
-        _ => slot.op = Some(Op::Delete(drawn)),
+        11 => slot.op = Some(Op::Regrade(drawn, 1, way)),
+        12 => slot.lock = random.one(&[Lock::None, Lock::Rho, Lock::Xi]),
+        13 => slot.op = slot.op.map(|op| op.by(way)),
+        _ => slot.op = Some(Op::Delete(drawn, way)),
     }
 }
 

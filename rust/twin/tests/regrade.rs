@@ -3,13 +3,14 @@
 
 mod common;
 
-use common::pools::{entered, three_levels, two_levels};
+use common::pools::{entered, three_levels, two_levels, FIVE, TWO, UNSOUND_ON_TWO};
 use common::Run;
+use twin::Way::First;
 use twin::{is_sound, report, step, Answer, Op, Slot};
 
 /// A regrading alone in slot 0: the page that it holds and the one that it wants after each grant but the last, and how it ends.
 fn judge(run: &mut Run, key: u32, information: u32, stands: &[(u32, u32)], answer: Answer) {
-    let op = Op::Regrade(key, information);
+    let op = Op::Regrade(key, information, First);
     assert_eq!(run.begin(0, op), Answer::Begun);
     for &(held, want) in stands {
         assert_eq!(run.step(0), Answer::Moved, "regrade {key}");
@@ -84,7 +85,7 @@ fn it_gives_up_its_father() {
     judge(&mut run, 20, 9, &[(0, 5), (5, 2)], Answer::Regraded(7));
     judge(&mut run, 50, 9, &[(0, 6), (6, 4)], Answer::Regraded(7));
     judge(&mut run, 25, 9, &[(0, 5), (5, 2)], Answer::NoSuchKey);
-    run.begin(0, Op::Regrade(10, 9));
+    run.begin(0, Op::Regrade(10, 9, First));
     run.step(0);
     run.step(0);
     assert_eq!(report(&run.state, 0), Answer::Reported(0, 0, 16));
@@ -99,7 +100,7 @@ fn over_ten_levels() {
     run.rise(1);
     assert_eq!(run.words[0], 10);
     for (key, answer) in [(0, Answer::Regraded(7)), (u32::MAX, Answer::NoSuchKey)] {
-        run.begin(0, Op::Regrade(key, 9));
+        run.begin(0, Op::Regrade(key, 9, First));
         run.finish();
         assert_eq!((run.grants[0], run.list.get(&0)), (10, Some(&9)));
         assert!(run.tally.contains_key(answer.name()));
@@ -111,7 +112,7 @@ fn it_waits_for_a_search_above_it_and_below() {
     let mut run = three_levels();
     run.begin(0, Op::Search(20));
     assert_eq!(run.step(0), Answer::Moved);
-    run.begin(1, Op::Regrade(20, 9));
+    run.begin(1, Op::Regrade(20, 9, First));
     // the search holds page 0, and then page 5
     assert_eq!(run.step(1), Answer::Waiting);
     assert_eq!(run.step(0), Answer::Moved);
@@ -126,7 +127,7 @@ fn it_waits_for_a_search_above_it_and_below() {
 /// point it comes.
 #[test]
 fn a_search_never_misses_the_lot() {
-    let (search, regrade) = (Op::Search(20), Op::Regrade(20, 9));
+    let (search, regrade) = (Op::Search(20), Op::Regrade(20, 9, First));
     for before in 0..3 {
         for (first, second) in [(search, regrade), (regrade, search)] {
             let mut run = three_levels();
@@ -143,7 +144,7 @@ fn a_search_never_misses_the_lot() {
 #[test]
 fn a_search_behind_it_finds_the_new_information() {
     let mut run = three_levels();
-    run.begin(0, Op::Regrade(20, 9));
+    run.begin(0, Op::Regrade(20, 9, First));
     run.begin(1, Op::Search(20));
     // it holds page 0, and then page 5
     assert_eq!(run.step(0), Answer::Moved);
@@ -164,7 +165,7 @@ fn it_waits_for_a_next_that_rests_on_its_leaf() {
     run.step(0);
     run.step(0);
     assert_eq!(report(&run.state, 1), Answer::Reported(1, 1, 0));
-    run.begin(1, Op::Regrade(10, 9));
+    run.begin(1, Op::Regrade(10, 9, First));
     assert_eq!(run.step(1), Answer::Waiting);
     assert_eq!(run.step(0), Answer::Next(20, 7));
     assert_eq!(run.step(1), Answer::Moved);
@@ -173,7 +174,7 @@ fn it_waits_for_a_next_that_rests_on_its_leaf() {
     let mut run = three_levels();
     run.begin(0, Op::Next(15));
     (0..3).for_each(|_| assert_eq!(run.step(0), Answer::Moved));
-    run.begin(1, Op::Regrade(20, 9));
+    run.begin(1, Op::Regrade(20, 9, First));
     assert_eq!(run.step(1), Answer::Moved);
     assert_eq!(run.step(1), Answer::Waiting);
     // the lot that it answers has the old information
@@ -185,8 +186,8 @@ fn it_waits_for_a_next_that_rests_on_its_leaf() {
 #[test]
 fn two_of_one_lot_go_one_after_the_other() {
     let mut run = two_levels();
-    run.begin(0, Op::Regrade(20, 8));
-    run.begin(1, Op::Regrade(20, 9));
+    run.begin(0, Op::Regrade(20, 8, First));
+    run.begin(1, Op::Regrade(20, 9, First));
     assert_eq!(run.step(1), Answer::Waiting);
     assert_eq!(run.step(0), Answer::Moved);
     assert_eq!(run.step(1), Answer::Waiting);
@@ -202,9 +203,9 @@ fn the_other_operations_find_the_new_information() {
     for (op, name) in [
         (Op::Search(20), Answer::Found(9)),
         (Op::Next(11), Answer::Next(20, 9)),
-        (Op::Insert(20, 5), Answer::AlreadyThere(9)),
-        (Op::Delete(20), Answer::Deleted(9)),
-        (Op::Regrade(20, 5), Answer::NoSuchKey),
+        (Op::Insert(20, 5, First), Answer::AlreadyThere(9)),
+        (Op::Delete(20, First), Answer::Deleted(9)),
+        (Op::Regrade(20, 5, First), Answer::NoSuchKey),
     ] {
         run.begin(3, op);
         let mut answer = Answer::Moved;
@@ -220,7 +221,7 @@ fn the_other_operations_find_the_new_information() {
 fn says(path: &[u32], beside: &[u32], want: u32, spoiled: Option<(usize, u32)>) -> Answer {
     let run = three_levels();
     let (mut state, mut words) = (run.state, run.words);
-    state.slots[0] = Slot::open(Op::Regrade(20, 9), want, path, beside);
+    state.slots[0] = Slot::open(Op::Regrade(20, 9, First), want, path, beside);
     state.waiting = 1;
     if let Some((at, word)) = spoiled {
         words[at] = word;
@@ -254,21 +255,7 @@ fn what_it_may_hold_and_want() {
 /// Each of its two pages is sound, and the levels fall by one.
 #[test]
 fn damaged_pages() {
-    let (five, two) = (5 * 7, 2 * 7);
-    for (at, word) in [
-        (five, 3),
-        (five, 1),
-        (five + 1, 0),
-        (five + 1, 2),
-        (five + 2, 2),
-        (five + 4, 8),
-        (five + 6, 1),
-        (two, 2),
-        (two, 0),
-        (two + 1, 0),
-        (two + 1, 3),
-        (two + 6, 1),
-    ] {
+    for (at, word) in UNSOUND_ON_TWO {
         let answer = says(&[5], &[], 2, Some((at, word)));
         assert_eq!(answer, Answer::Damaged, "{at} {word}");
     }
@@ -276,7 +263,7 @@ fn damaged_pages() {
     assert_eq!(says(&[5], &[], 2, Some((0, 9))), Answer::Regraded(7));
     assert_eq!(says(&[5], &[], 2, Some((7, 9))), Answer::Regraded(7));
     // from page 5 it would want the page that it then holds
-    assert_eq!(says(&[0], &[], 5, Some((five + 4, 5))), Answer::Damaged);
+    assert_eq!(says(&[0], &[], 5, Some((FIVE + 4, 5))), Answer::Damaged);
     // the key is gone from its leaf
-    assert_eq!(says(&[5], &[], 2, Some((two + 2, 21))), Answer::NoSuchKey);
+    assert_eq!(says(&[5], &[], 2, Some((TWO + 2, 21))), Answer::NoSuchKey);
 }

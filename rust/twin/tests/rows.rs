@@ -3,10 +3,10 @@
 use std::iter::Peekable;
 use std::vec::IntoIter;
 
-use twin::{begin, make, page_words, report, step, Answer, Op, Slot, State};
+use twin::{begin, make, page_words, report, step, Answer, Lock, Op, Slot, State, Way};
 
 /// The proved tables; a name may be defined in another one than it is used in.
-const TABLES: [&str; 7] = [
+const TABLES: [&str; 8] = [
     include_str!("../../../crates/promises/specs/Bench.antt"),
     include_str!("../../../crates/promises/specs/MoreRows.antt"),
     include_str!("../../../crates/promises/specs/LongRun.antt"),
@@ -14,12 +14,14 @@ const TABLES: [&str; 7] = [
     include_str!("../../../crates/promises/specs/RegradeRows.antt"),
     include_str!("../../../crates/promises/specs/WideRows.antt"),
     include_str!("../../../crates/promises/specs/DamageRows.antt"),
+    include_str!("../../../crates/promises/specs/SecondRows.antt"),
 ];
 
 /// What an expression of a table stands for.
 #[derive(Clone, Debug, PartialEq)]
 enum Value {
     Number(u32),
+    Way(Way),
     Op(Op),
     Call(Call),
     Answer(Answer),
@@ -186,11 +188,15 @@ fn calls(name: &str, arguments: &[Value]) -> Option<Value> {
         ("Rho", []) => Number(1),
         ("Xi", []) => Number(2),
         ("Search", [Number(key)]) => Value::Op(Op::Search(*key)),
-        ("Insert", [Number(key), Number(information)]) => Value::Op(Op::Insert(*key, *information)),
-        ("Delete", [Number(key)]) => Value::Op(Op::Delete(*key)),
+        ("First", []) => Value::Way(Way::First),
+        ("Second", []) => Value::Way(Way::Second),
+        ("Insert", [Number(key), Number(information), way @ ..]) => {
+            Value::Op(Op::Insert(*key, *information, named(way)))
+        }
+        ("Delete", [Number(key), way @ ..]) => Value::Op(Op::Delete(*key, named(way))),
         ("Next", [Number(key)]) => Value::Op(Op::Next(*key)),
-        ("Regrade", [Number(key), Number(information)]) => {
-            Value::Op(Op::Regrade(*key, *information))
+        ("Regrade", [Number(key), Number(information), way @ ..]) => {
+            Value::Op(Op::Regrade(*key, *information, named(way)))
         }
         ("begin", [Number(slot), Value::Op(op)]) => Value::Call(Call::Begin(*slot as usize, *op)),
         ("step", [Number(slot)]) => Value::Call(Call::Step(*slot as usize)),
@@ -212,13 +218,26 @@ fn calls(name: &str, arguments: &[Value]) -> Option<Value> {
     })
 }
 
+/// The way that is named behind an update; where none is, the first.
+fn named(way: &[Value]) -> Way {
+    match way {
+        [] => Way::First,
+        [Value::Way(way)] => *way,
+        _ => panic!("{way:?} is no way"),
+    }
+}
+
 /// Where a row begins, and the row.
 fn place(name: &str, arguments: &[Value]) -> Option<Value> {
     Some(match (name, arguments) {
         ("idleState", [Number(k), Number(n)]) => Value::State(Box::new(State::empty(*k, *n))),
         ("slotOpen", [Number(n), Value::Op(op), Number(want), path, beside]) => {
-            let state = one_open(*n, *op, *want, &numbers(path), &numbers(beside));
-            Value::State(Box::new(state))
+            let slot = open(*op, *want, &numbers(path), &numbers(beside));
+            opened(*n, &[slot])
+        }
+        ("slotWanting", [Number(n), Value::Op(op), Number(want), Number(lock), path, beside]) => {
+            let slot = open(*op, *want, &numbers(path), &numbers(beside));
+            opened(*n, &[slot.wanting(Lock::of(*lock)?)])
         }
         ("ran", [List(_), Value::State(state), words]) => {
             let (state, words) = (**state, numbers(words));
@@ -234,17 +253,31 @@ fn place(name: &str, arguments: &[Value]) -> Option<Value> {
             open_in(*n, operation, [want, path, second], read("tensWords"))
         }
         ("inserting", [want, path, beside]) => {
-            let operation = Value::Op(Op::Insert(65, 7));
+            let operation = Value::Op(Op::Insert(65, 7, Way::First));
             open_in(11, operation, [want, path, beside], read("toSixty"))
         }
         ("deleting", [want, path, beside]) => {
-            let operation = Value::Op(Op::Delete(10));
+            let operation = Value::Op(Op::Delete(10, Way::First));
             open_in(7, operation, [want, path, beside], read("tensWords"))
         }
         ("lookedAt", [operation, path, beside]) => {
             let held = [&Number(19), path, beside];
             let from = open_in(20, operation.clone(), held, List(Vec::new()));
             applied("answers", &[from, read("report 18 ∷ []")])
+        }
+        ("standing", [operation, want, lock, path, beside]) => {
+            let slot = [&Number(7), operation, want, lock, path, beside].map(Value::clone);
+            let state = applied("slotWanting", &slot);
+            applied("ran", &[List(Vec::new()), state, read("tensWords")])
+        }
+        ("judged", [_, _, _, _, _]) => {
+            let from = applied("standing", arguments);
+            applied("answers", &[from, read("report 5 ∷ []")])
+        }
+        ("together", [Value::Op(one), Value::Op(other)]) => {
+            let slots = [(one, 1), (other, 2)].map(|(op, want)| open(*op, want, &[5], &[]));
+            let from = [List(Vec::new()), opened(7, &slots), read("tensWords")];
+            applied("answers", &[applied("ran", &from), read("report 5 ∷ []")])
         }
         ("once", [from]) => applied("answers", &[from.clone(), read("step 0 ∷ []")]),
         ("damaged", [from, Number(at), Number(word)]) => with_words(from, *at, &[*word]),
@@ -288,13 +321,22 @@ fn open_in(n: u32, operation: Value, [want, path, beside]: [&Value; 3], words: V
     applied("ran", &[List(Vec::new()), state, words])
 }
 
-/// A state whose slot 0 alone is open. It may be said to hold more than its cells can name.
-fn one_open(n: u32, op: Op, want: u32, path: &[u32], beside: &[u32]) -> State {
+/// An open slot that wants with the kind under which it holds. It may be said to hold more than its cells can name.
+fn open(op: Op, want: u32, path: &[u32], beside: &[u32]) -> Slot {
+    let mut slot = Slot::open(op, want, &path[..path.len().min(10)], beside);
+    slot.depth = path.len();
+    slot
+}
+
+/// A state in which these slots are open, from slot 0 on, the lower one's want older.
+fn opened(n: u32, slots: &[Slot]) -> Value {
     let mut state = State::empty(1, n);
-    state.slots[0] = Slot::open(op, want, &path[..path.len().min(10)], beside);
-    state.slots[0].depth = path.len();
-    state.waiting = 1;
-    state
+    for (number, slot) in slots.iter().enumerate() {
+        state.slots[number] = *slot;
+        state.order[number] = number;
+    }
+    state.waiting = slots.len();
+    Value::State(Box::new(state))
 }
 
 /// The same with other words from a place on.
@@ -337,6 +379,7 @@ fn every_row_is_heard() {
         ("regradeRows", 15),
         ("wideRows", 29),
         ("damageRows", 58),
+        ("secondRows", 76),
     ] {
         let rows = list(&defined(name).expect("it is there"));
         assert_eq!(rows.len(), length, "{name}");

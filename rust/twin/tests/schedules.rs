@@ -4,7 +4,7 @@ mod common;
 
 use common::Run;
 use draw::Random;
-use twin::Op;
+use twin::{Op, Way};
 
 /// How a schedule is drawn.
 struct Draw {
@@ -16,10 +16,12 @@ struct Draw {
     check_every: u32,
     /// How many operations in a hundred are a `Next`.
     nexts: u64,
+    /// How many updates in a hundred go the second way.
+    seconds: u64,
 }
 
-/// A random operation: a `Next` so many times in a hundred; otherwise insertions and deletions prevail by turns. Keys are
-/// even, so that there is always a number between two of them.
+/// A random operation: a `Next` so many times in a hundred; otherwise insertions and deletions prevail by turns, by one way or the
+/// other. Keys are even, so that there is always a number between two of them.
 fn operation(random: &mut Random, run: &Run, draw: &Draw, grows: bool) -> Op {
     let key = match random.below(60) {
         0 => 0,
@@ -30,10 +32,15 @@ fn operation(random: &mut Random, run: &Run, draw: &Draw, grows: bool) -> Op {
         return next(random, run, key);
     }
     let (inserts, deletes) = if grows { (60, 20) } else { (20, 60) };
+    let way = if random.percent(draw.seconds) {
+        Way::Second
+    } else {
+        Way::First
+    };
     match random.below(100) {
-        drawn if drawn < inserts => Op::Insert(key, random.bits() as u32),
-        drawn if drawn < inserts + deletes => Op::Delete(key),
-        drawn if drawn < 90 => Op::Regrade(key, random.bits() as u32),
+        drawn if drawn < inserts => Op::Insert(key, random.bits() as u32, way),
+        drawn if drawn < inserts + deletes => Op::Delete(key, way),
+        drawn if drawn < 90 => Op::Regrade(key, random.bits() as u32, way),
         _ => Op::Search(key),
     }
 }
@@ -82,7 +89,9 @@ fn empty(run: &mut Run) {
     let keys: Vec<u32> = run.list.keys().copied().collect();
     for some in keys.chunks(16) {
         for (slot, &key) in some.iter().enumerate() {
-            run.begin(slot, Op::Delete(key));
+            // slots take turns in the way they go
+            let way = Way::BOTH[slot % 2];
+            run.begin(slot, Op::Delete(key, way));
         }
         run.finish();
     }
@@ -96,6 +105,9 @@ fn empty(run: &mut Run) {
 struct Reached {
     tallest: u32,
     beside: [u64; 10],
+    again: u64,
+    at_once: u64,
+    unbarred: u64,
 }
 
 impl Reached {
@@ -105,6 +117,9 @@ impl Reached {
         for (all, more) in self.beside.iter_mut().zip(run.beside) {
             *all += more;
         }
+        self.again += run.again;
+        self.at_once += run.at_once;
+        self.unbarred += run.unbarred;
     }
 
     /// How often a `Next` had so many pages beside its path, or more.
@@ -129,26 +144,28 @@ fn small_pools() {
             slots,
             check_every: 1,
             nexts: random.one(&[10, 40]),
+            seconds: random.one(&[0, 50, 100]),
         };
         reached.add(&schedule(&mut random, &draw));
     }
     assert!(reached.tallest >= 4);
     assert!(reached.beside_from(1) > 100);
+    assert!(reached.again > 1000 && reached.at_once > 1000 && reached.unbarred > 1000);
 }
 
 #[test]
 fn large_pools() {
     let mut random = Random(2);
     let mut reached = Reached::default();
-    for (k, n, nexts) in [
-        (1, 1024, 10),
-        (1, 1024, 40),
-        (1, 300, 40),
-        (2, 500, 40),
-        (3, 200, 20),
-        (4, 100, 20),
-        (16, 40, 10),
-        (16, 1024, 10),
+    for (k, n, nexts, seconds) in [
+        (1, 1024, 10, 0),
+        (1, 1024, 40, 100),
+        (1, 300, 40, 50),
+        (2, 500, 40, 100),
+        (3, 200, 20, 50),
+        (4, 100, 20, 100),
+        (16, 40, 10, 50),
+        (16, 1024, 10, 100),
     ] {
         let keys = 600 * u64::from(k);
         let draw = Draw {
@@ -159,11 +176,13 @@ fn large_pools() {
             slots: 16,
             check_every: 97,
             nexts,
+            seconds,
         };
         reached.add(&schedule(&mut random, &draw));
     }
     assert!(reached.tallest >= 6);
     assert!(reached.beside_from(2) > 100);
+    assert!(reached.again > 1000 && reached.at_once > 1000 && reached.unbarred > 100);
 }
 
 #[test]
@@ -178,6 +197,7 @@ fn every_kind_of_answer() {
         slots: 16,
         check_every: 1,
         nexts: 30,
+        seconds: 50,
     };
     for _ in 0..draw.calls {
         let slot = random.below(draw.slots) as usize;

@@ -1,7 +1,8 @@
 //! When a state is sound, clause by clause of document 01: a state that breaks one clause alone is
 //! BadState for every call, and the state beside it, just inside the limit, is not.
 
-use twin::{begin, make, report, step, Answer, Op, Slot, State};
+use twin::Way::{First, Second};
+use twin::{begin, make, report, step, Answer, Lock, Op, Slot, State};
 
 const K: u32 = 2;
 const N: u32 = 64;
@@ -14,11 +15,19 @@ fn idle() -> (State, Vec<u32>) {
     (state, words)
 }
 
-/// A slot that holds these pages and wants one more.
+/// A slot that holds these pages and wants one more, with the kind of lock that it begins with.
 fn slot(op: Op, want: u32, path: &[u32], siblings: &[u32]) -> Slot {
+    let lock = match op {
+        Op::Search(_) | Op::Next(_) => Lock::Rho,
+        Op::Insert(_, _, way) | Op::Delete(_, way) | Op::Regrade(_, _, way) => match way {
+            First => Lock::Xi,
+            Second => Lock::Rho,
+        },
+    };
     let mut slot = Slot {
         op: Some(op),
         want,
+        lock,
         ..Slot::CLOSED
     };
     slot.path[..path.len()].copy_from_slice(path);
@@ -50,6 +59,13 @@ fn bad(state: &State) -> bool {
     assert!(!stepped || after == words);
     stepped
 }
+
+/// The updates by the second way.
+const SECOND: [Op; 3] = [
+    Op::Insert(5, 1, Second),
+    Op::Delete(5, Second),
+    Op::Regrade(5, 1, Second),
+];
 
 /// The first pages, from 1.
 fn pages(count: u32) -> Vec<u32> {
@@ -100,7 +116,7 @@ fn the_order_names_each_open_slot_once_and_no_other() {
 
 #[test]
 fn all_pages_named_are_below_n() {
-    for op in [Op::Delete(5), Op::Next(5)] {
+    for op in [Op::Delete(5, First), Op::Next(5)] {
         for (want, path, sibling, unsound) in [
             (63, 62, 61, false),
             (64, 62, 61, true),
@@ -115,7 +131,7 @@ fn all_pages_named_are_below_n() {
 
 #[test]
 fn no_slot_holds_a_page_twice_or_wants_one_it_holds() {
-    for op in [Op::Delete(5), Op::Next(5)] {
+    for op in [Op::Delete(5, First), Op::Next(5)] {
         assert!(!bad(&with(&[(0, slot(op, 4, &[1, 2], &[3]))])));
         assert!(bad(&with(&[(0, slot(op, 4, &[1, 1], &[3]))])));
         assert!(bad(&with(&[(0, slot(op, 4, &[1, 2], &[2]))])));
@@ -131,9 +147,9 @@ fn how_many_pages_an_operation_holds() {
         let siblings: Vec<u32> = (20..20 + siblings).collect();
         bad(&with(&[(0, slot(op, 50, &pages(path), &siblings))]))
     };
-    let (search, insert, delete) = (Op::Search(5), Op::Insert(5, 1), Op::Delete(5));
+    let (search, insert, delete) = (Op::Search(5), Op::Insert(5, 1, First), Op::Delete(5, First));
     let next = Op::Next(5);
-    let regrade = Op::Regrade(5, 1);
+    let regrade = Op::Regrade(5, 1, First);
     assert!(!held(search, 1, 0) && held(search, 2, 0));
     assert!(!held(regrade, 0, 0) && !held(regrade, 1, 0) && held(regrade, 2, 0));
     assert!(!held(insert, 10, 0));
@@ -144,6 +160,11 @@ fn how_many_pages_an_operation_holds() {
     assert!(!held(next, 0, 0) && held(next, 0, 1) && held(next, 1, 1));
     assert!(held(search, 1, 1) && held(insert, 2, 1) && held(regrade, 1, 1));
     assert!(held(regrade, 2, 1) && held(regrade, 0, 1) && held(regrade, 10, 0));
+    for op in SECOND {
+        assert!(!held(op, 0, 0) && !held(op, 1, 0), "{op:?}");
+        assert!(held(op, 2, 0) && held(op, 10, 0), "{op:?}");
+        assert!(held(op, 1, 1) && held(op, 0, 1) && held(op, 2, 1), "{op:?}");
+    }
     for op in [insert, delete, next] {
         let mut longer = with(&[(0, slot(op, 50, &pages(10), &[]))]);
         longer.slots[0].depth = 11;
@@ -166,12 +187,30 @@ fn a_closed_slot_holds_nothing() {
     }
     let (mut state, _) = idle();
     state.slots[9].want = 9999;
-    assert!(!bad(&state), "a closed slot names no page");
+    state.slots[9].lock = Lock::Xi;
+    assert!(
+        !bad(&state),
+        "a closed slot names no page, and no lock for one"
+    );
+}
+
+#[test]
+fn a_lock_is_one_that_the_operation_can_want_at_all() {
+    let wants = |op, lock| !bad(&with(&[(0, slot(op, 4, &[1], &[]).wanting(lock))]));
+    for op in [Op::Search(5), Op::Next(5)] {
+        assert!(wants(op, Lock::Rho) && !wants(op, Lock::Xi) && !wants(op, Lock::None));
+    }
+    for op in SECOND {
+        let first = op.by(First);
+        assert!(wants(first, Lock::Xi) && !wants(first, Lock::Rho) && !wants(first, Lock::None));
+        // which of the two is due goes by the pages
+        assert!(wants(op, Lock::Rho) && wants(op, Lock::Xi) && !wants(op, Lock::None));
+    }
 }
 
 #[test]
 fn no_updated_page_is_held_by_another_slot() {
-    let (search, insert, delete) = (Op::Search(5), Op::Insert(5, 1), Op::Delete(5));
+    let (search, insert, delete) = (Op::Search(5), Op::Insert(5, 1, First), Op::Delete(5, First));
     let both = |a, b| {
         bad(&with(&[
             (0, slot(a, 40, &[7], &[])),
@@ -187,9 +226,19 @@ fn no_updated_page_is_held_by_another_slot() {
             && both(insert, delete)
             && both(delete, delete)
     );
-    let regrade = Op::Regrade(5, 1);
+    let regrade = Op::Regrade(5, 1, First);
     for op in [search, next, insert, delete, regrade] {
         assert!(both(regrade, op) && both(op, regrade), "{op:?}");
+    }
+    // by the second way a page is held with ρ, whatever is wanted next
+    for op in SECOND {
+        assert!(!both(op, search) && !both(search, op) && !both(op, next) && !both(next, op));
+        assert!(SECOND.iter().all(|&other| !both(op, other)));
+        for first in [insert, delete, regrade] {
+            assert!(both(op, first) && both(first, op), "{op:?} {first:?}");
+        }
+        let alone = slot(op, 40, &[7], &[]).wanting(Lock::Xi);
+        assert!(!bad(&with(&[(0, alone), (1, slot(search, 41, &[7], &[]))])));
     }
     let beside = |a, b| {
         bad(&with(&[
@@ -201,6 +250,9 @@ fn no_updated_page_is_held_by_another_slot() {
     assert!(beside(next, insert) && beside(next, delete));
     assert!(beside(next, regrade) && beside(delete, regrade));
     assert!(!beside(next, search) && !beside(next, next));
+    assert!(SECOND
+        .iter()
+        .all(|&op| !beside(next, op) && beside(delete, op)));
     let wanted = with(&[
         (0, slot(insert, 40, &[7], &[])),
         (1, slot(search, 7, &[6], &[])),

@@ -1,6 +1,6 @@
 //! An input that fills the pool of 64 pages until there is no room, and empties it again.
 
-use twin::Op;
+use twin::{Op, Way};
 
 use crate::input::Input;
 
@@ -14,16 +14,22 @@ const LOTS: u32 = 160;
 pub fn fill_and_empty() -> Vec<u8> {
     let mut input = Input::default();
     let keys: Vec<u32> = (0..LOTS).map(|i| i * 67 % LOTS * 3 + 1).collect();
-    let entered = run(&mut input, keys.iter().map(|&key| Op::Insert(key, key % 5)));
+    let entered = run(
+        &mut input,
+        keys.iter().map(|&key| Op::Insert(key, key % 5, Way::First)),
+    );
     run(&mut input, [Op::Search(keys[0])]);
     let mut left: Vec<u32> = keys;
     left.sort_by_key(|key| key % 7);
-    run(&mut input, left.iter().map(|&key| Op::Delete(key)));
+    run(
+        &mut input,
+        left.iter().map(|&key| Op::Delete(key, Way::First)),
+    );
     run(
         &mut input,
         [
             Op::Search(left[0]),
-            Op::Insert(left[0], 9),
+            Op::Insert(left[0], 9, Way::First),
             Op::Search(left[0]),
         ],
     );

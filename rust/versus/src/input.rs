@@ -1,7 +1,7 @@
 //! An input as it grows: its bytes, and the pool as its lines so far leave it.
 
 use lots_twin::Talk;
-use twin::{must_wait, Op, SLOTS};
+use twin::{must_wait, Op, Way, SLOTS};
 
 /// The bytes of an input, with the pool behind its last line.
 #[derive(Default)]
@@ -50,11 +50,15 @@ impl Input {
 
 /// The line that begins an operation.
 pub fn begin_line(slot: u64, op: Op) -> String {
+    let way = match op.way() {
+        Some(Way::Second) => "2",
+        _ => "",
+    };
     match op {
         Op::Search(key) => format!("b {slot} s {key}"),
-        Op::Insert(key, information) => format!("b {slot} i {key} {information}"),
-        Op::Delete(key) => format!("b {slot} d {key}"),
+        Op::Insert(key, information, _) => format!("b {slot} i{way} {key} {information}"),
+        Op::Delete(key, _) => format!("b {slot} d{way} {key}"),
         Op::Next(key) => format!("b {slot} n {key}"),
-        Op::Regrade(key, information) => format!("b {slot} g {key} {information}"),
+        Op::Regrade(key, information, _) => format!("b {slot} g{way} {key} {information}"),
     }
 }

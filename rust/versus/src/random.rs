@@ -1,7 +1,7 @@
 //! Random inputs: operations in many slots at once, stepped in random order, with bad lines between them.
 
 use draw::Random;
-use twin::{Op, SLOTS};
+use twin::{Op, Way, SLOTS};
 
 use crate::input::{begin_line, Input};
 use crate::spoil::spoiled;
@@ -63,7 +63,7 @@ fn next_line(random: &mut Random, kind: &Kind, input: &mut Input, grows: bool) {
     }
 }
 
-/// A line of one of the six forms, with zeros before the slot now and then.
+/// A line of one of the forms, with zeros before the slot now and then.
 fn good_line(random: &mut Random, slot: u64, kind: &Kind, grows: bool) -> String {
     if random.percent(50) {
         let zeros = if random.percent(20) { "000" } else { "" };
@@ -80,6 +80,7 @@ fn operation(random: &mut Random, kind: &Kind, grows: bool) -> Op {
         _ => random.below(kind.keys) as u32,
     };
     let information = random.bits() as u32 >> random.below(32);
+    let way = random.one(&Way::BOTH);
     let weights = if grows {
         [8, 20, 30, 82]
     } else {
@@ -88,8 +89,8 @@ fn operation(random: &mut Random, kind: &Kind, grows: bool) -> Op {
     match random.below(100) {
         drawn if drawn < weights[0] => Op::Search(key),
         drawn if drawn < weights[1] => Op::Next(key),
-        drawn if drawn < weights[2] => Op::Regrade(key, information),
-        drawn if drawn < weights[3] => Op::Insert(key, information),
-        _ => Op::Delete(key),
+        drawn if drawn < weights[2] => Op::Regrade(key, information, way),
+        drawn if drawn < weights[3] => Op::Insert(key, information, way),
+        _ => Op::Delete(key, way),
     }
 }

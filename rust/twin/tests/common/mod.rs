@@ -8,25 +8,17 @@ mod ways;
 
 use std::collections::BTreeMap;
 
+use twin::Way::{self, First, Second};
 use twin::{
     begin, free_pages, make, must_wait, page_words, read_page, report, step, Answer, Op, State,
 };
 
-/// Whether another slot is in a slot's way, as demand 2 has it: it holds the wanted page, or wants it too and has waited longer;
-/// and one of the two updates.
-fn is_in_the_way(state: &State, slot: usize) -> bool {
-    let waits_since = |slot| state.order().iter().position(|&own| own == slot);
-    let updates = |slot: usize| {
-        let op = state.slots[slot].op;
-        matches!(op, Some(Op::Insert(..) | Op::Delete(_) | Op::Regrade(..)))
-    };
-    let want = state.slots[slot].want;
-    let mut others = (0..16).filter(|&other| other != slot && state.slots[other].op.is_some());
-    others.any(|other| {
-        let its = &state.slots[other];
-        let is_older = its.want == want && waits_since(other) < waits_since(slot);
-        (its.holds(want) || is_older) && (updates(other) || updates(slot))
-    })
+/// The way of an open slot that updates.
+fn way(state: &State, slot: usize) -> Option<Way> {
+    match state.slots[slot].op? {
+        Op::Search(_) | Op::Next(_) => None,
+        Op::Insert(_, _, way) | Op::Delete(_, way) | Op::Regrade(_, _, way) => Some(way),
+    }
 }
 
 /// A run from a fresh pool, with the sorted list beside it.
@@ -42,6 +34,11 @@ pub struct Run {
     pub tallest: u32,
     /// How often a step left a `Next` with so many pages beside its path.
     pub beside: [u64; 10],
+    /// How often an update of the second way began again, and how often one ended without that.
+    pub again: u64,
+    pub at_once: u64,
+    /// How many steps wanted an upper page where nobody updated by the first way.
+    pub unbarred: u64,
 }
 
 impl Run {
@@ -62,6 +59,9 @@ impl Run {
             tally,
             tallest: 1,
             beside: [0; 10],
+            again: 0,
+            at_once: 0,
+            unbarred: 0,
         }
     }
 
@@ -87,7 +87,8 @@ impl Run {
     /// Steps, and judges the answer by the sorted list.
     pub fn step(&mut self, slot: usize) -> Answer {
         let op = self.state.slots[slot].op;
-        let waits = op.is_some() && is_in_the_way(&self.state, slot);
+        let waits = op.is_some() && self.is_in_the_way(slot);
+        let is_unbarred = op.is_some() && self.is_unbarred(slot);
         let (before, given) = (self.words.clone(), self.state);
         let (answer, next) = step(&self.state, &mut self.words, slot);
         *self.tally.entry(answer.name()).or_default() += 1;
@@ -96,19 +97,91 @@ impl Run {
             return answer;
         };
         assert_eq!(answer == Answer::Waiting, waits);
+        assert!(!(waits && is_unbarred));
+        self.unbarred += u64::from(is_unbarred);
         if waits {
             assert_eq!((&self.words, next), (&before, given));
             return answer;
         }
-        self.judge(slot, op, answer, &before);
+        if !self.judge_second(slot, op, answer, &next, &before) {
+            self.judge(slot, op, answer, &before);
+        }
         self.state = next;
         self.tallest = self.tallest.max(self.words[0]);
-        self.check_way(slot);
-        self.check_regrade(slot);
+        self.check_slot(slot);
         if let (Op::Next(_), Answer::Moved) = (op, answer) {
             self.beside[self.state.slots[slot].beside] += 1;
         }
         answer
+    }
+
+    /// Whether another slot is in a slot's way, as demand 2 has it: it holds the wanted page, or wants it too and has waited longer;
+    /// and one of the two locks is for one slot alone.
+    fn is_in_the_way(&self, slot: usize) -> bool {
+        let state = &self.state;
+        let waits_since = |slot| state.order().iter().position(|&own| own == slot);
+        let want = state.slots[slot].want;
+        let mut others = (0..16).filter(|&other| other != slot && state.slots[other].op.is_some());
+        others.any(|other| {
+            let its = &state.slots[other];
+            let is_older = its.want == want && waits_since(other) < waits_since(slot);
+            let holds_alone = way(state, other) == Some(First);
+            (its.holds(want) && (holds_alone || self.wants_alone(slot)))
+                || (is_older && (self.wants_alone(other) || self.wants_alone(slot)))
+        })
+    }
+
+    /// Whether a slot wants an upper page, and every open one reads or goes the second way and has not begun again.
+    fn is_unbarred(&self, slot: usize) -> bool {
+        let nobody_first = (0..16).all(|slot| way(&self.state, slot) != Some(First));
+        nobody_first && self.page(self.state.slots[slot].want).level > 1
+    }
+
+    /// A granted step of the second way; whether it begins again. It does at page 0, if that is a leaf, and at a leaf beyond which the
+    /// change would reach.
+    fn judge_second(
+        &mut self,
+        slot: usize,
+        op: Op,
+        answer: Answer,
+        next: &State,
+        before: &[u32],
+    ) -> bool {
+        if way(&self.state, slot) != Some(Second) {
+            return false;
+        }
+        let (size, want) = (page_words(self.k), self.state.slots[slot].want);
+        let page = &before[want as usize * size..][..size];
+        let is_there = self.list.contains_key(&op.key());
+        let reaches_beyond = match op {
+            Op::Insert(..) => !is_there && page[1] == 2 * self.k,
+            Op::Delete(..) => is_there && page[1] == self.k,
+            _ => false,
+        };
+        if page[0] > 1 || (want > 0 && !reaches_beyond) {
+            self.at_once += u64::from(page[0] == 1);
+            return false;
+        }
+        self.judge_again(slot, answer, next, before);
+        true
+    }
+
+    /// "Beginning again is answered Moved, and the want of page 0 goes to the end of the order."
+    fn judge_again(&mut self, slot: usize, answer: Answer, next: &State, before: &[u32]) {
+        assert_eq!(answer, Answer::Moved);
+        assert_eq!(self.words, before);
+        let height = if self.grants[slot] == 0 {
+            before[0]
+        } else {
+            self.height[slot]
+        };
+        assert_eq!(self.grants[slot] + 1, height);
+        let its = &next.slots[slot];
+        assert_eq!((its.want, its.held()), (0, vec![]));
+        assert_eq!(way(next, slot), Some(First));
+        assert_eq!(next.order().last(), Some(&slot));
+        self.grants[slot] = 0;
+        self.again += 1;
     }
 
     /// A granted step: only a change writes, the sorted list agrees, and the grants are counted.
@@ -123,7 +196,7 @@ impl Run {
         }
         self.judge_grants(slot, op, answer);
         if answer == Answer::NoRoom {
-            let Op::Insert(key, _) = op else {
+            let Op::Insert(key, ..) = op else {
                 panic!("no room for {op:?}")
             };
             assert!(!self.list.contains_key(&key));
@@ -131,7 +204,7 @@ impl Run {
             assert!(self.needs(key) > self.free());
             return;
         }
-        if let (Op::Insert(key, _), Answer::Inserted) = (op, answer) {
+        if let (Op::Insert(key, ..), Answer::Inserted) = (op, answer) {
             let given = std::mem::replace(&mut self.words, before.to_vec());
             assert!(self.needs(key) <= self.free());
             self.words = given;
@@ -146,7 +219,7 @@ impl Run {
 
     /// A regrading changed one word at most: the information behind its key, in a leaf.
     fn judge_regraded(&self, op: Op, old: u32, before: &[u32]) {
-        let Op::Regrade(key, information) = op else {
+        let Op::Regrade(key, information, _) = op else {
             panic!("{op:?} is regraded")
         };
         let mut changed = (0..before.len()).filter(|&at| self.words[at] != before[at]);
@@ -158,11 +231,12 @@ impl Run {
         assert_eq!(changed.next(), None);
     }
 
-    /// Search, insertion and regrading take h grants, a deletion h to 2h-1, a `Next` just those of its ways.
+    /// Search, insertion and regrading take h grants, a deletion h to 2h-1, or h by the second way, a `Next` just those of its ways. By
+    /// the second way those before beginning again are counted apart, and are h too.
     fn judge_grants(&self, slot: usize, op: Op, answer: Answer) {
         let (taken, height) = (self.grants[slot], self.height[slot]);
         match op {
-            Op::Delete(_) if answer != Answer::NoSuchKey => {
+            Op::Delete(_, First) if answer != Answer::NoSuchKey => {
                 assert!((height..=2 * height - 1).contains(&taken));
             }
             Op::Next(_) if answer != Answer::None => assert_eq!(taken, self.next_grants(slot)),
@@ -198,10 +272,7 @@ impl Run {
     pub fn check(&self) {
         self.check_tree();
         self.check_locks();
-        for slot in 0..16 {
-            self.check_way(slot);
-            self.check_regrade(slot);
-        }
+        (0..16).for_each(|slot| self.check_slot(slot));
         let is_closed = self.state.slots.iter().all(|slot| slot.op.is_none());
         assert!(is_closed || !self.ready().is_empty());
     }
@@ -270,17 +341,14 @@ impl Run {
                 holders.entry(page).or_default().push(number);
             }
         }
-        let reads = |slot: &usize| {
-            let op = self.state.slots[*slot].op;
-            matches!(op, Some(Op::Search(_) | Op::Next(_)))
-        };
+        let shares = |slot: &usize| way(&self.state, *slot) != Some(First);
         for page in 0..self.n {
             let by = holders.get(&page).cloned().unwrap_or_default();
-            let all_read = by.iter().all(reads);
-            assert!(by.len() < 2 || all_read);
+            let all_share = by.iter().all(shares);
+            assert!(by.len() < 2 || all_share);
             let kind = if by.is_empty() {
                 0
-            } else if all_read {
+            } else if all_share {
                 1
             } else {
                 2
@@ -293,9 +361,9 @@ impl Run {
         }
     }
 
-    /// Steps every open slot in rounds until none is open; 304 rounds must do.
+    /// Steps every open slot in rounds until none is open; 464 rounds must do.
     pub fn finish(&mut self) {
-        for _ in 0..304 {
+        for _ in 0..464 {
             for slot in 0..16 {
                 if self.state.slots[slot].op.is_some() {
                     self.step(slot);
@@ -309,7 +377,7 @@ impl Run {
     /// Enters rising keys, so far apart, until there is no room. They leave pages half full, which gives the tallest tree of the pool.
     pub fn rise(&mut self, apart: u32) {
         for step in 0.. {
-            self.begin(0, Op::Insert(apart * step, 7));
+            self.begin(0, Op::Insert(apart * step, 7, First));
             self.finish();
             if self.tally.contains_key("NoRoom") {
                 return;
@@ -328,15 +396,15 @@ fn list_answer(list: &mut BTreeMap<u32, u32>, op: Op) -> Answer {
             .range(key..)
             .next()
             .map_or(Answer::None, |(&own, &with)| Answer::Next(own, with)),
-        Op::Delete(key) => list.remove(&key).map_or(Answer::NoSuchKey, Answer::Deleted),
-        Op::Insert(key, with) => match list.get(&key) {
+        Op::Delete(key, _) => list.remove(&key).map_or(Answer::NoSuchKey, Answer::Deleted),
+        Op::Insert(key, with, _) => match list.get(&key) {
             Some(&there) => Answer::AlreadyThere(there),
             None => {
                 list.insert(key, with);
                 Answer::Inserted
             }
         },
-        Op::Regrade(key, with) => match list.get_mut(&key) {
+        Op::Regrade(key, with, _) => match list.get_mut(&key) {
             Some(there) => Answer::Regraded(std::mem::replace(there, with)),
             None => Answer::NoSuchKey,
         },

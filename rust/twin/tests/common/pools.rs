@@ -1,6 +1,6 @@
 //! Small pools that several tests begin from: k = 1, information 7.
 
-use twin::Op;
+use twin::{Op, Way};
 
 use super::Run;
 
@@ -8,7 +8,7 @@ use super::Run;
 pub fn entered(n: u32, keys: &[u32]) -> Run {
     let mut run = Run::new(1, n);
     for &key in keys {
-        run.begin(0, Op::Insert(key, 7));
+        run.begin(0, Op::Insert(key, 7, Way::First));
         run.finish();
     }
     run
@@ -18,6 +18,26 @@ pub fn entered(n: u32, keys: &[u32]) -> Run {
 pub fn two_levels() -> Run {
     entered(3, &[10, 20, 30])
 }
+
+/// Where pages 5 and 2 of the three levels begin.
+pub const FIVE: usize = 5 * 7;
+pub const TWO: usize = 2 * 7;
+
+/// A word of page 5 or page 2 put otherwise, so that one of the two is not sound, or the levels do not fall by one.
+pub const UNSOUND_ON_TWO: [(usize, u32); 12] = [
+    (FIVE, 3),
+    (FIVE, 1),
+    (FIVE + 1, 0),
+    (FIVE + 1, 2),
+    (FIVE + 2, 2),
+    (FIVE + 4, 8),
+    (FIVE + 6, 1),
+    (TWO, 2),
+    (TWO, 0),
+    (TWO + 1, 0),
+    (TWO + 1, 3),
+    (TWO + 6, 1),
+];
 
 /// Three levels: 0 above 5 and 6, 5 above the leaves 1 (10) and 2 (20), 6 above the leaves 3 (30) and 4 (40, 50).
 pub fn three_levels() -> Run {

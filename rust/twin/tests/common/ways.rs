@@ -1,8 +1,9 @@
-//! The pages that a `Next` or a regrading holds, told again from the tree as it stands.
+//! The pages that a `Next`, a regrading or an update of the second way holds and wants, told again from the tree as it stands.
 
-use twin::{read_page, Op, Page};
+use twin::Way::{First, Second};
+use twin::{read_page, Lock, Op, Page};
 
-use super::Run;
+use super::{way, Run};
 
 /// An upper page's next child to the right of the route: it stands behind the first key above.
 fn right_of(page: &Page, key: u32) -> Option<u32> {
@@ -12,7 +13,7 @@ fn right_of(page: &Page, key: u32) -> Option<u32> {
 
 impl Run {
     /// A page of the tree.
-    fn page(&self, number: u32) -> Page {
+    pub fn page(&self, number: u32) -> Page {
         read_page(&self.words, self.k, self.n, number).expect("a tree page")
     }
 
@@ -35,11 +36,33 @@ impl Run {
         leaf.keys.last().map_or(key, |last| last.saturating_add(1))
     }
 
+    /// Whether a slot wants its page for itself alone: an update does, by the second way only its leaf.
+    pub fn wants_alone(&self, slot: usize) -> bool {
+        let is_above_leaf = |&page: &u32| self.page(page).level == 2;
+        match way(&self.state, slot) {
+            None => false,
+            Some(First) => true,
+            Some(Second) => self.state.slots[slot].path().iter().any(is_above_leaf),
+        }
+    }
+
+    /// All that is known of where an open slot stands.
+    pub fn check_slot(&self, slot: usize) {
+        let its = &self.state.slots[slot];
+        if its.op.is_none() {
+            return;
+        }
+        let alone = self.wants_alone(slot);
+        assert_eq!(its.lock, if alone { Lock::Xi } else { Lock::Rho });
+        self.check_way(slot);
+        self.check_one(slot);
+    }
+
     /// An open `Next` that holds pages stands where the rules have it.
     ///
     /// Its path goes from the lowest page with a child to the right of the route, or from page 0; it ends above the want, or
     /// at a leaf that has nothing for the key, and then the second way is beside it.
-    pub fn check_way(&self, slot: usize) {
+    fn check_way(&self, slot: usize) {
         let slot = &self.state.slots[slot];
         let key = match slot.op {
             Some(Op::Next(key)) if slot.depth > 0 => key,
@@ -63,11 +86,14 @@ impl Run {
         assert_eq!(second[..taken.len()], taken);
     }
 
-    /// An open regrading that holds something holds one page on the way of its key, and wants the next one there.
-    pub fn check_regrade(&self, slot: usize) {
+    /// An open regrading, or an update of the second way, that holds something holds one page on the way of its key, above the leaves,
+    /// and wants the next one there.
+    fn check_one(&self, slot: usize) {
+        let is_second = way(&self.state, slot) == Some(Second);
         let slot = &self.state.slots[slot];
         let key = match slot.op {
-            Some(Op::Regrade(key, _)) if slot.depth > 0 => key,
+            Some(Op::Regrade(key, ..)) if slot.depth > 0 => key,
+            Some(op) if is_second && slot.depth > 0 => op.key(),
             _ => return,
         };
         assert_eq!((slot.depth, slot.beside), (1, 0));

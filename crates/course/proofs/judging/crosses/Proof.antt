@@ -1,4 +1,5 @@
 -- The top page of the path tells: it has a child to the right of the route, which is then wanted, or there is none.
+use Prim.Native.Nat.{ℕ}
 use mathlib.Core.Path.{sym, ap, _∙_}
 use borrow.Author.Needs.{needs}
 use borrow.Author.Tests.{not-true}
@@ -10,6 +11,7 @@ use Rattle.page.specs.Words.{isLeaf}
 use Rattle.pool.specs.Pool.{pageAt}
 use Rattle.change.proofs.HeldLaws.{held-upper}
 use Rattle.slots.specs.declared.Answer.the-variants.{None}
+use Rattle.slots.specs.declared.Lock.the-variants.{Rho}
 use Rattle.footing.proofs.LookLaws.{told-true, told-false}
 use Rattle.course.specs.declared.judging.Course.the-variants.{Ends}
 use Rattle.course.specs.Judged.{nextCourse}
@@ -27,7 +29,7 @@ returns : tie.Need-returns
 returns c =
     let was = c .before .before .before .before .args in
     let top = pageAt (was .k) (was .words .now) (getD (was .stand .path) 0 0) in
-    sym (cond-false (nextCourse (was .stand) (neighbour (was .x) top)) (Ends None) (told-false (c .before .has-child-right .ensures) (c .if1 .taken)))
+    sym (cond-false (nextCourse (was .stand) (neighbour (was .x) top) Rho) (Ends None) (told-false (c .before .has-child-right .ensures) (c .if1 .taken)))
 
 neighbour-of-requires : tie.Need-neighbour-of-requires
 neighbour-of-requires c κs =
@@ -46,8 +48,8 @@ returns-2 c =
     let was = c .before .before .before .before .before .before .args in
     let top = pageAt (was .k) (was .words .now) (getD (was .stand .path) 0 0) in
     c .goes .ensures
-    ∙ ap (nextCourse (was .stand)) (c .before .neighbour-of .ensures)
-    ∙ sym (cond-true (nextCourse (was .stand) (neighbour (was .x) top)) (Ends None) (told-true (c .before .before .before .has-child-right .ensures) (c .before .before .if1 .left)))
+    ∙ ap (λ (p : ℕ). nextCourse (was .stand) p Rho) (c .before .neighbour-of .ensures)
+    ∙ sym (cond-true (nextCourse (was .stand) (neighbour (was .x) top) Rho) (Ends None) (told-true (c .before .before .before .has-child-right .ensures) (c .before .before .if1 .left)))
 
 pub crosses-spec : {M : Type 1} → statement M
 crosses-spec =

@@ -11,8 +11,9 @@ use Rattle.change.specs.Held.{leafOf, fathersOf, needOf}
 use Rattle.change.specs.declared.needing.Need.{Need}
 use Rattle.change.specs.declared.needing.Need.the-variants.{Nothing, Sibling, Astray}
 use Rattle.slots.specs.declared.Slot.{Slot}
+use Rattle.slots.specs.declared.Way.{Way}
 use Rattle.slots.specs.Parts.{besideOf}
-use Rattle.course.specs.Judged.{needCourse, deleteCourse}
+use Rattle.course.specs.Judged.{nextCourse, needCourse, deleteCourse}
 use Rattle.course.proofs.JudgeLaws.{standing-needing}
 use Rattle.course.proofs.judging.deletes.Statement.{statement}
 use Rattle.course.proofs.judging.deletes.Tie as tie
@@ -35,6 +36,9 @@ enum-told-2 c = search needs
 enum-known-s : tie.Need-enum-known-s
 enum-known-s c = search needs
 
+held-lock-requires : tie.Need-held-lock-requires
+held-lock-requires c κs = search needs
+
 goes-requires : tie.Need-goes-requires
 goes-requires c κs = search needs
 
@@ -42,32 +46,35 @@ enum-told-3 : tie.Need-enum-told-3
 enum-told-3 c = search needs
 
 -- the course of a deletion whose key is there, by what it needs
-by-need : (k : ℕ) (memory : ℕ → Page) (x v : ℕ) (lot : Lot) (stand : Slot) (need known : Need) → lot ≡ There v
+by-need : (k : ℕ) (memory : ℕ → Page) (x : ℕ) (way : Way) (v : ℕ) (lot : Lot) (stand : Slot) (need known : Need) → lot ≡ There v
     → needOf need ≡ rule.needs k memory x (leafOf (stand .depth) (stand .path)) (fathersOf (stand .depth) (stand .path)) (besideOf stand)
-    → need ≡ known → needCourse stand x v (needOf known) ≡ deleteCourse k memory x lot stand
-by-need k memory x v lot stand need known there e n =
-    ap (λ (m : Need). needCourse stand x v (needOf m)) (sym n) ∙ ap (needCourse stand x v) e ∙ ap (λ (l : Lot). deleteCourse k memory x l stand) (sym there)
+    → need ≡ known → needCourse stand x way v (needOf known) ≡ deleteCourse k memory x way lot stand
+by-need k memory x way v lot stand need known there e n =
+    ap (λ (m : Need). needCourse stand x way v (needOf m)) (sym n)
+    ∙ ap (needCourse stand x way v) e
+    ∙ ap (λ (l : Lot). deleteCourse k memory x way l stand) (sym there)
 
 returns-2 : tie.Need-returns-2
 unfolding besideOf
 returns-2 c =
     let was = c .before .before .before .before .before .before .before .before .before .before .before .args in
-    by-need (was .k) (pageAt (was .k) (was .words .now)) (was .x) _ (was .lot) (was .stand) (c .before .before .needs .result) Nothing
+    by-need (was .k) (pageAt (was .k) (was .words .now)) (was .x) (was .way) _ (was .lot) (was .stand) (c .before .before .needs .result) Nothing
     (c .before .before .before .before .before .before .before .before .lot .given .1) (c .before .before .needs .ensures) (c .enum-told2 .given .1)
 
 returns-3 : tie.Need-returns-3
 unfolding besideOf
 returns-3 c =
-    let was = c .before .before .before .before .before .before .before .before .before .before .before .before .before .args in
+    let was = c .before .before .before .before .before .before .before .before .before .before .before .before .before .before .args in
     c .goes .ensures
-    ∙ by-need (was .k) (pageAt (was .k) (was .words .now)) (was .x) _ (was .lot) (was .stand) (c .before .before .before .before .needs .result) (Sibling _)
-    (c .before .before .before .before .before .before .before .before .before .before .lot .given .1) (c .before .before .before .before .needs .ensures) (c .before .before .s .given .1)
+    ∙ ap (nextCourse (was .stand) (c .before .before .before .s .given .0 .0)) (c .before .held-lock .ensures)
+    ∙ by-need (was .k) (pageAt (was .k) (was .words .now)) (was .x) (was .way) _ (was .lot) (was .stand) (c .before .before .before .before .before .needs .result) (Sibling _)
+    (c .before .before .before .before .before .before .before .before .before .before .before .lot .given .1) (c .before .before .before .before .before .needs .ensures) (c .before .before .before .s .given .1)
 
 returns-4 : tie.Need-returns-4
 unfolding besideOf
 returns-4 c =
     let was = c .before .before .before .before .before .before .before .before .before .before .before .args in
-    by-need (was .k) (pageAt (was .k) (was .words .now)) (was .x) _ (was .lot) (was .stand) (c .before .before .needs .result) Astray
+    by-need (was .k) (pageAt (was .k) (was .words .now)) (was .x) (was .way) _ (was .lot) (was .stand) (c .before .before .needs .result) Astray
     (c .before .before .before .before .before .before .before .before .lot .given .1) (c .before .before .needs .ensures) (c .enum-told3 .given .1)
 
 pub deletes-spec : {M : Type 1} → statement M
@@ -80,6 +87,7 @@ deletes-spec =
     needs-requires
     enum-told-2
     enum-known-s
+    held-lock-requires
     goes-requires
     enum-told-3
     returns-2

@@ -10,10 +10,10 @@ holds-requires : tie.Need-holds-requires
 holds-requires c κs = search needs
 
 returns : tie.Need-returns
-returns c = sym (cond-true Broken (Goes (c .before .before .args .next)) (sym (c .before .holds .ensures) ∙ c .if1 .taken))
+returns c = let was = c .before .before .args in sym (cond-true Broken (Goes (was .next) (was .lock)) (sym (c .before .holds .ensures) ∙ c .if1 .taken))
 
 returns-2 : tie.Need-returns-2
-returns-2 c = sym (cond-false Broken (Goes (c .before .before .args .next)) (sym (c .before .holds .ensures) ∙ c .if1 .left))
+returns-2 c = let was = c .before .before .args in sym (cond-false Broken (Goes (was .next) (was .lock)) (sym (c .before .holds .ensures) ∙ c .if1 .left))
 
 pub goes-spec : {M : Type 1} → statement M
 goes-spec = tie.close (tie.spec holds-requires returns returns-2)

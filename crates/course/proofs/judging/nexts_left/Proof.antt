@@ -1,5 +1,5 @@
 -- Above the leaves the way goes on by p0. At the leaf what is at or above the key is answered.
-use Prim.Native.Nat.{zero-le}
+use Prim.Native.Nat.{ℕ, zero-le}
 use mathlib.Core.Path.{_≡_, sym, ap, _∙_}
 use borrow.Author.Needs.{needs}
 use Rattle.ground.proofs.Choice.{cond-true, cond-false}
@@ -8,6 +8,7 @@ use Rattle.page.specs.Reading.{nearest}
 use Rattle.page.specs.declared.reading.Nearest.{Nearest}
 use Rattle.pool.specs.Pool.{pageAt}
 use Rattle.slots.specs.declared.Answer.the-variants.{None}
+use Rattle.slots.specs.declared.Lock.the-variants.{Rho}
 use Rattle.footing.proofs.LookLaws.{told-true, told-false}
 use Rattle.course.specs.declared.judging.Course.the-variants.{Ends}
 use Rattle.course.specs.Judged.{nextCourse, nearCourse, leftCourse}
@@ -30,9 +31,9 @@ returns c =
     let was = c .before .before .before .before .before .args in
     let page = pageAt (was .k) (was .words .now) (was .p) in
     c .goes .ensures
-    ∙ ap (nextCourse (was .stand)) (c .before .pointer-of .ensures)
+    ∙ ap (λ (q : ℕ). nextCourse (was .stand) q Rho) (c .before .pointer-of .ensures)
     ∙ sym
-    (cond-false (nearCourse (Ends None) (nearest (atOrAbove (was .x) (page .entries)))) (nextCourse (was .stand) (pointer 0 page))
+    (cond-false (nearCourse (Ends None) (nearest (atOrAbove (was .x) (page .entries)))) (nextCourse (was .stand) (pointer 0 page) Rho)
     (told-false (c .before .before .before .is-leaf-of .ensures) (c .before .before .if1 .taken)))
 
 at-or-above-of-requires : tie.Need-at-or-above-of-requires
@@ -52,7 +53,7 @@ at-leaf c told =
     let page = pageAt (was .k) (was .words .now) (was .p) in
     ap (nearCourse (Ends None)) (sym told ∙ c .at-or-above-of .ensures)
     ∙ sym
-    (cond-true (nearCourse (Ends None) (nearest (atOrAbove (was .x) (page .entries)))) (nextCourse (was .stand) (pointer 0 page))
+    (cond-true (nearCourse (Ends None) (nearest (atOrAbove (was .x) (page .entries)))) (nextCourse (was .stand) (pointer 0 page) Rho)
     (told-true (c .before .before .is-leaf-of .ensures) (c .before .if1 .left)))
 
 returns-2 : tie.Need-returns-2

@@ -15,6 +15,7 @@ use Rattle.pool.specs.Pool.{pageAt}
 use Rattle.change.proofs.HeldLaws.{Known, held-front}
 use Rattle.slots.specs.declared.Op.{Op}
 use Rattle.slots.specs.declared.Op.the-variants.{Search, Insert, Delete, Next, Regrade}
+use Rattle.slots.specs.declared.Way.the-variants.{First, Second}
 use Rattle.slots.specs.Parts.{isNext, pathOf, besideOf, standOf}
 use Rattle.slots.proofs.Op as op
 use Rattle.footing.proofs.KeepLaws.{cell-known, leaf-some, beside-added, beside-held}
@@ -25,11 +26,14 @@ use Rattle.footing.proofs.fitting.fits_across.Tie as tie
 -- an operation of another kind is no Next
 no-next : (o : Op) → OneOf (0 ∷ 1 ∷ 2 ∷ 4 ∷ []) (tagOf op.the-type o) → isNext o ≡ false
 no-next (Search x) t = refl
-no-next (Insert x v) t = refl
-no-next (Delete x) t = refl
+no-next (Insert x v First) t = refl
+no-next (Insert x v Second) t = refl
+no-next (Delete x First) t = refl
+no-next (Delete x Second) t = refl
 no-next (Next x) t =
     ⊎-elim (λ e. absurd (omega arith)) (λ r. ⊎-elim (λ e. absurd (omega arith)) (λ q. ⊎-elim (λ e. absurd (omega arith)) (λ e. absurd (omega arith)) q) r) t
-no-next (Regrade x v) t = refl
+no-next (Regrade x v First) t = refl
+no-next (Regrade x v Second) t = refl
 
 -- the path has a page, and its cells are there
 some : (c : tie.Start) → 1 ≤ c .args .slot .depth
@@ -95,7 +99,7 @@ unfolding pathOf besideOf
 returns-2 c =
     let start = c .before .before .before .before .before .before .before .before .before in
     let was = start .args in
-    across-found (was .k) (pageAt (was .k) (was .words .now)) (was .slot .path) (was .slot .depth) (besideOf (was .slot)) (was .slot .want) (long start) (some start)
+    across-found (was .k) (pageAt (was .k) (was .words .now)) (was .slot .path) (was .slot .depth) (besideOf (was .slot)) (was .slot .want) (was .slot .lock) (long start) (some start)
     (c .before .before .before .before .before .before .op .given .1) (c .before .before .at-or-above-of .ensures) (ap isNothing (c .enum-told2 .given .1))
 
 array-read-top : tie.Need-array-read-top
@@ -111,7 +115,7 @@ unfolding pathOf besideOf
 returns-3 c =
     let start = c .before .before .before .before .before .before .before .before .before .before .before in
     let was = start .args in
-    across-ends (was .k) (pageAt (was .k) (was .words .now)) (was .slot .path) (was .slot .depth) (besideOf (was .slot)) (was .slot .want) (long start) (some start)
+    across-ends (was .k) (pageAt (was .k) (was .words .now)) (was .slot .path) (was .slot .depth) (besideOf (was .slot)) (was .slot .want) (was .slot .lock) (long start) (some start)
     (c .before .before .before .before .before .before .before .before .op .given .1) (c .before .before .before .before .at-or-above-of .ensures) (c .before .has-child-right .ensures) (c .if1 .taken)
 
 with-page-requires : tie.Need-with-page-requires
@@ -137,7 +141,7 @@ unfolding pathOf besideOf
 returns-4 c =
     let start = c .before .before .before .before .before .before .before .before .before .before .before .before .before .before in
     let was = start .args in
-    across-turns (was .k) (pageAt (was .k) (was .words .now)) (was .slot .path) (was .slot .depth) (besideOf (was .slot)) (was .slot .want) (long start) (some start)
+    across-turns (was .k) (pageAt (was .k) (was .words .now)) (was .slot .path) (was .slot .depth) (besideOf (was .slot)) (was .slot .want) (was .slot .lock) (long start) (some start)
     (c .before .before .before .before .before .before .before .before .before .before .before .op .given .1) (c .before .before .before .before .before .before .before .at-or-above-of .ensures) (c .before .before .before .before .has-child-right .ensures) (ap isNothing (c .before .before .before .before .before .enum-told .given .1)) (c .before .before .before .if1 .left)
     (c .turns-right .ensures) (added start (c .before .with-page .ensures))
 

@@ -1,4 +1,4 @@
--- The rule for a deletion at its leaf, a test at a time: the operation, the key, what is needed next, and the levels.
+-- The rule for a deletion at its leaf, a test at a time: the operation and its way, the key, what is needed next, and the levels.
 use Prim.Native.Nat.{ℕ, _+_, _-_}
 use mathlib.Core.Bool.{false}
 use mathlib.Core.List.{List, [], _∷_, _++_, reverse}
@@ -20,6 +20,8 @@ use Rattle.change.proofs.NeedLaws.{path-known}
 use Rattle.change.proofs.needing.Need as need
 use Rattle.slots.specs.declared.Op.{Op}
 use Rattle.slots.specs.declared.Op.the-variants.{Search, Insert, Delete, Next, Regrade}
+use Rattle.slots.specs.declared.Way.{Way}
+use Rattle.slots.specs.declared.Way.the-variants.{First, Second}
 use Rattle.slots.specs.Parts.{keyOf, isDelete, pathOf, besideOf, standOf}
 use Rattle.slots.proofs.Op as op
 use Rattle.footing.specs.Fitting.{isSibling}
@@ -30,11 +32,17 @@ use Rattle.footing.proofs.fitting.fits_beside.Tie as tie
 -- an operation of another kind is no deletion
 no-deletion : (o : Op) → OneOf (0 ∷ 1 ∷ 3 ∷ 4 ∷ []) (tagOf op.the-type o) → isDelete o ≡ false
 no-deletion (Search x) t = refl
-no-deletion (Insert x v) t = refl
-no-deletion (Delete x) t =
+no-deletion (Insert x v First) t = refl
+no-deletion (Insert x v Second) t = refl
+no-deletion (Delete x way) t =
     ⊎-elim (λ e. absurd (omega arith)) (λ r. ⊎-elim (λ e. absurd (omega arith)) (λ q. ⊎-elim (λ e. absurd (omega arith)) (λ e. absurd (omega arith)) q) r) t
 no-deletion (Next x) t = refl
-no-deletion (Regrade x v) t = refl
+no-deletion (Regrade x v First) t = refl
+no-deletion (Regrade x v Second) t = refl
+
+-- nor is one by the second way such a one
+second-deletion : {o : Op} {x : ℕ} {way : Way} → o ≡ Delete x way → way ≡ Second → isDelete o ≡ false
+second-deletion {x = x} told second = ap isDelete (told ∙ ap (Delete x) second)
 
 -- another answer asks for no sibling
 no-sibling : (r : Need) (want : ℕ) → OneOf (0 ∷ 2 ∷ []) (tagOf need.the-type r) → isSibling (needOf r) want ≡ false
@@ -69,24 +77,6 @@ returns c =
     beside-idle (was .k) (pageAt (was .k) (was .words .now)) (standOf (was .op) (was .slot)) (reverse (pathOf (was .slot)))
     (no-deletion (was .op) (c .match .keys2))
 
-sub-look-of : tie.Need-sub-look-of
-sub-look-of c = stands (c .before .before .before .before .before) .some
-
-mul-look-of : tie.Need-mul-look-of
-unfolding pathHolds
-mul-look-of c = search needs
-
-array-read-look-of : tie.Need-array-read-look-of
-unfolding pathHolds
-array-read-look-of c = search needs
-
-look-of-requires : tie.Need-look-of-requires
-look-of-requires c κs =
-    let start = c .before .before .before .before .before in
-    let was = start .args in
-    let known = path-known (keyOf (was .op)) (stands start) (was .slot .depth - 1) (omega (arith, stands start .some)) in
-    (known .inPool, (known .readable, known .facts .rising))
-
 enum-told : tie.Need-enum-told
 enum-told c = search needs
 
@@ -94,56 +84,87 @@ enum-told-2 : tie.Need-enum-told-2
 enum-told-2 c = search needs
 
 returns-2 : tie.Need-returns-2
-unfolding pathOf besideOf
 returns-2 c =
-    let start = c .before .before .before .before .before .before .before .before in
-    beside-missing (stands start) (start .args .slot .want) (c .before .before .before .before .before .op .given .1) (c .before .before .look-of .ensures)
-    (ap isThere (c .enum-told2 .given .1))
+    let was = c .before .before .before .before .before .before .args in
+    beside-idle (was .k) (pageAt (was .k) (was .words .now)) (standOf (was .op) (was .slot)) (reverse (pathOf (was .slot)))
+    (second-deletion (c .before .before .before .op .given .1) (c .enum-told2 .given .1))
 
-needs-requires : tie.Need-needs-requires
-needs-requires c κs = stands (c .before .before .before .before .before .before .before .before .before .before .before)
+sub-look-of : tie.Need-sub-look-of
+sub-look-of c = stands (c .before .before .before .before .before .before .before) .some
 
-enum-known-next : tie.Need-enum-known-next
-enum-known-next c = search needs
+mul-look-of : tie.Need-mul-look-of
+unfolding pathHolds
+mul-look-of c = omega (arith, c .before .before .before .before .before .before .before .pre .0 .0)
+
+array-read-look-of : tie.Need-array-read-look-of
+unfolding pathHolds
+array-read-look-of c = omega (arith, stands (c .before .before .before .before .before .before .before) .some, c .before .before .before .before .before .before .before .pre .0 .0)
+
+look-of-requires : tie.Need-look-of-requires
+look-of-requires c κs =
+    let start = c .before .before .before .before .before .before .before in
+    let was = start .args in
+    let known = path-known (keyOf (was .op)) (stands start) (was .slot .depth - 1) (omega (arith, stands start .some)) in
+    (known .inPool, (known .readable, known .facts .rising))
+
+enum-told-3 : tie.Need-enum-told-3
+enum-told-3 c = search needs
+
+enum-told-4 : tie.Need-enum-told-4
+enum-told-4 c = search needs
 
 returns-3 : tie.Need-returns-3
 unfolding pathOf besideOf
 returns-3 c =
-    let start = c .before .before .before .before .before .before .before .before .before .before .before .before .before in
-    let want = start .args .slot .want in
-    beside-other (stands start) want (c .before .before .before .before .before .before .before .before .before .before .op .given .1) (c .before .needs .ensures) (no-sibling (c .before .needs .result) want (c .match3 .keys2))
+    let start = c .before .before .before .before .before .before .before .before .before .before in
+    let slot = start .args .slot in
+    beside-missing (stands start) (slot .want) (slot .lock) (c .before .before .before .before .before .before .before .op .given .1) (c .before .before .before .before .enum-told .given .1) (c .before .before .look-of .ensures)
+    (ap isThere (c .enum-told4 .given .1))
+
+needs-requires : tie.Need-needs-requires
+needs-requires c κs = stands (c .before .before .before .before .before .before .before .before .before .before .before .before .before)
+
+enum-known-next : tie.Need-enum-known-next
+enum-known-next c = search needs
 
 returns-4 : tie.Need-returns-4
 unfolding pathOf besideOf
 returns-4 c =
-    let start = c .before .before .before .before .before .before .before .before .before .before .before .before .before .before .before .before in
-    let want = start .args .slot .want in
-    beside-other (stands start) want (c .before .before .before .before .before .before .before .before .before .before .before .before .before .op .given .1) (c .before .before .before .before .needs .ensures)
-    (ap (λ (r : Need). isSibling (needOf r) want) (c .before .before .next .given .1) ∙ ne-eqb _ _ (c .if1 .taken))
-
-with-page-requires : tie.Need-with-page-requires
-with-page-requires c κs = search needs
-
-add-same-levels : tie.Need-add-same-levels
-unfolding pathHolds
-add-same-levels c = search needs
-
-same-levels-requires : tie.Need-same-levels-requires
-unfolding pathOf besideOf
-same-levels-requires c κs =
-    let start = c .before .before .before .before .before .before .before .before .before .before .before .before .before .before .before .before .before in
+    let start = c .before .before .before .before .before .before .before .before .before .before .before .before .before .before .before in
     let slot = start .args .slot in
-    let asks = start .pre .0 in
-    (asks .0, omega arith, beside-held (pathOf slot) (besideOf slot) (slot .want) (added start (c .with-page .ensures)) (asks .2))
+    beside-other (stands start) (slot .want) (slot .lock) (c .before .before .before .before .before .before .before .before .before .before .before .before .op .given .1) (c .before .before .before .before .before .before .before .before .before .enum-told .given .1) (c .before .needs .ensures) (no-sibling (c .before .needs .result) (slot .want) (c .match4 .keys2))
 
 returns-5 : tie.Need-returns-5
 unfolding pathOf besideOf
 returns-5 c =
     let start = c .before .before .before .before .before .before .before .before .before .before .before .before .before .before .before .before .before .before in
-    let want = start .args .slot .want in
-    beside-levels (stands start) want (c .before .before .before .before .before .before .before .before .before .before .before .before .before .before .before .op .given .1) (c .before .before .before .before .before .before .needs .ensures) (c .before .before .before .before .before .before .before .before .before .before .before .before .look-of .ensures)
-    (ap isThere (c .before .before .before .before .before .before .before .before .before .before .enum-told .given .1))
-    (ap (λ (r : Need). isSibling (needOf r) want) (c .before .before .before .before .next .given .1) ∙ eq-eqb _ _ (c .before .before .if1 .left))
+    let slot = start .args .slot in
+    beside-other (stands start) (slot .want) (slot .lock) (c .before .before .before .before .before .before .before .before .before .before .before .before .before .before .before .op .given .1) (c .before .before .before .before .before .before .before .before .before .before .before .before .enum-told .given .1) (c .before .before .before .before .needs .ensures)
+    (ap (λ (r : Need). isSibling (needOf r) (slot .want)) (c .before .before .next .given .1) ∙ ne-eqb _ _ (c .if1 .taken))
+
+with-page-requires : tie.Need-with-page-requires
+with-page-requires c κs = c .before .before .before .before .before .before .before .before .before .before .before .before .before .before .before .before .before .before .pre .0 .1
+
+add-same-levels : tie.Need-add-same-levels
+unfolding pathHolds
+add-same-levels c = omega (arith, c .before .before .before .before .before .before .before .before .before .before .before .before .before .before .before .before .before .before .before .pre .0 .1)
+
+same-levels-requires : tie.Need-same-levels-requires
+unfolding pathOf besideOf
+same-levels-requires c κs =
+    let start = c .before .before .before .before .before .before .before .before .before .before .before .before .before .before .before .before .before .before .before in
+    let slot = start .args .slot in
+    let asks = start .pre .0 in
+    (asks .0, omega arith, beside-held (pathOf slot) (besideOf slot) (slot .want) (added start (c .with-page .ensures)) (asks .2))
+
+returns-6 : tie.Need-returns-6
+unfolding pathOf besideOf
+returns-6 c =
+    let start = c .before .before .before .before .before .before .before .before .before .before .before .before .before .before .before .before .before .before .before .before in
+    let slot = start .args .slot in
+    beside-levels (stands start) (slot .want) (slot .lock) (c .before .before .before .before .before .before .before .before .before .before .before .before .before .before .before .before .before .op .given .1) (c .before .before .before .before .before .before .before .before .before .before .before .before .before .before .enum-told .given .1) (c .before .before .before .before .before .before .needs .ensures) (c .before .before .before .before .before .before .before .before .before .before .before .before .look-of .ensures)
+    (ap isThere (c .before .before .before .before .before .before .before .before .before .before .enum-told3 .given .1))
+    (ap (λ (r : Need). isSibling (needOf r) (slot .want)) (c .before .before .before .before .next .given .1) ∙ eq-eqb _ _ (c .before .before .if1 .left))
     (c .same-levels .ensures)
     (added start (c .before .with-page .ensures))
 
@@ -153,18 +174,21 @@ fits-beside-spec =
     (tie.spec
     enum-known-op
     returns
+    enum-told
+    enum-told-2
+    returns-2
     sub-look-of
     mul-look-of
     array-read-look-of
     look-of-requires
-    enum-told
-    enum-told-2
-    returns-2
+    enum-told-3
+    enum-told-4
+    returns-3
     needs-requires
     enum-known-next
-    returns-3
     returns-4
+    returns-5
     with-page-requires
     add-same-levels
     same-levels-requires
-    returns-5)
+    returns-6)

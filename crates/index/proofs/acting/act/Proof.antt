@@ -1,7 +1,7 @@
 -- Each course is carried out as the rule's word for it.
 use Rattle.ground.specs.Limits.{largestK, largestN}
 use Rattle.course.proofs.JudgeLaws.{standing-holding}
-use Rattle.index.proofs.ActLaws.{stand-short, acts-broken, acts-goes, acts-ends, acts-inserts, acts-deletes, acts-regrades, inserts-stands, deletes-stands}
+use Rattle.index.proofs.ActLaws.{stand-short, acts-broken, acts-goes, acts-ends, acts-inserts, acts-deletes, acts-regrades, acts-again, inserts-stands, deletes-stands}
 use Rattle.ground.specs.Limits.{slotCount}
 use native.Mathlib.Omega.{arith}
 use borrow.Author.Needs.{needs}
@@ -74,6 +74,12 @@ closes-requires-4 : tie.Need-closes-requires-4
 unfolding slotCount
 closes-requires-4 c κs = let w = c .before .before .before .before .before .before .before .before .before .before .before .before .before .before .pre .0 .1 .waits in (w .inside, w .few, w .named)
 
+enum-told-2 : tie.Need-enum-told-2
+enum-told-2 c = search needs
+
+begin-again-requires : tie.Need-begin-again-requires
+begin-again-requires c κs = c .before .before .before .before .before .before .before .before .before .pre .0 .1 .waits
+
 returns : tie.Need-returns
 returns c = acts-broken (c .before .before .before .before .before .before .before .before .args .state .now) (c .before .before .before .before .sized .ensures) (c .before .before .before .before .before .before .before .before .pre .0 .0) (c .before .before .before .before .before .before .before .before .pre .0 .1) (c .enum-told .given .1)
 
@@ -107,6 +113,9 @@ returns-6 c =
     acts-regrades (c .before .before .before .before .before .before .before .before .before .before .before .before .before .before .before .args .state .now) (c .before .before .before .before .before .before .before .before .before .before .before .sized .ensures) (c .before .before .before .before .before .before .before .before .before .before .before .before .before .before .before .pre .0 .0) (c .before .before .before .before .before .before .before .before .before .before .before .before .before .before .before .pre .0 .1) (c .before .before .before .before .before .before .before .course5 .given .1)
     (c .before .before .before .before .regrade-lot .ensures .0) (c .before .before .before .before .regrade-lot .ensures .1) (c .closes4 .ensures)
 
+returns-7 : tie.Need-returns-7
+returns-7 c = acts-again (c .before .before .before .before .before .before .before .before .before .before .args .state .now) (c .before .before .before .before .before .before .sized .ensures) (c .before .before .before .before .before .before .before .before .before .before .pre .0 .0) (c .before .before .before .before .before .before .before .before .before .before .pre .0 .1) (c .before .before .enum-told2 .given .1) (c .begin-again .ensures)
+
 pub act-spec : {M : Type 1} → statement M
 act-spec =
     tie.close
@@ -130,6 +139,8 @@ act-spec =
     enum-known-course-5
     regrade-lot-requires
     closes-requires-4
+    enum-told-2
+    begin-again-requires
     returns
     returns-2
     returns-3
@@ -138,4 +149,5 @@ act-spec =
     same-length-2
     returns-5
     same-length-3
-    returns-6)
+    returns-6
+    returns-7)

@@ -7,8 +7,8 @@ use Rattle.index.proofs.acting.go_on.Tie as tie
 requeues-requires : tie.Need-requeues-requires
 unfolding slotCount
 requeues-requires c κs =
-    let w = c .before .pre .0 in
-    (w .inside, w .few, w .named, c .before .pre .1, c .before .pre .2)
+    let w = c .before .before .before .pre .0 in
+    (w .inside, w .few, w .named, c .before .before .before .pre .1, c .before .before .before .pre .2)
 
 returns : tie.Need-returns
 returns c = search needs

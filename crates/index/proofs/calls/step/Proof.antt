@@ -2,11 +2,10 @@
 use Rattle.ground.specs.Limits.{slotCount, largestK, largestN}
 use Rattle.index.proofs.StepLaws.{Passed, says-unsound, says-pool, says-slot, words-passed, says-idle, open-waits, open-asks, says-waiting, says-granted}
 use Rattle.soundness.proofs.CheckingLawsSound.{SoundWords, sound-words}
-use Rattle.lent.proofs.HoldLaws.{kind-of-open}
 use Rattle.lent.proofs.StateLaws.{slot-read}
-use Rattle.lent.specs.Words.{cell, asRead}
+use Rattle.lent.specs.Words.{asRead}
 use Rattle.slots.specs.declared.Slot.{Slot}
-use Rattle.slots.specs.Parts.{slotAt}
+use Rattle.slots.specs.Parts.{isOpen, slotAt}
 use borrow.Author.Tests.{not-true, not-false}
 use native.Mathlib.Omega.{arith}
 use mathlib.Core.Path.{_≡_, sym, ap, _∙_}
@@ -99,10 +98,9 @@ grants-requires : tie.Need-grants-requires
 unfolding slotCount
 grants-requires c κs =
     let w = kept (c .before .before .before .before .before .before .before .before .before .before .before .before) in
-    let was = c .before .before .before .before .before .before .before .before .before .before .before .before .before .before .before .before .args in
-    let task = ap (λ (x : Slot). x .task) (sym (c .before .before .before .before .slot-at .ensures)) ∙ c .before .before .task .given .1 in
-    let opened = kind-of-open (cell (was .state .now) 0 (was .s)) (cell (was .state .now) 1 (was .s)) (cell (was .state .now) 2 (was .s)) task in
-    (c .before .before .before .before .before .before .if3 .left, w .exist, w .short, opened, record { few = w .facts .waits; below = w .facts .orderBelow; opened = w .facts .orderOpen })
+    let inside = c .before .before .before .before .before .before .if3 .left in
+    let opened = ap (λ (x : Slot). isOpen (x .task)) (sym (slot-is (c .before .before .before .before))) ∙ ap isOpen (c .before .before .task .given .1) in
+    (inside, w .exist, w .short, w .wants _ inside opened, w .order)
 
 same-length-4 : tie.Need-same-length-4
 same-length-4 c = search needs

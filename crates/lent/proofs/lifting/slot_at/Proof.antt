@@ -1,11 +1,18 @@
 -- Each number of the slot is its row's.
-use mathlib.Core.Path.{_∙_}
+use Rattle.lent.specs.Words.{lockRead}
+use mathlib.Core.Path.{ap, _∙_}
 use borrow.Author.Needs.{needs}
 use Rattle.lent.proofs.lifting.slot_at.Statement.{statement}
 use Rattle.lent.proofs.lifting.slot_at.Tie as tie
 
 task-at-requires : tie.Need-task-at-requires
 task-at-requires c κs = search needs
+
+lock-at-requires : tie.Need-lock-at-requires
+lock-at-requires c κs = search needs
+
+lock-of-requires : tie.Need-lock-of-requires
+lock-of-requires c κs = search needs
 
 column-of-requires : tie.Need-column-of-requires
 column-of-requires c κs = search needs
@@ -30,8 +37,9 @@ wide-requires-2 c κs = search needs
 
 returns : tie.Need-returns
 returns c = λ i. record {
-  task = c .before .before .before .before .before .before .before .task-at .ensures i;
+  task = c .before .before .before .before .before .before .before .before .before .task-at .ensures i;
   want = c .before .before .before .before .want-at .ensures i;
+  lock = (c .before .before .before .before .before .before .before .lock-of .ensures ∙ ap lockRead (c .before .before .before .before .before .before .before .before .lock-at .ensures)) i;
   path = c .before .before .before .before .before .before .column-of .ensures i;
   depth = (c .before .before .wide .ensures ∙ c .before .before .before .depth-at .ensures) i;
   beside = c .before .before .before .before .before .column-of2 .ensures i;
@@ -43,6 +51,8 @@ slot-at-spec =
     tie.close
     (tie.spec
     task-at-requires
+    lock-at-requires
+    lock-of-requires
     column-of-requires
     column-of-requires-2
     want-at-requires

@@ -92,10 +92,13 @@ unfolding asking
 returns-5 c =
     rw (sym (c .before .before .before .before .before .before .before .before .before .before .before .before .before .before .goes-on .ensures) ∙ c .before .before .before .before .before .before .before .before .before .before .before .before .before .if1 .left, sym (c .before .before .before .before .before .before .before .before .before .before .before .goes-on2 .ensures) ∙ c .before .before .before .before .before .before .before .before .before .before .if2 .left, sym (c .before .before .before .before .before .before .before .before .goes-on3 .ensures) ∙ c .before .before .before .before .before .before .before .if3 .left, sym (c .before .before .before .before .before .goes-on4 .ensures) ∙ c .before .before .before .before .if4 .left, sym (c .before .before .goes-on5 .ensures) ∙ c .before .if5 .taken, drop-drop 3 (c .before .before .before .before .before .before .before .before .before .before .before .before .before .before .before .before .before .args .at) (c .before .before .before .before .before .before .before .before .before .before .before .before .before .before .before .before .before .args .line .now)) (c .read-regrade .ensures)
 
+read-second-requires : tie.Need-read-second-requires
+read-second-requires c κs = search needs
+
 returns-6 : tie.Need-returns-6
 unfolding asking
 returns-6 c =
-    rw (sym (c .before .before .before .before .before .before .before .before .before .before .before .before .before .goes-on .ensures) ∙ c .before .before .before .before .before .before .before .before .before .before .before .before .if1 .left, sym (c .before .before .before .before .before .before .before .before .before .before .goes-on2 .ensures) ∙ c .before .before .before .before .before .before .before .before .before .if2 .left, sym (c .before .before .before .before .before .before .before .goes-on3 .ensures) ∙ c .before .before .before .before .before .before .if3 .left, sym (c .before .before .before .before .goes-on4 .ensures) ∙ c .before .before .before .if4 .left, sym (c .before .goes-on5 .ensures) ∙ c .if5 .left)
+    rw (sym (c .before .before .before .before .before .before .before .before .before .before .before .before .before .before .goes-on .ensures) ∙ c .before .before .before .before .before .before .before .before .before .before .before .before .before .if1 .left, sym (c .before .before .before .before .before .before .before .before .before .before .before .goes-on2 .ensures) ∙ c .before .before .before .before .before .before .before .before .before .before .if2 .left, sym (c .before .before .before .before .before .before .before .before .goes-on3 .ensures) ∙ c .before .before .before .before .before .before .before .if3 .left, sym (c .before .before .before .before .before .goes-on4 .ensures) ∙ c .before .before .before .before .if4 .left, sym (c .before .before .goes-on5 .ensures) ∙ c .before .if5 .left) (c .read-second .ensures)
 
 pub read-asked-spec : {M : Type 1} → statement M
 read-asked-spec =
@@ -126,4 +129,5 @@ read-asked-spec =
     add-read-regrade
     read-regrade-requires
     returns-5
+    read-second-requires
     returns-6)

@@ -30,7 +30,7 @@ returns c =
     let cells′ : length (was .slot .beside) ≡ 10 = search needs in
     let longer = length-add (was .slot .beside) (was .slot .breadth) (was .p) (omega arith) in
     let same = sym (length-take-le (was .slot .depth) (was .slot .path) (omega arith)) in
-    λ i. record { task = Open (was .op); want = was .want; path = c .before .tidy .ensures i; depth = same i; beside = c .with-page .ensures i; breadth = longer i }
+    λ i. record { task = Open (was .op); want = was .slot .want; lock = was .slot .lock; path = c .before .tidy .ensures i; depth = same i; beside = c .with-page .ensures i; breadth = longer i }
 
 pub holding-beside-spec : {M : Type 1} → statement M
 holding-beside-spec = tie.close (tie.spec tidy-requires with-page-requires add-t12 returns)

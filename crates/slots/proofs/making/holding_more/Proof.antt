@@ -25,7 +25,7 @@ returns c =
     let was = c .before .before .args in
     let cells : length (was .slot .path) ≡ 10 = search needs in
     let longer = length-add (was .slot .path) (was .slot .depth) (was .p) (omega arith) in
-    λ i. record { task = Open (was .op); want = was .want; path = c .with-page .ensures i; depth = longer i; beside = padded pathHolds []; breadth = 0 }
+    λ i. record { task = Open (was .op); want = was .slot .want; lock = was .slot .lock; path = c .with-page .ensures i; depth = longer i; beside = padded pathHolds []; breadth = 0 }
 
 pub holding-more-spec : {M : Type 1} → statement M
 holding-more-spec = tie.close (tie.spec with-page-requires add-t9 returns)

@@ -19,7 +19,16 @@ returns-5 : tie.Need-returns-5
 returns-5 c = rw (ne-eqb (c .before .before .before .before .before .args .kind) 1 (c .before .before .before .before .if1 .left), ne-eqb (c .before .before .before .before .before .args .kind) 2 (c .before .before .before .if2 .left), ne-eqb (c .before .before .before .before .before .args .kind) 3 (c .before .before .if3 .left), ne-eqb (c .before .before .before .before .before .args .kind) 4 (c .before .if4 .left), eq-eqb (c .before .before .before .before .before .args .kind) 5 (c .if5 .taken))
 
 returns-6 : tie.Need-returns-6
-returns-6 c = rw (ne-eqb (c .before .before .before .before .before .args .kind) 1 (c .before .before .before .before .if1 .left), ne-eqb (c .before .before .before .before .before .args .kind) 2 (c .before .before .before .if2 .left), ne-eqb (c .before .before .before .before .before .args .kind) 3 (c .before .before .if3 .left), ne-eqb (c .before .before .before .before .before .args .kind) 4 (c .before .if4 .left), ne-eqb (c .before .before .before .before .before .args .kind) 5 (c .if5 .left))
+returns-6 c = rw (ne-eqb (c .before .before .before .before .before .before .args .kind) 1 (c .before .before .before .before .before .if1 .left), ne-eqb (c .before .before .before .before .before .before .args .kind) 2 (c .before .before .before .before .if2 .left), ne-eqb (c .before .before .before .before .before .before .args .kind) 3 (c .before .before .before .if3 .left), ne-eqb (c .before .before .before .before .before .before .args .kind) 4 (c .before .before .if4 .left), ne-eqb (c .before .before .before .before .before .before .args .kind) 5 (c .before .if5 .left), eq-eqb (c .before .before .before .before .before .before .args .kind) 6 (c .if6 .taken))
+
+returns-7 : tie.Need-returns-7
+returns-7 c = rw (ne-eqb (c .before .before .before .before .before .before .before .args .kind) 1 (c .before .before .before .before .before .before .if1 .left), ne-eqb (c .before .before .before .before .before .before .before .args .kind) 2 (c .before .before .before .before .before .if2 .left), ne-eqb (c .before .before .before .before .before .before .before .args .kind) 3 (c .before .before .before .before .if3 .left), ne-eqb (c .before .before .before .before .before .before .before .args .kind) 4 (c .before .before .before .if4 .left), ne-eqb (c .before .before .before .before .before .before .before .args .kind) 5 (c .before .before .if5 .left), ne-eqb (c .before .before .before .before .before .before .before .args .kind) 6 (c .before .if6 .left), eq-eqb (c .before .before .before .before .before .before .before .args .kind) 7 (c .if7 .taken))
+
+returns-8 : tie.Need-returns-8
+returns-8 c = rw (ne-eqb (c .before .before .before .before .before .before .before .before .args .kind) 1 (c .before .before .before .before .before .before .before .if1 .left), ne-eqb (c .before .before .before .before .before .before .before .before .args .kind) 2 (c .before .before .before .before .before .before .if2 .left), ne-eqb (c .before .before .before .before .before .before .before .before .args .kind) 3 (c .before .before .before .before .before .if3 .left), ne-eqb (c .before .before .before .before .before .before .before .before .args .kind) 4 (c .before .before .before .before .if4 .left), ne-eqb (c .before .before .before .before .before .before .before .before .args .kind) 5 (c .before .before .before .if5 .left), ne-eqb (c .before .before .before .before .before .before .before .before .args .kind) 6 (c .before .before .if6 .left), ne-eqb (c .before .before .before .before .before .before .before .before .args .kind) 7 (c .before .if7 .left), eq-eqb (c .before .before .before .before .before .before .before .before .args .kind) 8 (c .if8 .taken))
+
+returns-9 : tie.Need-returns-9
+returns-9 c = rw (ne-eqb (c .before .before .before .before .before .before .before .before .args .kind) 1 (c .before .before .before .before .before .before .before .if1 .left), ne-eqb (c .before .before .before .before .before .before .before .before .args .kind) 2 (c .before .before .before .before .before .before .if2 .left), ne-eqb (c .before .before .before .before .before .before .before .before .args .kind) 3 (c .before .before .before .before .before .if3 .left), ne-eqb (c .before .before .before .before .before .before .before .before .args .kind) 4 (c .before .before .before .before .if4 .left), ne-eqb (c .before .before .before .before .before .before .before .before .args .kind) 5 (c .before .before .before .if5 .left), ne-eqb (c .before .before .before .before .before .before .before .before .args .kind) 6 (c .before .before .if6 .left), ne-eqb (c .before .before .before .before .before .before .before .before .args .kind) 7 (c .before .if7 .left), ne-eqb (c .before .before .before .before .before .before .before .before .args .kind) 8 (c .if8 .left))
 
 pub asked-by-spec : {M : Type 1} → statement M
-asked-by-spec = tie.close (tie.spec returns returns-2 returns-3 returns-4 returns-5 returns-6)
+asked-by-spec = tie.close (tie.spec returns returns-2 returns-3 returns-4 returns-5 returns-6 returns-7 returns-8 returns-9)

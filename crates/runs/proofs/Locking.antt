@@ -1,0 +1,100 @@
+-- The kind of lock that a slot wants its next page with, where it stands, and what sets the second way apart.
+use Prim.Native.Nat.{ℕ}
+use mathlib.Core.Bool.{true, false, _&&_}
+use mathlib.Core.List.{List, [], _∷_, reverse}
+use mathlib.Core.Logic.{_≢_}
+use mathlib.Core.Path.{_≡_, refl, sym, ap, subst, _∙_}
+use lib.Dec.{eqb}
+use borrow.Author.Tests.{eq-eqb, ne-eqb}
+use Rattle.ground.specs.Tests.{member}
+use Rattle.ground.proofs.Tests.{member-here}
+use Rattle.ground.proofs.Bools.{not-both, and-both, and-first, and-second-fails, or-second}
+use Rattle.ground.proofs.Choice.{by-test, cond-true, cond-false}
+use Rattle.page.specs.Words.{Page}
+use Rattle.slots.specs.declared.Op.{Op}
+use Rattle.slots.specs.declared.Op.the-variants.{Search, Insert, Delete, Next, Regrade}
+use Rattle.slots.specs.declared.Way.the-variants.{First, Second}
+use Rattle.slots.specs.declared.Lock.{Lock}
+use Rattle.slots.specs.declared.Lock.the-variants.{Xi}
+use Rattle.slots.specs.Parts.{onlyReads, isDelete, isNext, heldLock, isSecond, Stand}
+use Rattle.slots.specs.Locks.{sameLock, canWant}
+use Rattle.slots.proofs.LockLaws.{lock-same, can-want-held}
+use Rattle.footing.specs.Granted.{lockBelow}
+use Rattle.footing.specs.Fitting.{lockDue}
+use Rattle.footing.proofs.LookLaws.{below-first}
+use Rattle.runs.specs.Stance.{WantsWith}
+
+-- who does not go by the second way wants with the kind under which it holds
+pub due-held : (op : Op) (memory : ℕ → Page) (up : List ℕ) → isSecond op ≡ false → lockDue op memory up ≡ heldLock op
+due-held op memory [] first = refl
+due-held op memory (p ∷ up) first = below-first op (memory p) first
+
+-- the step's test of the lock that is wanted
+pub lock-test : (memory : ℕ → Page) (z : Stand) → WantsWith memory z → sameLock (z .lock) (lockDue (z .op) memory (reverse (z .path))) ≡ true
+lock-test memory z locked =
+    let due : Lock = lockDue (z .op) memory (reverse (z .path)) in
+    ap (λ (lock : Lock). sameLock lock due) locked ∙ lock-same due
+
+-- where the lowest page held is on another level than 2, everybody does
+pub due-above : (op : Op) (memory : ℕ → Page) (p : ℕ) (up : List ℕ) → memory p .level ≢ 2 → lockDue op memory (p ∷ up) ≡ heldLock op
+due-above op memory p up level = cond-false Xi (heldLock op) (and-second-fails (isSecond op) (ne-eqb (memory p .level) 2 level))
+
+-- who does not only read holds with ξ by the first way
+pub update-xi : (op : Op) → onlyReads op ≡ false → isSecond op ≡ false → heldLock op ≡ Xi
+update-xi (Search x) update first = not-both refl update
+update-xi (Insert x v First) update first = refl
+update-xi (Insert x v Second) update first = not-both refl first
+update-xi (Delete x First) update first = refl
+update-xi (Delete x Second) update first = not-both refl first
+update-xi (Next x) update first = not-both refl update
+update-xi (Regrade x v First) update first = refl
+update-xi (Regrade x v Second) update first = not-both refl first
+
+-- who takes siblings, and who asks for the next lot, does not go by the second way
+pub deletes-first : (op : Op) → isDelete op ≡ true → isSecond op ≡ false
+deletes-first (Search x) d = not-both d refl
+deletes-first (Insert x v First) d = not-both d refl
+deletes-first (Insert x v Second) d = not-both d refl
+deletes-first (Delete x First) d = refl
+deletes-first (Delete x Second) d = not-both d refl
+deletes-first (Next x) d = not-both d refl
+deletes-first (Regrade x v First) d = not-both d refl
+deletes-first (Regrade x v Second) d = not-both d refl
+
+pub deletes-updates : (op : Op) → isDelete op ≡ true → onlyReads op ≡ false
+deletes-updates (Search x) d = not-both d refl
+deletes-updates (Insert x v way) d = refl
+deletes-updates (Delete x way) d = refl
+deletes-updates (Next x) d = not-both d refl
+deletes-updates (Regrade x v way) d = refl
+
+pub nexts-first : (op : Op) → isNext op ≡ true → isSecond op ≡ false
+nexts-first (Search x) d = not-both d refl
+nexts-first (Insert x v First) d = not-both d refl
+nexts-first (Insert x v Second) d = not-both d refl
+nexts-first (Delete x First) d = not-both d refl
+nexts-first (Delete x Second) d = not-both d refl
+nexts-first (Next x) d = refl
+nexts-first (Regrade x v First) d = not-both d refl
+nexts-first (Regrade x v Second) d = not-both d refl
+
+-- by the second way the leaf is wanted with ξ, from a page on level 2
+pub due-leaf : (op : Op) (memory : ℕ → Page) (p : ℕ) (up : List ℕ) → isSecond op ≡ true → memory p .level ≡ 2 → lockDue op memory (p ∷ up) ≡ Xi
+due-leaf op memory p up second level = cond-true Xi (heldLock op) (and-both second (eq-eqb (memory p .level) 2 level))
+
+-- the kind that is due goes by the lowest page
+pub due-by : (op : Op) (memory after : ℕ → Page) (up : List ℕ) → ((q : ℕ) → member q up ≡ true → after q ≡ memory q)
+    → lockDue op memory up ≡ lockDue op after up
+due-by op memory after [] same = refl
+due-by op memory after (p ∷ up) same = ap (lockBelow op) (sym (same p (member-here p up)))
+
+-- what is due an operation can want
+due-can : (op : Op) (memory : ℕ → Page) (up : List ℕ) → canWant op (lockDue op memory up) ≡ true
+due-can op memory [] = can-want-held op
+due-can op memory (p ∷ up) =
+    by-test (isSecond op && eqb (memory p .level) 2)
+    (λ y. ap (canWant op) (cond-true Xi (heldLock op) y) ∙ or-second (sameLock Xi (heldLock op)) (and-both (and-first (isSecond op) (eqb (memory p .level) 2) y) refl))
+    (λ n. ap (canWant op) (cond-false Xi (heldLock op) n) ∙ can-want-held op)
+
+pub due-wanted : (op : Op) (lock : Lock) (memory : ℕ → Page) (up : List ℕ) → lock ≡ lockDue op memory up → canWant op lock ≡ true
+due-wanted op lock memory up e = ap (canWant op) e ∙ due-can op memory up
