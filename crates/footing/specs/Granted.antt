@@ -103,11 +103,12 @@ abbrev pub staysSecond : Op → ℕ → (ℕ → Page) → ℕ → Bool
 staysSecond op k memory leaf =
     not (eqb leaf 0) && (answeredAtOnce op (memory leaf .entries) || isSafe (firstWay op) k (memory leaf))
 
--- At the leaf, with its path upward held: the leaf and its fathers. By the operation of the slot that stands there, an update by the first way.
+-- At the leaf, with its path upward held: the leaf and its fathers. By the operation of the slot that stands there; an update by the second way
+-- comes this far only where it does not begin again (`byWayAtLeaf`).
 -- "Search .. At a leaf it answers". "Insertion .. At the leaf: a key already there is answered so; then room is counted;
 -- then the whole change is made." "Deletion .. At the leaf: a missing key is answered so." Next: a key at or above is answered
 -- at once. 02 (iv): "AlreadyThere shall now carry the information there." Regrading "puts new information under a key that is there
--- and answers Regraded with the old information, or NoSuchKey". That an update by the second way comes this far is said below.
+-- and answers Regraded with the old information, or NoSuchKey".
 unfoldable pub atLeaf : Op → ℕ → (ℕ → Page) → List ℕ → Stand → ℕ → List ℕ → Verdict
 atLeaf (Search x) k memory free z leaf fathers =
     ends (cond (has x (memory leaf .entries)) (Found (information x (memory leaf .entries))) NotFound) []

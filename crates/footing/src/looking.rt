@@ -69,7 +69,7 @@ pub fn is_safe(words: &[u32], k: usize, n: usize, op: Op, p: u32) -> bool
 }
 
 // The kind of lock that the operation wants the next page with, from page p of its way. By the second way that is ξ if the next page is
-// the leaf: nobody else looks at the page.
+// the leaf. The others need not read the page for it.
 pub fn lock_below(words: &[u32], k: usize, n: usize, op: Op, p: u32) -> Lock
     requires { ⌜ InPool k n p (now words) ⌝ }
     ensures { λ r. ⌜ r ≡ lockBelow op (pageAt k (now (words .entry)) p) ⌝ }

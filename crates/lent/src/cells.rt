@@ -92,7 +92,7 @@ pub fn want_at(cells: &[u32; STATE], s: usize) -> u32
 }
 
 // The number of the lock that it wants it with.
-pub fn lock_at(cells: &[u32; STATE], s: usize) -> u32
+pub fn wanted_lock_at(cells: &[u32; STATE], s: usize) -> u32
     requires { ⌜ s < rowLength ⌝ }
     ensures { λ r. ⌜ r ≡ cell (now (cells .entry)) lockRow s ⌝ }
 {

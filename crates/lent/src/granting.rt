@@ -6,12 +6,12 @@ use crate::STATE;
 use crate::cells::breadth_at;
 use crate::cells::depth_at;
 use crate::cells::kind_at;
-use crate::cells::lock_at;
 use crate::cells::order_at;
 use crate::cells::sized;
 use crate::cells::top_at;
 use crate::cells::waiting_of;
 use crate::cells::want_at;
+use crate::cells::wanted_lock_at;
 use crate::cells::wide;
 use crate::cells::word_at;
 use ground::SLOTS;
@@ -185,7 +185,7 @@ fn no_clash(cells: &[u32; STATE], s: usize) -> bool
     requires { ⌜ (s < rowLength) × (known (now cells) ≡ true) × WithinRows (now cells) × (isLockNumber (cell (now cells) lockRow s) ≡ true) ⌝ }
     ensures { λ r. ⌜ r ≡ rule.noClash (asRead (now (cells .entry))) s ⌝ }
 {
-    let lock = lock_at(cells, s);
+    let lock = wanted_lock_at(cells, s);
     !others_hold(cells, s, lock, want_at(cells, s))
 }
 
@@ -197,7 +197,7 @@ fn also_wants(cells: &[u32; STATE], lock: u32, p: u32, t: usize) -> bool
     if want_at(cells, t) != p {
         return false;
     }
-    clashes(lock_at(cells, t), lock)
+    clashes(wanted_lock_at(cells, t), lock)
 }
 
 // No older want clashes with that of slot s.
@@ -206,7 +206,7 @@ fn no_older(cells: &[u32; STATE], s: usize) -> bool
     ensures { λ r. ⌜ r ≡ rule.noOlder (asRead (now (cells .entry))) s ⌝ }
 {
     sized(cells);
-    let lock = lock_at(cells, s);
+    let lock = wanted_lock_at(cells, s);
     let want = want_at(cells, s);
     let waiting = waiting_of(cells);
     let mut i = 0;

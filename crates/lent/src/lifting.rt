@@ -12,9 +12,9 @@ use crate::WANT;
 use crate::cells::breadth_at;
 use crate::cells::depth_at;
 use crate::cells::kind_at;
-use crate::cells::lock_at;
 use crate::cells::put;
 use crate::cells::want_at;
+use crate::cells::wanted_lock_at;
 use crate::cells::wide;
 use crate::cells::word_at;
 use crate::granting::RHO;
@@ -47,7 +47,7 @@ fn task_of(kind: u32, key: u32, information: u32) -> Task
 }
 
 // The lock of this number. A number that is no kind stands for none.
-fn lock_of(number: u32) -> Lock
+fn read_lock(number: u32) -> Lock
     ensures { λ r. ⌜ r ≡ lockRead number ⌝ }
 {
     if number == RHO {
@@ -90,7 +90,7 @@ pub fn slot_at(cells: &[u32; STATE], s: usize) -> Slot
     ensures { λ r. ⌜ r ≡ slotIn (now (cells .entry)) s ⌝ }
 {
     let task = task_at(cells, s);
-    let lock = lock_of(lock_at(cells, s));
+    let lock = read_lock(wanted_lock_at(cells, s));
     let path = column_of(cells, PATH, s);
     let beside = column_of(cells, BESIDE, s);
     Slot {

@@ -58,7 +58,7 @@ use Rattle.runs.specs.Stance.{Safe, Stance, Takes}
 use Rattle.runs.specs.Waits.{Barred}
 use Rattle.runs.specs.Step.{Ended}
 use Rattle.runs.proofs.Invariant.{Invariant}
-use Rattle.runs.proofs.Placing.{one-held}
+use Rattle.runs.proofs.Placing.{one-held, next-beside}
 use Rattle.runs.proofs.Calls.{StepOf, noSlot, idle, waits, onward, over, step-of, granted-does}
 use Rattle.runs.proofs.Runs.{call-keeps, call-numbers, BeginOf, noSuch, busy, begins-so, begin-of, ReportOf, noPage, tells, report-of, holds-after, numbers-after}
 use Rattle.runs.proofs.Barring.{coming-above}
@@ -66,7 +66,7 @@ use Rattle.runs.proofs.Progress.{barred, barred-waits, older-other, older-waits
 use Rattle.runs.proofs.Older.{older-before, before-older}
 use Rattle.runs.proofs.PlainLaws.{none-below, below-none}
 use Rattle.runs.proofs.Verdicts.{EndsIf, stillBy, coming-stays}
-use Rattle.runs.proofs.Measure.{Where, atStart, onTheWay, atTheLeaf, beside-first}
+use Rattle.runs.proofs.Measure.{Where, atStart, onTheWay, atTheLeaf, deletes-beside, beside-first}
 use Rattle.runs.proofs.MeasureLaws.{start-above, low-above, where-slot}
 use Rattle.runs.proofs.Agreement.{plain-counted}
 use Rattle.promises.specs.Terms.{Exactly, HoldsRho, BySecond}
@@ -132,18 +132,14 @@ closed-empty Closed depth beside path siblings h c =
     ap₂ (λ (i j : ℕ). take i path ++ take j siblings) d e
 closed-empty (Open op) depth beside path siblings h c = not-both refl c
 
--- a deletion by the first way and a Next may hold pages beside their path; nobody by the second way does
-beside-goes : (op : Op) → (isDelete op ≡ true) ⊎ (isNext op ≡ true) → goesBeside op ≡ true
-beside-goes (Search x) e = ⊎-elim (λ d. not-both d refl) (λ n. not-both n refl) e
-beside-goes (Insert x v First) e = ⊎-elim (λ d. not-both d refl) (λ n. not-both n refl) e
-beside-goes (Insert x v Second) e = ⊎-elim (λ d. not-both d refl) (λ n. not-both n refl) e
-beside-goes (Delete x First) e = refl
-beside-goes (Delete x Second) e = ⊎-elim (λ d. not-both d refl) (λ n. not-both n refl) e
-beside-goes (Next x) e = refl
-beside-goes (Regrade x v First) e = ⊎-elim (λ d. not-both d refl) (λ n. not-both n refl) e
-beside-goes (Regrade x v Second) e = ⊎-elim (λ d. not-both d refl) (λ n. not-both n refl) e
+-- who goes straight takes no siblings and asks for no next lot, and so does everybody by the second way
+pub straight-stays : (op : Op) → goesBeside op ≡ false → (isDelete op ≡ false) × (isNext op ≡ false)
+straight-stays op straight = (
+  false-if-not-true (isDelete op) (λ d. not-both (deletes-beside op d) straight),
+  false-if-not-true (isNext op) (λ n. not-both (next-beside op n) straight),
+)
 
-second-straight : (op : Op) → isSecond op ≡ true → goesBeside op ≡ false
+pub second-straight : (op : Op) → isSecond op ≡ true → goesBeside op ≡ false
 second-straight op second = false-if-not-true (goesBeside op) (λ b. not-both second (beside-first op b))
 
 -- an operation for which every page is safe, and which takes nothing beside its path, holds one page
@@ -154,8 +150,8 @@ holds-one k memory l t z safe straight (inl s) =
 holds-one k memory l t z safe straight (inr (inl c)) =
     let few = one-held (z .op) k memory (z .path) safe (c .rightly) in
     omega (arith, length-append (z .path) (z .beside), ap length (c .noSiblings))
-holds-one k memory l t z safe straight (inr (inr (inl b))) = not-both (beside-goes (z .op) (inl (b .deletes))) straight
-holds-one k memory l t z safe straight (inr (inr (inr c))) = not-both (beside-goes (z .op) (inr (c .asksNext))) straight
+holds-one k memory l t z safe straight (inr (inr (inl b))) = not-both (deletes-beside (z .op) (b .deletes)) straight
+holds-one k memory l t z safe straight (inr (inr (inr c))) = not-both (next-beside (z .op) (c .asksNext)) straight
 
 after-call : (st : State) (ws : List ℕ) → Invariant st ws → AfterEveryCall (st .k) (st .n) st ws
 unfolding pathOf besideOf
@@ -190,9 +186,9 @@ after-call st ws inv = record {
     no-leaf s p op b runs second h (inr (inl c)) =
         coming-above (st .k) (st .n) (pageAt (st .k) ws) (inv .height) (inv .tree) (inv .sound .kLeast) (inv .forms .forms) (standOf op (slotAt st s)) (inv .keys s op b runs) c p h
     no-leaf s p op b runs second h (inr (inr (inl e))) =
-        not-both (beside-goes op (inl (e .deletes))) (second-straight op (named-second op second))
+        not-both (deletes-beside op (e .deletes)) (second-straight op (named-second op second))
     no-leaf s p op b runs second h (inr (inr (inr c))) =
-        not-both (beside-goes op (inr (c .asksNext))) (second-straight op (named-second op second))
+        not-both (next-beside op (c .asksNext)) (second-straight op (named-second op second))
 
 -- ---- what one call takes and gives up
 

@@ -22,10 +22,11 @@ use Rattle.slots.specs.Parts.{keyOf, isNext, isSecond, Stand, onPages, wantBesi
 use Rattle.slots.specs.Heard.{heard, numberOf}
 use Rattle.slots.specs.Grant.{grants}
 use Rattle.slots.specs.Sound.{sound}
-use Rattle.footing.specs.Granted.{Verdict, broken, goes, ends, isSafe, kept, byNeed, deletes, nextAnswer, crosses, byNearest, staysSecond, atLeaf, fromLeaf, byWayAtLeaf, comesDown, goesLeft, besides, atItsLeaf, granted}
+use Rattle.footing.specs.Granted.{Verdict, broken, goes, ends, isSafe, byNeed, deletes, nextAnswer, crosses, byNearest, staysSecond, atLeaf, fromLeaf, byWayAtLeaf, comesDown, goesLeft, besides, atItsLeaf, granted}
 use Rattle.footing.specs.Fitting.{soundForStep, verdict}
 use Rattle.index.specs.Step.{Left, acted, steppedTask, stepped}
 use Rattle.runs.proofs.PlainLaws.{above-key}
+use Rattle.runs.proofs.Verdicts.{comes-down-by}
 use Rattle.promises.specs.NextAbove.{NextAbove}
 
 -- an answer with a lot is told a Next, and the lot is at or above its key
@@ -111,12 +112,7 @@ from-leaf-tells op act h (leaf ∷ fathers) = h leaf fathers
 
 module _ (k : ℕ) (memory : ℕ → Page) (free : List ℕ) (z : Stand) where
   coming-tells : TellsBy (z .op) (comesDown k memory free z)
-  unfolding comesDown
-  coming-tells =
-      let down : Stand = onPages z (kept k memory z) [] in
-      cond-ind (TellsBy (z .op)) (isLeaf (memory (z .want)))
-      (λ _. from-leaf-tells (z .op) _ (λ leaf fathers. way-tells k memory free down leaf fathers) (reverse (down .path)))
-      (λ _. tt)
+  coming-tells = comes-down-by (TellsBy (z .op)) k memory free z (λ _ path fathers. way-tells k memory free (onPages z path []) (z .want) fathers) (λ _. tt)
 
   beside-tells : TellsBy (z .op) (besides k memory z)
   unfolding besides goesLeft

@@ -44,7 +44,7 @@ use Rattle.runs.proofs.Stepping.{at-leaf-test, test-at-leaf}
 use Rattle.promises.specs.Terms.{Exactly, In}
 use Rattle.promises.specs.SoundPages.{RoutesTo, KeptRightly, SiblingsSoFar, WouldWant, alone, lower, leafSibling, fatherSibling, across, onward, SoundForStep}
 use Rattle.promises.proofs.Terms.{in-member}
-use Rattle.promises.proofs.Demand2.{safe-is}
+use Rattle.promises.proofs.Demand2.{straight-stays, second-straight, safe-is}
 use Rattle.promises.proofs.SoundPages.{Pages, pages-told, pages-from, Rising, Stands, place-told, route-same, fitting-told, fitting-from}
 
 -- What a granted step comes to: the operation ends and would want nothing; it begins again, and holds nothing then; or it goes on to the one
@@ -232,14 +232,10 @@ unfolding atLeaf
 leaf-comes (Search x) k memory free path beside want lock path′ fathers n leaf begins kept still =
     ended refl (stays k memory free path beside want lock n leaf (Search x) refl refl)
 leaf-comes (Insert x v way) k memory free path beside want lock path′ fathers n leaf begins kept still =
-    let none = stays k memory free path beside want lock n leaf (Insert x v way) (by-way way .0) (by-way way .1) in
+    let none = stays k memory free path beside want lock n leaf (Insert x v way) (straight-stays (Insert x v way) refl .0) (straight-stays (Insert x v way) refl .1) in
     cond-ind (Comes k memory (stand (Insert x v way) path beside want lock)) (has x (memory want .entries))
     (λ _. ended refl none)
     (λ _. cond-ind (Comes k memory (stand (Insert x v way) path beside want lock)) (ltb (length free) (room k memory want path′)) (λ _. ended refl none) (λ _. ended refl none))
-  where
-    by-way : (w : Way) → (isDelete (Insert x v w) ≡ false) × (isNext (Insert x v w) ≡ false)
-    by-way First = (refl, refl)
-    by-way Second = (refl, refl)
 leaf-comes (Delete x First) k memory free path beside want lock path′ fathers n leaf begins kept still =
     cond-ind (Comes k memory (stand (Delete x First) path beside want lock)) (has x (memory want .entries))
     (λ there. ⊎-elim
@@ -279,23 +275,8 @@ leaf-comes (Next x) k memory free path beside want lock path′ fathers n leaf b
     (nearest-comes k memory x path beside want lock n leaf (atOrAbove x (memory want .entries)) refl))
     kept
 leaf-comes (Regrade x v way) k memory free path beside want lock path′ fathers n leaf begins kept still =
-    let none = stays k memory free path beside want lock n leaf (Regrade x v way) (by-way way .0) (by-way way .1) in
+    let none = stays k memory free path beside want lock n leaf (Regrade x v way) (straight-stays (Regrade x v way) refl .0) (straight-stays (Regrade x v way) refl .1) in
     cond-ind (Comes k memory (stand (Regrade x v way) path beside want lock)) (has x (memory want .entries)) (λ _. ended refl none) (λ _. ended refl none)
-  where
-    by-way : (w : Way) → (isDelete (Regrade x v w) ≡ false) × (isNext (Regrade x v w) ≡ false)
-    by-way First = (refl, refl)
-    by-way Second = (refl, refl)
-
--- who goes by the second way takes no sibling and asks for no next lot
-second-goes : (op : Op) → isSecond op ≡ true → (isDelete op ≡ false) × (isNext op ≡ false)
-second-goes (Search x) e = not-both e refl
-second-goes (Insert x v First) e = not-both e refl
-second-goes (Insert x v Second) e = (refl, refl)
-second-goes (Delete x First) e = not-both e refl
-second-goes (Delete x Second) e = (refl, refl)
-second-goes (Next x) e = not-both e refl
-second-goes (Regrade x v First) e = not-both e refl
-second-goes (Regrade x v Second) e = (refl, refl)
 
 -- by its way: it begins again, or does at its leaf what the rule says there
 way-comes : (op : Op) (k : ℕ) (memory : ℕ → Page) (free path beside : List ℕ) (want : ℕ) (lock : Lock) (path′ fathers : List ℕ) → (StandsAtLeaf memory path → ⊥)
@@ -304,7 +285,7 @@ way-comes : (op : Op) (k : ℕ) (memory : ℕ → Page) (free path beside : List
 way-comes op k memory free path beside want lock path′ fathers n leaf begins kept =
     let test : Bool = isSecond op && not (staysSecond op k memory want) in
     cond-ind (Comes k memory (stand op path beside want lock)) test
-    (λ t. let goes-so = second-goes op (and-first (isSecond op) (not (staysSecond op k memory want)) t) in
+    (λ t. let goes-so = straight-stays op (second-straight op (and-first (isSecond op) (not (staysSecond op k memory want)) t)) in
     anew (firstWay op) refl (stays k memory free path beside want lock n leaf op (goes-so .0) (goes-so .1)))
     (λ t. leaf-comes op k memory free path beside want lock path′ fathers n leaf begins kept t)
 

@@ -13,7 +13,7 @@ use lib.Seq.{sets, sets-eq, getD-take, getD-drop, drop-drop}
 use Rattle.ground.specs.Limits.{slotCount}
 use Rattle.ground.specs.Tests.{member}
 use Rattle.ground.proofs.Bools.{not-both, and-first, or-second}
-use Rattle.ground.proofs.Choice.{cond-ind, cond-true}
+use Rattle.ground.proofs.Choice.{cond-ind}
 use Rattle.ground.proofs.Tests.{all-member, member-append, member-here}
 use Rattle.page.specs.Words.{Entry, Page, size, isLeaf, pairsFrom, view}
 use Rattle.page.specs.Place.{place, has, information}
@@ -28,7 +28,6 @@ use Rattle.change.specs.Regrading.{regrading}
 use Rattle.change.proofs.HeldLaws.{Known, held-page}
 use Rattle.slots.specs.declared.Op.the-variants.{Regrade}
 use Rattle.slots.specs.declared.Way.{Way}
-use Rattle.slots.specs.declared.Way.the-variants.{First, Second}
 use Rattle.slots.specs.declared.Task.{Task}
 use Rattle.slots.specs.declared.Slot.{Slot}
 use Rattle.slots.specs.declared.State.{State}
@@ -39,12 +38,13 @@ use Rattle.slots.specs.Heard.{heard, numberOf}
 use Rattle.slots.specs.Grant.{grants}
 use Rattle.slots.specs.Sound.{sound}
 use Rattle.slots.proofs.SoundFacts.{SoundState, sound-facts}
-use Rattle.footing.specs.Granted.{Verdict, broken, goes, ends, kept, byNeed, deletes, staysSecond, atLeaf, fromLeaf, byWayAtLeaf, comesDown, besides, atItsLeaf, granted}
-use Rattle.footing.proofs.KeepLaws.{regrade-safe}
+use Rattle.footing.specs.Granted.{Verdict, broken, goes, ends, byNeed, deletes, staysSecond, atLeaf, fromLeaf, byWayAtLeaf, besides, atItsLeaf, granted}
 use Rattle.footing.specs.Fitting.{pagesSound, fitting, nextIsNew, soundForStep, verdict}
 use Rattle.index.specs.Step.{Left, acted, steppedTask, stepped}
 use Rattle.runs.proofs.PlainLaws.{clashes}
+use Rattle.runs.proofs.Verdicts.{comes-down-by}
 use Rattle.promises.specs.Regrading.{OneWord, RegradingWrites}
+use Rattle.promises.proofs.Demand2.{straight-stays}
 
 -- ---- one word of a part is one word of the whole
 
@@ -112,11 +112,6 @@ Writes k ws x new old (ends answer writes) = answer ≡ Regraded old → OneWord
 another : {A : Type 0} {old : ℕ} (a : Answer) → eqb (numberOf a) (numberOf (Regraded 0)) ≡ false → a ≡ Regraded old → A
 another a other e = clashes e (eqb-false (numberOf a) (numberOf (Regraded 0)) other)
 
--- a regrading asks for no next lot
-regrades-not-next : (x new : ℕ) (way : Way) → isNext (Regrade x new way) ≡ false
-regrades-not-next x new First = refl
-regrades-not-next x new Second = refl
-
 module _ (k n : ℕ) (ws : List ℕ) (x new old : ℕ) (way : Way) (z₀ : Stand) where
   abbrev z : Stand
   z = withOp (Regrade x new way) z₀
@@ -140,31 +135,26 @@ module _ (k n : ℕ) (ws : List ℕ) (x new old : ℕ) (way : Way) (z₀ : Stand
   beside-writes (leaf ∷ fathers) =
       need-writes (wantBeside z) _ (another (Deleted (information x (memory leaf .entries))) refl) (needs k memory x leaf fathers (z .beside ++ z .want ∷ []))
 
-  leaf-writes : Known k n ws (z .want) → Wrote (atLeaf (Regrade x new way) k memory (freePages k n ws) (onPages z (z .want ∷ []) []) (z .want) [])
+  leaf-writes : Known k n ws (z .want) → (path fathers : List ℕ)
+      → Wrote (atLeaf (Regrade x new way) k memory (freePages k n ws) (onPages z path []) (z .want) fathers)
   unfolding atLeaf
-  leaf-writes known =
+  leaf-writes known path fathers =
       cond-ind Wrote (has x (memory (z .want) .entries))
       (λ there e.
       subst (λ (v : ℕ). OneWord ws (applied k (regrading memory x new (z .want)) ws) x v new) (ap (λ (a : Answer). getD (heard a) 1 0) e) (page-writes x new known there))
       (λ _. another NoSuchKey refl)
 
   -- by its way: where it begins again it writes nothing
-  way-writes : Known k n ws (z .want) → Wrote (byWayAtLeaf k memory (freePages k n ws) (onPages z (z .want ∷ []) []) (z .want) [])
-  way-writes known =
-      cond-ind Wrote (isSecond (z .op) && not (staysSecond (z .op) k memory (z .want))) (λ _. tt) (λ _. leaf-writes known)
-
-  -- "every page is safe for it"
-  kept-one : kept k memory z ≡ z .want ∷ []
-  kept-one = cond-true (z .want ∷ []) (z .path ++ z .want ∷ []) (regrade-safe k (memory (z .want)) {x = x} {v = new} {way = way} refl)
+  way-writes : Known k n ws (z .want) → (path fathers : List ℕ) → Wrote (byWayAtLeaf k memory (freePages k n ws) (onPages z path []) (z .want) fathers)
+  way-writes known path fathers =
+      cond-ind Wrote (isSecond (z .op) && not (staysSecond (z .op) k memory (z .want))) (λ _. tt) (λ _. leaf-writes known path fathers)
 
   granted-writes : Known k n ws (z .want) → Wrote (granted k memory (freePages k n ws) z)
-  unfolding granted besides comesDown
+  unfolding granted besides
   granted-writes known =
       cond-ind Wrote (atItsLeaf memory (reverse (z .path)))
-      (λ _. cond-ind Wrote (isNext (z .op)) (λ asks. not-both asks (regrades-not-next x new way)) (λ _. beside-writes (reverse (z .path))))
-      (λ _. cond-ind Wrote (isLeaf (memory (z .want)))
-      (λ _. subst (λ (path : List ℕ). Wrote (fromLeaf (byWayAtLeaf k memory (freePages k n ws) (onPages z path [])) (reverse path))) (sym kept-one) (way-writes known))
-      (λ _. tt))
+      (λ _. cond-ind Wrote (isNext (z .op)) (λ asks. not-both asks (straight-stays (Regrade x new way) refl .1)) (λ _. beside-writes (reverse (z .path))))
+      (λ _. comes-down-by Wrote k memory (freePages k n ws) z (λ _ path fathers. way-writes known path fathers) (λ _. tt))
 
   verdict-writes : (soundForStep k n ws z ≡ true → Known k n ws (z .want))
       → Wrote (verdict k n ws z)

@@ -1,7 +1,7 @@
 -- The lot that a Next answers stands on the leaf that its last step was granted: read off the rule.
 use Prim.Native.Nat.{ℕ, _<_}
 use mathlib.Core.Bool.{true, false, not, _&&_, false≢true}
-use mathlib.Core.List.{List, [], _∷_, _++_, reverse, reverse-append}
+use mathlib.Core.List.{List, [], _∷_, reverse}
 use mathlib.Core.Path.{_≡_, refl, sym, ap, _∙_, subst}
 use borrow.Author.Tests.{eqb-true}
 use lib.Dec.{leb, ltb, eqb}
@@ -21,13 +21,14 @@ use Rattle.slots.specs.declared.Answer.the-variants.{Moved, Found, NotFound, In
 use Rattle.slots.specs.Parts.{keyOf, isNext, isSecond, Stand, onPages, wantBeside, standOf, slotAt, wantAt, Opened}
 use Rattle.slots.specs.Heard.{heard, numberOf}
 use Rattle.slots.specs.Grant.{grants}
-use Rattle.footing.specs.Granted.{Verdict, broken, goes, ends, isSafe, kept, byNeed, deletes, nextAnswer, crosses, byNearest, staysSecond, atLeaf, fromLeaf, byWayAtLeaf, comesDown, goesLeft, besides, atItsLeaf, granted}
+use Rattle.footing.specs.Granted.{Verdict, broken, goes, ends, isSafe, byNeed, deletes, nextAnswer, crosses, byNearest, staysSecond, atLeaf, fromLeaf, byWayAtLeaf, comesDown, goesLeft, besides, atItsLeaf, granted}
 use Rattle.footing.specs.Fitting.{soundForStep, verdict}
 use Rattle.index.specs.Step.{Left, acted, stepped}
 use Rattle.runs.specs.PlainFacts.{Among}
 use Rattle.runs.proofs.Invariant.{Invariant}
 use Rattle.runs.proofs.PlainLaws.{among-later}
 use Rattle.runs.proofs.Calls.{granted-does}
+use Rattle.runs.proofs.Verdicts.{comes-down-by}
 use Rattle.promises.specs.Demand2.{Seen}
 
 -- every answer but Next tells of no lot
@@ -119,21 +120,9 @@ module _ (k : ℕ) (memory : ℕ → Page) (free : List ℕ) (z : Stand) where
   abbrev P : Page
   P = memory (z .want)
 
-  -- the lowest page that it holds, coming down, is the granted one
-  lowest-seen : isLeaf P ≡ true → SeenBy P (fromLeaf (byWayAtLeaf k memory free (onPages z (kept k memory z) [])) (reverse (kept k memory z)))
-  lowest-seen leaf =
-      cond-ind
-      (λ (ps : List ℕ). SeenBy P (fromLeaf (byWayAtLeaf k memory free (onPages z ps [])) (reverse ps)))
-      (isSafe (z .op) k P)
-      (λ _. way-seen k memory free (onPages z (z .want ∷ []) []) (z .want) [] leaf)
-      (λ _.
-      subst (λ (up : List ℕ). SeenBy P (fromLeaf (byWayAtLeaf k memory free (onPages z (z .path ++ z .want ∷ []) [])) up))
-      (sym (reverse-append (z .path) (z .want ∷ [])))
-      (way-seen k memory free (onPages z (z .path ++ z .want ∷ []) []) (z .want) (reverse (z .path)) leaf))
-
+  -- coming down, what is told at the leaf is told at the granted page
   coming-seen : SeenBy P (comesDown k memory free z)
-  unfolding comesDown
-  coming-seen = cond-ind (SeenBy P) (isLeaf P) (λ leaf. lowest-seen leaf) (λ _. tt)
+  coming-seen = comes-down-by (SeenBy P) k memory free z (λ leaf path fathers. way-seen k memory free (onPages z path []) (z .want) fathers leaf) (λ _. tt)
 
   left-seen : SeenBy P (goesLeft memory z)
   unfolding goesLeft

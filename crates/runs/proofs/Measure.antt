@@ -71,7 +71,7 @@ pub data Where (memory : ℕ → Page) (l : ℕ) (t : Tr l) (z : Stand) : Type 0
   atTheLeaf : Low memory l t (z .path) 1 → suc (length (z .beside)) < length (z .path) → goesBeside (z .op) ≡ true → Where memory l t z
 
 -- a deletion goes beside its path
-deletes-beside : (op : Op) → isDelete op ≡ true → goesBeside op ≡ true
+pub deletes-beside : (op : Op) → isDelete op ≡ true → goesBeside op ≡ true
 deletes-beside (Search x) e = e
 deletes-beside (Insert x v First) e = e
 deletes-beside (Insert x v Second) e = e

@@ -4,11 +4,11 @@ use Prim.Native.Nat.{ℕ, _+_, _*_, _<_}
 use mathlib.Core.Bool.{Bool, true, false, cond, not, _&&_, _||_}
 use mathlib.Core.List.{List, [], _∷_, _++_, reverse, reverse-append}
 use mathlib.Core.Logic.{⊎-elim}
-use mathlib.Core.Path.{_≡_, refl, sym, ap, subst}
+use mathlib.Core.Path.{_≡_, refl, sym, subst}
 use native.Mathlib.Omega.{arith}
 use lib.Dec.{eqb, ltb}
 use lib.ListN.{length}
-use borrow.Author.Tests.{ltb-true, not-false}
+use borrow.Author.Tests.{ltb-true, eqb-false, not-false}
 use Rattle.ground.specs.Tests.{count, member}
 use Rattle.ground.proofs.Bools.{not-both, and-second, or-cases}
 use Rattle.ground.proofs.Choice.{cond-ind, cond-true, cond-false}
@@ -24,8 +24,9 @@ use Rattle.slots.specs.declared.Answer.{Answer}
 use Rattle.slots.specs.declared.Answer.the-variants.{Inserted, AlreadyThere, Deleted, NoSuchKey, NoRoom, Regraded}
 use Rattle.slots.specs.Heard.{numberOf}
 use Rattle.slots.specs.Parts.{isSecond, Stand, onPages}
-use Rattle.footing.specs.Granted.{Verdict, broken, goes, ends, isSafe, kept, byNeed, deletes, staysSecond, atLeaf, fromLeaf, byWayAtLeaf, comesDown, besides, atItsLeaf, granted}
+use Rattle.footing.specs.Granted.{Verdict, broken, goes, ends, isSafe, byNeed, deletes, staysSecond, atLeaf, fromLeaf, byWayAtLeaf, comesDown, besides, atItsLeaf, granted}
 use Rattle.footing.specs.Fitting.{soundForStep, verdict}
+use Rattle.runs.proofs.PlainLaws.{clashes}
 
 -- an operation ends only if this test holds
 abbrev pub EndsIf : Bool → Verdict → Type 0
@@ -38,13 +39,24 @@ ends-if h broken = tt
 ends-if h (goes y) = tt
 ends-if h (ends a writes) = h
 
-comes-down-ends : (k : ℕ) (memory : ℕ → Page) (free : List ℕ) (z : Stand) → EndsIf (isLeaf (memory (z .want))) (comesDown k memory free z)
+-- What holds of the wanted page as a leaf, on whatever path it stands then, and of every verdict that goes on, holds of coming down.
+pub comes-down-by : (P : Verdict → Type 0) (k : ℕ) (memory : ℕ → Page) (free : List ℕ) (z : Stand)
+    → (isLeaf (memory (z .want)) ≡ true → (path fathers : List ℕ) → P (byWayAtLeaf k memory free (onPages z path []) (z .want) fathers))
+    → ((y : Stand) → P (goes y)) → P (comesDown k memory free z)
 unfolding comesDown
+comes-down-by P k memory free z at-leaf further =
+    let reached : List ℕ → List ℕ → Verdict = λ (path up : List ℕ). fromLeaf (byWayAtLeaf k memory free (onPages z path [])) up in
+    cond-ind P (isLeaf (memory (z .want)))
+    (λ leaf. cond-ind (λ (path : List ℕ). P (reached path (reverse path))) (isSafe (z .op) k (memory (z .want)))
+    (λ _. at-leaf leaf (z .want ∷ []) [])
+    (λ _. subst (λ (up : List ℕ). P (reached (z .path ++ z .want ∷ []) up)) (sym (reverse-append (z .path) (z .want ∷ [])))
+    (at-leaf leaf (z .path ++ z .want ∷ []) (reverse (z .path)))))
+    (λ _. further _)
+
+comes-down-ends : (k : ℕ) (memory : ℕ → Page) (free : List ℕ) (z : Stand) → EndsIf (isLeaf (memory (z .want))) (comesDown k memory free z)
 comes-down-ends k memory free z =
-    let down : Stand = onPages z (kept k memory z) [] in
-    cond-ind (EndsIf (isLeaf (memory (z .want)))) (isLeaf (memory (z .want)))
-    (λ h. ends-if h (fromLeaf (byWayAtLeaf k memory free down) (reverse (down .path))))
-    (λ _. tt)
+    comes-down-by (EndsIf (isLeaf (memory (z .want)))) k memory free z
+    (λ leaf path fathers. ends-if leaf (byWayAtLeaf k memory free (onPages z path []) (z .want) fathers)) (λ _. tt)
 
 -- it does not go by the second way, or does not begin again at this leaf
 abbrev pub stillBy : Op → ℕ → (ℕ → Page) → ℕ → Bool
@@ -63,16 +75,8 @@ way-ends k memory free z leaf fathers =
     (λ no. ends-if (still-by (isSecond (z .op)) (staysSecond (z .op) k memory leaf) no) (atLeaf (z .op) k memory free z leaf fathers))
 
 comes-down-stays : (k : ℕ) (memory : ℕ → Page) (free : List ℕ) (z : Stand) → EndsIf (stillBy (z .op) k memory (z .want)) (comesDown k memory free z)
-unfolding comesDown
 comes-down-stays k memory free z =
-    let P : Verdict → Type 0 = EndsIf (stillBy (z .op) k memory (z .want)) in
-    let down : List ℕ → Stand = λ (path : List ℕ). onPages z path [] in
-    cond-ind P (isLeaf (memory (z .want)))
-    (λ _. cond-ind (λ (path : List ℕ). P (fromLeaf (byWayAtLeaf k memory free (onPages z path [])) (reverse path))) (isSafe (z .op) k (memory (z .want)))
-    (λ _. way-ends k memory free (down (z .want ∷ [])) (z .want) [])
-    (λ _. subst (λ (up : List ℕ). P (fromLeaf (byWayAtLeaf k memory free (down (z .path ++ z .want ∷ []))) up)) (sym (reverse-append (z .path) (z .want ∷ [])))
-    (way-ends k memory free (down (z .path ++ z .want ∷ [])) (z .want) (reverse (z .path)))))
-    (λ _. tt)
+    comes-down-by (EndsIf (stillBy (z .op) k memory (z .want))) k memory free z (λ _ path fathers. way-ends k memory free (onPages z path []) (z .want) fathers) (λ _. tt)
 
 -- ---- room
 
@@ -89,7 +93,7 @@ first-lacks op first (ends a writes) = λ _. first
 
 -- every other answer is not NoRoom
 another : {A : Type 0} (a : Answer) → eqb (numberOf a) (numberOf NoRoom) ≡ false → a ≡ NoRoom → A
-another a other e = not-both (ap (λ (b : Answer). eqb (numberOf b) (numberOf NoRoom)) e) other
+another a other e = clashes e (eqb-false (numberOf a) (numberOf NoRoom) other)
 
 -- a leaf that is safe for an insertion needs no page
 safe-room : (k : ℕ) (memory : ℕ → Page) (leaf : ℕ) (held : List ℕ) (free : List ℕ) → ltb (μ (memory leaf)) (2 * k) ≡ true
@@ -136,14 +140,8 @@ way-lacks k memory free z leaf fathers =
     cond-ind (FirstLacks (z .op)) (isSecond (z .op) && not (staysSecond (z .op) k memory leaf)) (λ _. tt) (λ still. leaf-lacks (z .op) k memory free z leaf fathers still)
 
 comes-down-lacks : (k : ℕ) (memory : ℕ → Page) (free : List ℕ) (z : Stand) → FirstLacks (z .op) (comesDown k memory free z)
-unfolding comesDown
 comes-down-lacks k memory free z =
-    let down : Stand = onPages z (kept k memory z) [] in
-    cond-ind (FirstLacks (z .op)) (isLeaf (memory (z .want))) (λ _. from-up (byWayAtLeaf k memory free down) (way-lacks k memory free down) (reverse (down .path))) (λ _. tt)
-  where
-    from-up : (act : ℕ → List ℕ → Verdict) → ((leaf : ℕ) (fathers : List ℕ) → FirstLacks (z .op) (act leaf fathers)) → (up : List ℕ) → FirstLacks (z .op) (fromLeaf act up)
-    from-up act h [] = tt
-    from-up act h (leaf ∷ fathers) = h leaf fathers
+    comes-down-by (FirstLacks (z .op)) k memory free z (λ _ path fathers. way-lacks k memory free (onPages z path []) (z .want) fathers) (λ _. tt)
 
 -- What the step comes to in these words.
 module _ (k n : ℕ) (ws : List ℕ) (z : Stand) where

@@ -12,13 +12,13 @@ use lent::cells::breadth_at;
 use lent::cells::depth_at;
 use lent::cells::k_of;
 use lent::cells::kind_at;
-use lent::cells::lock_at;
 use lent::cells::n_of;
 use lent::cells::order_at;
 use lent::cells::sized;
 use lent::cells::top_at;
 use lent::cells::waiting_of;
 use lent::cells::want_at;
+use lent::cells::wanted_lock_at;
 use lent::cells::wide;
 use lent::cells::word_at;
 use lent::granting::XI;
@@ -105,7 +105,7 @@ fn rows_fine(cells: &[u32; STATE], n: u32) -> bool
                 breadth_at(cells, s),
                 n,
                 want_at(cells, s),
-                lock_at(cells, s),
+                wanted_lock_at(cells, s),
                 top_at(cells, s),
             );
         s += 1;

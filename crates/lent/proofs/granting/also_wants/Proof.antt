@@ -20,8 +20,8 @@ returns c =
     let ws = was .cells .now in
     sym (and-first-fails (numbersClash (cell ws lockRow (was .t)) (was .lock)) (ne-eqb (cell ws wantRow (was .t)) (was .p) (λ e. c .if1 .taken (c .before .want-at .ensures ∙ e))))
 
-lock-at-requires : tie.Need-lock-at-requires
-lock-at-requires c κs = search needs
+wanted-lock-at-requires : tie.Need-wanted-lock-at-requires
+wanted-lock-at-requires c κs = search needs
 
 clashes-requires : tie.Need-clashes-requires
 clashes-requires c κs = search needs
@@ -31,8 +31,8 @@ returns-2 c =
     let was = c .before .before .before .before .args in
     let ws = was .cells .now in
     c .clashes .ensures
-    ∙ ap (λ (held : ℕ). numbersClash held (was .lock)) (c .before .lock-at .ensures)
+    ∙ ap (λ (held : ℕ). numbersClash held (was .lock)) (c .before .wanted-lock-at .ensures)
     ∙ sym (ap (λ (b : Bool). b && numbersClash (cell ws lockRow (was .t)) (was .lock)) (eq-eqb (cell ws wantRow (was .t)) (was .p) (sym (c .before .before .before .want-at .ensures) ∙ c .before .before .if1 .left)))
 
 pub also-wants-spec : {M : Type 1} → statement M
-also-wants-spec = tie.close (tie.spec want-at-requires returns lock-at-requires clashes-requires returns-2)
+also-wants-spec = tie.close (tie.spec want-at-requires returns wanted-lock-at-requires clashes-requires returns-2)

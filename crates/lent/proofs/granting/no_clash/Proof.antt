@@ -4,8 +4,8 @@ use borrow.Author.Needs.{needs}
 use Rattle.lent.proofs.granting.no_clash.Statement.{statement}
 use Rattle.lent.proofs.granting.no_clash.Tie as tie
 
-lock-at-requires : tie.Need-lock-at-requires
-lock-at-requires c κs = search needs
+wanted-lock-at-requires : tie.Need-wanted-lock-at-requires
+wanted-lock-at-requires c κs = search needs
 
 want-at-requires : tie.Need-want-at-requires
 want-at-requires c κs = search needs
@@ -17,9 +17,9 @@ returns : tie.Need-returns
 returns c =
     let was = c .before .before .before in
     no-clash-words (was .args .cells .now) (was .args .s) (was .pre .1) (was .pre .0) (was .pre .2) (was .pre .3)
-    (c .before .before .lock-at .ensures) (c .before .want-at .ensures) (c .others-hold .ensures)
+    (c .before .before .wanted-lock-at .ensures) (c .before .want-at .ensures) (c .others-hold .ensures)
 
 pub no-clash-spec : {M : Type 1} → statement M
 no-clash-spec =
     tie.close
-    (tie.spec lock-at-requires want-at-requires others-hold-requires returns)
+    (tie.spec wanted-lock-at-requires want-at-requires others-hold-requires returns)

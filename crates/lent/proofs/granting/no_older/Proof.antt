@@ -22,8 +22,8 @@ abbrev μ-loop : tie.MeasureT-loop
 sized-requires : tie.Need-sized-requires Inv-loop μ-loop
 sized-requires c κs = search needs
 
-lock-at-requires : tie.Need-lock-at-requires Inv-loop μ-loop
-lock-at-requires c κs = search needs
+wanted-lock-at-requires : tie.Need-wanted-lock-at-requires Inv-loop μ-loop
+wanted-lock-at-requires c κs = search needs
 
 want-at-requires : tie.Need-want-at-requires Inv-loop μ-loop
 want-at-requires c κs = search needs
@@ -55,7 +55,7 @@ loop-again c =
     let w : c .before .before .before .before .before .before .waiting-of .result ≡ getD (was .args .cells .now) waitingAt 0 = c .before .before .before .before .before .before .waiting-of .ensures in (
       omega arith,
       walk-on (was .args .cells .now) (was .args .s) (c .before .before .before .before .before .before .before .before .before .sized .ensures) (was .pre .0) (was .pre .1) (was .pre .2) (c .before .before .before .before .before .loop .inv .1) (omega arith) (c .before .before .before .order-at .ensures)
-          (c .before .before .if2 .left) (c .before .before .before .before .before .before .before .before .lock-at .ensures) (c .before .before .before .before .before .before .before .want-at .ensures) (c .before .also-wants .ensures) (c .if3 .left),
+          (c .before .before .if2 .left) (c .before .before .before .before .before .before .before .before .wanted-lock-at .ensures) (c .before .before .before .before .before .before .before .want-at .ensures) (c .before .also-wants .ensures) (c .if3 .left),
     )
 
 returns : tie.Need-returns Inv-loop μ-loop
@@ -75,7 +75,7 @@ returns-3 c =
     let was = c .before .before .before .before .before .before .before .before .before .before .before in
     let w : c .before .before .before .before .before .before .waiting-of .result ≡ getD (was .args .cells .now) waitingAt 0 = c .before .before .before .before .before .before .waiting-of .ensures in
     walk-older (was .args .cells .now) (was .args .s) (c .before .before .before .before .before .before .before .before .before .sized .ensures) (was .pre .0) (was .pre .1) (was .pre .2) (c .before .before .before .before .before .loop .inv .1) (omega arith) (c .before .before .before .order-at .ensures)
-    (c .before .before .if2 .left) (c .before .before .before .before .before .before .before .before .lock-at .ensures) (c .before .before .before .before .before .before .before .want-at .ensures) (c .before .also-wants .ensures) (c .if3 .taken)
+    (c .before .before .if2 .left) (c .before .before .before .before .before .before .before .before .wanted-lock-at .ensures) (c .before .before .before .before .before .before .before .want-at .ensures) (c .before .also-wants .ensures) (c .if3 .taken)
 
 pub no-older-spec : {M : Type 1} → statement M
 no-older-spec =
@@ -84,7 +84,7 @@ no-older-spec =
     Inv-loop
     μ-loop
     sized-requires
-    lock-at-requires
+    wanted-lock-at-requires
     want-at-requires
     waiting-of-requires
     loop-holds

@@ -8,11 +8,11 @@ use Rattle.lent.proofs.lifting.slot_at.Tie as tie
 task-at-requires : tie.Need-task-at-requires
 task-at-requires c κs = search needs
 
-lock-at-requires : tie.Need-lock-at-requires
-lock-at-requires c κs = search needs
+wanted-lock-at-requires : tie.Need-wanted-lock-at-requires
+wanted-lock-at-requires c κs = search needs
 
-lock-of-requires : tie.Need-lock-of-requires
-lock-of-requires c κs = search needs
+read-lock-requires : tie.Need-read-lock-requires
+read-lock-requires c κs = search needs
 
 column-of-requires : tie.Need-column-of-requires
 column-of-requires c κs = search needs
@@ -39,7 +39,7 @@ returns : tie.Need-returns
 returns c = λ i. record {
   task = c .before .before .before .before .before .before .before .before .before .task-at .ensures i;
   want = c .before .before .before .before .want-at .ensures i;
-  lock = (c .before .before .before .before .before .before .before .lock-of .ensures ∙ ap lockRead (c .before .before .before .before .before .before .before .before .lock-at .ensures)) i;
+  lock = (c .before .before .before .before .before .before .before .read-lock .ensures ∙ ap lockRead (c .before .before .before .before .before .before .before .before .wanted-lock-at .ensures)) i;
   path = c .before .before .before .before .before .before .column-of .ensures i;
   depth = (c .before .before .wide .ensures ∙ c .before .before .before .depth-at .ensures) i;
   beside = c .before .before .before .before .before .column-of2 .ensures i;
@@ -51,8 +51,8 @@ slot-at-spec =
     tie.close
     (tie.spec
     task-at-requires
-    lock-at-requires
-    lock-of-requires
+    wanted-lock-at-requires
+    read-lock-requires
     column-of-requires
     column-of-requires-2
     want-at-requires

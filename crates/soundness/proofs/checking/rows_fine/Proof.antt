@@ -34,8 +34,8 @@ breadth-at-requires c κs = omega arith
 want-at-requires : tie.Need-want-at-requires Inv-loop μ-loop
 want-at-requires c κs = omega arith
 
-lock-at-requires : tie.Need-lock-at-requires Inv-loop μ-loop
-lock-at-requires c κs = omega arith
+wanted-lock-at-requires : tie.Need-wanted-lock-at-requires Inv-loop μ-loop
+wanted-lock-at-requires c κs = omega arith
 
 top-at-requires : tie.Need-top-at-requires Inv-loop μ-loop
 top-at-requires c κs = omega arith
@@ -56,10 +56,10 @@ loop-again c =
     let s : ℕ = c .before .before .before .before .before .before .before .before .loop .s in
     let this : c .is-fine .result ≡ rowFine ws n s =
     c .is-fine .ensures
-    ∙ ap (λ (k : ℕ). fineRow k (c .before .before .before .before .before .depth-at .result) (c .before .before .before .before .breadth-at .result) n (c .before .before .before .want-at .result) (c .before .before .lock-at .result) (c .before .top-at .result)) (c .before .before .before .before .before .before .kind-at .ensures)
-    ∙ ap₂ (λ (d b : ℕ). fineRow (cell ws kindRow s) d b n (c .before .before .before .want-at .result) (c .before .before .lock-at .result) (c .before .top-at .result)) (c .before .before .before .before .before .depth-at .ensures) (c .before .before .before .before .breadth-at .ensures)
-    ∙ ap (λ (w : ℕ). fineRow (cell ws kindRow s) (cell ws depthRow s) (cell ws breadthRow s) n w (c .before .before .lock-at .result) (c .before .top-at .result)) (c .before .before .before .want-at .ensures)
-    ∙ ap₂ (fineRow (cell ws kindRow s) (cell ws depthRow s) (cell ws breadthRow s) n (cell ws wantRow s)) (c .before .before .lock-at .ensures) (c .before .top-at .ensures) in
+    ∙ ap (λ (k : ℕ). fineRow k (c .before .before .before .before .before .depth-at .result) (c .before .before .before .before .breadth-at .result) n (c .before .before .before .want-at .result) (c .before .before .wanted-lock-at .result) (c .before .top-at .result)) (c .before .before .before .before .before .before .kind-at .ensures)
+    ∙ ap₂ (λ (d b : ℕ). fineRow (cell ws kindRow s) d b n (c .before .before .before .want-at .result) (c .before .before .wanted-lock-at .result) (c .before .top-at .result)) (c .before .before .before .before .before .depth-at .ensures) (c .before .before .before .before .breadth-at .ensures)
+    ∙ ap (λ (w : ℕ). fineRow (cell ws kindRow s) (cell ws depthRow s) (cell ws breadthRow s) n w (c .before .before .wanted-lock-at .result) (c .before .top-at .result)) (c .before .before .before .want-at .ensures)
+    ∙ ap₂ (fineRow (cell ws kindRow s) (cell ws depthRow s) (cell ws breadthRow s) n (cell ws wantRow s)) (c .before .before .wanted-lock-at .ensures) (c .before .top-at .ensures) in
     (omega arith, ap₂ (λ (a b : Bool). a && b) (c .before .before .before .before .before .before .before .before .loop .inv .1) this ∙ sym (all-on (rowFine ws n) s))
 
 returns : tie.Need-returns Inv-loop μ-loop
@@ -79,7 +79,7 @@ rows-fine-spec =
     depth-at-requires
     breadth-at-requires
     want-at-requires
-    lock-at-requires
+    wanted-lock-at-requires
     top-at-requires
     is-fine-requires
     add-s
