@@ -20,11 +20,14 @@ extern "C" {
 #endif
 
 /* Raised with every change of a number, of an answer's values or of what the words of the state mean. 2: AlreadyThere has a value,
- * and Next never tells a key below the one asked for. 3: updates by the second way, and for them a row more of the state.
+ * and Next never tells a key below the one asked for. 3: updates by the second way, and for them a row more of the state. 4: four kinds
+ * of lock; updates by the second way hold with updater's rho, and a page that is held has the kind of its lock in its word.
  * ghazfulit_version() gives the archive's own. */
-#define GHAZFULIT_VERSION 3
+#define GHAZFULIT_VERSION 4
 
-/* Words of a state, words of an answer, slots, and the largest k and n. */
+/* Words of a state, words of an answer, slots, and the largest k and n. A state's words are the library's own; docs/DECISIONS.md has
+ * how they lie ("Layout"). The word of a page that a slot holds is the page and 65,536 times the number of the kind of its lock, as the
+ * numbers stand below. So a state that an older version left, with a page held in it, is not sound for this one. */
 #define GHAZFULIT_STATE 451
 #define GHAZFULIT_ANSWER 4
 #define GHAZFULIT_SLOTS 16
@@ -35,7 +38,7 @@ extern "C" {
 #define GHAZFULIT_WORDS(k, n) ((size_t)(n) * (4 * (size_t)(k) + 3))
 
 /* Kinds of operation. An update has two ways, and does the same by both. By the first it takes xi-locks from page 0 on: what it holds
- * nobody else can read. By the second it goes down with rho-locks, beside all who read, and wants xi on its leaf alone. Where the
+ * nobody else can read. By the second it goes down with updater's rho, beside all who read, and wants xi on its leaf alone. Where the
  * change would reach beyond the leaf, and where page 0 is a leaf, it gives up what it holds and begins again by the first way; that is
  * answered Moved. */
 enum {
@@ -70,7 +73,7 @@ enum {
     GHAZFULIT_NO_ROOM = 40,
     GHAZFULIT_BEGUN = 41,
     GHAZFULIT_MADE = 42,
-    GHAZFULIT_REPORTED = 43,      /* with the kind of lock, the number of holders, the lowest holder (16 for none) */
+    GHAZFULIT_REPORTED = 43,      /* with the strongest kind of lock, the number of holders, the lowest holder (16 for none) */
     GHAZFULIT_NEXT_LOT = 44,      /* Next, with the key and the information */
     GHAZFULIT_NO_LOT = 45,        /* None: no lot at or above the key */
     GHAZFULIT_REGRADED = 46       /* with the old information */
@@ -83,11 +86,15 @@ enum {
     (((number) >= GHAZFULIT_FOUND && (number) <= GHAZFULIT_NO_ROOM) || \
      ((number) >= GHAZFULIT_NEXT_LOT && (number) <= GHAZFULIT_REGRADED))
 
-/* Kinds of lock, as a report has them: rho of a search, a Next or an update by the second way, xi of an update by the first. */
+/* Kinds of lock, as a report and the words of the state have them. On one page rho goes with all but xi, updater's rho with both rho,
+ * alpha with rho alone, and xi with nothing. A report has the first that is there of xi, alpha, updater's rho and rho, while the number of
+ * holders and the lowest of them are counted over all kinds. */
 enum {
     GHAZFULIT_LOCK_NONE = 0,
-    GHAZFULIT_LOCK_RHO = 1,
-    GHAZFULIT_LOCK_XI = 2
+    GHAZFULIT_LOCK_RHO = 1,         /* of a search or a Next */
+    GHAZFULIT_LOCK_XI = 2,          /* of an update by the first way */
+    GHAZFULIT_LOCK_UPDATER_RHO = 3, /* of an update by the second way */
+    GHAZFULIT_LOCK_ALPHA = 4        /* of no operation yet */
 };
 
 /* Makes a fresh pool of n pages of width k, and writes every word of the state: Made or BadPool. */

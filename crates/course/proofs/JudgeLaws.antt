@@ -12,7 +12,7 @@ use lib.Seq.{getD-take}
 use Rattle.ground.specs.Limits.{pathHolds}
 use Rattle.ground.specs.Tests.{member}
 use Rattle.ground.proofs.Bools.{not-both, and-first, and-second, or-cases}
-use Rattle.ground.proofs.Choice.{cond-ind, cond-true, cond-false}
+use Rattle.ground.proofs.Choice.{cond-true, cond-false}
 use Rattle.ground.proofs.Padded.{length-padded}
 use Rattle.page.specs.Words.{Page, Entry, isLeaf}
 use Rattle.page.specs.Place.{route, has, information}
@@ -30,19 +30,20 @@ use Rattle.slots.specs.declared.Op.the-variants.{Search, Insert, Delete, Next, 
 use Rattle.slots.specs.declared.Way.{Way}
 use Rattle.slots.specs.declared.Way.the-variants.{First, Second}
 use Rattle.slots.specs.declared.Lock.{Lock}
+use Rattle.slots.specs.declared.Under.{Under}
 use Rattle.slots.specs.declared.Answer.{Answer}
 use Rattle.slots.specs.declared.Answer.the-variants.{Found, NotFound, Inserted, AlreadyThere, Deleted, NoSuchKey, NoRoom, Regraded}
 use Rattle.slots.specs.declared.Slot.{Slot}
 use Rattle.slots.specs.Locks.{sameLock}
-use Rattle.slots.specs.Parts.{keyOf, isNext, heldLock, pathOf, besideOf, held, Stand, onPages, wantBeside, wantsNext, withOp, standOf}
+use Rattle.slots.specs.Parts.{keyOf, isNext, heldLock, pathOf, besideOf, held, under, Stand, onPages, wantBeside, wantsNext, withOp, standOf}
 use Rattle.course.specs.declared.judging.Course.{Course}
 use Rattle.course.specs.declared.judging.Course.the-variants.{Broken, Goes, Regrades, Again}
-use Rattle.footing.specs.Granted.{Verdict, broken, goes, ends, isSafe, lockBelow, kept, deletes, byNeed, again, atLeaf, fromLeaf, byWayAtLeaf, comesDown, goesLeft, besides, atItsLeaf, granted}
+use Rattle.footing.specs.Granted.{Verdict, broken, goes, ends, isSafe, lockBelow, deletes, byNeed, again, atLeaf, fromLeaf, byWayAtLeaf, comesDown, goesLeft, besides, atItsLeaf, granted}
 use Rattle.footing.specs.Fitting.{descends, rightlyKept, rightlyBeside, sameLevels, isSibling, isNone, rightlyAcross, lockDue, fitting}
 use Rattle.footing.specs.Standing.{SlotStanding, stood}
 use Rattle.footing.proofs.AcrossLaws.{across-idle}
 use Rattle.course.specs.Judged.{onSecond, judgedAt, beginsAgain, judged, ifNew, courseOf, ready, nextCourse, searchCourse, insertCourse, needCourse, deleteCourse, standsLast}
-use Rattle.course.proofs.StandLaws.{Topped}
+use Rattle.course.proofs.StandLaws.{Topped, cond-both, stood-ind}
 
 -- ---- the rule of a granted step
 
@@ -92,56 +93,54 @@ module _ (k : ℕ) (memory : ℕ → Page) (free : List ℕ) where
   beside-acts (Regrade x v Second) z (p ∷ up) leaf right = not-both right (sym (across-idle k memory (withOp (Regrade x v Second) z) (z .path) refl))
 
   -- without siblings the rule at a leaf is the one for an operation that comes down
-  alone-acts : (op : Op) (z : Stand) (path : List ℕ) (leaf : ℕ) (fathers : List ℕ)
-      → atLeaf op k memory free (onPages z path []) leaf fathers ≡ judgedAt op k memory free (onPages z path []) leaf fathers
+  alone-acts : (op : Op) (z : Stand) (path : List ℕ) (locks : List Under) (leaf : ℕ) (fathers : List ℕ)
+      → atLeaf op k memory free (onPages z path locks [] []) leaf fathers ≡ judgedAt op k memory free (onPages z path locks [] []) leaf fathers
   unfolding judgedAt
-  alone-acts (Search x) z path leaf fathers = refl
-  alone-acts (Insert x v way) z path leaf fathers = refl
-  alone-acts (Delete x way) z path leaf fathers = refl
-  alone-acts (Next x) z path leaf fathers = refl
-  alone-acts (Regrade x v way) z path leaf fathers = refl
+  alone-acts (Search x) z path locks leaf fathers = refl
+  alone-acts (Insert x v way) z path locks leaf fathers = refl
+  alone-acts (Delete x way) z path locks leaf fathers = refl
+  alone-acts (Next x) z path locks leaf fathers = refl
+  alone-acts (Regrade x v way) z path locks leaf fathers = refl
 
   -- an operation that comes down to page p stands at a path that ends there
-  down-acts : (z : Stand) (path : List ℕ) (p : ℕ) (fathers : List ℕ) → reverse path ≡ p ∷ fathers
-      → cond (isLeaf (memory p)) (fromLeaf (byWayAtLeaf k memory free (onPages z path [])) (reverse path)) (onward memory (onPages z path []) p)
-      ≡ fromLeaf (act (onPages z path [])) (reverse path)
+  down-acts : (z : Stand) (path : List ℕ) (locks : List Under) (p : ℕ) (fathers : List ℕ) → reverse path ≡ p ∷ fathers
+      → cond (isLeaf (memory p))
+      (fromLeaf (byWayAtLeaf k memory free (onPages z path locks [] [])) (reverse path))
+      (onward memory (onPages z path locks [] []) p)
+      ≡ fromLeaf (act (onPages z path locks [] [])) (reverse path)
   unfolding act leafAct
-  down-acts z path p fathers e =
-      let down : Stand = onPages z path [] in
+  down-acts z path locks p fathers e =
+      let down : Stand = onPages z path locks [] [] in
       subst
       (λ (ups : List ℕ). cond (isLeaf (memory p)) (fromLeaf (byWayAtLeaf k memory free down) ups) (onward memory down p) ≡ fromLeaf (act down) ups)
       (sym e)
-      (ap (λ (v : Verdict). cond (isLeaf (memory p)) (cond (beginsAgain (z .op) k memory p) (again (z .op)) v) (onward memory down p)) (alone-acts (z .op) z path p fathers))
+      (ap (λ (v : Verdict). cond (isLeaf (memory p)) (cond (beginsAgain (z .op) k memory p) (again (z .op)) v) (onward memory down p)) (alone-acts (z .op) z path locks p fathers))
 
 -- What a step comes to that is granted to an operation with the right pages is what the operation does from where it then stands.
 pub granted-judged : (k : ℕ) (memory : ℕ → Page) (free : List ℕ) (z : Stand) → fitting k memory z ≡ true
     → granted k memory free z ≡ judged k memory free (stood k memory z)
-unfolding granted judged fitting besides comesDown act leafAct stood
+unfolding granted judged fitting besides comesDown act leafAct
 granted-judged k memory free z h =
-    let leaf : Bool = atItsLeaf memory (reverse (z .path)) in
+    let way : Bool = descends memory (keyOf (z .op)) (z .path) in
+    let rightly : Bool = rightlyBeside k memory z (reverse (z .path)) || rightlyAcross k memory z (z .path) in
     let below : Bool = descends memory (keyOf (z .op)) (z .path ++ z .want ∷ []) && isNone (z .beside) in
-    let beside : Bool = descends memory (keyOf (z .op)) (z .path) && (rightlyBeside k memory z (reverse (z .path)) || rightlyAcross k memory z (z .path)) in
     let fit : Bool = rightlyKept (z .op) k memory (z .path) (z .want) && sameLock (z .lock) (lockDue (z .op) memory (reverse (z .path))) in
-    let right : cond leaf beside below ≡ true = and-second fit (cond leaf beside below) h in
-    split leaf refl right
-  where
-    split : (b : Bool) → atItsLeaf memory (reverse (z .path)) ≡ b
-        → cond b (descends memory (keyOf (z .op)) (z .path) && (rightlyBeside k memory z (reverse (z .path)) || rightlyAcross k memory z (z .path))) (descends memory (keyOf (z .op)) (z .path ++ z .want ∷ []) && isNone (z .beside)) ≡ true
-        → cond b (besides k memory z) (comesDown k memory free z)
-        ≡ judged k memory free (onPages z (cond b (z .path) (kept k memory z)) (cond b (z .beside ++ z .want ∷ []) []))
-    split true leaf right =
-        beside-acts k memory free (z .op) z (reverse (z .path)) leaf
-        (and-second (descends memory (keyOf (z .op)) (z .path)) (rightlyBeside k memory z (reverse (z .path)) || rightlyAcross k memory z (z .path)) right)
-    split false above right =
-        cond-ind
-        (λ (l : List ℕ).
-        cond (isLeaf (memory (z .want)))
-        (fromLeaf (byWayAtLeaf k memory free (onPages z l [])) (reverse l))
-        (onward memory (onPages z l []) (z .want))
-        ≡ judged k memory free (onPages z l []))
-        (isSafe (z .op) k (memory (z .want)))
-        (λ safe. down-acts k memory free z (z .want ∷ []) (z .want) [] refl)
-        (λ full. down-acts k memory free z (z .path ++ z .want ∷ []) (z .want) (reverse (z .path)) (reverse-append (z .path) (z .want ∷ [])))
+    let right = and-second fit (cond (atItsLeaf memory (reverse (z .path))) (way && rightly) below) h in
+    stood-ind (λ (now : Stand). granted k memory free z ≡ judged k memory free now) k memory z
+    (λ leaf.
+    cond-true (besides k memory z) (comesDown k memory free z) leaf
+    ∙ beside-acts k memory free (z .op) z (reverse (z .path)) leaf (and-second way rightly (sym (cond-true (way && rightly) below leaf) ∙ right)))
+    (λ above.
+    cond-false (besides k memory z) (comesDown k memory free z) above
+    ∙ cond-both
+    (λ (path : List ℕ) (locks : List Under).
+    cond (isLeaf (memory (z .want)))
+    (fromLeaf (byWayAtLeaf k memory free (onPages z path locks [] [])) (reverse path))
+    (onward memory (onPages z path locks [] []) (z .want))
+    ≡ judged k memory free (onPages z path locks [] []))
+    (isSafe (z .op) k (memory (z .want)))
+    (λ safe. down-acts k memory free z (z .want ∷ []) (under (z .lock) ∷ []) (z .want) [] refl)
+    (λ full. down-acts k memory free z (z .path ++ z .want ∷ []) (z .locks ++ under (z .lock) ∷ []) (z .want) (reverse (z .path)) (reverse-append (z .path) (z .want ∷ []))))
 
 -- ---- what is known where an operation stands
 

@@ -1,9 +1,9 @@
 -- Where an operation stands once its want is granted: what the test of its pages tells of those that it then holds.
-use Prim.Native.Nat.{ℕ, zero, suc, _+_, _-_, _≤_, _<_, zero-le}
+use Prim.Native.Nat.{ℕ, zero, suc, _+_, _-_, _≤_, _<_, min, zero-le}
 use mathlib.Core.Bool.{Bool, true, false, cond, not, _&&_, _||_, false≢true}
 use mathlib.Core.List.{List, [], _∷_, _++_, reverse, append-nil, append-assoc}
 use mathlib.Core.Logic.{_⊎_, inl, inr, ⊎-elim, _≢_}
-use mathlib.Core.Path.{_≡_, refl, sym, ap, ap₂, _∙_, subst}
+use mathlib.Core.Path.{_≡_, refl, sym, ap, _∙_, subst}
 use native.Mathlib.Nat.{le-of-suc-le-suc, not-suc-le-zero}
 use native.Mathlib.Numerals.{add-one}
 use native.Mathlib.Omega.{arith}
@@ -28,15 +28,22 @@ use Rattle.change.specs.Held.{Held, upward}
 use Rattle.change.proofs.HeldLaws.{Known, held-known, held-front, held-back, held-upper, upward-reverse, upward-father}
 use Rattle.slots.specs.declared.Op.{Op}
 use Rattle.slots.specs.declared.Slot.{Slot}
+use Rattle.slots.specs.declared.Under.{Under}
 use Rattle.slots.specs.Locks.{sameLock}
-use Rattle.slots.specs.Parts.{keyOf, isDelete, isNext, isSecond, isOpen, pathOf, besideOf, held, Stand, holding, onPages, wantBeside, standOf, slotOf}
+use Rattle.slots.specs.Parts.{keyOf, isDelete, isNext, isSecond, isOpen, pathOf, besideOf, held, locksOf, sidelocksOf, under, Stand, holding, onPages, wantBeside, standOf, slotOf}
 use Rattle.slots.proofs.SoundFacts.{sound-slot}
-use Rattle.slots.proofs.Keeping.{stand-new}
-use Rattle.footing.specs.Granted.{isSafe, kept, atItsLeaf}
+use Rattle.slots.proofs.Keeping.{Paired, stand-new}
+use Rattle.footing.specs.Granted.{isSafe, kept, keptLocks, atItsLeaf}
 use Rattle.footing.specs.Fitting.{descends, pagesSound, rightlyKept, sameLevels, isSibling, rightlyBeside, isNone, leftmost, turnsRight, rightlyAcross, lockDue, fitting}
-use Rattle.footing.specs.Standing.{Asks, fits, stood, standPath, standBeside, Standing, SlotStanding}
+use Rattle.footing.specs.Standing.{Asks, fits, stood, Standing, SlotStanding}
 use Rattle.footing.proofs.LookLaws.{descends-levels, leftmost-levels, pagesOf, asks-held}
 use Rattle.footing.proofs.KeepLaws.{second-safe}
+
+-- what holds of both branches of two choices by one test holds of the choices
+pub cond-both : {A B : Type 0} (P : A → B → Type 0) (b : Bool) {x y : A} {u v : B} → (b ≡ true → P x u) → (b ≡ false → P y v)
+    → P (cond b x y) (cond b u v)
+cond-both P true f g = f refl
+cond-both P false f g = g refl
 
 -- ---- a way down
 
@@ -107,9 +114,14 @@ distinct-last xs a t =
 
 -- ---- coming down
 
--- a path without siblings
-stands-alone : (z : Stand) {k n : ℕ} {ws path : List ℕ} → 1 ≤ length path → Held k n ws path → Falls (pageAt k ws) path
-    → distinct path ≡ true → Topped (z .op) k (pageAt k ws) path → (isSecond (z .op) ≡ true → length path ≡ 1) → Standing k n ws (onPages z path [])
+-- the operation has come down to the wanted page
+abbrev comeDown : ℕ → (ℕ → Page) → Stand → Stand
+comeDown k memory z = onPages z (kept k memory z) (keptLocks k memory z) [] []
+
+-- a path without siblings, whatever its kinds of lock
+stands-alone : (z : Stand) {k n : ℕ} {ws path : List ℕ} {locks : List Under} → 1 ≤ length path → Held k n ws path → Falls (pageAt k ws) path
+    → distinct path ≡ true → Topped (z .op) k (pageAt k ws) path → (isSecond (z .op) ≡ true → length path ≡ 1)
+    → Standing k n ws (onPages z path locks [] [])
 stands-alone z {k} {n} {ws} {path} some held falls different top alone =
     record {
       some = some;
@@ -127,10 +139,10 @@ stands-alone z {k} {n} {ws} {path} some held falls different top alone =
 -- the want at the end of the path, or alone
 stands-below : {k n : ℕ} {ws : List ℕ} (z : Stand) → Held k n ws (z .path ++ z .want ∷ [])
     → distinct (z .want ∷ z .path) ≡ true → Falls (pageAt k ws) (z .path ++ z .want ∷ []) → rightlyKept (z .op) k (pageAt k ws) (z .path) (z .want) ≡ true
-    → Standing k n ws (onPages z (kept k (pageAt k ws) z) [])
+    → Standing k n ws (comeDown k (pageAt k ws) z)
 stands-below {k} {n} {ws} z held different falls right =
     let last = distinct-last (z .path) (z .want) different in
-    cond-ind (λ (now : List ℕ). Standing k n ws (onPages z now [])) (isSafe (z .op) k (pageAt k ws (z .want)))
+    cond-both (λ (now : List ℕ) (locks : List Under). Standing k n ws (onPages z now locks [] [])) (isSafe (z .op) k (pageAt k ws (z .want)))
     (λ safe. stands-alone z (omega arith) (held-back (z .path) (z .want ∷ []) held) (λ i h. absurd (not-suc-le-zero (le-of-suc-le-suc h)))
     (distinct-back (z .path) (z .want ∷ []) last) (inr safe) (λ _. refl))
     (λ unsafe. stands-alone z (omega (arith, length-append (z .path) (z .want ∷ []))) held falls last (longer-top (z .op) k (pageAt k ws) (z .path) (z .want) right)
@@ -377,21 +389,15 @@ module _ {k n : ℕ} {ws : List ℕ} (z : Stand) (some : 1 ≤ length (z .path))
 
 -- ---- the slot
 
--- what holds of both branches of two choices by one test holds of the choices
-cond-both : {A B : Type 0} (P : A → B → Type 0) (b : Bool) {x y : A} {u v : B} → (b ≡ true → P x u) → (b ≡ false → P y v)
-    → P (cond b x y) (cond b u v)
-cond-both P true f g = f refl
-cond-both P false f g = g refl
-
 -- a path without siblings is all that is held
 none-beside : (path siblings : List ℕ) → isNone siblings ≡ true → path ++ siblings ≡ path
 none-beside path [] t = append-nil path
 none-beside path (s ∷ siblings) t = absurd (false≢true t)
 
 -- a slot made to stand here stands here
-stands-new : {k n : ℕ} {ws : List ℕ} (z : Stand) → Standing k n ws z → SlotStanding (z .op) k n ws (slotOf z)
-stands-new {k} {n} {ws} z h =
-    let same : z ≡ standOf (z .op) (slotOf z) = sym (stand-new z) in
+stands-new : {k n : ℕ} {ws : List ℕ} (z : Stand) → Paired z → Standing k n ws z → SlotStanding (z .op) k n ws (slotOf z)
+stands-new {k} {n} {ws} z paired h =
+    let same : z ≡ standOf (z .op) (slotOf z) = sym (stand-new z paired) in
     record { exact = ap slotOf same; standing = subst (Standing k n ws) same h }
 
 module _ {op : Op} {k n : ℕ} {ws : List ℕ} {slot : Slot} (asks : Asks k n ws op slot) (fit : fits k n ws (standOf op slot) ≡ true) where
@@ -478,7 +484,7 @@ module _ {op : Op} {k n : ℕ} {ws : List ℕ} {slot : Slot} (asks : Asks k n ws
         descends-levels (pageAt k ws) (keyOf op) (pathOf slot ++ slot .want ∷ [])
         (and-first (descends (pageAt k ws) (keyOf op) (pathOf slot ++ slot .want ∷ [])) (isNone (besideOf slot)) below-told)
 
-    stood-below : Standing k n ws (onPages z (kept k (pageAt k ws) z) [])
+    stood-below : Standing k n ws (comeDown k (pageAt k ws) z)
     stood-below =
         stands-below z longer-held
         (subst (λ (pages : List ℕ). distinct (slot .want ∷ pages) ≡ true) no-siblings all-different)
@@ -494,16 +500,61 @@ module _ {op : Op} {k n : ℕ} {ws : List ℕ} {slot : Slot} (asks : Asks k n ws
       let short = way-short (longer-held coming) (longer-falls coming) in
       omega (arith, length-append (take (slot .depth) (slot .path)) (slot .want ∷ []), length-take (slot .depth) (slot .path))
 
+-- ---- where it stands, by the test of its leaf
+
+-- with the want beside its path, or come down to it
+pub stood-ind : (P : Stand → Type 0) (k : ℕ) (memory : ℕ → Page) (z : Stand)
+    → (atItsLeaf memory (reverse (z .path)) ≡ true → P (wantBeside z))
+    → (atItsLeaf memory (reverse (z .path)) ≡ false → P (comeDown k memory z))
+    → P (stood k memory z)
+unfolding stood
+stood-ind P k memory z = split (atItsLeaf memory (reverse (z .path)))
+  where
+    split : (b : Bool) → (b ≡ true → P (wantBeside z)) → (b ≡ false → P (comeDown k memory z))
+        → P
+        (onPages z (cond b (z .path) (kept k memory z)) (cond b (z .locks) (keptLocks k memory z)) (cond b (z .beside ++ z .want ∷ []) [])
+        (cond b (z .sidelocks ++ under (z .lock) ∷ []) []))
+    split true f g = f refl
+    split false f g = g refl
+
+-- ---- a kind of lock for every page
+
+-- one behind each of two lists
+one-more : (locks : List Under) (pages : List ℕ) (u : Under) (p : ℕ) → length locks ≡ length pages → length (locks ++ u ∷ []) ≡ length (pages ++ p ∷ [])
+one-more locks pages u p e = length-append locks (u ∷ []) ∙ ap (λ (m : ℕ). m + 1) e ∙ sym (length-append pages (p ∷ []))
+
+-- a slot has as many cells for kinds as for pages
+pub slot-paired : (op : Op) (slot : Slot) → length (slot .locks) ≡ length (slot .path) → length (slot .sidelocks) ≡ length (slot .beside)
+    → Paired (standOf op slot)
+unfolding pathOf besideOf locksOf sidelocksOf
+slot-paired op slot path beside = record {
+  path = first (slot .depth) (slot .locks) (slot .path) path;
+  beside = first (slot .breadth) (slot .sidelocks) (slot .beside) beside;
+}
+  where
+    first : (i : ℕ) (locks : List Under) (pages : List ℕ) → length locks ≡ length pages → length (take i locks) ≡ length (take i pages)
+    first i locks pages e = length-take i locks ∙ ap (min i) e ∙ sym (length-take i pages)
+
+-- the granted page has the one with which it was wanted
+pub stood-paired : (k : ℕ) (memory : ℕ → Page) (z : Stand) → Paired z → Paired (stood k memory z)
+stood-paired k memory z paired =
+    stood-ind Paired k memory z
+    (λ _. record { path = paired .path; beside = one-more (z .sidelocks) (z .beside) (under (z .lock)) (z .want) (paired .beside) })
+    (λ _. record {
+      path = cond-both (λ (pages : List ℕ) (locks : List Under). length locks ≡ length pages) (isSafe (z .op) k (memory (z .want)))
+          (λ _. refl)
+          (λ _. one-more (z .locks) (z .path) (under (z .lock)) (z .want) (paired .path));
+      beside = refl;
+    })
+
 -- Once its want is granted, an operation stands where the rules would have it.
-pub stood-stands : (op : Op) (k n : ℕ) (ws : List ℕ) (slot : Slot) → Asks k n ws op slot → fits k n ws (standOf op slot) ≡ true
+pub stood-stands : (op : Op) (k n : ℕ) (ws : List ℕ) (slot : Slot) → Asks k n ws op slot → fits k n ws (standOf op slot) ≡ true → Paired (standOf op slot)
     → SlotStanding op k n ws (slotOf (stood k (pageAt k ws) (standOf op slot)))
 unfolding stood
-stood-stands op k n ws slot asks fit =
+stood-stands op k n ws slot asks fit paired =
     let here : Stand = standOf op slot in
-    stands-new (onPages here (standPath k (pageAt k ws) here) (standBeside (pageAt k ws) here))
-    (cond-both (λ (ps ss : List ℕ). Standing k n ws (onPages here ps ss)) (atItsLeaf (pageAt k ws) (reverse (pathOf slot)))
-    (stood-beside asks fit)
-    (stood-below asks fit))
+    stands-new (stood k (pageAt k ws) here) (stood-paired k (pageAt k ws) here paired)
+    (stood-ind (Standing k n ws) k (pageAt k ws) here (stood-beside asks fit) (stood-below asks fit))
 
 -- ---- the slot by the answers of the tests
 
@@ -512,45 +563,30 @@ module _ (op : Op) (k : ℕ) (memory : ℕ → Page) (slot : Slot) {leaf : Bool}
   abbrev here : Stand
   here = standOf op slot
 
-  abbrev standsAt : List ℕ → List ℕ → Slot
-  standsAt path beside = slotOf (onPages here path beside)
-
   -- the last page of the path is a leaf
-  pub stood-at-leaf : {r : Slot} → leaf ≡ true → r ≡ standsAt (pathOf slot) (besideOf slot ++ slot .want ∷ [])
-      → r ≡ slotOf (stood k memory here)
-  unfolding stood
-  stood-at-leaf t e =
-      e
-      ∙ sym
-      (ap₂ standsAt
-      (cond-true (pathOf slot) (kept k memory here) (sym told ∙ t))
-      (cond-true (besideOf slot ++ slot .want ∷ []) [] (sym told ∙ t)))
+  pub stood-at-leaf : {r : Slot} → leaf ≡ true → r ≡ slotOf (wantBeside here) → r ≡ slotOf (stood k memory here)
+  stood-at-leaf {r} t e =
+      stood-ind (λ (z : Stand). r ≡ slotOf z) k memory here (λ _. e) (λ coming. not-both (sym told ∙ t) coming)
 
   -- it is not
-  stood-coming : {r : Slot} → leaf ≡ false → r ≡ standsAt (kept k memory here) [] → r ≡ slotOf (stood k memory here)
-  unfolding stood
-  stood-coming f e =
-      e
-      ∙ sym
-      (ap₂ standsAt
-      (cond-false (pathOf slot) (kept k memory here) (sym told ∙ f))
-      (cond-false (besideOf slot ++ slot .want ∷ []) [] (sym told ∙ f)))
+  stood-coming : {r : Slot} → leaf ≡ false → r ≡ slotOf (comeDown k memory here) → r ≡ slotOf (stood k memory here)
+  stood-coming {r} f e =
+      stood-ind (λ (z : Stand). r ≡ slotOf z) k memory here (λ there. not-both there (sym told ∙ f)) (λ _. e)
+
+  abbrev onPath : List ℕ → List Under → Slot
+  onPath path locks = slotOf (onPages here path locks [] [])
 
   module _ {safe : Bool} (tested : safe ≡ isSafe op k (memory (slot .want))) where
     -- coming down to a safe page
-    pub stood-on-safe : {r : Slot} → leaf ≡ false → safe ≡ true → r ≡ standsAt (slot .want ∷ []) []
+    pub stood-on-safe : {r : Slot} → leaf ≡ false → safe ≡ true → r ≡ onPath (slot .want ∷ []) (under (slot .lock) ∷ [])
         → r ≡ slotOf (stood k memory here)
-    stood-on-safe f t e =
+    stood-on-safe {r} f t e =
         stood-coming f
-        (e
-        ∙ ap (λ (ps : List ℕ). standsAt ps [])
-        (sym (cond-true (slot .want ∷ []) (pathOf slot ++ slot .want ∷ []) (sym tested ∙ t))))
+        (cond-both (λ (ps : List ℕ) (ls : List Under). r ≡ onPath ps ls) (isSafe op k (memory (slot .want))) (λ _. e) (λ u. not-both (sym tested ∙ t) u))
 
     -- and to another
-    pub stood-on-other : {r : Slot} → leaf ≡ false → safe ≡ false → r ≡ standsAt (pathOf slot ++ slot .want ∷ []) []
+    pub stood-on-other : {r : Slot} → leaf ≡ false → safe ≡ false → r ≡ onPath (pathOf slot ++ slot .want ∷ []) (locksOf slot ++ under (slot .lock) ∷ [])
         → r ≡ slotOf (stood k memory here)
-    stood-on-other f u e =
+    stood-on-other {r} f u e =
         stood-coming f
-        (e
-        ∙ ap (λ (ps : List ℕ). standsAt ps [])
-        (sym (cond-false (slot .want ∷ []) (pathOf slot ++ slot .want ∷ []) (sym tested ∙ u))))
+        (cond-both (λ (ps : List ℕ) (ls : List Under). r ≡ onPath ps ls) (isSafe op k (memory (slot .want))) (λ s. not-both s (sym tested ∙ u)) (λ _. e))

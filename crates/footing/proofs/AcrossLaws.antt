@@ -22,6 +22,7 @@ use Rattle.change.proofs.HeldLaws.{held-some, on-path}
 use Rattle.slots.specs.declared.Op.{Op}
 use Rattle.slots.specs.declared.Op.the-variants.{Next}
 use Rattle.slots.specs.declared.Lock.{Lock}
+use Rattle.slots.specs.declared.Under.{Under}
 use Rattle.slots.specs.Parts.{keyOf, isNext, Stand, stand, withOp}
 use Rattle.footing.specs.Granted.{isSafe}
 use Rattle.footing.specs.Fitting.{namesBelow, isNone, leftmost, turnsRight, rightlyAcross}
@@ -100,10 +101,10 @@ nearest-none es e = ap isNothing e ∙ by-entries es
     by-entries (e ∷ es) = refl
 
 -- The rule for a Next of x that stands at its leaf, a test at a time.
-module _ (k : ℕ) (memory : ℕ → Page) (path : List ℕ) (depth : ℕ) (second : List ℕ) (want : ℕ) (lock : Lock) (long : depth ≤ length path)
-    (some : 1 ≤ depth) {op : Op} {x : ℕ} (nexts : op ≡ Next x) where
+module _ (k : ℕ) (memory : ℕ → Page) (path : List ℕ) (depth : ℕ) (locks : List Under) (second : List ℕ) (sidelocks : List Under) (want : ℕ)
+    (lock : Lock) (long : depth ≤ length path) (some : 1 ≤ depth) {op : Op} {x : ℕ} (nexts : op ≡ Next x) where
   abbrev z : Stand
-  z = stand op (take depth path) second want lock
+  z = stand op (take depth path) locks second sidelocks want lock
 
   abbrev answer : Bool
   answer = rightlyAcross k memory z (take depth path)

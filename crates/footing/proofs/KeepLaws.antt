@@ -12,7 +12,7 @@ use lib.Dec.{eqb}
 use lib.ListN.{length, getD, take, drop, replicate, length-reverse}
 use lib.Seq.{length-take-le, getD-take, take-at}
 use Rattle.ground.specs.Limits.{pathHolds}
-use Rattle.ground.specs.Tests.{all, padded}
+use Rattle.ground.specs.Tests.{all, padded, filled}
 use Rattle.ground.proofs.Bools.{not-both, and-both, and-first-fails, and-second-fails, not-of-false, not-of-true}
 use Rattle.ground.proofs.Tests.{member-from}
 use Rattle.ground.proofs.Padded.{next-cell, no-cell}
@@ -30,6 +30,7 @@ use Rattle.slots.specs.declared.Op.the-variants.{Search, Insert, Delete, Next, 
 use Rattle.slots.specs.declared.Way.{Way}
 use Rattle.slots.specs.declared.Way.the-variants.{First, Second}
 use Rattle.slots.specs.declared.Lock.{Lock}
+use Rattle.slots.specs.declared.Under.{Under}
 use Rattle.slots.specs.Parts.{keyOf, isDelete, isSecond, Stand, stand, withOp}
 use Rattle.slots.proofs.MakingLaws.{length-add}
 use Rattle.footing.specs.Granted.{isSafe, atItsLeaf}
@@ -223,7 +224,7 @@ beside-needing {k} {n} {ws} x path depth siblings beside want cells cells′ dee
 pub beside-added : (siblings : List ℕ) (beside want : ℕ) {wider : List ℕ} → beside ≤ length siblings
     → wider ≡ padded pathHolds (take beside siblings ++ want ∷ [])
     → take (beside + 1) wider ≡ take beside siblings ++ want ∷ []
-unfolding padded
+unfolding filled
 beside-added siblings beside want long e =
     let more : List ℕ = take beside siblings ++ want ∷ [] in
     ap (take (beside + 1)) e
@@ -263,12 +264,12 @@ looked-has x es e = ap isThere e ∙ by-test (has x es) (information x es)
 
 -- The rule for a deletion of x by the first way that stands at its leaf, a test at a time.
 module _ {k n : ℕ} {ws path : List ℕ} {depth : ℕ} {siblings : List ℕ} {beside : ℕ} (needing : Needing k n ws path depth siblings beside)
-    (want : ℕ) (lock : Lock) {op : Op} {x : ℕ} {way : Way} (deletes : op ≡ Delete x way) (first : way ≡ First) where
+    (locks sidelocks : List Under) (want : ℕ) (lock : Lock) {op : Op} {x : ℕ} {way : Way} (deletes : op ≡ Delete x way) (first : way ≡ First) where
   abbrev memory : ℕ → Page
   memory = pageAt k ws
 
   abbrev z : Stand
-  z = stand op (take depth path) (take beside siblings) want lock
+  z = stand op (take depth path) locks (take beside siblings) sidelocks want lock
 
   abbrev answer : Bool
   answer = rightlyBeside k memory z (reverse (take depth path))

@@ -10,9 +10,9 @@ use Rattle.page.specs.Short.{neighbour}
 use Rattle.change.specs.Deletion.{needs}
 use Rattle.slots.specs.declared.Op.the-variants.{Search, Insert, Delete, Next, Regrade}
 use Rattle.slots.specs.declared.Way.the-variants.{First, Second}
-use Rattle.slots.specs.declared.Lock.the-variants.{Rho, Xi}
+use Rattle.slots.specs.declared.Lock.the-variants.{Rho, Xi, UpdaterRho}
 use Rattle.slots.specs.declared.Answer.the-variants.{AlreadyThere, Next as NextLot, None as NoLot}
-use Rattle.slots.specs.Parts.{stand, freshStand}
+use Rattle.slots.specs.Parts.{under, stand, freshStand}
 use Rattle.footing.specs.Granted.{goes, ends, deletes, atLeaf, comesDown, goesLeft, besides, granted}
 
 -- case E, k = 1
@@ -20,62 +20,67 @@ caseE : ℕ → Page
 caseE p = getD (page 2 1 (entry 20 2 ∷ []) ∷ page 1 0 (entry 10 7 ∷ []) ∷ page 1 0 (entry 20 7 ∷ entry 30 7 ∷ []) ∷ []) p freePage
 
 -- a search that is granted page 0 holds it and wants page 2: the father is not given up before the child is granted
-search-keeps : comesDown 1 caseE [] (stand (Search 20) [] [] 0 Rho) ≡ goes (stand (Search 20) (0 ∷ []) [] 2 Rho)
+search-keeps : comesDown 1 caseE [] (stand (Search 20) [] [] [] [] 0 Rho) ≡ goes (stand (Search 20) (0 ∷ []) (under Rho ∷ []) [] [] 2 Rho)
 unfolding caseE place count comesDown
 search-keeps = refl
 
 -- a deletion that is granted a leaf with k entries keeps its father, which must change, and wants the sibling
-deletion-keeps : comesDown 1 caseE [] (stand (Delete 10 First) (0 ∷ []) [] 1 Xi) ≡ goes (stand (Delete 10 First) (0 ∷ 1 ∷ []) [] 2 Xi)
+deletion-keeps : comesDown 1 caseE [] (stand (Delete 10 First) (0 ∷ []) (under Xi ∷ []) [] [] 1 Xi)
+    ≡ goes (stand (Delete 10 First) (0 ∷ 1 ∷ []) (under Xi ∷ under Xi ∷ []) [] [] 2 Xi)
 unfolding caseE place count has neighbour needs deletes atLeaf comesDown
 deletion-keeps = refl
 
 -- an insertion that is granted a page with room for one more holds that page alone
-insertion-gives-up : comesDown 1 caseE [] (stand (Insert 15 7 First) [] [] 0 Xi) ≡ goes (stand (Insert 15 7 First) (0 ∷ []) [] 1 Xi)
+insertion-gives-up : comesDown 1 caseE [] (stand (Insert 15 7 First) [] [] [] [] 0 Xi)
+    ≡ goes (stand (Insert 15 7 First) (0 ∷ []) (under Xi ∷ []) [] [] 1 Xi)
 unfolding caseE place count comesDown
 insertion-gives-up = refl
 
 -- a Next whose leaf has no key at or above its own keeps what it holds, and wants the next child to the right
-next-crosses : comesDown 1 caseE [] (stand (Next 15) (0 ∷ []) [] 1 Rho) ≡ goes (stand (Next 15) (0 ∷ 1 ∷ []) [] 2 Rho)
+next-crosses : comesDown 1 caseE [] (stand (Next 15) (0 ∷ []) (under Rho ∷ []) [] [] 1 Rho)
+    ≡ goes (stand (Next 15) (0 ∷ 1 ∷ []) (under Rho ∷ under Rho ∷ []) [] [] 2 Rho)
 unfolding caseE place count atOrAbove neighbour atLeaf comesDown
 next-crosses = refl
 
 -- it answers the first entry at or above its key in the second leaf
-next-answers : granted 1 caseE [] (stand (Next 15) (0 ∷ 1 ∷ []) [] 2 Rho) ≡ ends (NextLot 20 7) []
+next-answers : granted 1 caseE [] (stand (Next 15) (0 ∷ 1 ∷ []) (under Rho ∷ under Rho ∷ []) [] [] 2 Rho) ≡ ends (NextLot 20 7) []
 unfolding caseE atOrAbove goesLeft besides granted
 next-answers = refl
 
 -- a key that is there is at or above itself
-next-there : comesDown 1 caseE [] (stand (Next 10) (0 ∷ []) [] 1 Rho) ≡ ends (NextLot 10 7) []
+next-there : comesDown 1 caseE [] (stand (Next 10) (0 ∷ []) (under Rho ∷ []) [] [] 1 Rho) ≡ ends (NextLot 10 7) []
 unfolding caseE place count atOrAbove atLeaf comesDown
 next-there = refl
 
 -- without a child to the right there is none
-next-none : comesDown 1 caseE [] (stand (Next 31) (0 ∷ []) [] 2 Rho) ≡ ends NoLot []
+next-none : comesDown 1 caseE [] (stand (Next 31) (0 ∷ []) (under Rho ∷ []) [] [] 2 Rho) ≡ ends NoLot []
 unfolding caseE place count atOrAbove atLeaf comesDown
 next-none = refl
 
 -- ---- by the second way
 
 -- from a page on level 2 the leaf is wanted with ξ
-second-wants-leaf : comesDown 1 caseE [] (stand (Insert 15 7 Second) [] [] 0 Rho) ≡ goes (stand (Insert 15 7 Second) (0 ∷ []) [] 1 Xi)
+second-wants-leaf : comesDown 1 caseE [] (stand (Insert 15 7 Second) [] [] [] [] 0 UpdaterRho)
+    ≡ goes (stand (Insert 15 7 Second) (0 ∷ []) (under UpdaterRho ∷ []) [] [] 1 Xi)
 unfolding caseE place count comesDown
 second-wants-leaf = refl
 
--- a page further up is wanted with ρ
+-- a page further up is wanted with updater's ρ
 tall : ℕ → Page
 tall p = getD (page 3 1 (entry 20 2 ∷ []) ∷ []) p freePage
 
-second-comes-down : comesDown 1 tall [] (stand (Regrade 15 7 Second) [] [] 0 Rho) ≡ goes (stand (Regrade 15 7 Second) (0 ∷ []) [] 1 Rho)
+second-comes-down : comesDown 1 tall [] (stand (Regrade 15 7 Second) [] [] [] [] 0 UpdaterRho)
+    ≡ goes (stand (Regrade 15 7 Second) (0 ∷ []) (under UpdaterRho ∷ []) [] [] 1 UpdaterRho)
 unfolding tall place count comesDown
 second-comes-down = refl
 
 -- a full leaf is not changed: the insertion begins again by the first way, with ξ on page 0 and nothing held
-second-again : comesDown 1 caseE [] (stand (Insert 25 7 Second) (0 ∷ []) [] 2 Xi) ≡ goes (freshStand (Insert 25 7 First))
+second-again : comesDown 1 caseE [] (stand (Insert 25 7 Second) (0 ∷ []) (under UpdaterRho ∷ []) [] [] 2 Xi) ≡ goes (freshStand (Insert 25 7 First))
 unfolding caseE has comesDown
 second-again = refl
 
 -- a key that is there is answered at once, in a full leaf too
-second-there : comesDown 1 caseE [] (stand (Insert 20 8 Second) (0 ∷ []) [] 2 Xi) ≡ ends (AlreadyThere 7) []
+second-there : comesDown 1 caseE [] (stand (Insert 20 8 Second) (0 ∷ []) (under UpdaterRho ∷ []) [] [] 2 Xi) ≡ ends (AlreadyThere 7) []
 unfolding caseE has information atLeaf comesDown
 second-there = refl
 
@@ -83,6 +88,6 @@ second-there = refl
 low : ℕ → Page
 low p = getD (page 1 0 (entry 20 7 ∷ []) ∷ []) p freePage
 
-second-low : comesDown 1 low [] (stand (Regrade 30 8 Second) [] [] 0 Rho) ≡ goes (stand (Regrade 30 8 First) [] [] 0 Xi)
+second-low : comesDown 1 low [] (stand (Regrade 30 8 Second) [] [] [] [] 0 UpdaterRho) ≡ goes (stand (Regrade 30 8 First) [] [] [] [] 0 Xi)
 unfolding low comesDown
 second-low = refl

@@ -18,9 +18,10 @@ use Rattle.slots.specs.declared.Op.the-variants.{Search, Insert, Delete, Next, 
 use Rattle.slots.specs.declared.Way.the-variants.{First, Second}
 use Rattle.slots.specs.declared.Lock.{Lock}
 use Rattle.slots.specs.declared.Lock.the-variants.{Xi}
+use Rattle.slots.specs.declared.Under.{Under}
 use Rattle.slots.specs.declared.Answer.{Answer}
 use Rattle.slots.specs.declared.Answer.the-variants.{Found, NotFound, Inserted, AlreadyThere, Deleted, NoSuchKey, NoRoom, Next as NextLot, None as NoLot, Regraded}
-use Rattle.slots.specs.Parts.{keyOf, isNext, isSecond, firstWay, heldLock, Stand, freshStand, onPages, wantBeside, wantsNext}
+use Rattle.slots.specs.Parts.{keyOf, isNext, isSecond, firstWay, heldLock, under, Stand, freshStand, onPages, wantBeside, wantsNext}
 
 -- What a granted step comes to: the pages are not sound for it; the slot goes on and stands here; or the operation ends with this
 -- answer, and these pages are written.
@@ -52,6 +53,10 @@ lockBelow op P = cond (isSecond op && eqb (P .level) 2) Xi (heldLock op)
 -- the path after the wanted page is granted
 abbrev pub kept : ℕ → (ℕ → Page) → Stand → List ℕ
 kept k memory z = cond (isSafe (z .op) k (memory (z .want))) (z .want ∷ []) (z .path ++ z .want ∷ [])
+
+-- and the kinds of lock under which it is held: the granted page's is the one with which it was wanted
+abbrev pub keptLocks : ℕ → (ℕ → Page) → Stand → List Under
+keptLocks k memory z = cond (isSafe (z .op) k (memory (z .want))) (under (z .lock) ∷ []) (z .locks ++ under (z .lock) ∷ [])
 
 -- what a deletion does by what it needs: the whole change, one more page wanted, or nothing at all
 abbrev pub byNeed : Stand → Verdict → Need → Verdict
@@ -139,7 +144,7 @@ byWayAtLeaf k memory free z leaf fathers =
 -- Coming down, the wanted page is granted: above the leaves the next want is the route from it.
 unfoldable pub comesDown : ℕ → (ℕ → Page) → List ℕ → Stand → Verdict
 comesDown k memory free z =
-    let down = onPages z (kept k memory z) [] in
+    let down = onPages z (kept k memory z) (keptLocks k memory z) [] [] in
     cond (isLeaf (memory (z .want)))
     (fromLeaf (byWayAtLeaf k memory free down) (reverse (down .path)))
     (goes (wantsNext down (route (keyOf (z .op)) (memory (z .want))) (lockBelow (z .op) (memory (z .want)))))

@@ -14,9 +14,10 @@ use Rattle.change.specs.Held.{Held}
 use Rattle.slots.specs.declared.Op.{Op}
 use Rattle.slots.specs.declared.Task.the-variants.{Open}
 use Rattle.slots.specs.declared.Slot.{Slot}
-use Rattle.slots.specs.Parts.{isNext, isSecond, Stand, holding, onPages, standOf, slotOf}
+use Rattle.slots.specs.declared.Under.{Under}
+use Rattle.slots.specs.Parts.{isNext, isSecond, under, Stand, holding, onPages, standOf, slotOf}
 use Rattle.slots.specs.Sound.{slotSound}
-use Rattle.footing.specs.Granted.{isSafe, kept, atItsLeaf}
+use Rattle.footing.specs.Granted.{isSafe, kept, keptLocks, atItsLeaf}
 use Rattle.footing.specs.Fitting.{leads, pagesSound, fitting}
 
 -- The words are a pool's, and the slot is open with this operation and sound.
@@ -44,9 +45,16 @@ standPath k memory z = cond (atItsLeaf memory (reverse (z .path))) (z .path) (ke
 abbrev pub standBeside : (ℕ → Page) → Stand → List ℕ
 standBeside memory z = cond (atItsLeaf memory (reverse (z .path))) (z .beside ++ z .want ∷ []) []
 
+-- and the kinds of lock under which they are held
+abbrev pub standLocks : ℕ → (ℕ → Page) → Stand → List Under
+standLocks k memory z = cond (atItsLeaf memory (reverse (z .path))) (z .locks) (keptLocks k memory z)
+
+abbrev pub standSidelocks : (ℕ → Page) → Stand → List Under
+standSidelocks memory z = cond (atItsLeaf memory (reverse (z .path))) (z .sidelocks ++ under (z .lock) ∷ []) []
+
 -- where the slot stands then; it has no new want yet
 unfoldable pub stood : ℕ → (ℕ → Page) → Stand → Stand
-stood k memory z = onPages z (standPath k memory z) (standBeside memory z)
+stood k memory z = onPages z (standPath k memory z) (standLocks k memory z) (standBeside memory z) (standSidelocks memory z)
 
 -- What is known of the pages held once a want is granted: they are sound by themselves and all different; each page of the
 -- path lies a level above the next one, and the top one is page 0 or safe; by the second way there is one page on the path; where no Next

@@ -54,6 +54,10 @@ unfoldable pub firstBelow : ℕ → (ℕ → Bool) → ℕ
 firstBelow zero p = zero
 firstBelow (suc n) p = cond (ltb (firstBelow n p) n) (firstBelow n p) (cond (p n) n (suc n))
 
--- a list in an array of n cells: the cells behind it are 0
-unfoldable pub padded : ℕ → List ℕ → List ℕ
-padded n xs = xs ++ replicate (n - length xs) 0
+-- a list in an array of n cells: the cells behind it hold this
+unfoldable pub filled : {A : Type 0} → A → ℕ → List A → List A
+filled none n xs = xs ++ replicate (n - length xs) none
+
+-- of numbers: 0
+abbrev pub padded : ℕ → List ℕ → List ℕ
+padded n xs = filled 0 n xs

@@ -8,11 +8,11 @@ use mathlib.Core.Path.{_≡_, refl, sym, ap, _∙_, subst}
 use native.Mathlib.Omega.{arith}
 use borrow.Author.Tests.{leb-true, leb-false, ltb-true, lt-ltb, le-ltb}
 use lib.Dec.{ltb}
-use lib.ListN.{length, getD, take, drop, replicate, length-append, length-drop, length-replicate, take-append-drop}
+use lib.ListN.{length, getD, take, drop, replicate, length-append, length-drop, length-take, take-append-drop}
 use lib.Seq.{length-take-le, getD-take, take-at}
-use Rattle.ground.specs.Limits.{slotCount, pathHolds, mostNew}
-use Rattle.ground.specs.Tests.{member, distinct, padded}
-use Rattle.ground.proofs.Bools.{or-first, false-if-not-true}
+use Rattle.ground.specs.Limits.{largestN, slotCount, pathHolds, mostNew}
+use Rattle.ground.specs.Tests.{member, distinct, filled}
+use Rattle.ground.proofs.Bools.{or-first, or-second, false-if-not-true}
 use Rattle.ground.proofs.Choice.{cond-true, cond-false}
 use Rattle.ground.proofs.Tests.{member-append, member-from, not-member-at, distinct-front, distinct-back, distinct-apart, distinct-at, distinct-join, apart-member, apart-from, listBelow-distinct}
 use Rattle.page.specs.Words.{Page, Entry, μ}
@@ -42,12 +42,13 @@ use Rattle.slots.specs.declared.Slot.{Slot}
 use Rattle.slots.specs.declared.State.{State}
 use Rattle.slots.specs.declared.Answer.{Answer}
 use Rattle.slots.specs.declared.Answer.the-variants.{Moved, Inserted, Deleted, NoSuchKey, NoRoom, Damaged, Regraded}
-use Rattle.slots.specs.Parts.{isNext, firstWay, pathOf, besideOf, freshStand, wantsNext, standOf, slotOf, closedSlot, waitingOrder}
+use Rattle.slots.specs.Parts.{isNext, firstWay, pathOf, besideOf, locksOf, sidelocksOf, freshStand, wantsNext, standOf, slotOf, closedSlot, waitingOrder}
 use Rattle.slots.specs.Book.{leaving, requeued, goesOn, closes}
 use Rattle.slots.proofs.OrderLaws.{length-leaving, length-waiting}
-use Rattle.lent.specs.Layout.{rowLength, columnLength, stateLength}
+use Rattle.lent.specs.Layout.{pageRange, rowLength, columnLength, stateLength}
 use Rattle.lent.specs.Words.{orderIn, asRead, known, stateOf, laidInto}
-use Rattle.lent.proofs.StateLaws.{length-order, state-known, state-written}
+use Rattle.lent.specs.Holds.{InHalves}
+use Rattle.lent.proofs.StateLaws.{length-order, state-known, Layable, below-halves, stand-halves, stand-layable, fresh-layable, closed-layable, state-written}
 use Rattle.course.specs.declared.judging.Course.{Course}
 use Rattle.course.specs.declared.judging.Course.the-variants.{Broken, Goes, Ends, Inserts, Deletes, Regrades, Again}
 use Rattle.footing.specs.Granted.{Verdict, ends, atLeaf, fromLeaf}
@@ -103,7 +104,7 @@ module _ (k n : ℕ) (ws : List ℕ) {need : ℕ} {r : Taken} (found : Scanned n
 
   -- they are the first of the free ones
   taken-first : take need (r .pages) ≡ take need (freePages k n ws)
-  unfolding padded
+  unfolding filled
   taken-first =
       ap (take need) (found .pages all)
       ∙ take-at (take need (freePages k n ws)) (replicate (mostNew - length (take need (freePages k n ws))) 0) need
@@ -216,11 +217,6 @@ regraded-nothing {k = k} {ws = ws} {stand = stand} h x v missing =
 
 -- ---- each course, carried out
 
--- an array of pages is as long as every other
-padded-long : (xs : List ℕ) → length xs ≤ columnLength → length (padded pathHolds xs) ≡ columnLength
-unfolding padded pathHolds
-padded-long xs h = length-append xs (replicate (columnLength - length xs) 0) ∙ omega (arith, length-replicate {A = ℕ} (columnLength - length xs) 0)
-
 -- the arrays of a slot where an operation stands, and its numbers
 module _ {op : Op} {k n : ℕ} {ws : List ℕ} {stand : Slot} (h : SlotStanding op k n ws stand) where
   deep : length (pathOf stand) ≤ columnLength
@@ -233,14 +229,40 @@ module _ {op : Op} {k n : ℕ} {ws : List ℕ} {stand : Slot} (h : SlotStanding 
       let most = deep in
       (omega (arith, path-long h), omega (arith, siblings-long h))
 
-  stand-path : length (stand .path) ≡ columnLength
-  stand-path = ap (λ (x : Slot). length (x .path)) (h .exact) ∙ padded-long (pathOf stand) deep
+  -- a page that is held is one of the pool, and so fits its half of a word
+  in-half : (p : ℕ) → member p (pathOf stand ++ besideOf stand) ≡ true → p < pageRange
+  unfolding largestN
+  in-half p m = omega (arith, h .standing .held .each p m .inside, h .standing .held .most)
 
-  stand-siblings : length (stand .beside) ≡ columnLength
-  stand-siblings =
+  pub stand-in-halves : InHalves stand
+  stand-in-halves =
+      subst InHalves (sym (h .exact))
+      (stand-halves (standOf op stand)
+      (below-halves (pathOf stand) (λ p m. in-half p (member-append p (pathOf stand) (besideOf stand) ∙ or-first (member p (besideOf stand)) m)))
+      (below-halves (besideOf stand) (λ p m. in-half p (member-append p (pathOf stand) (besideOf stand) ∙ or-second (member p (pathOf stand)) m))))
+
+  -- it can be laid down, whatever it wants next
+  stand-lies : Layable stand
+  unfolding locksOf sidelocksOf
+  stand-lies =
       let few = h .standing .few in
       let most = deep in
-      ap (λ (x : Slot). length (x .beside)) (h .exact) ∙ padded-long (besideOf stand) (omega arith)
+      let short = stand-short in
+      subst Layable (sym (h .exact))
+      (stand-layable (standOf op stand) deep
+      (omega (arith, length-take (stand .depth) (stand .locks)))
+      (omega arith)
+      (omega (arith, length-take (stand .breadth) (stand .sidelocks)))
+      (subst InHalves (h .exact) stand-in-halves))
+
+  wanting-lies : (next : ℕ) (lock : Lock) → Layable (wanting next lock stand)
+  wanting-lies next lock = record {
+    path = stand-lies .path;
+    locks = stand-lies .locks;
+    beside = stand-lies .beside;
+    sidelocks = stand-lies .sidelocks;
+    halves = record { path = stand-in-halves .path; beside = stand-in-halves .beside };
+  }
 
 module _ (cells : List ℕ) {ws : List ℕ} {s : ℕ} {op : Op} {stand : Slot} (long : length cells ≡ stateLength) (exist : known cells ≡ true) (a : Acts (asRead cells) ws s op stand) where
   abbrev st : State
@@ -268,13 +290,13 @@ module _ (cells : List ℕ) {ws : List ℕ} {s : ℕ} {op : Op} {stand : Slot} (
       length-append (leaving s (waitingOrder st)) (last ∷ drop (st .waiting) (st .order)) ∙ omega (arith, length-drop (st .waiting) (st .order))
 
   closed-state : stateOf (laidInto cells s (closes st s)) ≡ closes st s
-  unfolding closes padded pathHolds
-  closed-state = state-written cells s closedSlot (leaving s (waitingOrder st) ++ 0 ∷ drop (st .waiting) (st .order)) (st .waiting - 1) long inside (order-long 0) refl refl exist
+  unfolding closes
+  closed-state = state-written cells s closedSlot (leaving s (waitingOrder st) ++ 0 ∷ drop (st .waiting) (st .order)) (st .waiting - 1) long inside (order-long 0) closed-layable exist
 
   gone-state : (next : ℕ) (lock : Lock) → stateOf (laidInto cells s (requeued st s (wanting next lock stand))) ≡ requeued st s (wanting next lock stand)
   gone-state next lock =
       state-written cells s (wanting next lock stand) (leaving s (waitingOrder st) ++ s ∷ drop (st .waiting) (st .order)) (st .waiting) long inside (order-long s)
-      (stand-path (a .stands)) (stand-siblings (a .stands)) exist
+      (wanting-lies (a .stands) next lock) exist
 
   pub acts-broken : {course : Course} → course ≡ Broken → leaves course Damaged cells ws
   acts-broken is = subst (λ (c : Course). leaves c Damaged cells ws) (sym is) (record { answer = refl; state = state-known cells exist; all = refl; words = refl })
@@ -290,9 +312,9 @@ module _ (cells : List ℕ) {ws : List ℕ} {s : ℕ} {op : Op} {stand : Slot} (
 
   -- beginning again: nothing is held, and the want is a new one
   fresh-state : stateOf (laidInto cells s (goesOn st s (freshStand (firstWay op)))) ≡ goesOn st s (freshStand (firstWay op))
-  unfolding goesOn padded pathHolds
+  unfolding goesOn
   fresh-state =
-      state-written cells s (slotOf (freshStand (firstWay op))) (leaving s (waitingOrder st) ++ s ∷ drop (st .waiting) (st .order)) (st .waiting) long inside (order-long s) refl refl exist
+      state-written cells s (slotOf (freshStand (firstWay op))) (leaving s (waitingOrder st) ++ s ∷ drop (st .waiting) (st .order)) (st .waiting) long inside (order-long s) (fresh-layable (firstWay op)) exist
 
   pub acts-again : {course : Course} {cells′ : List ℕ} → course ≡ Again → cells′ ≡ laidInto cells s (goesOn st s (freshStand (firstWay op)))
       → leaves course Moved cells′ ws

@@ -6,8 +6,7 @@ use mathlib.Core.Path.{_≡_, refl, sym, ap, _∙_}
 use lib.Dec.{ltb}
 use lib.ListN.{length, getD, set, length-set}
 use borrow.Author.Tests.{lt-ltb, le-ltb}
-use Rattle.ground.specs.Limits.{slotCount, pathHolds}
-use Rattle.ground.specs.Tests.{padded}
+use Rattle.ground.specs.Limits.{slotCount}
 use Rattle.ground.proofs.Bools.{not-of-true, not-of-false}
 use Rattle.ground.proofs.Choice.{cond-true, cond-false}
 use Rattle.slots.specs.declared.Op.{Op}
@@ -23,7 +22,7 @@ use Rattle.slots.specs.Begin.{outcome, begun}
 use Rattle.slots.specs.Report.{lockKind, holders, lowestHolder, reported}
 use Rattle.lent.specs.Layout.{nAt, waitingAt, stateLength}
 use Rattle.lent.specs.Words.{orderIn, asRead, known, stateOf, laidInto, lentAfter}
-use Rattle.lent.proofs.StateLaws.{length-order, state-known, state-written}
+use Rattle.lent.proofs.StateLaws.{length-order, state-known, fresh-layable, state-written}
 use Rattle.index.specs.Statements.{BeginSays, ReportSays}
 
 -- ---- begin
@@ -79,14 +78,14 @@ module _ (cells : List ℕ) (s : ℕ) (op : Op) where
 
       pub says-begun : length cells ≡ stateLength → openAt (asRead cells) s ≡ false → {after : List ℕ} → after ≡ laidInto cells s (begins (asRead cells) s op)
           → BeginSays cells s op Begun after
-      unfolding begins slotCount padded pathHolds lentAfter
+      unfolding begins slotCount lentAfter
       says-begun long o {after} e =
           let read : stateOf cells ≡ asRead cells = state-known cells exist in
           begin-says cells s op (outcome Begun (begins (stateOf cells) s op))
           (begun-done (stateOf cells) s op h b (ap (λ (st : State). openAt st s) read ∙ o))
           (ap stateOf e
           ∙ state-written cells s (slotOf (freshStand op)) (set (orderIn cells) (getD cells waitingAt 0) s) (getD cells waitingAt 0 + 1) long b
-          (length-set (orderIn cells) (getD cells waitingAt 0) s ∙ length-order cells long) refl refl exist
+          (length-set (orderIn cells) (getD cells waitingAt 0) s ∙ length-order cells long) (fresh-layable op) exist
           ∙ ap (λ (st : State). begins st s op) (sym read))
           (e ∙ ap (λ (st : State). laidInto cells s (begins st s op)) (sym read))
 

@@ -32,7 +32,7 @@ use Rattle.slots.specs.Parts.{keyOf, isNext, isSecond, slotAt, idleState, Stand
 use Rattle.slots.specs.Sound.{sound}
 use Rattle.slots.specs.Grant.{grants}
 use Rattle.lent.specs.Words.{stateOf, lentAfter}
-use Rattle.footing.specs.Granted.{Verdict, broken, goes, ends, isSafe, kept, byNeed, deletes, nextAnswer, crosses, byNearest, atLeaf, fromLeaf, comesDown, goesLeft, besides, atItsLeaf, staysSecond, granted}
+use Rattle.footing.specs.Granted.{Verdict, broken, goes, ends, isSafe, kept, keptLocks, byNeed, deletes, nextAnswer, crosses, byNearest, atLeaf, fromLeaf, comesDown, goesLeft, besides, atItsLeaf, staysSecond, granted}
 use Rattle.footing.specs.Fitting.{soundForStep, verdict}
 use Rattle.index.specs.Step.{Left, left, ofGranted, acted, steppedTask, stepped}
 use Rattle.index.specs.Make.{made}
@@ -90,7 +90,7 @@ left-answers memory z = cond-ind Answers (isLeaf (memory (z .want))) (λ _. next
 pub granted-answers : (k : ℕ) (memory : ℕ → Page) (free : List ℕ) (z : Stand) → Answers (granted k memory free z)
 unfolding granted comesDown besides
 granted-answers k memory free z =
-    let down : Stand = onPages z (kept k memory z) [] in
+    let down : Stand = onPages z (kept k memory z) (keptLocks k memory z) [] [] in
     cond-ind Answers (atItsLeaf memory (reverse (z .path)))
     (λ _. cond-ind Answers (isNext (z .op))
     (λ _. left-answers memory z)

@@ -1,64 +1,73 @@
--- The kind of lock on a page is the one under which its lowest-numbered holder holds it: a ξ-held page has no second holder.
-use Prim.Native.Nat.{ℕ, _≤_, _<_}
-use mathlib.Core.Bool.{true, false, cond, _&&_}
+-- The kind of lock on a page: the first that is found of those in the report's order, each looked for by its number.
+use Prim.Native.Nat.{ℕ, zero, suc, _<_}
+use mathlib.Core.Bool.{Bool, true, false, _&&_}
+use mathlib.Core.List.{List}
 use mathlib.Core.Path.{_≡_, refl, sym, ap, _∙_}
-use mathlib.Core.Logic.{⊎-elim}
 use native.Mathlib.Omega.{arith}
-use lib.Dec.{eqb, ltb}
-use borrow.Author.Tests.{ltb-true, ltb-false}
-use Rattle.ground.specs.Limits.{slotCount}
-use Rattle.ground.proofs.Bools.{true-or-false, not-both, false-if-not-true, and-first, and-second}
-use Rattle.ground.proofs.Choice.{cond-true, cond-false}
-use Rattle.ground.proofs.Tests.{anyBelow-fails, firstBelow-most, firstBelow-all-fail}
+use lib.Dec.{eqb, leb}
+use borrow.Author.Tests.{leb-true}
+use Rattle.ground.proofs.Bools.{not-both, and-second, and-first-fails}
+use Rattle.ground.proofs.Choice.{by-test}
+use Rattle.ground.specs.Tests.{member}
 use Rattle.slots.specs.declared.Lock.{Lock}
-use Rattle.slots.specs.declared.Lock.the-variants.{None, Rho, Xi}
+use Rattle.slots.specs.declared.Lock.the-variants.{None, Rho, Xi, UpdaterRho, Alpha}
+use Rattle.slots.specs.declared.Slot.{Slot}
 use Rattle.slots.specs.declared.State.{State}
-use Rattle.slots.specs.Parts.{slotAt, holdsAt}
-use Rattle.slots.specs.Locks.{lockHeldAt}
-use Rattle.slots.specs.Heard.{lockNumber}
-use Rattle.slots.specs.Report.{lowestHolder, heldUnder, lockKind}
-use Rattle.slots.proofs.SoundFacts.{SoundState}
-use Rattle.slots.proofs.OrderLaws.{same-or-not}
-use Rattle.slots.proofs.LockLaws.{isLock, held-lock, is-xi, rho-not-xi}
-use Rattle.slots.proofs.Clashes.{update-alone}
-use Rattle.slots.proofs.GrantLaws.{holder-open}
-use Rattle.slots.proofs.Holders.{nobody-holds, lowest-holds, held-under, update-holds}
+use Rattle.slots.specs.Parts.{held, heldLocks, holdsAt}
+use Rattle.slots.specs.Locks.{lockHeld, lockHeldAt, sameLock}
+use Rattle.slots.specs.Heard.{lockNumber, lockNamed}
+use Rattle.slots.proofs.LockLaws.{isLock, among-none}
+use Rattle.lent.specs.Layout.{rowLength}
+use Rattle.lent.specs.Words.{slotIn, asRead}
+use Rattle.lent.specs.Holds.{isLockNumber}
+use Rattle.lent.proofs.HoldLaws.{same-number}
+use Rattle.lent.proofs.StateLaws.{slot-read}
 
-module _ (st : State) (f : SoundState st) (p : ℕ) where
-  module _ (b : lowestHolder st p < slotCount) where
-    low-holds : holdsAt st (lowestHolder st p) p ≡ true
-    low-holds = lowest-holds st p b .holds
+-- the number of a kind stands for a lock, and is the number of that lock
+pub record Names (number : ℕ) : Type 0 where
+  pub back : lockNumber (lockNamed number) ≡ number
+  pub lock : isLock (lockNamed number) ≡ true
 
-    -- under ρ none holds the page under ξ too
-    no-xi : lockHeldAt st (lowestHolder st p) p ≡ Rho → heldUnder st p Xi ≡ false
-    no-xi r =
-        anyBelow-fails (λ (s : ℕ). holdsAt st s p && eqb (lockNumber (lockHeldAt st s p)) (lockNumber Xi)) slotCount
-        (λ s c. false-if-not-true (holdsAt st s p && eqb (lockNumber (lockHeldAt st s p)) (lockNumber Xi))
-        (λ t.
-        let h = and-first (holdsAt st s p) (eqb (lockNumber (lockHeldAt st s p)) (lockNumber Xi)) t in
-        let x = is-xi (lockHeldAt st s p) (and-second (holdsAt st s p) (eqb (lockNumber (lockHeldAt st s p)) (lockNumber Xi)) t) in
-        ⊎-elim
-        (λ e. rho-not-xi (sym r ∙ ap (λ (i : ℕ). lockHeldAt st i p) (sym e) ∙ x))
-        (λ n. not-both low-holds (update-alone st f s (lowestHolder st p) p c b n x h))
-        (same-or-not s (lowestHolder st p))))
+pub names : (number : ℕ) → isLockNumber number ≡ true → Names number
+names zero t = not-both t refl
+names (suc zero) t = record { back = refl; lock = refl }
+names (suc (suc zero)) t = record { back = refl; lock = refl }
+names (suc (suc (suc zero))) t = record { back = refl; lock = refl }
+names (suc (suc (suc (suc zero)))) t = record { back = refl; lock = refl }
+names (suc (suc (suc (suc (suc n))))) t =
+    let i : ℕ = suc (suc (suc (suc (suc n)))) in
+    absurd (omega (arith, leb-true i 4 (and-second (leb 1 i) (leb i 4) t)))
 
-    kind-by : (l : Lock) → lockHeldAt st (lowestHolder st p) p ≡ l → l ≡ lockKind st p
-    kind-by None e =
-        not-both
-        (held-lock (slotAt st (lowestHolder st p)) p (holder-open (st .n) (slotAt st (lowestHolder st p)) p (f .slot (lowestHolder st p) b) low-holds))
-        (ap isLock e)
-    kind-by Rho e = sym (cond-false Xi _ (no-xi e) ∙ cond-true Rho None (held-under st (lowestHolder st p) p Rho b low-holds e))
-    kind-by Xi e = sym (update-holds st f (lowestHolder st p) p b e low-holds .kind)
+-- no lock is none of the kinds
+none-other : (l : Lock) → isLock l ≡ true → sameLock None l ≡ false
+none-other None o = not-both o refl
+none-other Rho o = refl
+none-other Xi o = refl
+none-other UpdaterRho o = refl
+none-other Alpha o = refl
 
-  -- with no holder: none
-  kind-none : slotCount ≤ lowestHolder st p → None ≡ lockKind st p
-  kind-none h =
-      let last : lowestHolder st p ≡ slotCount = omega (arith, firstBelow-most (λ (s : ℕ). holdsAt st s p) slotCount) in
-      sym (nobody-holds st p (firstBelow-all-fail (λ (s : ℕ). holdsAt st s p) slotCount last) .kind)
+-- who has a lock on a page holds it
+lock-held : (slot : Slot) (p : ℕ) (l : Lock) → isLock l ≡ true → sameLock (lockHeld slot p) l ≡ member p (held slot) && sameLock (lockHeld slot p) l
+lock-held slot p l o =
+    by-test (member p (held slot))
+    (λ m. sym (ap (λ (b : Bool). b && sameLock (lockHeld slot p) l) m))
+    (λ f.
+    ap (λ (k : Lock). sameLock k l) (among-none p (held slot) (heldLocks slot) f)
+    ∙ none-other l o
+    ∙ sym (and-first-fails (sameLock (lockHeld slot p) l) f))
 
-  pub kind-of-lowest : cond (ltb (lowestHolder st p) slotCount) (lockHeldAt st (lowestHolder st p) p) None ≡ lockKind st p
-  kind-of-lowest =
-      ⊎-elim
-      (λ t. cond-true _ None t ∙ kind-by (ltb-true (lowestHolder st p) slotCount t) (lockHeldAt st (lowestHolder st p) p) refl)
-      (λ t. cond-false (lockHeldAt st (lowestHolder st p) p) None t ∙ kind-none (ltb-false (lowestHolder st p) slotCount t))
-      (true-or-false (ltb (lowestHolder st p) slotCount))
+-- slot s holds page p under this kind
+abbrev pub underAt : State → ℕ → Lock → ℕ → Bool
+underAt st p lock s = holdsAt st s p && eqb (lockNumber (lockHeldAt st s p)) (lockNumber lock)
+
+-- The number of the lock under which slot s holds page p was found: it is the one looked for, if the slot holds the page under that kind.
+pub number-told : (ws : List ℕ) (s p found number : ℕ) → s < rowLength → isLockNumber number ≡ true → lockNamed found ≡ lockHeld (slotIn ws s) p
+    → eqb found number ≡ underAt (asRead ws) p (lockNamed number) s
+number-told ws s p found number inside t told =
+    let kind : Lock = lockNamed number in
+    let is = names number t in
+    ap (eqb found) (sym (is .back))
+    ∙ same-number kind (is .lock) found
+    ∙ ap (λ (l : Lock). sameLock l kind) told
+    ∙ lock-held (slotIn ws s) p kind (is .lock)
+    ∙ ap (λ (slot : Slot). member p (held slot) && sameLock (lockHeld slot p) kind) (sym (slot-read ws s inside))

@@ -22,7 +22,7 @@ use Rattle.slots.specs.Grant.{grants}
 use Rattle.slots.specs.Heard.{heard, changesNothing}
 use Rattle.slots.specs.Parts.{slotAt, isOpen, Stand, holding, standOf, slotOf}
 use Rattle.slots.specs.Sound.{slotSound, sound}
-use Rattle.slots.proofs.Keeping.{stand-new}
+use Rattle.slots.proofs.Keeping.{Paired, stand-new}
 use Rattle.slots.proofs.SoundFacts.{SoundState, sound-facts, facts-sound, slot-sound}
 use Rattle.lent.specs.Words.{asRead, known, stateOf, laidInto, lentAfter}
 use Rattle.lent.proofs.StateLaws.{state-known}
@@ -33,7 +33,7 @@ use Rattle.footing.specs.Fitting.{pagesSound, fitting, nextIsNew, soundForStep,
 use Rattle.footing.specs.Standing.{Asks, SlotStanding, fits, stood}
 use Rattle.course.specs.Judged.{judged, ifNew, courseOf}
 use Rattle.course.proofs.JudgeLaws.{granted-judged}
-use Rattle.course.proofs.StandLaws.{stood-stands}
+use Rattle.course.proofs.StandLaws.{stood-paired, stood-stands}
 use Rattle.index.specs.Step.{Left, left, acted, steppedTask, stepped}
 use Rattle.index.specs.Statements.{StepSays}
 use Rattle.index.specs.Acting.{actedCells, Leaves, Waits, Acts}
@@ -61,23 +61,23 @@ module _ (op : Op) (k n : ℕ) (ws : List ℕ) (slot : Slot) where
   verdict-damaged f = by-fit ∙ cond-false rule broken (and-first-fails (nextIsNew rule) f)
 
   -- where they fit, the rule is the one for an operation that stands where this one then does
-  rule-judged : (stand : Slot) → stand ≡ slotOf (stood k (pageAt k ws) z) → fits k n ws z ≡ true
+  rule-judged : (stand : Slot) → stand ≡ slotOf (stood k (pageAt k ws) z) → Paired z → fits k n ws z ≡ true
       → rule ≡ judged k (pageAt k ws) (freePages k n ws) (standOf op stand)
   unfolding fits stood
-  rule-judged stand e t =
+  rule-judged stand e paired t =
       let after : Stand = stood k (pageAt k ws) z in
       granted-judged k (pageAt k ws) (freePages k n ws) z
       (and-second (pagesSound k n ws (holding z ++ z .want ∷ [])) (fitting k (pageAt k ws) z) t)
-      ∙ sym (ap (judged k (pageAt k ws) (freePages k n ws)) (ap (standOf op) e ∙ stand-new after))
+      ∙ sym (ap (judged k (pageAt k ws) (freePages k n ws)) (ap (standOf op) e ∙ stand-new after (stood-paired k (pageAt k ws) z paired)))
 
-  verdict-course : {stand : Slot} (course : Course) → stand ≡ slotOf (stood k (pageAt k ws) z) → fits k n ws z ≡ true
+  verdict-course : {stand : Slot} (course : Course) → stand ≡ slotOf (stood k (pageAt k ws) z) → Paired z → fits k n ws z ≡ true
       → courseOf k (pageAt k ws) (freePages k n ws) (standOf op stand) course
       ≡ ifNew (judged k (pageAt k ws) (freePages k n ws) (standOf op stand))
       → here ≡ courseOf k (pageAt k ws) (freePages k n ws) (standOf op stand) course
-  verdict-course {stand = stand} course e t found =
+  verdict-course {stand = stand} course e paired t found =
       by-fit
       ∙ ap (λ (b : Bool). cond (b && nextIsNew rule) rule broken) t
-      ∙ ap ifNew (rule-judged stand e t)
+      ∙ ap ifNew (rule-judged stand e paired t)
       ∙ sym found
 
 -- The slot's want is granted, and its pages were tested.
@@ -100,10 +100,10 @@ module _
       pub granted-fits : fits (st .k) (st .n) ws (standOf op slot) ≡ true
       granted-fits = sym told ∙ t
 
-      -- the operation stands here
-      module _ {stand : Slot} (e : stand ≡ slotOf (stood (st .k) (pageAt (st .k) ws) (standOf op slot))) where
+      -- the operation stands here; its slot has a kind of lock for every page
+      module _ {stand : Slot} (e : stand ≡ slotOf (stood (st .k) (pageAt (st .k) ws) (standOf op slot))) (paired : Paired (standOf op slot)) where
         pub granted-stands : SlotStanding op (st .k) (st .n) ws stand
-        granted-stands = subst (SlotStanding op (st .k) (st .n) ws) (sym e) (stood-stands op (st .k) (st .n) ws slot asks granted-fits)
+        granted-stands = subst (SlotStanding op (st .k) (st .n) ws) (sym e) (stood-stands op (st .k) (st .n) ws slot asks granted-fits paired)
 
         pub granted-acts : Acts st ws s op stand
         granted-acts = record { waits = waits; stands = granted-stands }
@@ -116,7 +116,7 @@ module _
             → Leaves cells ws s (courseOf (st .k) (pageAt (st .k) ws) (freePages (st .k) (st .n) ws) (standOf op stand) course) r cells′ after
             → Leaves cells ws s (here op (st .k) (st .n) ws slot) r cells′ after
         granted-leaves course found {r} {cells′} {after} h =
-            subst (λ (v : Verdict). Leaves cells ws s v r cells′ after) (sym (verdict-course op (st .k) (st .n) ws slot course e granted-fits found)) h
+            subst (λ (v : Verdict). Leaves cells ws s v r cells′ after) (sym (verdict-course op (st .k) (st .n) ws slot course e paired granted-fits found)) h
 
 -- ---- the tests, in their order
 

@@ -61,7 +61,7 @@ pub record MayInsert (k n : ℕ) (ws : List ℕ) (stand : Slot) : Type 0 where
 
 -- the slot with another want, under this kind of lock
 abbrev pub wanting : ℕ → Lock → Slot → Slot
-wanting want lock slot = record { task = slot .task; want = want; lock = lock; path = slot .path; depth = slot .depth; beside = slot .beside; breadth = slot .breadth }
+wanting want lock slot = record { task = slot .task; want = want; lock = lock; path = slot .path; locks = slot .locks; depth = slot .depth; beside = slot .beside; sidelocks = slot .sidelocks; breadth = slot .breadth }
 
 -- the leaf that an operation stands at, and the pages above it, upward
 abbrev pub standLeaf : Slot → ℕ

@@ -1,6 +1,6 @@
 -- For who computes examples by the rules: all that a call unfolds to, in one list. Who unfolds `everyCall` unfolds all of it.
 use Rattle.ground.specs.Limits.{largestK, largestN, tallest, slotCount, searchHolds, regradeHolds, secondHolds, pathHolds, siblingHolds}
-use Rattle.ground.specs.Tests.{all, count, member, distinct, apart, allBelow, anyBelow, countBelow, listBelow, firstBelow, padded}
+use Rattle.ground.specs.Tests.{all, count, member, distinct, apart, allBelow, anyBelow, countBelow, listBelow, firstBelow, filled}
 use Rattle.page.specs.Words.{flat, encode, pairs, view}
 use Rattle.page.specs.Place.{place, has, information, atOrAbove, without, regraded}
 use Rattle.page.specs.Sound.{risesFrom, rises, soundByItself}
@@ -10,7 +10,8 @@ use Rattle.pool.specs.Pool.{poolLength, start, wordsOf, pageAt, written, applie
 use Rattle.change.specs.Insertion.{room, settled, insertion}
 use Rattle.change.specs.Deletion.{needs, shares, shrunk, deletion}
 use Rattle.change.specs.Regrading.{regrading}
-use Rattle.slots.specs.Parts.{pathOf, besideOf, waitingOrder}
+use Rattle.slots.specs.Parts.{pathOf, besideOf, locksOf, sidelocksOf, waitingOrder}
+use Rattle.slots.specs.Locks.{lockAmong}
 use Rattle.slots.specs.Grant.{olderThan, noClash, noOlder}
 use Rattle.slots.specs.Book.{leaving, begins, goesOn, closes}
 use Rattle.slots.specs.Sound.{namesEach, slotSound, noClashingHolds, sound}
@@ -23,7 +24,7 @@ use Rattle.index.specs.Make.{made}
 
 -- numbers, tests and folds
 grounds : Unit {0}
-unfolding largestK largestN tallest slotCount searchHolds regradeHolds secondHolds pathHolds siblingHolds all count member distinct apart allBelow anyBelow countBelow listBelow firstBelow padded
+unfolding largestK largestN tallest slotCount searchHolds regradeHolds secondHolds pathHolds siblingHolds all count member distinct apart allBelow anyBelow countBelow listBelow firstBelow filled
 grounds = tt
 
 -- pages, the pool, and how they change
@@ -33,7 +34,7 @@ pages = tt
 
 -- slots, locks and the waiting order
 slotted : Unit {0}
-unfolding pathOf besideOf waitingOrder olderThan noClash noOlder leaving begins goesOn closes namesEach slotSound noClashingHolds sound begun reported
+unfolding pathOf besideOf locksOf sidelocksOf lockAmong waitingOrder olderThan noClash noOlder leaving begins goesOn closes namesEach slotSound noClashingHolds sound begun reported
 slotted = tt
 
 -- making, begin, step and report

@@ -32,6 +32,7 @@ ghost use Rattle.slots.specs.Parts.{pathOf, firstWay, freshStand, standOf};
 ghost use Rattle.slots.specs.Book.{requeued, goesOn};
 ghost use Rattle.lent.specs.Layout.{columnLength};
 ghost use Rattle.lent.specs.Words.{asRead, known, laidInto};
+ghost use Rattle.lent.specs.Holds.{InHalves};
 ghost use Rattle.footing.specs.Fitting.{verdict};
 ghost use Rattle.footing.specs.Standing.{Asks};
 ghost use Rattle.course.specs.Judged.{courseOf, ready};
@@ -80,19 +81,23 @@ fn regrade_lot(words: &mut [u32], k: usize, n: usize, x: u32, v: u32, stand: Slo
 
 // The slot goes on from where it stands and wants this page with this lock.
 fn go_on(state: &mut [u32; STATE], s: usize, stand: Slot, next: u32, lock: Lock)
-    requires { ⌜ (Waits (asRead (now state)) s) × (stand .depth ≤ columnLength) × (stand .breadth ≤ columnLength) ⌝ }
+    requires { ⌜ (Waits (asRead (now state)) s) × (stand .depth ≤ columnLength) × (stand .breadth ≤ columnLength) × InHalves stand ⌝ }
     ensures { λ _. ⌜ now (state .exit) ≡ laidInto (now (state .entry)) s (requeued (asRead (now (state .entry))) s (wanting next lock stand)) ⌝ }
 {
     let task = stand.task;
     let path = stand.path;
+    let locks = stand.locks;
     let beside = stand.beside;
+    let sidelocks = stand.sidelocks;
     let slot = Slot {
         task,
         want: next,
         lock,
         path,
+        locks,
         depth: stand.depth,
         beside,
+        sidelocks,
         breadth: stand.breadth,
     };
     requeues(state, s, slot);

@@ -14,6 +14,7 @@ use pool::lying::make_fresh;
 use pool::lying::start_of;
 use slots::Answer;
 use slots::Task;
+use slots::locking::lock_table;
 use soundness::checking::is_sound;
 use soundness::checking::numbers_in_range;
 ghost use mathlib.Core.Path.{_≡_};
@@ -70,7 +71,7 @@ pub fn step(state: &mut [u32; STATE], words: &mut [u32], s: usize) -> Answer
     let Task::Open(op) = task else {
         return Answer::SlotIdle;
     };
-    if !grants(state, s) {
+    if !grants(state, s, lock_table()) {
         return Answer::Waiting;
     }
     granted_step(state, words, s, op, slot)

@@ -2,21 +2,21 @@
 use ground::SLOTS;
 use lent::STATE;
 use lent::cells::n_of;
+use lent::granting::ALPHA;
+use lent::granting::RHO;
+use lent::granting::UPDATER_RHO;
+use lent::granting::XI;
+use lent::granting::held_lock_at;
 use lent::granting::holds_at;
-use lent::lifting::task_at;
 use slots::Answer;
 use slots::Lock;
-use slots::holding::lock_of;
 use soundness::checking::is_sound;
 ghost use mathlib.Core.Path.{_≡_};
-ghost use mathlib.Core.Bool.{cond};
-ghost use lib.Dec.{ltb};
-ghost use Rattle.ground.specs.Limits.{slotCount};
-ghost use Rattle.slots.specs.declared.Lock;
-ghost use Rattle.slots.specs.Locks.{lockHeldAt};
-ghost use Rattle.slots.specs.Report.{holdersMask};
+ghost use mathlib.Core.Bool.{true};
+ghost use Rattle.slots.specs.Heard.{lockNamed};
+ghost use Rattle.slots.specs.Report.{holdersMask, heldUnder, lockKind};
 ghost use Rattle.lent.specs.Words.{asRead};
-ghost use Rattle.lent.specs.Holds.{WithinRows};
+ghost use Rattle.lent.specs.Holds.{WithinRows, isLockNumber};
 ghost use Rattle.index.specs.Statements.{ReportSays};
 
 // The slots that hold page p, one bit for each.
@@ -35,15 +35,39 @@ fn holders(cells: &[u32; STATE], p: u32) -> u16
     mask
 }
 
-// The kind of lock under which slot s holds page p, none behind the last slot. Today it is one for all its pages.
-fn lock_at(cells: &[u32; STATE], s: u32, p: u32) -> Lock
-    ensures { λ r. ⌜ r ≡ cond (ltb s slotCount) (lockHeldAt (asRead (now (cells .entry))) s p) Lock.None ⌝ }
+// Some slot holds page p under the lock of this number.
+fn held_under(cells: &[u32; STATE], p: u32, lock: u32) -> bool
+    requires { ⌜ WithinRows (now cells) × (isLockNumber lock ≡ true) ⌝ }
+    ensures { λ r. ⌜ r ≡ heldUnder (asRead (now (cells .entry))) p (lockNamed lock) ⌝ }
 {
-    let at = s as usize;
-    if SLOTS <= at {
-        return Lock::None;
+    let mut s = 0;
+    while s < SLOTS {
+        if held_lock_at(cells, s, p) == lock {
+            return true;
+        }
+        s += 1;
     }
-    lock_of(task_at(cells, at))
+    false
+}
+
+// The first kind that page p is held under, of ξ, α, updater's ρ and ρ; none, if nobody holds it.
+fn lock_kind(cells: &[u32; STATE], p: u32) -> Lock
+    requires { ⌜ WithinRows (now cells) ⌝ }
+    ensures { λ r. ⌜ r ≡ lockKind (asRead (now (cells .entry))) p ⌝ }
+{
+    if held_under(cells, p, XI) {
+        return Lock::Xi;
+    }
+    if held_under(cells, p, ALPHA) {
+        return Lock::Alpha;
+    }
+    if held_under(cells, p, UPDATER_RHO) {
+        return Lock::UpdaterRho;
+    }
+    if held_under(cells, p, RHO) {
+        return Lock::Rho;
+    }
+    Lock::None
 }
 
 // What page p is held by.
@@ -59,5 +83,5 @@ pub fn report(state: &[u32; STATE], p: u32) -> Answer
     let mask = holders(state, p);
     let count = u16::count_ones(mask);
     let lowest = u16::trailing_zeros(mask);
-    Answer::Reported(lock_at(state, lowest, p), count, lowest)
+    Answer::Reported(lock_kind(state, p), count, lowest)
 }

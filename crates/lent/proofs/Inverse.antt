@@ -11,29 +11,28 @@ use lib.ListN.{length, getD, take, drop, set, replicate, length-drop, getD-repli
 use lib.Seq.{ext-getD, getD-append-add, getD-drop, take-at}
 use borrow.Author.Tests.{le-leb, ltb-true, ltb-false}
 use Rattle.ground.specs.Limits.{slotCount, pathHolds}
-use Rattle.ground.specs.Tests.{padded}
+use Rattle.ground.specs.Tests.{filled}
 use Rattle.ground.proofs.Bools.{true-or-false}
 use Rattle.ground.proofs.Tests.{allBelow-from}
-use Rattle.slots.specs.declared.Lock.the-variants.{Xi}
+use Rattle.slots.specs.declared.Lock.the-variants.{Alpha}
 use Rattle.slots.specs.declared.Slot.{Slot}
 use Rattle.slots.specs.declared.State.{State}
-use Rattle.slots.specs.Heard.{lockNumber}
-use Rattle.slots.specs.Parts.{closedSlot, slotAt, idleState}
+use Rattle.slots.specs.Heard.{lockNumber, lockNamed}
+use Rattle.slots.specs.Parts.{under, closedSlot, slotAt, idleState}
 use Rattle.lent.specs.Layout.{rowsFrom, rowLength, columnLength, kindRow, keyRow, informationRow, lockRow, pathRow, besideRow, rowCount, rowWords, stateLength}
-use Rattle.lent.specs.Words.{listOf, address, cell, column, highestKind, taskFrom, lockRead, slotIn, orderIn, asRead, known, stateOf, kindOf, keyIn, informationIn, rowsOf, stateWords}
+use Rattle.lent.specs.Words.{listOf, address, cell, pageIn, numberIn, column, lockColumn, highestKind, taskFrom, slotIn, orderIn, asRead, known, stateOf, kindOf, keyIn, informationIn, holdWord, holdWords, rowsOf, stateWords}
 use Rattle.lent.proofs.ListLaws.{length-listOf, getD-listOf, listOf-same, listOf-getD}
-use Rattle.lent.proofs.StateLaws.{by-front, slot-read, state-known, rows-read, rows-kind, length-column, column-cell}
+use Rattle.lent.proofs.StateLaws.{Layable, closed-layable, by-front, slot-read, state-known, rows-read, rows-kind, column-cell, lock-cell, length-hold, hold-cell}
 use Rattle.lent.proofs.HoldLaws.{by-kind}
 
 less-or-not : (a b : ℕ) → (a < b) ⊎ (b ≤ a)
 less-or-not a b = ⊎-elim (λ e. inl (ltb-true a b e)) (λ e. inr (ltb-false a b e)) (true-or-false (ltb a b))
 
--- Arrays have their lengths: what the form of a state says of every state in the program.
+-- Arrays have their lengths, and pages fit a half of a word: what is so of every state in the program.
 pub record Sized (st : State) : Type 0 where
   pub slots : length (st .slots) ≡ rowLength
   pub order : length (st .order) ≡ rowLength
-  pub path : (s : ℕ) → s < rowLength → length (slotAt st s .path) ≡ columnLength
-  pub beside : (s : ℕ) → s < rowLength → length (slotAt st s .beside) ≡ columnLength
+  pub slot : (s : ℕ) → s < rowLength → Layable (slotAt st s)
 
 module _ (st : State) (sized : Sized st) where
   row-of : ℕ → ℕ
@@ -64,7 +63,7 @@ module _ (st : State) (sized : Sized st) where
       ∙ ap₂ (λ (t q : ℕ). getD (rowsOf (slotAt st t)) q 0) slot row
 
   slot-words : (s : ℕ) → s < rowLength → slotIn (stateWords st) s ≡ slotAt st s
-  slot-words s h = rows-read (stateWords st) s (slotAt st s) (sized .path s h) (sized .beside s h) (words-cell s h)
+  slot-words s h = rows-read (stateWords st) s (slotAt st s) (words-cell s h) (sized .slot s h)
 
   order-words : orderIn (stateWords st) ≡ st .order
   unfolding stateWords orderIn
@@ -81,7 +80,7 @@ module _ (st : State) (sized : Sized st) where
   unfolding known slotCount
   known-words =
       allBelow-from (λ (s : ℕ). leb (cell (stateWords st) kindRow s) highestKind) rowLength
-      (λ s h. le-leb (cell (stateWords st) kindRow s) highestKind (rows-kind (stateWords st) s (slotAt st s) (sized .path s h) (sized .beside s h) (words-cell s h)))
+      (λ s h. le-leb (cell (stateWords st) kindRow s) highestKind (rows-kind (stateWords st) s (slotAt st s) (words-cell s h)))
 
   -- the words of a state read as that state
   pub state-back : stateOf (stateWords st) ≡ st
@@ -91,16 +90,15 @@ module _ (st : State) (sized : Sized st) where
 
 -- its words: k, N, and 0 everywhere else
 pub idle-words : (k n : ℕ) → set (set (replicate stateLength 0) 0 k) 1 n ≡ stateWords (idleState k n)
-unfolding stateWords slotCount pathHolds padded listOf
+unfolding stateWords slotCount pathHolds filled listOf holdWords
 idle-words k n = refl
 
 pub idle-sized : (k n : ℕ) → Sized (idleState k n)
-unfolding slotCount pathHolds padded
+unfolding slotCount
 idle-sized k n = record {
   slots = refl;
   order = refl;
-  path = λ s h. ap (λ (x : Slot). length (x .path)) (getD-replicate rowLength s closedSlot closedSlot h);
-  beside = λ s h. ap (λ (x : Slot). length (x .beside)) (getD-replicate rowLength s closedSlot closedSlot h);
+  slot = λ s h. subst Layable (sym (getD-replicate rowLength s closedSlot closedSlot h)) closed-layable;
 }
 
 -- ---- words that a state gives
@@ -109,13 +107,15 @@ idle-sized k n = record {
 abbrev pub informs : ℕ → Bool
 informs kind = eqb kind 2 || eqb kind 5 || eqb kind 6 || eqb kind 8
 
--- Clean words: as many as a state has, every kind exists, and so does every lock, and no key or information stands where the task has none.
+-- Clean words: as many as a state has, every kind exists, and so does every lock, wanted or on a page, and no key or information stands
+-- where the task has none.
 pub record Clean (ws : List ℕ) : Type 0 where
   pub long : length ws ≡ stateLength
   pub exist : (s : ℕ) → s < rowLength → cell ws kindRow s ≤ highestKind
   pub key : (s : ℕ) → s < rowLength → cell ws kindRow s ≡ 0 → cell ws keyRow s ≡ 0
   pub information : (s : ℕ) → s < rowLength → informs (cell ws kindRow s) ≡ false → cell ws informationRow s ≡ 0
-  pub lock : (s : ℕ) → s < rowLength → cell ws lockRow s ≤ lockNumber Xi
+  pub lock : (s : ℕ) → s < rowLength → cell ws lockRow s ≤ lockNumber Alpha
+  pub locks : (s : ℕ) → s < rowLength → (j : ℕ) → j < columnLength + columnLength → numberIn (cell ws (pathRow + j) s) ≤ lockNumber Alpha
 
 kind-back : (key information kind : ℕ) → kind ≤ highestKind → kindOf (taskFrom kind key information) ≡ kind
 kind-back key information = by-kind (λ (k : ℕ). kindOf (taskFrom k key information) ≡ k) refl refl refl refl refl refl refl refl refl
@@ -130,35 +130,66 @@ information-back key information =
     by-kind (λ (k : ℕ). (informs k ≡ false → information ≡ 0) → informationIn (taskFrom k key information) ≡ information)
     (λ e. sym (e refl)) (λ e. sym (e refl)) (λ _. refl) (λ e. sym (e refl)) (λ e. sym (e refl)) (λ _. refl) (λ _. refl) (λ e. sym (e refl)) (λ _. refl)
 
-number-back : (number : ℕ) → number ≤ lockNumber Xi → lockNumber (lockRead number) ≡ number
+number-back : (number : ℕ) → number ≤ lockNumber Alpha → lockNumber (lockNamed number) ≡ number
 number-back zero h = refl
 number-back (suc zero) h = refl
 number-back (suc (suc zero)) h = refl
-number-back (suc (suc (suc n))) h = absurd (omega arith)
+number-back (suc (suc (suc zero))) h = refl
+number-back (suc (suc (suc (suc zero)))) h = refl
+number-back (suc (suc (suc (suc (suc n))))) h = absurd (omega arith)
 
-module _ (ws : List ℕ) (clean : Clean ws) (s : ℕ) (h : s < rowLength) where
+-- a word is that of the page and the kind that are read off it
+word-back : (w : ℕ) → numberIn w ≤ lockNumber Alpha → holdWord (pageIn w) (under (lockNamed (numberIn w))) ≡ w
+word-back w h = let number = number-back (numberIn w) h in omega arith
+
+module _ (ws : List ℕ) (clean : Clean ws) (s : ℕ) (h′ : s < rowLength) where
+  -- the words of a column
+  column-back : (r : ℕ) → ((j : ℕ) → j < columnLength → numberIn (cell ws (r + j) s) ≤ lockNumber Alpha)
+      → (j : ℕ) → j < columnLength → getD (holdWords (column ws r s) (lockColumn ws r s)) j 0 ≡ cell ws (r + j) s
+  column-back r exist j b =
+      hold-cell (column ws r s) (lockColumn ws r s) j b
+      ∙ ap₂ holdWord (column-cell ws r s j b) (lock-cell ws r s j b)
+      ∙ word-back (cell ws (r + j) s) (exist j b)
+
+  onPath : List ℕ
+  onPath = holdWords (column ws pathRow s) (lockColumn ws pathRow s)
+
+  aside : List ℕ
+  aside = holdWords (column ws besideRow s) (lockColumn ws besideRow s)
+
+  path-long : length onPath ≡ columnLength
+  unfolding onPath
+  path-long = length-hold (column ws pathRow s) (lockColumn ws pathRow s)
+
   -- behind the seven numbers
-  page-back : (q : ℕ) → q < columnLength + columnLength → getD (column ws pathRow s ++ column ws besideRow s) q 0 ≡ cell ws (pathRow + q) s
+  page-back : (q : ℕ) → q < columnLength + columnLength → getD (onPath ++ aside) q 0 ≡ cell ws (pathRow + q) s
+  unfolding onPath aside
   page-back q b =
       ⊎-elim
       (λ few.
-      List·getD-append (column ws pathRow s) (column ws besideRow s) 0 q (omega (arith, length-column ws pathRow s)) ∙ column-cell ws pathRow s q few)
+      List·getD-append onPath aside 0 q (omega (arith, path-long)) ∙ column-back pathRow (λ j h. clean .locks s h′ j (omega arith)) q few)
       (λ many.
       let p : ℕ = q - columnLength in
-      let same : q ≡ length (column ws pathRow s) + p = omega (arith, length-column ws pathRow s) in
+      let same : q ≡ length onPath + p = omega (arith, path-long) in
       let there : besideRow + p ≡ pathRow + q = omega arith in
-      ap (λ (i : ℕ). getD (column ws pathRow s ++ column ws besideRow s) i 0) same
-      ∙ getD-append-add (column ws pathRow s) (column ws besideRow s) p 0
-      ∙ column-cell ws besideRow s p (omega arith)
+      ap (λ (i : ℕ). getD (onPath ++ aside) i 0) same
+      ∙ getD-append-add onPath aside p 0
+      ∙ column-back besideRow beside-exist p (omega arith)
       ∙ ap (λ (r : ℕ). cell ws r s) there)
       (less-or-not q columnLength)
+    where
+      beside-exist : (j : ℕ) → j < columnLength → numberIn (cell ws (besideRow + j) s) ≤ lockNumber Alpha
+      beside-exist j h =
+          let there : pathRow + (columnLength + j) ≡ besideRow + j = omega arith in
+          subst (λ (r : ℕ). numberIn (cell ws r s) ≤ lockNumber Alpha) there (clean .locks s h′ (columnLength + j) (omega arith))
 
   row-back : (r : ℕ) → r < rowCount → getD (rowsOf (slotIn ws s)) r 0 ≡ cell ws r s
-  row-back zero b = kind-back (cell ws keyRow s) (cell ws informationRow s) (cell ws kindRow s) (clean .exist s h)
-  row-back (suc zero) b = key-back (cell ws keyRow s) (cell ws informationRow s) (cell ws kindRow s) (clean .exist s h) (clean .key s h)
-  row-back (suc (suc zero)) b = information-back (cell ws keyRow s) (cell ws informationRow s) (cell ws kindRow s) (clean .exist s h) (clean .information s h)
+  unfolding onPath aside
+  row-back zero b = kind-back (cell ws keyRow s) (cell ws informationRow s) (cell ws kindRow s) (clean .exist s h′)
+  row-back (suc zero) b = key-back (cell ws keyRow s) (cell ws informationRow s) (cell ws kindRow s) (clean .exist s h′) (clean .key s h′)
+  row-back (suc (suc zero)) b = information-back (cell ws keyRow s) (cell ws informationRow s) (cell ws kindRow s) (clean .exist s h′) (clean .information s h′)
   row-back (suc (suc (suc zero))) b = refl
-  row-back (suc (suc (suc (suc zero)))) b = number-back (cell ws lockRow s) (clean .lock s h)
+  row-back (suc (suc (suc (suc zero)))) b = number-back (cell ws lockRow s) (clean .lock s h′)
   row-back (suc (suc (suc (suc (suc zero))))) b = refl
   row-back (suc (suc (suc (suc (suc (suc zero)))))) b = refl
   row-back (suc (suc (suc (suc (suc (suc (suc q))))))) b =

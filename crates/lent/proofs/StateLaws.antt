@@ -6,26 +6,30 @@ use mathlib.Core.List.{List, [], _∷_, _++_, append-nil}
 use mathlib.Core.Logic.{_≢_, ⊎-elim}
 use native.Mathlib.Omega.{arith}
 use native.Mathlib.Nat.{not-suc-le-zero, le-of-suc-le-suc}
-use lib.Dec.{leb}
-use lib.ListN.{length, getD, take, drop, set, length-append, length-drop, replicate, List·getD-append}
+use lib.Dec.{leb, ltb}
+use lib.ListN.{length, getD, take, drop, set, length-append, length-drop, replicate, List·getD-append, List·getD-eq-default}
 use lib.Seq.{ext-getD, take-all, getD-take, getD-drop, getD-append-add, take-at, length-take-le, getD-set-same}
-use borrow.Author.Tests.{le-leb}
+use borrow.Author.Tests.{le-leb, ltb-true, ltb-false}
 use Rattle.ground.specs.Limits.{slotCount, pathHolds}
-use Rattle.ground.specs.Tests.{padded}
-use Rattle.ground.proofs.Choice.{cond-true}
-use Rattle.ground.proofs.Tests.{allBelow-at, allBelow-from}
+use Rattle.ground.specs.Tests.{member, filled}
+use Rattle.ground.proofs.Choice.{by-test, cond-true}
+use Rattle.ground.proofs.Padded.{length-filled, padded-at}
+use Rattle.ground.proofs.Tests.{member-from, allBelow-at, allBelow-from}
+use Rattle.slots.specs.declared.Op.{Op}
 use Rattle.slots.specs.declared.Task.{Task}
 use Rattle.slots.specs.declared.Task.the-variants.{Closed, Open}
-use Rattle.slots.specs.declared.Lock.{Lock}
-use Rattle.slots.specs.declared.Lock.the-variants.{None, Rho, Xi}
+use Rattle.slots.specs.declared.Lock.the-variants.{None}
+use Rattle.slots.specs.declared.Under.{Under}
 use Rattle.slots.specs.declared.Slot.{Slot}
-use Rattle.slots.specs.Heard.{lockNumber}
-use Rattle.slots.specs.Parts.{closedSlot, slotAt}
+use Rattle.slots.specs.Heard.{lockNumber, lockNamed}
+use Rattle.slots.specs.Parts.{under, Stand, freshStand, slotOf, closedSlot, slotAt}
 use Rattle.slots.specs.Book.{rewritten}
+use Rattle.slots.proofs.Unique.{lock-back}
 use Rattle.slots.proofs.OperationLaws.{asked-back, kind-within}
 use Rattle.slots.proofs.OrderLaws.{same-or-not}
-use Rattle.lent.specs.Layout.{kAt, nAt, waitingAt, orderFrom, rowsFrom, rowLength, columnLength, kindRow, keyRow, informationRow, wantRow, lockRow, depthRow, breadthRow, pathRow, besideRow, rowCount, stateLength}
-use Rattle.lent.specs.Words.{listOf, address, cell, column, highestKind, taskOf, taskFrom, lockRead, slotIn, orderIn, asRead, known, stateOf, kindOf, keyIn, informationIn, rowsOf, spread, slotLaid, orderLaid, laidInto}
+use Rattle.lent.specs.Layout.{pageRange, kAt, nAt, waitingAt, orderFrom, rowsFrom, rowLength, columnLength, kindRow, keyRow, informationRow, wantRow, lockRow, depthRow, breadthRow, pathRow, besideRow, rowCount, stateLength}
+use Rattle.lent.specs.Words.{listOf, address, cell, pageIn, numberIn, column, lockColumn, highestKind, taskOf, taskFrom, slotIn, orderIn, asRead, known, stateOf, kindOf, keyIn, informationIn, holdWord, holdWords, rowsOf, spread, slotLaid, orderLaid, laidInto}
+use Rattle.lent.specs.Holds.{InHalves}
 use Rattle.lent.proofs.ListLaws.{length-listOf, getD-listOf, listOf-same, listOf-getD, listOf-set}
 use Rattle.lent.proofs.SpreadLaws.{length-spread, spread-beside, spread-front, spread-at}
 
@@ -50,53 +54,187 @@ pub state-known : (ws : List ℕ) → known ws ≡ true → stateOf ws ≡ asRea
 unfolding stateOf
 state-known ws e = cond-true _ _ e
 
+-- ---- a column
+
+pub length-column : (ws : List ℕ) (r s : ℕ) → length (column ws r s) ≡ columnLength
+unfolding column
+length-column ws r s = length-listOf columnLength (λ (j : ℕ). pageIn (cell ws (r + j) s))
+
+pub column-cell : (ws : List ℕ) (r s j : ℕ) → j < columnLength → getD (column ws r s) j 0 ≡ pageIn (cell ws (r + j) s)
+unfolding column
+column-cell ws r s j h = getD-listOf columnLength (λ (i : ℕ). pageIn (cell ws (r + i) s)) j 0 h
+
+-- and of the kinds of lock
+pub length-locks : (ws : List ℕ) (r s : ℕ) → length (lockColumn ws r s) ≡ columnLength
+unfolding lockColumn
+length-locks ws r s = length-listOf columnLength (λ (j : ℕ). under (lockNamed (numberIn (cell ws (r + j) s))))
+
+pub lock-cell : (ws : List ℕ) (r s j : ℕ) → j < columnLength → getD (lockColumn ws r s) j (under None) ≡ under (lockNamed (numberIn (cell ws (r + j) s)))
+unfolding lockColumn
+lock-cell ws r s j h = getD-listOf columnLength (λ (i : ℕ). under (lockNamed (numberIn (cell ws (r + i) s)))) j (under None) h
+
+-- the words of held pages
+pub length-hold : (pages : List ℕ) (locks : List Under) → length (holdWords pages locks) ≡ columnLength
+unfolding holdWords
+length-hold pages locks = length-listOf columnLength (λ (j : ℕ). holdWord (getD pages j 0) (getD locks j (under None)))
+
+pub hold-cell : (pages : List ℕ) (locks : List Under) (j : ℕ) → j < columnLength → getD (holdWords pages locks) j 0 ≡ holdWord (getD pages j 0) (getD locks j (under None))
+unfolding holdWords
+hold-cell pages locks j h = getD-listOf columnLength (λ (i : ℕ). holdWord (getD pages i 0) (getD locks i (under None))) j 0 h
+
+-- page and kind are read off such a word
+word-page : (p : ℕ) (u : Under) → p < pageRange → pageIn (holdWord p u) ≡ p
+word-page p u h = omega arith
+
+word-number : (p : ℕ) (u : Under) → p < pageRange → numberIn (holdWord p u) ≡ lockNumber (u .lock)
+word-number p u h = omega arith
+
+-- where the words of held pages stand, these pages and kinds are read
+module _ (ws : List ℕ) (r s : ℕ) (pages : List ℕ) (locks : List Under) (halves : (i : ℕ) → getD pages i 0 < pageRange)
+    (rows : (j : ℕ) → j < columnLength → cell ws (r + j) s ≡ getD (holdWords pages locks) j 0) where
+  word-at : (j : ℕ) → j < columnLength → cell ws (r + j) s ≡ holdWord (getD pages j 0) (getD locks j (under None))
+  word-at j h = rows j h ∙ hold-cell pages locks j h
+
+  pages-read : length pages ≡ columnLength → column ws r s ≡ pages
+  unfolding column
+  pages-read long =
+      listOf-same columnLength (λ (j : ℕ). pageIn (cell ws (r + j) s)) (λ (j : ℕ). getD pages j 0)
+      (λ j h. ap pageIn (word-at j h) ∙ word-page (getD pages j 0) (getD locks j (under None)) (halves j))
+      ∙ listOf-getD pages 0 columnLength long
+
+  locks-read : length locks ≡ columnLength → lockColumn ws r s ≡ locks
+  unfolding lockColumn
+  locks-read long =
+      listOf-same columnLength (λ (j : ℕ). under (lockNamed (numberIn (cell ws (r + j) s)))) (λ (j : ℕ). getD locks j (under None))
+      (λ j h.
+      ap (λ (w : ℕ). under (lockNamed (numberIn w))) (word-at j h)
+      ∙ ap (λ (i : ℕ). under (lockNamed i)) (word-number (getD pages j 0) (getD locks j (under None)) (halves j))
+      ∙ ap under (lock-back (getD locks j (under None) .lock)))
+      ∙ listOf-getD locks (under None) columnLength long
+
+-- an array that is full
+pub filled-whole : {A : Type 0} (none : A) (l : List A) (n : ℕ) → length l ≡ columnLength → columnLength ≤ n → filled none columnLength (take n l) ≡ l
+unfolding filled
+filled-whole none l n e h =
+    ap (filled none columnLength) (take-all n l (omega arith))
+    ∙ ap (λ (m : ℕ). l ++ replicate (columnLength - m) none) e
+    ∙ append-nil l
+
+-- ---- slots that can be laid down
+
+-- A slot as the program has it: its arrays have their lengths, and its pages fit their half of a word. So it reads back as it was laid.
+pub record Layable (slot : Slot) : Type 0 where
+  pub path : length (slot .path) ≡ columnLength
+  pub locks : length (slot .locks) ≡ columnLength
+  pub beside : length (slot .beside) ≡ columnLength
+  pub sidelocks : length (slot .sidelocks) ≡ columnLength
+  pub halves : InHalves slot
+
+-- pages below a word's half
+pub below-halves : (pages : List ℕ) → ((p : ℕ) → member p pages ≡ true → p < pageRange) → (i : ℕ) → getD pages i 0 < pageRange
+below-halves pages below i =
+    by-test (ltb i (length pages))
+    (λ e. below (getD pages i 0) (member-from (getD pages i 0) pages i 0 (ltb-true i (length pages) e) refl))
+    (λ e. subst (λ (p : ℕ). p < pageRange) (sym (List·getD-eq-default pages 0 (ltb-false i (length pages) e))) (omega arith))
+
+-- a slot as it was read
+pub read-halves : (ws : List ℕ) (s : ℕ) → InHalves (slotIn ws s)
+read-halves ws s = record {
+  path = column-halves pathRow;
+  beside = column-halves besideRow;
+}
+  where
+    column-halves : (r i : ℕ) → getD (column ws r s) i 0 < pageRange
+    column-halves r i =
+        by-test (ltb i columnLength)
+        (λ e. subst (λ (p : ℕ). p < pageRange) (sym (column-cell ws r s i (ltb-true i columnLength e))) (omega arith))
+        (λ e.
+        let over = ltb-false i columnLength e in
+        subst (λ (p : ℕ). p < pageRange) (sym (List·getD-eq-default (column ws r s) 0 (omega (arith, length-column ws r s)))) (omega arith))
+
+-- one that stands somewhere
+pub stand-halves : (z : Stand) → ((i : ℕ) → getD (z .path) i 0 < pageRange) → ((i : ℕ) → getD (z .beside) i 0 < pageRange) → InHalves (slotOf z)
+stand-halves z path beside = record {
+  path = λ i. subst (λ (p : ℕ). p < pageRange) (sym (padded-at pathHolds (z .path) i)) (path i);
+  beside = λ i. subst (λ (p : ℕ). p < pageRange) (sym (padded-at pathHolds (z .beside) i)) (beside i);
+}
+
+pub stand-layable : (z : Stand) → length (z .path) ≤ columnLength → length (z .locks) ≤ columnLength → length (z .beside) ≤ columnLength → length (z .sidelocks) ≤ columnLength
+    → InHalves (slotOf z) → Layable (slotOf z)
+unfolding pathHolds
+stand-layable z path locks beside sidelocks halves = record {
+  path = length-filled 0 columnLength (z .path) path;
+  locks = length-filled (under None) columnLength (z .locks) locks;
+  beside = length-filled 0 columnLength (z .beside) beside;
+  sidelocks = length-filled (under None) columnLength (z .sidelocks) sidelocks;
+  halves = halves;
+}
+
+-- one that begins: it holds nothing
+pub fresh-halves : (op : Op) → InHalves (slotOf (freshStand op))
+fresh-halves op = stand-halves (freshStand op) none none
+  where
+    none : (i : ℕ) → getD [] i 0 < pageRange
+    none i = omega arith
+
+pub fresh-layable : (op : Op) → Layable (slotOf (freshStand op))
+fresh-layable op = stand-layable (freshStand op) (omega arith) (omega arith) (omega arith) (omega arith) (fresh-halves op)
+
+-- a closed one
+pub closed-halves : InHalves closedSlot
+closed-halves = record { path = none; beside = none }
+  where
+    none : (i : ℕ) → getD (closedSlot .path) i 0 < pageRange
+    none i = subst (λ (p : ℕ). p < pageRange) (sym (padded-at pathHolds [] i)) (omega arith)
+
+pub closed-layable : Layable closedSlot
+unfolding filled pathHolds
+closed-layable = record { path = refl; locks = refl; beside = refl; sidelocks = refl; halves = closed-halves }
+
 -- ---- a slot laid down
 
 task-back : (t : Task) → taskFrom (kindOf t) (keyIn t) (informationIn t) ≡ t
 task-back Closed = refl
 task-back (Open op) = ap taskOf (asked-back op)
 
-lock-back : (l : Lock) → lockRead (lockNumber l) ≡ l
-lock-back None = refl
-lock-back Rho = refl
-lock-back Xi = refl
-
 kind-exists : (t : Task) → kindOf t ≤ highestKind
 kind-exists Closed = omega arith
 kind-exists (Open op) = kind-within op
 
 -- A slot whose numbers stand in these rows.
-module _ (ws : List ℕ) (s : ℕ) (slot : Slot) (path : length (slot .path) ≡ columnLength) (beside : length (slot .beside) ≡ columnLength)
-    (rows : (r : ℕ) → r < rowCount → cell ws r s ≡ getD (rowsOf slot) r 0) where
-  -- behind the seven numbers stand the pages
-  seven-behind : (j : ℕ) → getD (rowsOf slot) (pathRow + j) 0 ≡ getD (slot .path ++ slot .beside) j 0
+module _ (ws : List ℕ) (s : ℕ) (slot : Slot) (rows : (r : ℕ) → r < rowCount → cell ws r s ≡ getD (rowsOf slot) r 0) where
+  onPath : List ℕ
+  onPath = holdWords (slot .path) (slot .locks)
+
+  aside : List ℕ
+  aside = holdWords (slot .beside) (slot .sidelocks)
+
+  -- behind the seven numbers stand the pages, with their kinds of lock
+  seven-behind : (j : ℕ) → getD (rowsOf slot) (pathRow + j) 0 ≡ getD (onPath ++ aside) j 0
+  unfolding onPath aside
   seven-behind j =
       getD-append-add (kindOf (slot .task) ∷ keyIn (slot .task) ∷ informationIn (slot .task) ∷ slot .want ∷ lockNumber (slot .lock) ∷ slot .depth ∷ slot .breadth ∷ [])
-      (slot .path ++ slot .beside) j 0
+      (holdWords (slot .path) (slot .locks) ++ holdWords (slot .beside) (slot .sidelocks)) j 0
 
-  path-read : column ws pathRow s ≡ slot .path
-  unfolding column
-  path-read =
-      listOf-same columnLength (λ (j : ℕ). cell ws (pathRow + j) s) (λ (j : ℕ). getD (slot .path) j 0)
-      (λ j h. rows (pathRow + j) (omega arith) ∙ seven-behind j ∙ List·getD-append (slot .path) (slot .beside) 0 j (omega arith))
-      ∙ listOf-getD (slot .path) 0 columnLength path
+  path-rows : (j : ℕ) → j < columnLength → cell ws (pathRow + j) s ≡ getD onPath j 0
+  unfolding onPath
+  path-rows j h =
+      rows (pathRow + j) (omega arith) ∙ seven-behind j ∙ List·getD-append onPath aside 0 j (omega (arith, length-hold (slot .path) (slot .locks)))
 
-  beside-read : column ws besideRow s ≡ slot .beside
-  unfolding column
-  beside-read =
-      listOf-same columnLength (λ (j : ℕ). cell ws (besideRow + j) s) (λ (j : ℕ). getD (slot .beside) j 0)
-      (λ j h.
+  beside-rows : (j : ℕ) → j < columnLength → cell ws (besideRow + j) s ≡ getD aside j 0
+  unfolding onPath
+  beside-rows j h =
       let same : besideRow + j ≡ pathRow + (columnLength + j) = omega arith in
       rows (besideRow + j) (omega arith)
       ∙ ap (λ (r : ℕ). getD (rowsOf slot) r 0) same
       ∙ seven-behind (columnLength + j)
-      ∙ subst (λ (n : ℕ). getD (slot .path ++ slot .beside) (n + j) 0 ≡ getD (slot .beside) j 0) path
-      (getD-append-add (slot .path) (slot .beside) j 0))
-      ∙ listOf-getD (slot .beside) 0 columnLength beside
+      ∙ subst (λ (n : ℕ). getD (onPath ++ aside) (n + j) 0 ≡ getD aside j 0) (length-hold (slot .path) (slot .locks))
+      (getD-append-add onPath aside j 0)
 
   -- it reads as the slot
-  pub rows-read : slotIn ws s ≡ slot
-  rows-read =
+  pub rows-read : Layable slot → slotIn ws s ≡ slot
+  unfolding onPath aside
+  rows-read fits =
       let task : taskFrom (cell ws kindRow s) (cell ws keyRow s) (cell ws informationRow s) ≡ slot .task =
       ap (λ (a : ℕ). taskFrom a (cell ws keyRow s) (cell ws informationRow s)) (rows kindRow (omega arith))
       ∙ ap₂ (taskFrom (kindOf (slot .task))) (rows keyRow (omega arith)) (rows informationRow (omega arith))
@@ -104,10 +242,12 @@ module _ (ws : List ℕ) (s : ℕ) (slot : Slot) (path : length (slot .path) ≡
       λ i. record {
         task = task i;
         want = rows wantRow (omega arith) i;
-        lock = (ap lockRead (rows lockRow (omega arith)) ∙ lock-back (slot .lock)) i;
-        path = path-read i;
+        lock = (ap lockNamed (rows lockRow (omega arith)) ∙ lock-back (slot .lock)) i;
+        path = pages-read ws pathRow s (slot .path) (slot .locks) (fits .halves .path) path-rows (fits .path) i;
+        locks = locks-read ws pathRow s (slot .path) (slot .locks) (fits .halves .path) path-rows (fits .locks) i;
         depth = rows depthRow (omega arith) i;
-        beside = beside-read i;
+        beside = pages-read ws besideRow s (slot .beside) (slot .sidelocks) (fits .halves .beside) beside-rows (fits .beside) i;
+        sidelocks = locks-read ws besideRow s (slot .beside) (slot .sidelocks) (fits .halves .beside) beside-rows (fits .sidelocks) i;
         breadth = rows breadthRow (omega arith) i;
       }
 
@@ -115,9 +255,12 @@ module _ (ws : List ℕ) (s : ℕ) (slot : Slot) (path : length (slot .path) ≡
   pub rows-kind : cell ws kindRow s ≤ highestKind
   rows-kind = subst (λ (a : ℕ). a ≤ highestKind) (sym (rows kindRow (omega arith))) (kind-exists (slot .task))
 
-module _ (ws : List ℕ) (s : ℕ) (slot : Slot) (long : length ws ≡ stateLength) (inside : s < rowLength) (path : length (slot .path) ≡ columnLength) (beside : length (slot .beside) ≡ columnLength) where
+module _ (ws : List ℕ) (s : ℕ) (slot : Slot) (long : length ws ≡ stateLength) (inside : s < rowLength) where
   rows-long : length (rowsOf slot) ≡ rowCount
-  rows-long = ap (λ (n : ℕ). suc (suc (suc (suc (suc (suc (suc n))))))) (length-append (slot .path) (slot .beside) ∙ omega arith)
+  rows-long =
+      ap (λ (n : ℕ). suc (suc (suc (suc (suc (suc (suc n)))))))
+      (length-append (holdWords (slot .path) (slot .locks)) (holdWords (slot .beside) (slot .sidelocks))
+      ∙ omega (arith, length-hold (slot .path) (slot .locks), length-hold (slot .beside) (slot .sidelocks)))
 
   row-laid : (r : ℕ) → r < rowCount → cell (slotLaid ws s slot) r s ≡ getD (rowsOf slot) r 0
   unfolding slotLaid
@@ -127,12 +270,12 @@ module _ (ws : List ℕ) (s : ℕ) (slot : Slot) (long : length ws ≡ stateLeng
       ∙ spread-at ws 0 s (rowsOf slot) r inside (omega (arith, rows-long)) (omega (arith, rows-long))
 
   -- it reads back
-  slot-laid : slotIn (slotLaid ws s slot) s ≡ slot
-  slot-laid = rows-read (slotLaid ws s slot) s slot path beside row-laid
+  slot-laid : Layable slot → slotIn (slotLaid ws s slot) s ≡ slot
+  slot-laid fits = rows-read (slotLaid ws s slot) s slot row-laid fits
 
   -- its kind exists
   laid-kind : cell (slotLaid ws s slot) kindRow s ≤ highestKind
-  laid-kind = rows-kind (slotLaid ws s slot) s slot path beside row-laid
+  laid-kind = rows-kind (slotLaid ws s slot) s slot row-laid
 
   -- the cells of the others stay
   laid-beside : (q t : ℕ) → t < rowLength → t ≢ s → cell (slotLaid ws s slot) q t ≡ cell ws q t
@@ -150,17 +293,29 @@ length-laid ws s slot = length-spread ws kindRow s (rowsOf slot)
 
 -- ---- slots whose cells are the same
 
-pub slot-same : (ws ws′ : List ℕ) (s : ℕ) → ((q : ℕ) → cell ws q s ≡ cell ws′ q s) → slotIn ws s ≡ slotIn ws′ s
-unfolding column
-slot-same ws ws′ s e = λ i. record {
-  task = taskFrom (e kindRow i) (e keyRow i) (e informationRow i);
-  want = e wantRow i;
-  lock = lockRead (e lockRow i);
-  path = listOf-same columnLength (λ (j : ℕ). cell ws (pathRow + j) s) (λ (j : ℕ). cell ws′ (pathRow + j) s) (λ j _. e (pathRow + j)) i;
-  depth = e depthRow i;
-  beside = listOf-same columnLength (λ (j : ℕ). cell ws (besideRow + j) s) (λ (j : ℕ). cell ws′ (besideRow + j) s) (λ j _. e (besideRow + j)) i;
-  breadth = e breadthRow i;
-}
+module _ (ws ws′ : List ℕ) (s : ℕ) (e : (q : ℕ) → cell ws q s ≡ cell ws′ q s) where
+  column-same : (r : ℕ) → column ws r s ≡ column ws′ r s
+  unfolding column
+  column-same r = listOf-same columnLength (λ (j : ℕ). pageIn (cell ws (r + j) s)) (λ (j : ℕ). pageIn (cell ws′ (r + j) s)) (λ j _. ap pageIn (e (r + j)))
+
+  locks-same : (r : ℕ) → lockColumn ws r s ≡ lockColumn ws′ r s
+  unfolding lockColumn
+  locks-same r =
+      listOf-same columnLength (λ (j : ℕ). under (lockNamed (numberIn (cell ws (r + j) s)))) (λ (j : ℕ). under (lockNamed (numberIn (cell ws′ (r + j) s))))
+      (λ j _. ap (λ (w : ℕ). under (lockNamed (numberIn w))) (e (r + j)))
+
+  pub slot-same : slotIn ws s ≡ slotIn ws′ s
+  slot-same = λ i. record {
+    task = taskFrom (e kindRow i) (e keyRow i) (e informationRow i);
+    want = e wantRow i;
+    lock = lockNamed (e lockRow i);
+    path = column-same pathRow i;
+    locks = locks-same pathRow i;
+    depth = e depthRow i;
+    beside = column-same besideRow i;
+    sidelocks = locks-same besideRow i;
+    breadth = e breadthRow i;
+  }
 
 -- ---- the order
 
@@ -235,7 +390,7 @@ module _ (ws : List ℕ) (s : ℕ) (slot : Slot) (order : List ℕ) (waiting : �
   unfolding laidInto
   written-laid = ap (slotLaid (orderLaid ws waiting order) s) next-slot
 
-  module _ (cells : length order ≡ rowLength) (path : length (slot .path) ≡ columnLength) (beside : length (slot .beside) ≡ columnLength) where
+  module _ (cells : length order ≡ rowLength) (fits : Layable slot) where
     mid : List ℕ
     mid = orderLaid ws waiting order
 
@@ -248,17 +403,17 @@ module _ (ws : List ℕ) (s : ℕ) (slot : Slot) (order : List ℕ) (waiting : �
 
     front : (i : ℕ) → i < rowsFrom → getD after i 0 ≡ getD mid i 0
     unfolding after
-    front i h = laid-front mid s slot mid-long inside path beside i h
+    front i h = laid-front mid s slot mid-long inside i h
 
     others : (t : ℕ) → t < rowLength → t ≢ s → (q : ℕ) → cell after q t ≡ cell ws q t
     unfolding after mid
-    others t h n q = laid-beside mid s slot mid-long inside path beside q t h n ∙ order-beside ws waiting order long cells q t
+    others t h n q = laid-beside mid s slot mid-long inside q t h n ∙ order-beside ws waiting order long cells q t
 
     slots-are : listOf rowLength (slotIn after) ≡ set (listOf rowLength (slotIn ws)) s slot
     unfolding after
     slots-are =
         listOf-set rowLength (slotIn ws) (slotIn after) s slot closedSlot inside
-        (slot-laid mid s slot mid-long inside path beside)
+        (slot-laid mid s slot mid-long inside fits)
         (λ i b n. slot-same after ws i (others i b n))
 
     order-is : orderIn after ≡ order
@@ -282,7 +437,7 @@ module _ (ws : List ℕ) (s : ℕ) (slot : Slot) (order : List ℕ) (waiting : �
         allBelow-from (λ (t : ℕ). leb (cell after kindRow t) highestKind) rowLength
         (λ t b.
         ⊎-elim
-        (λ q. subst (λ (u : ℕ). leb (cell after kindRow u) highestKind ≡ true) (sym q) (le-leb (cell after kindRow s) highestKind (laid-kind mid s slot mid-long inside path beside)))
+        (λ q. subst (λ (u : ℕ). leb (cell after kindRow u) highestKind ≡ true) (sym q) (le-leb (cell after kindRow s) highestKind (laid-kind mid s slot mid-long inside)))
         (λ n. ap (λ (x : ℕ). leb x highestKind) (others t b n 0) ∙ allBelow-at (λ (u : ℕ). leb (cell ws kindRow u) highestKind) rowLength e t b)
         (same-or-not t s))
 
@@ -290,21 +445,3 @@ module _ (ws : List ℕ) (s : ℕ) (slot : Slot) (order : List ℕ) (waiting : �
     pub state-written : known ws ≡ true → stateOf (laidInto ws s (rewritten (asRead ws) s slot order waiting)) ≡ rewritten (asRead ws) s slot order waiting
     unfolding after mid
     state-written e = ap stateOf written-laid ∙ state-known after (known-after e) ∙ read-after
-
--- ---- a column
-
-pub length-column : (ws : List ℕ) (r s : ℕ) → length (column ws r s) ≡ columnLength
-unfolding column
-length-column ws r s = length-listOf columnLength (λ (j : ℕ). cell ws (r + j) s)
-
-pub column-cell : (ws : List ℕ) (r s j : ℕ) → j < columnLength → getD (column ws r s) j 0 ≡ cell ws (r + j) s
-unfolding column
-column-cell ws r s j h = getD-listOf columnLength (λ (i : ℕ). cell ws (r + i) s) j 0 h
-
--- an array that is full
-pub padded-whole : (l : List ℕ) (n : ℕ) → length l ≡ columnLength → columnLength ≤ n → padded columnLength (take n l) ≡ l
-unfolding padded
-padded-whole l n e h =
-    ap (padded columnLength) (take-all n l (omega arith))
-    ∙ ap (λ (m : ℕ). l ++ replicate (columnLength - m) 0) e
-    ∙ append-nil l

@@ -12,10 +12,10 @@ use Rattle.slots.specs.Parts.{freshStand, slotOf, closedSlot, waitingOrder}
 use Rattle.slots.specs.Heard.{lockNumber}
 use Rattle.slots.specs.Book.{leaving, begins, requeued, closes}
 use Rattle.slots.proofs.MakingLaws.{gapAt}
-use Rattle.lent.specs.Layout.{waitingAt, orderFrom, rowLength, columnLength, kindRow, wantRow, lockRow, depthRow, breadthRow, pathRow, besideRow, stateLength}
-use Rattle.lent.specs.Words.{address, orderIn, asRead, kindOf, keyIn, informationIn, spread, slotLaid, orderLaid, laidInto}
+use Rattle.lent.specs.Layout.{waitingAt, orderFrom, rowLength, kindRow, wantRow, lockRow, depthRow, breadthRow, pathRow, besideRow, stateLength}
+use Rattle.lent.specs.Words.{address, orderIn, asRead, kindOf, keyIn, informationIn, holdWords, spread, slotLaid, orderLaid, laidInto}
 use Rattle.lent.proofs.SpreadLaws.{spread-append}
-use Rattle.lent.proofs.StateLaws.{by-front, written-laid}
+use Rattle.lent.proofs.StateLaws.{by-front, length-hold, written-laid}
 
 -- ---- one more that waits
 
@@ -82,18 +82,18 @@ module _ (ws : List ℕ) (s : ℕ) (long : length ws ≡ stateLength) (inside : 
   closes-writes = sym (written-laid ws s closedSlot _ (getD ws waitingAt 0 - 1) long inside)
 
 -- a slot laid down number by number
-pub laid-by : (ws : List ℕ) (s : ℕ) (slot : Slot) {c₁ c₂ c₃ c₄ c₅ c₆ c₇ : List ℕ} {number : ℕ} → length (slot .path) ≡ columnLength
+pub laid-by : (ws : List ℕ) (s : ℕ) (slot : Slot) {c₁ c₂ c₃ c₄ c₅ c₆ c₇ : List ℕ} {number : ℕ}
     → c₁ ≡ spread ws kindRow s (kindOf (slot .task) ∷ keyIn (slot .task) ∷ informationIn (slot .task) ∷ [])
     → c₂ ≡ set c₁ (address wantRow s) (slot .want)
     → number ≡ lockNumber (slot .lock)
     → c₃ ≡ set c₂ (address lockRow s) number
     → c₄ ≡ set c₃ (address depthRow s) (slot .depth)
     → c₅ ≡ set c₄ (address breadthRow s) (slot .breadth)
-    → c₆ ≡ spread c₅ pathRow s (slot .path)
-    → c₇ ≡ spread c₆ besideRow s (slot .beside)
+    → c₆ ≡ spread c₅ pathRow s (holdWords (slot .path) (slot .locks))
+    → c₇ ≡ spread c₆ besideRow s (holdWords (slot .beside) (slot .sidelocks))
     → c₇ ≡ slotLaid ws s slot
 unfolding slotLaid spread
-laid-by ws s slot {c₂ = c₂} long e₁ e₂ n e₃ e₄ e₅ e₆ e₇ =
+laid-by ws s slot {c₂ = c₂} e₁ e₂ n e₃ e₄ e₅ e₆ e₇ =
     let seven : List ℕ = spread ws kindRow s (kindOf (slot .task) ∷ keyIn (slot .task) ∷ informationIn (slot .task) ∷ slot .want ∷ lockNumber (slot .lock) ∷ slot .depth ∷ slot .breadth ∷ []) in
     let there : _ ≡ seven =
     e₅
@@ -103,8 +103,10 @@ laid-by ws s slot {c₂ = c₂} long e₁ e₂ n e₃ e₄ e₅ e₆ e₇ =
     (e₃
     ∙ ap (set c₂ (address lockRow s)) n
     ∙ ap (λ (l : List ℕ). set l (address lockRow s) (lockNumber (slot .lock))) (e₂ ∙ ap (λ (l : List ℕ). set l (address wantRow s) (slot .want)) e₁))) in
-    let behind : pathRow + length (slot .path) ≡ besideRow = omega arith in
+    let onPath : List ℕ = holdWords (slot .path) (slot .locks) in
+    let aside : List ℕ = holdWords (slot .beside) (slot .sidelocks) in
+    let behind : pathRow + length onPath ≡ besideRow = omega (arith, length-hold (slot .path) (slot .locks)) in
     e₇
-    ∙ ap (λ (l : List ℕ). spread l besideRow s (slot .beside)) (e₆ ∙ ap (λ (l : List ℕ). spread l pathRow s (slot .path)) there)
-    ∙ ap (λ (r : ℕ). spread (spread seven pathRow s (slot .path)) r s (slot .beside)) (sym behind)
-    ∙ sym (spread-append seven pathRow s (slot .path) (slot .beside))
+    ∙ ap (λ (l : List ℕ). spread l besideRow s aside) (e₆ ∙ ap (λ (l : List ℕ). spread l pathRow s onPath) there)
+    ∙ ap (λ (r : ℕ). spread (spread seven pathRow s onPath) r s aside) (sym behind)
+    ∙ sym (spread-append seven pathRow s onPath aside)

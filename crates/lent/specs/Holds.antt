@@ -1,81 +1,68 @@
 -- Which other slots hold a page, or want it: what the test of a grant and the test of a sound state look for, on the words.
 use Prim.Native.Nat.{ℕ, _≤_, _<_}
-use mathlib.Core.Bool.{Bool, true, cond, not, _&&_, _||_}
+use mathlib.Core.Bool.{Bool, true, not, _&&_, _||_}
 use mathlib.Core.Path.{_≡_}
 use mathlib.Core.List.{List}
-use lib.Dec.{eqb, ltb}
+use lib.Dec.{eqb, leb, ltb}
 use lib.ListN.{getD}
 use Rattle.ground.specs.Limits.{slotCount}
 use Rattle.ground.specs.Tests.{anyBelow, member}
 use Rattle.slots.specs.declared.Lock.{Lock}
-use Rattle.slots.specs.declared.Lock.the-variants.{Rho, Xi}
-use Rattle.slots.specs.Parts.{held, waitingOrder}
-use Rattle.slots.specs.Locks.{clash}
-use Rattle.slots.specs.Heard.{lockNumber}
-use Rattle.lent.specs.Layout.{waitingAt, rowLength, columnLength, kindRow, wantRow, lockRow, depthRow, breadthRow, pathRow}
-use Rattle.lent.specs.Words.{cell, slotIn, asRead}
+use Rattle.slots.specs.declared.Slot.{Slot}
+use Rattle.slots.specs.Parts.{waitingOrder}
+use Rattle.slots.specs.Locks.{lockHeld, inRow, clash}
+use Rattle.slots.specs.Heard.{lockNamed}
+use Rattle.lent.specs.Layout.{pageRange, waitingAt, rowLength, columnLength, wantRow, lockRow, depthRow, breadthRow, pathRow}
+use Rattle.lent.specs.Words.{cell, pageIn, numberIn, slotIn, asRead}
 
--- no path is longer than its rows, nor are the pages beside it, and a closed slot holds nothing
+-- no path is longer than its rows, nor are the pages beside it
 pub record WithinRows (ws : List ℕ) : Type 0 where
   pub path : (s : ℕ) → s < rowLength → cell ws depthRow s ≤ columnLength
   pub beside : (s : ℕ) → s < rowLength → cell ws breadthRow s ≤ columnLength
-  pub closed : (t : ℕ) → t < rowLength → cell ws kindRow t ≡ 0 → (cell ws depthRow t ≡ 0) × (cell ws breadthRow t ≡ 0)
 
--- a number that stands for a lock, ρ or ξ
+-- a number that stands for a lock
 abbrev pub isLockNumber : ℕ → Bool
-isLockNumber number = eqb number (lockNumber Rho) || eqb number (lockNumber Xi)
+isLockNumber number = leb 1 number && leb number 4
 
--- the waiting order is no longer than its row, and names slots that want with a lock, as open slots do
+-- the waiting order is no longer than its row, and names slots
 pub record OpenOrder (ws : List ℕ) : Type 0 where
   pub few : getD ws waitingAt 0 ≤ rowLength
   pub below : (t : ℕ) → member t (waitingOrder (asRead ws)) ≡ true → t < slotCount
-  pub wants : (t : ℕ) → member t (waitingOrder (asRead ws)) ≡ true → isLockNumber (cell ws lockRow t) ≡ true
 
--- the kinds that hold their pages under ξ: the updates by the first way
-abbrev pub updatesKind : ℕ → Bool
-updatesKind kind = eqb kind 2 || eqb kind 3 || eqb kind 5
+-- every page of a slot fits the half of a word that is for it
+pub record InHalves (slot : Slot) : Type 0 where
+  pub path : (i : ℕ) → getD (slot .path) i 0 < pageRange
+  pub beside : (i : ℕ) → getD (slot .beside) i 0 < pageRange
 
--- Locks have the numbers of a report. The lock under which an open slot of this kind holds its pages (a closed one holds nothing):
-abbrev pub kindLock : ℕ → ℕ
-kindLock kind = cond (updatesKind kind) (lockNumber Xi) (lockNumber Rho)
+-- A row of the table of locks stands for the kind that is wanted: what it says of another kind.
 
--- the lock under which slot t holds page p, and the one that it wants
-abbrev pub lockHeldIn : List ℕ → ℕ → ℕ → ℕ
-lockHeldIn ws t p = kindLock (cell ws kindRow t)
+-- slot t is another one than s, and holds page p under a kind that clashes. (Where it does not hold the page it has no lock on it, and so
+-- none that clashes.)
+abbrev pub otherHolds : List ℕ → ℕ → List Bool → ℕ → ℕ → Bool
+otherHolds ws s row p t = not (eqb t s) && inRow row (lockHeld (slotIn ws t) p)
 
-abbrev pub lockWantedIn : List ℕ → ℕ → ℕ
-lockWantedIn ws t = cell ws lockRow t
-
--- the lock that such a number stands for (an open slot has one), and the rule's table of two numbers
-abbrev pub openLock : ℕ → Lock
-openLock number = cond (eqb number (lockNumber Xi)) Xi Rho
-
-abbrev pub numbersClash : ℕ → ℕ → Bool
-numbersClash held wanted = clash (openLock held) (openLock wanted)
-
--- slot t is another one than s, and the lock under which it would hold page p clashes with this one
-abbrev pub counts : List ℕ → ℕ → ℕ → ℕ → ℕ → Bool
-counts ws s lock p t = not (eqb t s) && numbersClash (lockHeldIn ws t p) lock
-
--- it holds page p
-abbrev pub otherHolds : List ℕ → ℕ → ℕ → ℕ → ℕ → Bool
-otherHolds ws s lock p t = counts ws s lock p t && member p (held (slotIn ws t))
-
--- it holds page p on top of its path
-abbrev pub topHolds : List ℕ → ℕ → ℕ → ℕ → ℕ → Bool
-topHolds ws s lock p t = counts ws s lock p t && (ltb 0 (cell ws depthRow t) && eqb p (cell ws pathRow t))
+-- it holds page p so on top of its path
+abbrev pub topHolds : List ℕ → ℕ → List Bool → ℕ → ℕ → Bool
+topHolds ws s row p t =
+    not (eqb t s)
+    && (ltb 0 (cell ws depthRow t) && eqb p (pageIn (cell ws pathRow t)))
+    && inRow row (lockNamed (numberIn (cell ws pathRow t)))
 
 -- it holds more than one page
 abbrev pub isDeep : List ℕ → ℕ → Bool
 isDeep ws t = ltb 1 (cell ws depthRow t) || ltb 0 (cell ws breadthRow t)
 
-abbrev pub deepHolds : List ℕ → ℕ → ℕ → ℕ → ℕ → Bool
-deepHolds ws s lock p t = counts ws s lock p t && isDeep ws t && member p (held (slotIn ws t))
+abbrev pub deepHolds : List ℕ → ℕ → List Bool → ℕ → ℕ → Bool
+deepHolds ws s row p t = isDeep ws t && otherHolds ws s row p t
 
--- some slot other than s holds page p under a lock that clashes with this one
-unfoldable pub othersHold : List ℕ → ℕ → ℕ → ℕ → Bool
-othersHold ws s lock p = anyBelow rowLength (otherHolds ws s lock p)
+-- some slot other than s holds page p under a kind that clashes
+unfoldable pub othersHold : List ℕ → ℕ → List Bool → ℕ → Bool
+othersHold ws s row p = anyBelow rowLength (otherHolds ws s row p)
 
--- slot t wants page p, with a lock that clashes with this one
-abbrev pub alsoWants : List ℕ → ℕ → ℕ → ℕ → Bool
-alsoWants ws lock p t = eqb (cell ws wantRow t) p && numbersClash (lockWantedIn ws t) lock
+-- slot t wants page p, with a kind that clashes
+abbrev pub alsoWants : List ℕ → List Bool → ℕ → ℕ → Bool
+alsoWants ws row p t = eqb (cell ws wantRow t) p && inRow row (lockNamed (cell ws lockRow t))
+
+-- the row of a kind, by its number: what it says of each kind
+abbrev pub RowOf : ℕ → List Bool → Type 0
+RowOf number row = (lock : Lock) → inRow row lock ≡ clash (lockNamed number) lock

@@ -10,6 +10,10 @@ rowLength = 16
 abbrev pub columnLength : ℕ
 columnLength = 10
 
+-- The word of a held page has the page in its lower half and the number of the kind of its lock in its upper half: pages are below this.
+abbrev pub pageRange : ℕ
+pageRange = 65536
+
 -- ---- the words in front
 
 abbrev pub kAt : ℕ

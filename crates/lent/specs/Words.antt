@@ -3,7 +3,7 @@
 use Prim.Native.Nat.{ℕ, zero, suc, _+_, _*_, _/_, _%_}
 use mathlib.Core.Bool.{Bool, cond}
 use mathlib.Core.List.{List, [], _∷_, _++_}
-use lib.Dec.{eqb, leb}
+use lib.Dec.{leb}
 use lib.ListN.{getD, take, drop, set}
 use Rattle.ground.specs.Limits.{slotCount}
 use Rattle.ground.specs.Tests.{allBelow}
@@ -11,16 +11,16 @@ use Rattle.slots.specs.declared.operations.Asked.{Asked}
 use Rattle.slots.specs.declared.operations.Asked.the-variants.{Known, Unknown}
 use Rattle.slots.specs.declared.Task.{Task}
 use Rattle.slots.specs.declared.Task.the-variants.{Closed, Open}
-use Rattle.slots.specs.declared.Lock.{Lock}
-use Rattle.slots.specs.declared.Lock.the-variants.{None, Rho, Xi}
+use Rattle.slots.specs.declared.Lock.the-variants.{None}
+use Rattle.slots.specs.declared.Under.{Under}
 use Rattle.slots.specs.declared.Slot.{Slot}
 use Rattle.slots.specs.declared.State.{State}
 use Rattle.slots.specs.declared.Answer.{Answer}
-use Rattle.slots.specs.Heard.{lockNumber, changesNothing}
+use Rattle.slots.specs.Heard.{lockNumber, lockNamed, changesNothing}
 use Rattle.slots.specs.Operations.{kindNumber, keyOf, informationOf, askedBy}
 pub use Rattle.slots.specs.Operations.{highestKind}
-use Rattle.slots.specs.Parts.{slotAt, idleState}
-use Rattle.lent.specs.Layout.{kAt, nAt, waitingAt, orderFrom, rowsFrom, rowLength, columnLength, kindRow, keyRow, informationRow, wantRow, lockRow, depthRow, breadthRow, pathRow, besideRow, rowWords}
+use Rattle.slots.specs.Parts.{under, slotAt, idleState}
+use Rattle.lent.specs.Layout.{pageRange, kAt, nAt, waitingAt, orderFrom, rowsFrom, rowLength, columnLength, kindRow, keyRow, informationRow, wantRow, lockRow, depthRow, breadthRow, pathRow, besideRow, rowWords}
 
 -- the list of what f gives for 0 to n - 1
 unfoldable pub listOf : {A : Type 0} → ℕ → (ℕ → A) → List A
@@ -35,9 +35,20 @@ address r s = rowsFrom + rowLength * r + s
 abbrev pub cell : List ℕ → ℕ → ℕ → ℕ
 cell ws r s = getD ws (address r s) 0
 
--- a column of slot s: its words in the rows from r on
+-- the page of a held page's word, and the number of the kind of its lock
+abbrev pub pageIn : ℕ → ℕ
+pageIn w = w % pageRange
+
+abbrev pub numberIn : ℕ → ℕ
+numberIn w = w / pageRange
+
+-- a column of slot s: the pages of its words in the rows from r on
 unfoldable pub column : List ℕ → ℕ → ℕ → List ℕ
-column ws r s = listOf columnLength (λ (j : ℕ). cell ws (r + j) s)
+column ws r s = listOf columnLength (λ (j : ℕ). pageIn (cell ws (r + j) s))
+
+-- and the kinds under which they are held. A number that is no kind stands for no lock, which no open slot may have.
+unfoldable pub lockColumn : List ℕ → ℕ → ℕ → List Under
+lockColumn ws r s = listOf columnLength (λ (j : ℕ). under (lockNamed (numberIn (cell ws (r + j) s))))
 
 -- the task that three numbers ask for; a kind that does not exist stands for none
 abbrev pub taskOf : Asked → Task
@@ -48,19 +59,17 @@ taskOf Unknown = Closed
 abbrev pub taskFrom : ℕ → ℕ → ℕ → Task
 taskFrom kind key information = taskOf (askedBy kind key information)
 
--- the lock of a number. A number that is no kind reads as no lock, which no open slot may want.
-abbrev pub lockRead : ℕ → Lock
-lockRead i = cond (eqb i (lockNumber Rho)) Rho (cond (eqb i (lockNumber Xi)) Xi None)
-
 -- slot s of these words
 abbrev pub slotIn : List ℕ → ℕ → Slot
 slotIn ws s = record {
   task = taskFrom (cell ws kindRow s) (cell ws keyRow s) (cell ws informationRow s);
   want = cell ws wantRow s;
-  lock = lockRead (cell ws lockRow s);
+  lock = lockNamed (cell ws lockRow s);
   path = column ws pathRow s;
+  locks = lockColumn ws pathRow s;
   depth = cell ws depthRow s;
   beside = column ws besideRow s;
+  sidelocks = lockColumn ws besideRow s;
   breadth = cell ws breadthRow s;
 }
 
@@ -96,6 +105,14 @@ abbrev pub informationIn : Task → ℕ
 informationIn Closed = 0
 informationIn (Open op) = informationOf op
 
+-- a held page with the kind of its lock, in one word
+abbrev pub holdWord : ℕ → Under → ℕ
+holdWord p u = p + pageRange * lockNumber (u .lock)
+
+-- a column of them
+unfoldable pub holdWords : List ℕ → List Under → List ℕ
+holdWords pages locks = listOf columnLength (λ (j : ℕ). holdWord (getD pages j 0) (getD locks j (under None)))
+
 -- the numbers of a slot, row by row
 abbrev pub rowsOf : Slot → List ℕ
 rowsOf slot =
@@ -106,8 +123,8 @@ rowsOf slot =
     ∷ lockNumber (slot .lock)
     ∷ slot .depth
     ∷ slot .breadth
-    ∷ slot .path
-    ++ slot .beside
+    ∷ holdWords (slot .path) (slot .locks)
+    ++ holdWords (slot .beside) (slot .sidelocks)
 
 -- these numbers down the column of slot s, from row r on
 unfoldable pub spread : List ℕ → ℕ → ℕ → List ℕ → List ℕ

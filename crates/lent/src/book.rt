@@ -20,6 +20,7 @@ ghost use Rattle.slots.specs.Parts.{waitingOrder};
 ghost use Rattle.slots.specs.Book.{leaving, begins, requeued, closes};
 ghost use Rattle.lent.specs.Layout.{waitingAt, rowLength, columnLength, stateLength};
 ghost use Rattle.lent.specs.Words.{orderIn, asRead, orderLaid, laidInto};
+ghost use Rattle.lent.specs.Holds.{InHalves};
 
 // Every word 0.
 pub fn clear(cells: &mut [u32])
@@ -92,7 +93,7 @@ pub fn begins(cells: &mut [u32; STATE], s: usize, op: Op)
 
 // The slot goes on with new holdings: its new want goes to the end of the waiting order.
 pub fn requeues(cells: &mut [u32; STATE], s: usize, slot: Slot)
-    requires { ⌜ (s < rowLength) × (getD (now cells) waitingAt 0 ≤ rowLength) × (member s (waitingOrder (asRead (now cells))) ≡ true) × (slot .depth ≤ columnLength) × (slot .breadth ≤ columnLength) ⌝ }
+    requires { ⌜ (s < rowLength) × (getD (now cells) waitingAt 0 ≤ rowLength) × (member s (waitingOrder (asRead (now cells))) ≡ true) × (slot .depth ≤ columnLength) × (slot .breadth ≤ columnLength) × InHalves slot ⌝ }
     ensures { λ _. ⌜ now (cells .exit) ≡ laidInto (now (cells .entry)) s (requeued (asRead (now (cells .entry))) s slot) ⌝ }
 {
     sized(cells);

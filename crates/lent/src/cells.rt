@@ -4,6 +4,7 @@ use crate::DEPTH;
 use crate::KIND;
 use crate::LOCK;
 use crate::ORDER;
+use crate::PAGE_RANGE;
 use crate::PAGES;
 use crate::PATH;
 use crate::ROWS_FROM;
@@ -16,7 +17,7 @@ ghost use mathlib.Core.Path.{_≡_};
 ghost use Prim.Native.Nat.{_+_, _<_};
 ghost use lib.ListN.{length, getD, set};
 ghost use Rattle.lent.specs.Layout.{kAt, nAt, waitingAt, orderFrom, rowLength, kindRow, wantRow, lockRow, depthRow, breadthRow, pathRow, rowCount, stateLength};
-ghost use Rattle.lent.specs.Words.{address, cell};
+ghost use Rattle.lent.specs.Words.{address, cell, pageIn, numberIn};
 
 pub fn wide(x: u32) -> usize
     ensures { λ r. ⌜ r ≡ x ⌝ }
@@ -115,7 +116,20 @@ pub fn breadth_at(cells: &[u32; STATE], s: usize) -> u32
     word_at(cells, BREADTH, s)
 }
 
-// The top page of its path.
+// The page of a held page's word, and the number of the kind of its lock.
+pub fn page_in(word: u32) -> u32
+    ensures { λ r. ⌜ r ≡ pageIn word ⌝ }
+{
+    word % PAGE_RANGE
+}
+
+pub fn number_in(word: u32) -> u32
+    ensures { λ r. ⌜ r ≡ numberIn word ⌝ }
+{
+    word / PAGE_RANGE
+}
+
+// The word of the top page of its path.
 pub fn top_at(cells: &[u32; STATE], s: usize) -> u32
     requires { ⌜ s < rowLength ⌝ }
     ensures { λ r. ⌜ r ≡ cell (now (cells .entry)) pathRow s ⌝ }

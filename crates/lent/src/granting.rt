@@ -5,8 +5,9 @@ use crate::PATH;
 use crate::STATE;
 use crate::cells::breadth_at;
 use crate::cells::depth_at;
-use crate::cells::kind_at;
+use crate::cells::number_in;
 use crate::cells::order_at;
+use crate::cells::page_in;
 use crate::cells::sized;
 use crate::cells::top_at;
 use crate::cells::waiting_of;
@@ -15,23 +16,28 @@ use crate::cells::wanted_lock_at;
 use crate::cells::wide;
 use crate::cells::word_at;
 use ground::SLOTS;
-use slots::operations::REGRADES;
 ghost use mathlib.Core.Path.{_≡_};
-ghost use mathlib.Core.Bool.{true, not, _&&_};
+ghost use mathlib.Core.Bool.{not, _&&_};
 ghost use Prim.Native.Nat.{_≤_, _<_};
 ghost use lib.Dec.{ltb, eqb};
 ghost use lib.ListN.{take};
 ghost use Rattle.ground.specs.Tests.{anyBelow, member};
 ghost use Rattle.slots.specs.Parts.{held};
+ghost use Rattle.slots.specs.Locks.{lockAmong, lockHeld, lockTable, inRow};
+ghost use Rattle.slots.specs.Heard.{lockNamed};
 ghost use Rattle.slots.specs.Grant as rule;
 ghost use Rattle.lent.specs.Layout.{rowLength, columnLength, lockRow, besideRow};
-ghost use Rattle.lent.specs.Words.{cell, column, slotIn, asRead, known};
-ghost use Rattle.lent.specs.Holds.{WithinRows, isLockNumber, OpenOrder, updatesKind, kindLock, numbersClash, topHolds, deepHolds, isDeep, othersHold, alsoWants};
+ghost use Rattle.lent.specs.Words.{cell, pageIn, numberIn, column, lockColumn, slotIn, asRead};
+ghost use Rattle.lent.specs.Holds.{WithinRows, OpenOrder, topHolds, deepHolds, isDeep, othersHold, alsoWants, RowOf};
 
 // The numbers of locks, as a report gives them.
 pub const RHO: u32 = 1;
 
 pub const XI: u32 = 2;
+
+pub const UPDATER_RHO: u32 = 3;
+
+pub const ALPHA: u32 = 4;
 
 // Page p stands in one of the first `count` rows from `row` on, of slot s.
 pub fn column_has(cells: &[u32; STATE], row: usize, count: usize, s: usize, p: u32) -> bool
@@ -40,7 +46,7 @@ pub fn column_has(cells: &[u32; STATE], row: usize, count: usize, s: usize, p: u
 {
     let mut j = 0;
     while j < count {
-        if word_at(cells, row + j, s) == p {
+        if page_in(word_at(cells, row + j, s)) == p {
             return true;
         }
         j += 1;
@@ -59,41 +65,41 @@ pub fn holds_at(cells: &[u32; STATE], s: usize, p: u32) -> bool
     column_has(cells, BESIDE, wide(breadth_at(cells, s)), s, p)
 }
 
-// A slot of this kind holds its pages under ξ: it is an insertion, a deletion (of all kinds these alone have the half 1) or a regrading,
-// by the first way. No way out in between: the rows ask this of several slots in one go. Where the three are compared one by one, the
-// compiler makes no vector code of it on Arm.
-pub fn is_update(kind: u32) -> bool
-    ensures { λ r. ⌜ r ≡ updatesKind kind ⌝ }
+// The row of the table for the lock of this number: which kinds clash with it. A number that is no lock clashes with none.
+pub fn row_of(table: [[bool; 4]; 4], lock: u32) -> [bool; 4]
+    requires { ⌜ table ≡ lockTable ⌝ }
+    ensures { λ r. ⌜ RowOf lock r ⌝ }
 {
-    (kind / 2 == 1) | (kind == REGRADES)
+    if lock == 0 {
+        return [false, false, false, false];
+    }
+    if ALPHA < lock {
+        return [false, false, false, false];
+    }
+    table[wide(lock) - 1]
 }
 
-// The number of the lock under which an open slot of this kind holds its pages.
-pub fn kind_lock(kind: u32) -> u32
-    ensures { λ r. ⌜ r ≡ kindLock kind ⌝ }
+// What the row says of the lock of this number. No way out in between: the rows ask this of several slots in one go.
+fn row_says(row: [bool; 4], lock: u32) -> bool
+    ensures { λ r. ⌜ r ≡ inRow row (lockNamed lock) ⌝ }
 {
-    RHO + is_update(kind) as u32
+    ((lock == RHO) & row[0])
+        | ((lock == XI) & row[1])
+        | ((lock == UPDATER_RHO) & row[2])
+        | ((lock == ALPHA) & row[3])
 }
 
-// The table of two locks. Two ρ on a page go together, ξ goes with nothing. Asked of held locks and of older wants alike, and of every
-// two slots in the test of a sound state.
-fn clashes(held: u32, wanted: u32) -> bool
-    ensures { λ r. ⌜ r ≡ numbersClash held wanted ⌝ }
+// Slot t is another one than s, and page p is the top of its path, held under a lock that clashes. The top is given by its word.
+fn is_top(t: u32, s: u32, row: [bool; 4], depth: u32, top: u32, p: u32) -> bool
+    ensures { λ r. ⌜ r ≡ not (eqb t s) && (ltb 0 depth && eqb p (pageIn top)) && inRow row (lockNamed (numberIn top)) ⌝ }
 {
-    (held == XI) | (wanted == XI)
+    (t != s) & ((0 < depth) & (p == page_in(top))) & row_says(row, number_in(top))
 }
 
-// Slot t is another one than s, the lock under which it holds its pages clashes with this one, and page p is the top of its path.
-fn is_top(t: u32, s: u32, lock: u32, kind: u32, depth: u32, top: u32, p: u32) -> bool
-    ensures { λ r. ⌜ r ≡ (not (eqb t s) && numbersClash (kindLock kind) lock) && (ltb 0 depth && eqb p top) ⌝ }
-{
-    (t != s) & clashes(kind_lock(kind), lock) & ((0 < depth) & (p == top))
-}
-
-// Another slot than s has page p on top of its path, under a lock that clashes with this one.
-fn tops_hold(cells: &[u32; STATE], s: usize, lock: u32, p: u32) -> bool
+// Another slot than s has page p on top of its path, under a lock that clashes.
+fn tops_hold(cells: &[u32; STATE], s: usize, row: [bool; 4], p: u32) -> bool
     requires { ⌜ s < rowLength ⌝ }
-    ensures { λ r. ⌜ r ≡ anyBelow rowLength (topHolds (now (cells .entry)) s lock p) ⌝ }
+    ensures { λ r. ⌜ r ≡ anyBelow rowLength (topHolds (now (cells .entry)) s row p) ⌝ }
 {
     let mut found = false;
     let mut t = 0;
@@ -102,8 +108,7 @@ fn tops_hold(cells: &[u32; STATE], s: usize, lock: u32, p: u32) -> bool
             | is_top(
                 t as u32,
                 s as u32,
-                lock,
-                kind_at(cells, t),
+                row,
                 depth_at(cells, t),
                 top_at(cells, t),
                 p,
@@ -134,10 +139,38 @@ pub fn some_deep(cells: &[u32; STATE]) -> bool
     found
 }
 
-// Slot t is another one than s, its lock clashes with this one, it holds more than one page, and page p is among them.
-fn deep_holds(cells: &[u32; STATE], s: usize, lock: u32, p: u32, t: usize) -> bool
+// The number of the lock in the cell of page p, among the first `count` rows from `row` on, of slot s; 0, if it is not there.
+fn column_lock(cells: &[u32; STATE], row: usize, count: usize, s: usize, p: u32) -> u32
+    requires { ⌜ (row ≤ besideRow) × (count ≤ columnLength) × (s < rowLength) ⌝ }
+    ensures { λ r. ⌜ lockNamed r ≡ lockAmong p (take count (column (now (cells .entry)) row s)) (take count (lockColumn (now (cells .entry)) row s)) ⌝ }
+{
+    let mut j = 0;
+    while j < count {
+        let word = word_at(cells, row + j, s);
+        if page_in(word) == p {
+            return number_in(word);
+        }
+        j += 1;
+    }
+    0
+}
+
+// The number of the lock under which slot s holds page p; 0, if it does not hold it.
+pub fn held_lock_at(cells: &[u32; STATE], s: usize, p: u32) -> u32
+    requires { ⌜ (s < rowLength) × WithinRows (now cells) ⌝ }
+    ensures { λ r. ⌜ lockNamed r ≡ lockHeld (slotIn (now (cells .entry)) s) p ⌝ }
+{
+    let depth = wide(depth_at(cells, s));
+    if column_has(cells, PATH, depth, s, p) {
+        return column_lock(cells, PATH, depth, s, p);
+    }
+    column_lock(cells, BESIDE, wide(breadth_at(cells, s)), s, p)
+}
+
+// Slot t is another one than s, it holds more than one page, and page p under a lock that clashes.
+fn deep_holds(cells: &[u32; STATE], s: usize, row: [bool; 4], p: u32, t: usize) -> bool
     requires { ⌜ (t < rowLength) × WithinRows (now cells) ⌝ }
-    ensures { λ r. ⌜ r ≡ deepHolds (now (cells .entry)) s lock p t ⌝ }
+    ensures { λ r. ⌜ r ≡ deepHolds (now (cells .entry)) s row p t ⌝ }
 {
     if !is_deep(cells, t) {
         return false;
@@ -145,20 +178,17 @@ fn deep_holds(cells: &[u32; STATE], s: usize, lock: u32, p: u32, t: usize) -> bo
     if t == s {
         return false;
     }
-    if !clashes(kind_lock(kind_at(cells, t)), lock) {
-        return false;
-    }
-    holds_at(cells, t, p)
+    row_says(row, held_lock_at(cells, t, p))
 }
 
 // Such a slot is there.
-fn some_deep_holds(cells: &[u32; STATE], s: usize, lock: u32, p: u32) -> bool
+fn some_deep_holds(cells: &[u32; STATE], s: usize, row: [bool; 4], p: u32) -> bool
     requires { ⌜ WithinRows (now cells) ⌝ }
-    ensures { λ r. ⌜ r ≡ anyBelow rowLength (deepHolds (now (cells .entry)) s lock p) ⌝ }
+    ensures { λ r. ⌜ r ≡ anyBelow rowLength (deepHolds (now (cells .entry)) s row p) ⌝ }
 {
     let mut t = 0;
     while t < SLOTS {
-        if deep_holds(cells, s, lock, p, t) {
+        if deep_holds(cells, s, row, p, t) {
             return true;
         }
         t += 1;
@@ -166,47 +196,45 @@ fn some_deep_holds(cells: &[u32; STATE], s: usize, lock: u32, p: u32) -> bool
     false
 }
 
-// Another slot than s holds page p under a lock that clashes with this one.
-pub fn others_hold(cells: &[u32; STATE], s: usize, lock: u32, p: u32) -> bool
+// Another slot than s holds page p under a lock that clashes.
+pub fn others_hold(cells: &[u32; STATE], s: usize, row: [bool; 4], p: u32) -> bool
     requires { ⌜ (s < rowLength) × WithinRows (now cells) ⌝ }
-    ensures { λ r. ⌜ r ≡ othersHold (now (cells .entry)) s lock p ⌝ }
+    ensures { λ r. ⌜ r ≡ othersHold (now (cells .entry)) s row p ⌝ }
 {
-    if tops_hold(cells, s, lock, p) {
+    if tops_hold(cells, s, row, p) {
         return true;
     }
     if !some_deep(cells) {
         return false;
     }
-    some_deep_holds(cells, s, lock, p)
+    some_deep_holds(cells, s, row, p)
 }
 
-// No other slot holds a clashing lock on the page that slot s wants. A closed slot has no lock, and holds no page either.
-fn no_clash(cells: &[u32; STATE], s: usize) -> bool
-    requires { ⌜ (s < rowLength) × (known (now cells) ≡ true) × WithinRows (now cells) × (isLockNumber (cell (now cells) lockRow s) ≡ true) ⌝ }
+// No other slot holds the page that slot s wants under a lock that clashes with the one it wants.
+fn no_clash(cells: &[u32; STATE], s: usize, row: [bool; 4]) -> bool
+    requires { ⌜ (s < rowLength) × WithinRows (now cells) × RowOf (cell (now cells) lockRow s) row ⌝ }
     ensures { λ r. ⌜ r ≡ rule.noClash (asRead (now (cells .entry))) s ⌝ }
 {
-    let lock = wanted_lock_at(cells, s);
-    !others_hold(cells, s, lock, want_at(cells, s))
+    !others_hold(cells, s, row, want_at(cells, s))
 }
 
-// Slot t wants page p, with a lock that clashes with this one.
-fn also_wants(cells: &[u32; STATE], lock: u32, p: u32, t: usize) -> bool
+// Slot t wants page p, with a lock that clashes.
+fn also_wants(cells: &[u32; STATE], row: [bool; 4], p: u32, t: usize) -> bool
     requires { ⌜ t < rowLength ⌝ }
-    ensures { λ r. ⌜ r ≡ alsoWants (now (cells .entry)) lock p t ⌝ }
+    ensures { λ r. ⌜ r ≡ alsoWants (now (cells .entry)) row p t ⌝ }
 {
     if want_at(cells, t) != p {
         return false;
     }
-    clashes(wanted_lock_at(cells, t), lock)
+    row_says(row, wanted_lock_at(cells, t))
 }
 
 // No older want clashes with that of slot s.
-fn no_older(cells: &[u32; STATE], s: usize) -> bool
-    requires { ⌜ (s < rowLength) × (isLockNumber (cell (now cells) lockRow s) ≡ true) × OpenOrder (now cells) ⌝ }
+fn no_older(cells: &[u32; STATE], s: usize, row: [bool; 4]) -> bool
+    requires { ⌜ (s < rowLength) × OpenOrder (now cells) × RowOf (cell (now cells) lockRow s) row ⌝ }
     ensures { λ r. ⌜ r ≡ rule.noOlder (asRead (now (cells .entry))) s ⌝ }
 {
     sized(cells);
-    let lock = wanted_lock_at(cells, s);
     let want = want_at(cells, s);
     let waiting = waiting_of(cells);
     let mut i = 0;
@@ -218,20 +246,21 @@ fn no_older(cells: &[u32; STATE], s: usize) -> bool
         if t == s {
             break true;
         }
-        if also_wants(cells, lock, want, t) {
+        if also_wants(cells, row, want, t) {
             break false;
         }
         i += 1;
     }
 }
 
-// A step grants the want of slot s.
-pub fn grants(cells: &[u32; STATE], s: usize) -> bool
-    requires { ⌜ (s < rowLength) × (known (now cells) ≡ true) × WithinRows (now cells) × (isLockNumber (cell (now cells) lockRow s) ≡ true) × OpenOrder (now cells) ⌝ }
+// A step grants the want of slot s, by the table of locks. The row of the kind that it wants is found once.
+pub fn grants(cells: &[u32; STATE], s: usize, table: [[bool; 4]; 4]) -> bool
+    requires { ⌜ (s < rowLength) × WithinRows (now cells) × OpenOrder (now cells) × (table ≡ lockTable) ⌝ }
     ensures { λ r. ⌜ r ≡ rule.grants (asRead (now (cells .entry))) s ⌝ }
 {
-    if !no_older(cells, s) {
+    let row = row_of(table, wanted_lock_at(cells, s));
+    if !no_older(cells, s, row) {
         return false;
     }
-    no_clash(cells, s)
+    no_clash(cells, s, row)
 }

@@ -39,5 +39,8 @@ pub const BESIDE: usize = PATH + HELD;
 
 pub const ROWS: usize = BESIDE + HELD;
 
+// The word of a held page has the page in its lower half and the number of the kind of its lock in its upper half: pages are below this.
+pub const PAGE_RANGE: u32 = 65536;
+
 // All words of a state.
 pub const STATE: usize = ROWS_FROM + SLOTS * ROWS;

@@ -21,7 +21,7 @@ use Rattle.slots.specs.declared.Lock.{Lock}
 use Rattle.slots.specs.declared.Answer.{Answer}
 use Rattle.slots.specs.declared.Answer.the-variants.{Waiting, Begun, Made, Reported, BadState, BadPool, BadSlot, SlotBusy, SlotIdle, Damaged, BadPage}
 use Rattle.slots.specs.Heard.{numberOf, refuses, changesNothing}
-use Rattle.slots.specs.Parts.{isOpen, slotAt, openAt, pathOf, besideOf, holding, standOf}
+use Rattle.slots.specs.Parts.{isOpen, slotAt, openAt, pathOf, locksOf, sidelocksOf, besideOf, holding, standOf}
 use Rattle.slots.specs.Sound.{sound}
 use Rattle.slots.specs.Grant.{grants}
 use Rattle.slots.specs.Begin.{begun}
@@ -118,7 +118,7 @@ soundForTask st ws slot (Open op) = soundForStep (st .k) (st .n) ws (standOf op 
 
 pages-sound : (st : State) (ws : List ℕ) (slot : Slot) (task : Task) → Exactly (soundForTask st ws slot task ≡ true) (PagesSound st ws slot task)
 pages-sound st ws slot Closed = ((λ _. tt), (λ _. refl))
-pages-sound st ws slot (Open op) = sound-for-step (st .k) (st .n) ws op (pathOf slot) (besideOf slot) (slot .want) (slot .lock)
+pages-sound st ws slot (Open op) = sound-for-step (st .k) (st .n) ws op (pathOf slot) (besideOf slot) (slot .want) (slot .lock) (locksOf slot) (sidelocksOf slot)
 
 pages-unsound : (st : State) (ws : List ℕ) (slot : Slot) (task : Task) → (PagesSound st ws slot task → ⊥) → soundForTask st ws slot task ≡ false
 pages-unsound st ws slot task never = false-if-not-true (soundForTask st ws slot task) (λ t. never (pages-sound st ws slot task .0 t))

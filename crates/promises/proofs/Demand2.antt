@@ -9,7 +9,7 @@ use lib.Dec.{leb, ltb, eqb}
 use lib.ListN.{length, take, length-append}
 use borrow.Author.Tests.{leb-true, eqb-true, eqb-false, ne-eqb, ltb-true, lt-ltb, le-ltb, not-true}
 use Rattle.ground.specs.Limits.{slotCount}
-use Rattle.ground.specs.Tests.{member, padded}
+use Rattle.ground.specs.Tests.{member, filled}
 use Rattle.ground.proofs.Bools.{true-or-false, not-both, false-if-not-true, and-first, and-second, and-both, not-of-false, or-first, or-second, or-cases}
 use Rattle.ground.proofs.Choice.{cond-true, cond-false}
 use Rattle.ground.proofs.Tests.{member-here, member-none, member-append, member-inside}
@@ -31,20 +31,17 @@ use Rattle.slots.specs.declared.Lock.the-variants.{Xi}
 use Rattle.slots.specs.declared.Outcome.{Outcome}
 use Rattle.slots.specs.declared.Answer.{Answer}
 use Rattle.slots.specs.declared.Answer.the-variants.{Waiting, Moved, NoRoom, BadSlot, SlotIdle}
-use Rattle.slots.specs.Parts.{isDelete, isNext, isSecond, firstWay, heldLock, goesBeside, isOpen, held, pathOf, besideOf, Stand, freshStand, holding, standOf, slotOf, slotAt, openAt, wantAt, holdsAt, waitingOrder, closedSlot, Opened}
-use Rattle.slots.specs.Locks.{lockOf, lockHeld, lockHeldAt, lockWantedAt, clash}
-use Rattle.slots.specs.Sound.{withinLimits, wantsRightly}
+use Rattle.slots.specs.Parts.{isDelete, isNext, isSecond, firstWay, heldLock, goesBeside, isOpen, held, heldLocks, pathOf, besideOf, Stand, freshStand, holding, standOf, slotOf, slotAt, openAt, wantAt, holdsAt, waitingOrder, closedSlot, Opened}
+use Rattle.slots.specs.Locks.{lockHeldAt, lockWantedAt, clash}
+use Rattle.slots.specs.Sound.{withinLimits}
 use Rattle.slots.specs.Heard.{numberOf, changesNothing, isOneOf, countedAnswers, ending}
 use Rattle.slots.specs.Report.{reported}
 use Rattle.slots.specs.Grant.{grants}
 use Rattle.slots.specs.Book.{begins, goesOn, closes}
 use Rattle.slots.specs.Begin.{begun}
 use Rattle.slots.proofs.SoundFacts.{facts-sound}
-use Rattle.slots.proofs.Clashes.{no-two-locks-clash}
-use Rattle.slots.proofs.LockLaws.{isLock, clash-swap, xi-clashes, held-lock, can-want-locks}
-use Rattle.slots.proofs.GrantLaws.{holder-open}
 use Rattle.slots.proofs.OrderLaws.{order-has-room, leaving-between, waiting-begins, waiting-requeued, waiting-closes}
-use Rattle.slots.proofs.Keeping.{slot-here, slot-other, held-new, stand-new}
+use Rattle.slots.proofs.Keeping.{Paired, slot-here, slot-other, held-new, stand-new}
 use Rattle.footing.specs.Granted.{Verdict, broken, goes, ends, isSafe, answeredAtOnce, staysSecond, atItsLeaf}
 use Rattle.footing.specs.Fitting.{verdict}
 use Rattle.footing.proofs.KeepLaws.{second-safe, regrade-safe}
@@ -59,6 +56,7 @@ use Rattle.runs.specs.Waits.{Barred}
 use Rattle.runs.specs.Step.{Ended}
 use Rattle.runs.proofs.Invariant.{Invariant}
 use Rattle.runs.proofs.Placing.{one-held, next-beside}
+use Rattle.runs.proofs.Locking.{paired}
 use Rattle.runs.proofs.Calls.{StepOf, noSlot, idle, waits, onward, over, step-of, granted-does}
 use Rattle.runs.proofs.Runs.{call-keeps, call-numbers, BeginOf, noSuch, busy, begins-so, begin-of, ReportOf, noPage, tells, report-of, holds-after, numbers-after}
 use Rattle.runs.proofs.Barring.{coming-above}
@@ -69,9 +67,10 @@ use Rattle.runs.proofs.Verdicts.{EndsIf, stillBy, coming-stays}
 use Rattle.runs.proofs.Measure.{Where, atStart, onTheWay, atTheLeaf, deletes-beside, beside-first}
 use Rattle.runs.proofs.MeasureLaws.{start-above, low-above, where-slot}
 use Rattle.runs.proofs.Agreement.{plain-counted}
-use Rattle.promises.specs.Terms.{Exactly, HoldsRho, BySecond}
+use Rattle.promises.specs.Terms.{Exactly, HoldsAs, BySecond}
 use Rattle.promises.specs.Demand2.{AfterEveryCall, Anew, HasXi, Seen, InTheWay, StepLocks, CallLocks, Words, Demand2Holds}
-use Rattle.promises.proofs.Terms.{holds-rho, holds-xi, second-named, named-second, wants-as, xi-excludes, excludes-xi, other-shares, clash-xi, clashes-so}
+use Rattle.promises.proofs.Terms.{together-told, clash-apart, apart-clash, kind-is, second-named, named-second, among-once, holds-as, as-held, sound-kind, wants-as}
+use Rattle.promises.proofs.SoundState.{sound-is}
 use Rattle.promises.proofs.Seen.{step-seen}
 
 -- ---- an update by the second way ends
@@ -115,14 +114,6 @@ stays-second st ws inv s op b runs g e second =
 
 -- ---- after every call
 
--- where no two locks clash on a page, both who hold it hold it with ρ
-both-share : (a b : Slot) (p : ℕ) → isOpen (a .task) ≡ true → isOpen (b .task) ≡ true → clash (lockHeld a p) (lockHeld b p) ≡ false
-    → ((op : Op) × (a .task ≡ Open op) × HoldsRho op) × ((op : Op) × (b .task ≡ Open op) × HoldsRho op)
-both-share a b p o q c = (
-  other-shares (a .task) o (λ x. not-both (ap (λ (l : Lock). clash l (lockHeld b p)) x ∙ clash-swap Xi (lockHeld b p) ∙ xi-clashes (lockHeld b p) (held-lock b p q)) c),
-  other-shares (b .task) q (λ x. not-both (ap (clash (lockHeld a p)) x ∙ xi-clashes (lockHeld a p) (held-lock a p o)) c),
-)
-
 -- "a closed slot holds nothing"
 closed-empty : (task : Task) (depth beside : ℕ) (path siblings : List ℕ) → withinLimits task depth beside ≡ true → isOpen task ≡ false → take depth path ++ take beside siblings ≡ []
 closed-empty Closed depth beside path siblings h c =
@@ -163,13 +154,11 @@ after-call st ws inv = record {
   forms = inv .forms;
   free = λ q b none. inv .forms .exact q b ∙ ap (encode (st .k)) (inv .forms .forms .others q b none) ∙ encode-free (st .k);
   soundState = facts-sound st (inv .sound);
-  locks = λ s u p b c n hs hu. both-share (slotAt st s) (slotAt st u) p
-      (holder-open (st .n) (slotAt st s) p (inv .sound .slot s b) hs)
-      (holder-open (st .n) (slotAt st u) p (inv .sound .slot u c) hu)
-      (no-two-locks-clash st (inv .sound) s u p b c n hs hu);
+  locks = λ s u p x y b c n h g. sound-is st .0 (facts-sound st (inv .sound)) .together s u p x y b c n h g;
   stands = inv .stands;
   closed = λ s b c. closed-empty (slotAt st s .task) (slotAt st s .depth) (slotAt st s .breadth) (slotAt st s .path) (slotAt st s .beside) (inv .sound .slot s b .limits) c;
-  wantsAs = λ s op b runs. wants-as (pageAt (st .k) ws) (standOf op (slotAt st s)) (inv .locked s op b runs);
+  heldAs = λ s p op lock b runs h. sound-is st .0 (facts-sound st (inv .sound)) .holds s p op lock b runs h;
+  wantsAs = λ s op b runs. wants-as (pageAt (st .k) ws) (standOf op (slotAt st s)) (inv .locked s op b runs .wants);
   oneHeld = λ s x v way b runs.
       holds-one (st .k) (pageAt (st .k) ws) (inv .height) (inv .tree) (standOf (Regrade x v way) (slotAt st s)) (λ P. regrade-safe (st .k) P {x = x} {v = v} {way = way} refl) refl
       (inv .stands s (Regrade x v way) b runs);
@@ -239,7 +228,11 @@ module _ (st : State) (ws : List ℕ) (inv : Invariant st ws) where
     slot = h .slot;
     inside = h .below;
     other = h .other;
-    there = inl (h .holds, ⊎-elim (λ x. inl (xi-excludes (slotAt st (h .slot) .task) x)) inr (clash-xi (lockHeldAt st (h .slot) (wantAt st s)) (lockWantedAt st s) (h .clashes)));
+    there = inl (
+      lockHeldAt st (h .slot) (wantAt st s),
+      holds-as st (h .slot) (wantAt st s) (h .holds),
+      clash-apart (lockHeldAt st (h .slot) (wantAt st s)) (lockWantedAt st s) (h .clashes),
+    );
   }
   in-the-way s b o (inr e) =
       let waits = older-waits s (e .slot) (waitingOrder st) (e .older) in
@@ -250,42 +243,28 @@ module _ (st : State) (ws : List ℕ) (inv : Invariant st ws) where
         there = inr (
           e .same,
           older-before s (e .slot) (waitingOrder st) (inv .sound .orderNames s b o) (e .older),
-          clash-xi (lockWantedAt st (e .slot)) (lockWantedAt st s) (e .clashes),
+          clash-apart (lockWantedAt st (e .slot)) (lockWantedAt st s) (e .clashes),
         );
       }
-
-  -- what an open slot wants is a lock
-  wants-lock : (s : ℕ) → s < slotCount → openAt st s ≡ true → isLock (slotAt st s .lock) ≡ true
-  wants-lock s b o =
-      let (op, runs) = opened (slotAt st s .task) o in
-      can-want-locks op (slotAt st s .lock) (subst (λ (task : Task). wantsRightly task (slotAt st s .lock) ≡ true) runs (inv .sound .slot s b .rightly))
-
-  -- two locks of which one is ξ clash
-  one-xi : (a b : Lock) → isLock a ≡ true → isLock b ≡ true → (a ≡ Xi) ⊎ (b ≡ Xi) → clash a b ≡ true
-  one-xi a b x y (inl e) = ap (λ (l : Lock). clash l b) e ∙ clash-swap Xi b ∙ xi-clashes b y
-  one-xi a b x y (inr e) = ap (clash a) e ∙ xi-clashes a x
 
   way-barred : (s : ℕ) → s < slotCount → openAt st s ≡ true → InTheWay st s → Barred st s
   way-barred s b o w =
       ⊎-elim
-      (λ h.
-      let holder = holder-open (st .n) (slotAt st (w .slot)) (wantAt st s) (inv .sound .slot (w .slot) (w .inside)) (h .0) in
+      (λ (lock, holds, apart).
       inl (record {
         slot = w .slot;
         below = w .inside;
         other = w .other;
-        holds = h .0;
-        clashes = one-xi (lockHeldAt st (w .slot) (wantAt st s)) (lockWantedAt st s) (held-lock (slotAt st (w .slot)) (wantAt st s) holder) (wants-lock s b o)
-            (⊎-elim (λ x. inl (excludes-xi (slotAt st (w .slot) .task) (x .0) (x .1) (x .2))) inr (h .1));
+        holds = as-held st (w .slot) (wantAt st s) lock holds;
+        clashes = ap (λ (l : Lock). clash l (lockWantedAt st s)) (sound-kind st (inv .sound) (w .slot) (wantAt st s) lock (w .inside) holds)
+            ∙ apart-clash lock (lockWantedAt st s) apart;
       }))
-      (λ q.
-      let older = before-older s (w .slot) (waitingOrder st) (inv .sound .orderOnce) (q .1) in
+      (λ (same, before, apart).
       inr (record {
         slot = w .slot;
-        older = older;
-        same = q .0;
-        clashes = one-xi (lockWantedAt st (w .slot)) (lockWantedAt st s)
-            (wants-lock (w .slot) (w .inside) (inv .sound .orderOpen (w .slot) (older-waits s (w .slot) (waitingOrder st) older))) (wants-lock s b o) (q .2);
+        older = before-older s (w .slot) (waitingOrder st) (inv .sound .orderOnce) before;
+        same = same;
+        clashes = apart-clash (lockWantedAt st (w .slot)) (lockWantedAt st s) apart;
       }))
       (w .there)
 
@@ -302,10 +281,10 @@ module _ (st : State) (ws : List ℕ) (inv : Invariant st ws) where
   unchanged s a same w e = subst (StepLocks st ws s) (sym e) (record { itself = inl (record { answer = same; state = refl; words = refl }); others = λ u n. refl; waits = w; waitsFor = waits-for s (left a st ws) w })
 
   moved : (s : ℕ) (b : s < slotCount) (op : Op) (z : Stand) → Opened st s op
-      → Takes (st .k) (pageAt (st .k) ws) (standOf op (slotAt st s)) z
+      → Paired z → Takes (st .k) (pageAt (st .k) ws) (standOf op (slotAt st s)) z
       → grants st s ≡ true → StepLocks st ws s (left Moved (goesOn st s z) ws)
   unfolding goesOn member
-  moved s b op z runs takes g = record {
+  moved s b op z runs pairs takes g = record {
     itself = inr (inl (record {
       op = op;
       op′ = z .op;
@@ -316,7 +295,7 @@ module _ (st : State) (ws : List ℕ) (inv : Invariant st ws) where
       taken = ⊎-elim (λ t. inl (t .0, ap (λ (sl : Slot). member (wantAt st s) (held sl)) here ∙ ap (member (wantAt st s)) (held-new z) ∙ t .1)) (λ t. inr (anew (t .0) (t .1)))
           (takes-wanted (st .k) (pageAt (st .k) ws) (standOf op (slotAt st s)) z takes);
       takes = subst (Takes (st .k) (pageAt (st .k) ws) (standOf op (slotAt st s)))
-          (sym (ap (standOf (z .op)) here ∙ stand-new z)) takes;
+          (sym (ap (standOf (z .op)) here ∙ stand-new z pairs)) takes;
       order = waiting-requeued st s order-long (inv .sound .orderNames s b (ap isOpen runs)) (slotOf z);
     }));
     others = λ u n. slot-other st (inv .shaped) s b (slotOf z) [] 0 u n;
@@ -353,7 +332,7 @@ module _ (st : State) (ws : List ℕ) (inv : Invariant st ws) where
       → (q : ℕ) → q < st .n → (HasXi st s q → ⊥) → pageAt (st .k) ws q .level ≢ 0 → wordsOf (st .k) q (applied (st .k) writes ws) ≡ wordsOf (st .k) q ws
   untouched s op a writes runs e q b none level =
       unwritten s op a writes e q (λ w. ⊎-elim
-      (λ m. none (⊎-elim inl (λ (h, x). inr (h, xi-excludes (slotAt st s .task) (ap lockOf runs ∙ x))) m))
+      (λ m. none (⊎-elim inl (λ (h, x). inr (subst (HoldsAs st s q) x (holds-as st s q h))) m))
       (λ free. level (ap (λ (P : Page). P .level) (inv .forms .forms .others q b free)))
       (e .only q w))
 
@@ -380,7 +359,7 @@ module _ (st : State) (ws : List ℕ) (inv : Invariant st ws) where
       → Ended (st .k) (st .n) ws (inv .height) (inv .tree) (standOf op (slotAt st s)) a writes
       → stepped st ws s ≡ left a (closes st s) (applied (st .k) writes ws)
       → StepLocks st ws s (left a (closes st s) (applied (st .k) writes ws))
-  unfolding closes pathOf besideOf padded applied
+  unfolding closes pathOf besideOf filled applied
   ended s b op a writes runs g e told = record {
     itself = inr (inr (record {
       op = op;
@@ -411,7 +390,7 @@ module _ (st : State) (ws : List ℕ) (inv : Invariant st ws) where
   step-locks s (noSlot b e) = unchanged s BadSlot refl (not-waiting s BadSlot st ws refl (λ w. let inside = w .0 in absurd (omega arith))) e
   step-locks s (idle b c e) = unchanged s SlotIdle refl (not-waiting s SlotIdle st ws refl (λ w. not-both (w .1) c)) e
   step-locks s (waits op b runs g e) = unchanged s Waiting refl (λ _. (b, ap isOpen runs, barred st s g), λ _. refl) e
-  step-locks s (onward op z b runs g e same stance locked takes) = subst (StepLocks st ws s) (sym e) (moved s b op z runs takes g)
+  step-locks s (onward op z b runs g e same stance locked takes) = subst (StepLocks st ws s) (sym e) (moved s b op z runs (paired z (locked .holds)) takes g)
   step-locks s (over op a writes b runs g e done) = subst (StepLocks st ws s) (sym e) (ended s b op a writes runs g done e)
 
   -- who is told to wait has somebody in its way
@@ -534,9 +513,9 @@ words-pinned k = record {
   safe = safe-is k;
   right = λ x F h. cond-true (pointer (suc (place x (F .entries))) F) (pointer (place x (F .entries) - 1) F) (lt-ltb (place x (F .entries)) (μ F) h);
   left = λ x F h. cond-false (pointer (suc (place x (F .entries))) F) (pointer (place x (F .entries) - 1) F) (le-ltb (place x (F .entries)) (μ F) h);
-  clashes = clashes-so;
-  heldRho = λ op a p e r. (holds-rho op r, ap lockOf e ∙ holds-rho op r);
-  heldXi = λ op a p e never. (holds-xi op never, ap lockOf e ∙ holds-xi op never);
+  clashes = together-told;
+  kind = kind-is;
+  heldKind = λ a i d b. among-once (held a) (heldLocks a) i d b;
   wanted = λ a. refl;
   older = λ s t order d w. ((λ m. older-before s t order w m), (λ b. before-older s t order d b));
   leaves = leaving-between;

@@ -112,7 +112,7 @@ from-leaf-tells op act h (leaf ∷ fathers) = h leaf fathers
 
 module _ (k : ℕ) (memory : ℕ → Page) (free : List ℕ) (z : Stand) where
   coming-tells : TellsBy (z .op) (comesDown k memory free z)
-  coming-tells = comes-down-by (TellsBy (z .op)) k memory free z (λ _ path fathers. way-tells k memory free (onPages z path []) (z .want) fathers) (λ _. tt)
+  coming-tells = comes-down-by (TellsBy (z .op)) k memory free z (λ _ path locks fathers. way-tells k memory free (onPages z path locks [] []) (z .want) fathers) (λ _. tt)
 
   beside-tells : TellsBy (z .op) (besides k memory z)
   unfolding besides goesLeft

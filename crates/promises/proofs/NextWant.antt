@@ -28,11 +28,12 @@ use Rattle.slots.specs.declared.Op.the-variants.{Search, Insert, Delete, Next, 
 use Rattle.slots.specs.declared.Way.{Way}
 use Rattle.slots.specs.declared.Way.the-variants.{First, Second}
 use Rattle.slots.specs.declared.Lock.{Lock}
+use Rattle.slots.specs.declared.Under.{Under}
 use Rattle.slots.specs.declared.Lock.the-variants.{Rho}
 use Rattle.slots.specs.declared.Answer.{Answer}
 use Rattle.slots.specs.declared.Answer.the-variants.{Deleted, None as NoLot}
-use Rattle.slots.specs.Parts.{keyOf, isDelete, isNext, isSecond, firstWay, heldLock, Stand, stand, freshStand, holding}
-use Rattle.footing.specs.Granted.{Verdict, goes, ends, isSafe, lockBelow, kept, byNeed, deletes, crosses, byNearest, staysSecond, atLeaf, fromLeaf, byWayAtLeaf, comesDown, goesLeft, besides, atItsLeaf, granted}
+use Rattle.slots.specs.Parts.{keyOf, isDelete, isNext, isSecond, firstWay, heldLock, under, Stand, stand, freshStand, holding}
+use Rattle.footing.specs.Granted.{Verdict, goes, ends, isSafe, lockBelow, kept, keptLocks, byNeed, deletes, crosses, byNearest, staysSecond, atLeaf, fromLeaf, byWayAtLeaf, comesDown, goesLeft, besides, atItsLeaf, granted}
 use Rattle.footing.specs.Fitting.{pagesSound, fitting, nextIsNew, soundForStep}
 use Rattle.tree.proofs.DeletionRule.{needs-ask, needs-next, needs-root}
 use Rattle.runs.specs.PlainFacts.{AllBelow}
@@ -105,8 +106,8 @@ abbrev Downward : ℕ → (ℕ → Page) → Op → List ℕ → ℕ → List �
 Downward k memory op path want h q =
     RoutesTo (keyOf op) (memory want) q × ((Safe op k (memory want) × (h ≡ want ∷ [])) ⊎ ((Safe op k (memory want) → ⊥) × (h ≡ path ++ want ∷ [])))
 
-downward : {k : ℕ} {memory : ℕ → Page} {op : Op} {path beside : List ℕ} {want : ℕ} {lock : Lock} {h : List ℕ} {q : ℕ} → (StandsAtLeaf memory path → ⊥) → memory want .level ≢ 1
-    → WouldWant k memory (stand op path beside want lock) h q → Downward k memory op path want h q
+downward : {k : ℕ} {memory : ℕ → Page} {op : Op} {path beside : List ℕ} {want : ℕ} {lock : Lock} {locks sidelocks : List Under} {h : List ℕ} {q : ℕ} → (StandsAtLeaf memory path → ⊥) → memory want .level ≢ 1
+    → WouldWant k memory (stand op path locks beside sidelocks want lock) h q → Downward k memory op path want h q
 downward n l (alone a b s r e) = (r, inl (s, e))
 downward n l (lower a b s r e) = (r, inr (s, e))
 downward n l (leafSibling a b d t s r e f) = absurd (l b)
@@ -125,8 +126,8 @@ Crossed k memory op path want h q =
     (isNext op ≡ true) × AllBelow (keyOf op) (memory want .entries) × (1 ≤ length path) × Safe op k (memory (getD path 0 0))
     × (q ≡ neighbour (keyOf op) (memory (getD path 0 0))) × (h ≡ path ++ want ∷ [])
 
-to-leaf : {k : ℕ} {memory : ℕ → Page} {op : Op} {path beside : List ℕ} {want : ℕ} {lock : Lock} {h : List ℕ} {q : ℕ} → (StandsAtLeaf memory path → ⊥) → memory want .level ≡ 1
-    → WouldWant k memory (stand op path beside want lock) h q → LeafSibling k memory op path want h q ⊎ Crossed k memory op path want h q
+to-leaf : {k : ℕ} {memory : ℕ → Page} {op : Op} {path beside : List ℕ} {want : ℕ} {lock : Lock} {locks sidelocks : List Under} {h : List ℕ} {q : ℕ} → (StandsAtLeaf memory path → ⊥) → memory want .level ≡ 1
+    → WouldWant k memory (stand op path locks beside sidelocks want lock) h q → LeafSibling k memory op path want h q ⊎ Crossed k memory op path want h q
 to-leaf n l (alone a b s r e) = absurd (b l)
 to-leaf n l (lower a b s r e) = absurd (b l)
 to-leaf n l (leafSibling a b d t s r e f) = inl (d, t, s, r, e, f)
@@ -144,8 +145,8 @@ FatherSibling k memory op path beside want h q =
 abbrev Leftward : (ℕ → Page) → Op → List ℕ → List ℕ → ℕ → List ℕ → ℕ → Type 0
 Leftward memory op path beside want h q = (isNext op ≡ true) × (memory want .level ≢ 1) × (q ≡ pointer 0 (memory want)) × (h ≡ path ++ (beside ++ want ∷ []))
 
-from-leaf : {k : ℕ} {memory : ℕ → Page} {op : Op} {path beside : List ℕ} {want : ℕ} {lock : Lock} {h : List ℕ} {q : ℕ} → StandsAtLeaf memory path
-    → WouldWant k memory (stand op path beside want lock) h q → FatherSibling k memory op path beside want h q ⊎ Leftward memory op path beside want h q
+from-leaf : {k : ℕ} {memory : ℕ → Page} {op : Op} {path beside : List ℕ} {want : ℕ} {lock : Lock} {locks sidelocks : List Under} {h : List ℕ} {q : ℕ} → StandsAtLeaf memory path
+    → WouldWant k memory (stand op path locks beside sidelocks want lock) h q → FatherSibling k memory op path beside want h q ⊎ Leftward memory op path beside want h q
 from-leaf l (alone a b s r e) = absurd (a l)
 from-leaf l (lower a b s r e) = absurd (a l)
 from-leaf l (leafSibling a b d t s r e f) = absurd (a l)
@@ -155,9 +156,9 @@ from-leaf l (onward a d b e f) = inr (d, b, e, f)
 
 -- ---- coming to the leaf
 
-module _ (k : ℕ) (memory : ℕ → Page) (free path beside : List ℕ) (want : ℕ) (lock : Lock) (n : StandsAtLeaf memory path → ⊥) (leaf : memory want .level ≡ 1) where
+module _ (k : ℕ) (memory : ℕ → Page) (free path beside : List ℕ) (want : ℕ) (lock : Lock) (locks sidelocks locks′ : List Under) (n : StandsAtLeaf memory path → ⊥) (leaf : memory want .level ≡ 1) where
   -- an operation that goes on from no leaf
-  stays : (op : Op) → isDelete op ≡ false → isNext op ≡ false → (h : List ℕ) (q : ℕ) → WouldWant k memory (stand op path beside want lock) h q → ⊥
+  stays : (op : Op) → isDelete op ≡ false → isNext op ≡ false → (h : List ℕ) (q : ℕ) → WouldWant k memory (stand op path locks beside sidelocks want lock) h q → ⊥
   stays op d e h q w = ⊎-elim (λ s. not-both (s .0) d) (λ s. not-both (s .0) e) (to-leaf n leaf w)
 
   -- a deletion whose leaf has the key
@@ -167,18 +168,18 @@ module _ (k : ℕ) (memory : ℕ → Page) (free path beside : List ℕ) (want :
 
     -- it needs nothing more
     enough : (path′ fathers : List ℕ) → needs k memory x want fathers [] ≡ nothing → ((μ (memory want) ≤ k) → (want ≢ 0) → ⊥)
-        → Comes k memory (stand (Delete x way) path beside want lock) (deletes k memory x (stand (Delete x way) path′ [] want lock) want fathers)
+        → Comes k memory (stand (Delete x way) path locks beside sidelocks want lock) (deletes k memory x (stand (Delete x way) path′ locks′ [] [] want lock) want fathers)
     unfolding deletes
-    enough path′ fathers e never = ended (ap (byNeed (stand (Delete x way) path′ [] want lock) (whole fathers)) e)
+    enough path′ fathers e never = ended (ap (byNeed (stand (Delete x way) path′ locks′ [] [] want lock) (whole fathers)) e)
         (λ h q w. ⊎-elim (λ s. never (s .2) (s .3)) (λ s. not-both (s .0) (deletes-nothing-next x way)) (to-leaf n leaf w))
 
-    deletes-alone : k < μ (memory want) → Comes k memory (stand (Delete x way) path beside want lock) (deletes k memory x (stand (Delete x way) (want ∷ []) [] want lock) want [])
+    deletes-alone : k < μ (memory want) → Comes k memory (stand (Delete x way) path locks beside sidelocks want lock) (deletes k memory x (stand (Delete x way) (want ∷ []) locks′ [] [] want lock) want [])
     unfolding needs
     deletes-alone s = enough (want ∷ []) []
         (cond-true (satisfied []) astray (or-second (eqb want 0) (lt-ltb k (μ (memory want)) s))) (λ m _. omega (arith, s, m))
 
     deletes-kept : isDelete (Delete x way) ≡ true → (up : List ℕ) → reverse path ≡ up → μ (memory want) ≤ k
-        → Comes k memory (stand (Delete x way) path beside want lock) (deletes k memory x (stand (Delete x way) (path ++ want ∷ []) [] want lock) want up)
+        → Comes k memory (stand (Delete x way) path locks beside sidelocks want lock) (deletes k memory x (stand (Delete x way) (path ++ want ∷ []) locks′ [] [] want lock) want up)
     unfolding needs deletes
     deletes-kept del [] e m =
         let none : length path ≡ 0 = sym (length-reverse path) ∙ ap length e in
@@ -186,8 +187,8 @@ module _ (k : ℕ) (memory : ℕ → Page) (free path beside : List ℕ) (want :
     deletes-kept del (f ∷ up) e m =
         ⊎-elim
         (λ root. enough (path ++ want ∷ []) (f ∷ up) (cond-true nothing (sibling (neighbour x (memory f))) (or-first (ltb k (μ (memory want))) (eq-eqb want 0 root))) (λ _ r. r root))
-        (λ other. further (stand (Delete x way) (path ++ want ∷ []) [] (neighbour x (memory f)) (heldLock (Delete x way)))
-        (ap (byNeed (stand (Delete x way) (path ++ want ∷ []) [] want lock) (whole (f ∷ up))) (needs-ask k memory x want f up other m))
+        (λ other. further (stand (Delete x way) (path ++ want ∷ []) locks′ [] [] (neighbour x (memory f)) (heldLock (Delete x way)))
+        (ap (byNeed (stand (Delete x way) (path ++ want ∷ []) locks′ [] [] want lock) (whole (f ∷ up))) (needs-ask k memory x want f up other m))
         (leafSibling n leaf del (has-at x (memory want .entries) there) m other (ap (λ (l : List ℕ). neighbour x (memory (getD l 0 0))) (sym e)) (append-nil (path ++ want ∷ [])))
         (λ h q w. ⊎-elim
         (λ s. (s .5 ∙ sym (append-nil (path ++ want ∷ [])), s .4 ∙ ap (λ (l : List ℕ). neighbour x (memory (getD l 0 0))) e))
@@ -196,24 +197,24 @@ module _ (k : ℕ) (memory : ℕ → Page) (free path beside : List ℕ) (want :
         (same-or-not want 0)
 
 -- a Next whose leaf has no key at or above
-crossed : (k : ℕ) (memory : ℕ → Page) (x : ℕ) (path beside : List ℕ) (want : ℕ) (lock : Lock) → (StandsAtLeaf memory path → ⊥) → memory want .level ≡ 1
-    → atOrAbove x (memory want .entries) ≡ [] → Comes k memory (stand (Next x) path beside want lock) (crosses x k memory (stand (Next x) (path ++ want ∷ []) [] want lock) (path ++ want ∷ []))
-crossed k memory x [] beside want lock n leaf none =
-    subst (Comes k memory (stand (Next x) [] beside want lock))
-    (sym (cond-false (goes (stand (Next x) (want ∷ []) [] (neighbour x (memory want)) Rho)) (ends NoLot []) (false-if-not-true (isSafe (Next x) k (memory want)) (λ s. safe-is k (Next x) (memory want) .0 s .0 leaf))))
+crossed : (k : ℕ) (memory : ℕ → Page) (x : ℕ) (path beside : List ℕ) (want : ℕ) (lock : Lock) (locks sidelocks locks′ : List Under) → (StandsAtLeaf memory path → ⊥) → memory want .level ≡ 1
+    → atOrAbove x (memory want .entries) ≡ [] → Comes k memory (stand (Next x) path locks beside sidelocks want lock) (crosses x k memory (stand (Next x) (path ++ want ∷ []) locks′ [] [] want lock) (path ++ want ∷ []))
+crossed k memory x [] beside want lock locks sidelocks locks′ n leaf none =
+    subst (Comes k memory (stand (Next x) [] locks beside sidelocks want lock))
+    (sym (cond-false (goes (stand (Next x) (want ∷ []) locks′ [] [] (neighbour x (memory want)) Rho)) (ends NoLot []) (false-if-not-true (isSafe (Next x) k (memory want)) (λ s. safe-is k (Next x) (memory want) .0 s .0 leaf))))
     (ended refl (λ h q w. ⊎-elim (λ s. false≢true (s .0)) (λ s. let some = s .2 in omega (arith, some)) (to-leaf n leaf w)))
-crossed k memory x (top ∷ below) beside want lock n leaf none =
-    cond-ind (Comes k memory (stand (Next x) (top ∷ below) beside want lock)) (isSafe (Next x) k (memory top))
-    (λ s. further (stand (Next x) (top ∷ (below ++ want ∷ [])) [] (neighbour x (memory top)) Rho) refl
+crossed k memory x (top ∷ below) beside want lock locks sidelocks locks′ n leaf none =
+    cond-ind (Comes k memory (stand (Next x) (top ∷ below) locks beside sidelocks want lock)) (isSafe (Next x) k (memory top))
+    (λ s. further (stand (Next x) (top ∷ (below ++ want ∷ [])) locks′ [] [] (neighbour x (memory top)) Rho) refl
     (across n leaf refl (none-below x (memory want .entries) none) (omega arith) (safe-is k (Next x) (memory top) .0 s) refl (append-nil (top ∷ (below ++ want ∷ []))))
     (λ h q w. ⊎-elim (λ t. absurd (false≢true (t .0))) (λ t. (t .5 ∙ sym (append-nil (top ∷ (below ++ want ∷ []))), t .4)) (to-leaf n leaf w)))
     (λ s. ended refl (λ h q w. ⊎-elim (λ t. false≢true (t .0)) (λ t. not-both (safe-is k (Next x) (memory top) .1 (t .3)) s) (to-leaf n leaf w)))
 
-nearest-comes : (k : ℕ) (memory : ℕ → Page) (x : ℕ) (path beside : List ℕ) (want : ℕ) (lock : Lock) → (StandsAtLeaf memory path → ⊥) → memory want .level ≡ 1
+nearest-comes : (k : ℕ) (memory : ℕ → Page) (x : ℕ) (path beside : List ℕ) (want : ℕ) (lock : Lock) (locks sidelocks locks′ : List Under) → (StandsAtLeaf memory path → ⊥) → memory want .level ≡ 1
     → (es : List Entry) → atOrAbove x (memory want .entries) ≡ es
-    → Comes k memory (stand (Next x) path beside want lock) (byNearest (crosses x k memory (stand (Next x) (path ++ want ∷ []) [] want lock) (path ++ want ∷ [])) es)
-nearest-comes k memory x path beside want lock n leaf [] e = crossed k memory x path beside want lock n leaf e
-nearest-comes k memory x path beside want lock n leaf (f ∷ es) e =
+    → Comes k memory (stand (Next x) path locks beside sidelocks want lock) (byNearest (crosses x k memory (stand (Next x) (path ++ want ∷ []) locks′ [] [] want lock) (path ++ want ∷ [])) es)
+nearest-comes k memory x path beside want lock locks sidelocks locks′ n leaf [] e = crossed k memory x path beside want lock locks sidelocks locks′ n leaf e
+nearest-comes k memory x path beside want lock locks sidelocks locks′ n leaf (f ∷ es) e =
     ended refl (λ h q w. ⊎-elim (λ s. false≢true (s .0))
     (λ s. let some : suc (length es) ≡ 0 = ap length (sym e ∙ below-none x (memory want .entries) (s .1)) in omega (arith, some)) (to-leaf n leaf w))
 
@@ -224,34 +225,34 @@ Kept op k memory path want path′ fathers =
     ⊎ ((Safe op k (memory want) → ⊥) × (path′ ≡ path ++ want ∷ []) × (fathers ≡ reverse path))
 
 -- of an update by the second way: where it does not begin again
-leaf-comes : (op : Op) (k : ℕ) (memory : ℕ → Page) (free path beside : List ℕ) (want : ℕ) (lock : Lock) (path′ fathers : List ℕ) → (StandsAtLeaf memory path → ⊥)
+leaf-comes : (op : Op) (k : ℕ) (memory : ℕ → Page) (free path beside : List ℕ) (want : ℕ) (lock : Lock) (locks sidelocks locks′ : List Under) (path′ fathers : List ℕ) → (StandsAtLeaf memory path → ⊥)
     → memory want .level ≡ 1 → (length path ≡ 0 → want ≡ 0) → Kept op k memory path want path′ fathers
     → isSecond op && not (staysSecond op k memory want) ≡ false
-    → Comes k memory (stand op path beside want lock) (atLeaf op k memory free (stand op path′ [] want lock) want fathers)
+    → Comes k memory (stand op path locks beside sidelocks want lock) (atLeaf op k memory free (stand op path′ locks′ [] [] want lock) want fathers)
 unfolding atLeaf
-leaf-comes (Search x) k memory free path beside want lock path′ fathers n leaf begins kept still =
-    ended refl (stays k memory free path beside want lock n leaf (Search x) refl refl)
-leaf-comes (Insert x v way) k memory free path beside want lock path′ fathers n leaf begins kept still =
-    let none = stays k memory free path beside want lock n leaf (Insert x v way) (straight-stays (Insert x v way) refl .0) (straight-stays (Insert x v way) refl .1) in
-    cond-ind (Comes k memory (stand (Insert x v way) path beside want lock)) (has x (memory want .entries))
+leaf-comes (Search x) k memory free path beside want lock locks sidelocks locks′ path′ fathers n leaf begins kept still =
+    ended refl (stays k memory free path beside want lock locks sidelocks locks′ n leaf (Search x) refl refl)
+leaf-comes (Insert x v way) k memory free path beside want lock locks sidelocks locks′ path′ fathers n leaf begins kept still =
+    let none = stays k memory free path beside want lock locks sidelocks locks′ n leaf (Insert x v way) (straight-stays (Insert x v way) refl .0) (straight-stays (Insert x v way) refl .1) in
+    cond-ind (Comes k memory (stand (Insert x v way) path locks beside sidelocks want lock)) (has x (memory want .entries))
     (λ _. ended refl none)
-    (λ _. cond-ind (Comes k memory (stand (Insert x v way) path beside want lock)) (ltb (length free) (room k memory want path′)) (λ _. ended refl none) (λ _. ended refl none))
-leaf-comes (Delete x First) k memory free path beside want lock path′ fathers n leaf begins kept still =
-    cond-ind (Comes k memory (stand (Delete x First) path beside want lock)) (has x (memory want .entries))
+    (λ _. cond-ind (Comes k memory (stand (Insert x v way) path locks beside sidelocks want lock)) (ltb (length free) (room k memory want path′)) (λ _. ended refl none) (λ _. ended refl none))
+leaf-comes (Delete x First) k memory free path beside want lock locks sidelocks locks′ path′ fathers n leaf begins kept still =
+    cond-ind (Comes k memory (stand (Delete x First) path locks beside sidelocks want lock)) (has x (memory want .entries))
     (λ there. ⊎-elim
-    (λ (s, p, f). subst (λ (l : List ℕ). Comes k memory (stand (Delete x First) path beside want lock) (deletes k memory x (stand (Delete x First) l [] want lock) want fathers)) (sym p)
-    (subst (λ (l : List ℕ). Comes k memory (stand (Delete x First) path beside want lock) (deletes k memory x (stand (Delete x First) (want ∷ []) [] want lock) want l)) (sym f)
-    (deletes-alone k memory free path beside want lock n leaf x First begins there s)))
-    (λ (s, p, f). subst (λ (l : List ℕ). Comes k memory (stand (Delete x First) path beside want lock) (deletes k memory x (stand (Delete x First) l [] want lock) want fathers)) (sym p)
-    (deletes-kept k memory free path beside want lock n leaf x First begins there refl fathers (sym f)
+    (λ (s, p, f). subst (λ (l : List ℕ). Comes k memory (stand (Delete x First) path locks beside sidelocks want lock) (deletes k memory x (stand (Delete x First) l locks′ [] [] want lock) want fathers)) (sym p)
+    (subst (λ (l : List ℕ). Comes k memory (stand (Delete x First) path locks beside sidelocks want lock) (deletes k memory x (stand (Delete x First) (want ∷ []) locks′ [] [] want lock) want l)) (sym f)
+    (deletes-alone k memory free path beside want lock locks sidelocks locks′ n leaf x First begins there s)))
+    (λ (s, p, f). subst (λ (l : List ℕ). Comes k memory (stand (Delete x First) path locks beside sidelocks want lock) (deletes k memory x (stand (Delete x First) l locks′ [] [] want lock) want fathers)) (sym p)
+    (deletes-kept k memory free path beside want lock locks sidelocks locks′ n leaf x First begins there refl fathers (sym f)
     (ltb-false k (μ (memory want)) (false-if-not-true (ltb k (μ (memory want))) (λ t. s (ltb-true k (μ (memory want)) t))))))
     kept)
     (λ missing. ended refl (λ h q w. ⊎-elim
     (λ s. let (i, b, key) = s .1 in not-both (has-from x (memory want .entries) i b key) missing)
     (λ s. false≢true (s .0))
     (to-leaf n leaf w)))
-leaf-comes (Delete x Second) k memory free path beside want lock path′ fathers n leaf begins kept still =
-    cond-ind (Comes k memory (stand (Delete x Second) path beside want lock)) (has x (memory want .entries))
+leaf-comes (Delete x Second) k memory free path beside want lock locks sidelocks locks′ path′ fathers n leaf begins kept still =
+    cond-ind (Comes k memory (stand (Delete x Second) path locks beside sidelocks want lock)) (has x (memory want .entries))
     (λ there.
     let safe : k < μ (memory want)
     = ltb-true k (μ (memory want))
@@ -259,77 +260,81 @@ leaf-comes (Delete x Second) k memory free path beside want lock path′ fathers
     (or-cases (not (has x (memory want .entries))) (ltb k (μ (memory want)))
     (and-second (not (eqb want 0)) (not (has x (memory want .entries)) || ltb k (μ (memory want))) (not-false (staysSecond (Delete x Second) k memory want) still)))) in
     ⊎-elim
-    (λ (s, p, f). subst (λ (l : List ℕ). Comes k memory (stand (Delete x Second) path beside want lock) (deletes k memory x (stand (Delete x Second) l [] want lock) want fathers)) (sym p)
-    (subst (λ (l : List ℕ). Comes k memory (stand (Delete x Second) path beside want lock) (deletes k memory x (stand (Delete x Second) (want ∷ []) [] want lock) want l)) (sym f)
-    (deletes-alone k memory free path beside want lock n leaf x Second begins there safe)))
+    (λ (s, p, f). subst (λ (l : List ℕ). Comes k memory (stand (Delete x Second) path locks beside sidelocks want lock) (deletes k memory x (stand (Delete x Second) l locks′ [] [] want lock) want fathers)) (sym p)
+    (subst (λ (l : List ℕ). Comes k memory (stand (Delete x Second) path locks beside sidelocks want lock) (deletes k memory x (stand (Delete x Second) (want ∷ []) locks′ [] [] want lock) want l)) (sym f)
+    (deletes-alone k memory free path beside want lock locks sidelocks locks′ n leaf x Second begins there safe)))
     (λ (s, p, f). absurd (s tt))
     kept)
-    (λ missing. ended refl (stays k memory free path beside want lock n leaf (Delete x Second) refl refl))
+    (λ missing. ended refl (stays k memory free path beside want lock locks sidelocks locks′ n leaf (Delete x Second) refl refl))
   where
     there-not : not (has x (memory want .entries)) ≡ true → has x (memory want .entries) ≡ false
     there-not a = not-true (has x (memory want .entries)) a
-leaf-comes (Next x) k memory free path beside want lock path′ fathers n leaf begins kept still =
+leaf-comes (Next x) k memory free path beside want lock locks sidelocks locks′ path′ fathers n leaf begins kept still =
     ⊎-elim
     (λ (s, p, f). absurd (s .0 leaf))
-    (λ (s, p, f). subst (λ (l : List ℕ). Comes k memory (stand (Next x) path beside want lock) (byNearest (crosses x k memory (stand (Next x) l [] want lock) l) (atOrAbove x (memory want .entries)))) (sym p)
-    (nearest-comes k memory x path beside want lock n leaf (atOrAbove x (memory want .entries)) refl))
+    (λ (s, p, f). subst (λ (l : List ℕ). Comes k memory (stand (Next x) path locks beside sidelocks want lock) (byNearest (crosses x k memory (stand (Next x) l locks′ [] [] want lock) l) (atOrAbove x (memory want .entries)))) (sym p)
+    (nearest-comes k memory x path beside want lock locks sidelocks locks′ n leaf (atOrAbove x (memory want .entries)) refl))
     kept
-leaf-comes (Regrade x v way) k memory free path beside want lock path′ fathers n leaf begins kept still =
-    let none = stays k memory free path beside want lock n leaf (Regrade x v way) (straight-stays (Regrade x v way) refl .0) (straight-stays (Regrade x v way) refl .1) in
-    cond-ind (Comes k memory (stand (Regrade x v way) path beside want lock)) (has x (memory want .entries)) (λ _. ended refl none) (λ _. ended refl none)
+leaf-comes (Regrade x v way) k memory free path beside want lock locks sidelocks locks′ path′ fathers n leaf begins kept still =
+    let none = stays k memory free path beside want lock locks sidelocks locks′ n leaf (Regrade x v way) (straight-stays (Regrade x v way) refl .0) (straight-stays (Regrade x v way) refl .1) in
+    cond-ind (Comes k memory (stand (Regrade x v way) path locks beside sidelocks want lock)) (has x (memory want .entries)) (λ _. ended refl none) (λ _. ended refl none)
 
 -- by its way: it begins again, or does at its leaf what the rule says there
-way-comes : (op : Op) (k : ℕ) (memory : ℕ → Page) (free path beside : List ℕ) (want : ℕ) (lock : Lock) (path′ fathers : List ℕ) → (StandsAtLeaf memory path → ⊥)
+way-comes : (op : Op) (k : ℕ) (memory : ℕ → Page) (free path beside : List ℕ) (want : ℕ) (lock : Lock) (locks sidelocks locks′ : List Under) (path′ fathers : List ℕ) → (StandsAtLeaf memory path → ⊥)
     → memory want .level ≡ 1 → (length path ≡ 0 → want ≡ 0) → Kept op k memory path want path′ fathers
-    → Comes k memory (stand op path beside want lock) (byWayAtLeaf k memory free (stand op path′ [] want lock) want fathers)
-way-comes op k memory free path beside want lock path′ fathers n leaf begins kept =
+    → Comes k memory (stand op path locks beside sidelocks want lock) (byWayAtLeaf k memory free (stand op path′ locks′ [] [] want lock) want fathers)
+way-comes op k memory free path beside want lock locks sidelocks locks′ path′ fathers n leaf begins kept =
     let test : Bool = isSecond op && not (staysSecond op k memory want) in
-    cond-ind (Comes k memory (stand op path beside want lock)) test
+    cond-ind (Comes k memory (stand op path locks beside sidelocks want lock)) test
     (λ t. let goes-so = straight-stays op (second-straight op (and-first (isSecond op) (not (staysSecond op k memory want)) t)) in
-    anew (firstWay op) refl (stays k memory free path beside want lock n leaf op (goes-so .0) (goes-so .1)))
-    (λ t. leaf-comes op k memory free path beside want lock path′ fathers n leaf begins kept t)
+    anew (firstWay op) refl (stays k memory free path beside want lock locks sidelocks locks′ n leaf op (goes-so .0) (goes-so .1)))
+    (λ t. leaf-comes op k memory free path beside want lock locks sidelocks locks′ path′ fathers n leaf begins kept t)
 
 -- ---- coming down
 
-module _ (op : Op) (k : ℕ) (memory : ℕ → Page) (free path beside : List ℕ) (want : ℕ) (lock : Lock) (n : StandsAtLeaf memory path → ⊥)
+module _ (op : Op) (k : ℕ) (memory : ℕ → Page) (free path beside : List ℕ) (want : ℕ) (lock : Lock) (locks sidelocks : List Under) (n : StandsAtLeaf memory path → ⊥)
     (begins : length path ≡ 0 → want ≡ 0) (rising : rises (memory want .entries) ≡ true) where
   abbrev x : ℕ
   x = keyOf op
 
+  -- the kinds of the path that is kept
+  abbrev locks′ : List Under
+  locks′ = keptLocks k memory (stand op path locks beside sidelocks want lock)
+
   abbrev reached : List ℕ → Verdict
-  reached path′ = fromLeaf (byWayAtLeaf k memory free (stand op path′ [] want lock)) (reverse path′)
+  reached path′ = fromLeaf (byWayAtLeaf k memory free (stand op path′ locks′ [] [] want lock)) (reverse path′)
 
   -- to a leaf
-  lands : memory want .level ≡ 1 → Comes k memory (stand op path beside want lock) (reached (kept k memory (stand op path beside want lock)))
+  lands : memory want .level ≡ 1 → Comes k memory (stand op path locks beside sidelocks want lock) (reached (kept k memory (stand op path locks beside sidelocks want lock)))
   lands leaf =
       by-test (isSafe op k (memory want))
-      (λ s. subst (λ (l : List ℕ). Comes k memory (stand op path beside want lock) (reached l)) (sym (cond-true (want ∷ []) (path ++ want ∷ []) s))
-      (way-comes op k memory free path beside want lock (want ∷ []) [] n leaf begins (inl (safe-is k op (memory want) .0 s, refl, refl))))
-      (λ s. subst (λ (l : List ℕ). Comes k memory (stand op path beside want lock) (reached l)) (sym (cond-false (want ∷ []) (path ++ want ∷ []) s))
-      (subst (λ (l : List ℕ). Comes k memory (stand op path beside want lock) (fromLeaf (byWayAtLeaf k memory free (stand op (path ++ want ∷ []) [] want lock)) l))
+      (λ s. subst (λ (l : List ℕ). Comes k memory (stand op path locks beside sidelocks want lock) (reached l)) (sym (cond-true (want ∷ []) (path ++ want ∷ []) s))
+      (way-comes op k memory free path beside want lock locks sidelocks locks′ (want ∷ []) [] n leaf begins (inl (safe-is k op (memory want) .0 s, refl, refl))))
+      (λ s. subst (λ (l : List ℕ). Comes k memory (stand op path locks beside sidelocks want lock) (reached l)) (sym (cond-false (want ∷ []) (path ++ want ∷ []) s))
+      (subst (λ (l : List ℕ). Comes k memory (stand op path locks beside sidelocks want lock) (fromLeaf (byWayAtLeaf k memory free (stand op (path ++ want ∷ []) locks′ [] [] want lock)) l))
       (sym (reverse-append path (want ∷ [])))
-      (way-comes op k memory free path beside want lock (path ++ want ∷ []) (reverse path) n leaf begins
+      (way-comes op k memory free path beside want lock locks sidelocks locks′ (path ++ want ∷ []) (reverse path) n leaf begins
       (inr ((λ t. not-both (safe-is k op (memory want) .1 t) s), refl, refl)))))
 
   -- to a page above the leaves
-  goes-lower : memory want .level ≢ 1 → Comes k memory (stand op path beside want lock) (goes (stand op (kept k memory (stand op path beside want lock)) [] (route x (memory want)) (lockBelow op (memory want))))
+  goes-lower : memory want .level ≢ 1 → Comes k memory (stand op path locks beside sidelocks want lock) (goes (stand op (kept k memory (stand op path locks beside sidelocks want lock)) locks′ [] [] (route x (memory want)) (lockBelow op (memory want))))
   goes-lower l =
       let led : RoutesTo x (memory want) (route x (memory want)) = (place x (memory want .entries), place-told x (memory want .entries) rising, refl) in
       by-test (isSafe op k (memory want))
-      (λ s. further (stand op (want ∷ []) [] (route x (memory want)) (lockBelow op (memory want))) (ap (λ (p : List ℕ). goes (stand op p [] (route x (memory want)) (lockBelow op (memory want)))) (cond-true (want ∷ []) (path ++ want ∷ []) s))
+      (λ s. further (stand op (want ∷ []) locks′ [] [] (route x (memory want)) (lockBelow op (memory want))) (ap (λ (p : List ℕ). goes (stand op p locks′ [] [] (route x (memory want)) (lockBelow op (memory want)))) (cond-true (want ∷ []) (path ++ want ∷ []) s))
       (alone n l (safe-is k op (memory want) .0 s) led refl)
       (λ h q w. let (r, c) = downward n l w in
       (⊎-elim (λ t. t .1) (λ t. absurd (t .0 (safe-is k op (memory want) .0 s))) c, sym (route-same x (memory want) q r))))
       (λ s. let unsafe : Safe op k (memory want) → ⊥ = λ t. not-both (safe-is k op (memory want) .1 t) s in
-      further (stand op (path ++ want ∷ []) [] (route x (memory want)) (lockBelow op (memory want))) (ap (λ (p : List ℕ). goes (stand op p [] (route x (memory want)) (lockBelow op (memory want)))) (cond-false (want ∷ []) (path ++ want ∷ []) s))
+      further (stand op (path ++ want ∷ []) locks′ [] [] (route x (memory want)) (lockBelow op (memory want))) (ap (λ (p : List ℕ). goes (stand op p locks′ [] [] (route x (memory want)) (lockBelow op (memory want)))) (cond-false (want ∷ []) (path ++ want ∷ []) s))
       (lower n l unsafe led (append-nil (path ++ want ∷ [])))
       (λ h q w. let (r, c) = downward n l w in
       (⊎-elim (λ t. absurd (unsafe (t .0))) (λ t. t .1 ∙ sym (append-nil (path ++ want ∷ []))) c, sym (route-same x (memory want) q r))))
 
-  down-comes : Comes k memory (stand op path beside want lock) (comesDown k memory free (stand op path beside want lock))
+  down-comes : Comes k memory (stand op path locks beside sidelocks want lock) (comesDown k memory free (stand op path locks beside sidelocks want lock))
   unfolding comesDown
   down-comes =
-      cond-ind (Comes k memory (stand op path beside want lock)) (isLeaf (memory want))
+      cond-ind (Comes k memory (stand op path locks beside sidelocks want lock)) (isLeaf (memory want))
       (λ l. lands (eqb-true (memory want .level) 1 l))
       (λ l. goes-lower (eqb-false (memory want .level) 1 l))
 
@@ -354,14 +359,14 @@ needs-after k memory x p (f ∷ up) (s ∷ ss) want b c =
       wantsNext = c .wantsNext;
     })
 
-module _ (op : Op) (k : ℕ) (memory : ℕ → Page) (path beside : List ℕ) (want : ℕ) (lock : Lock) (at : StandsAtLeaf memory path) where
+module _ (op : Op) (k : ℕ) (memory : ℕ → Page) (path beside : List ℕ) (want : ℕ) (lock : Lock) (locks sidelocks : List Under) (at : StandsAtLeaf memory path) where
   -- a Next on its second way
-  left-comes : isNext op ≡ true → Comes k memory (stand op path beside want lock) (goesLeft memory (stand op path beside want lock))
+  left-comes : isNext op ≡ true → Comes k memory (stand op path locks beside sidelocks want lock) (goesLeft memory (stand op path locks beside sidelocks want lock))
   unfolding goesLeft
   left-comes next =
-      cond-ind (Comes k memory (stand op path beside want lock)) (isLeaf (memory want))
+      cond-ind (Comes k memory (stand op path locks beside sidelocks want lock)) (isLeaf (memory want))
       (λ l. ended refl (λ h q w. ⊎-elim (λ s. never-both-kinds op (s .0) next) (λ s. s .1 (eqb-true (memory want .level) 1 l)) (from-leaf at w)))
-      (λ l. further (stand op path (beside ++ want ∷ []) (pointer 0 (memory want)) (heldLock op)) refl
+      (λ l. further (stand op path locks (beside ++ want ∷ []) (sidelocks ++ under lock ∷ []) (pointer 0 (memory want)) (heldLock op)) refl
       (onward at next (eqb-false (memory want .level) 1 l) refl refl)
       (λ h q w. ⊎-elim (λ s. absurd (never-both-kinds op (s .0) next)) (λ s. (s .3, s .2)) (from-leaf at w)))
 
@@ -383,9 +388,9 @@ module _ (op : Op) (k : ℕ) (memory : ℕ → Page) (path beside : List ℕ) (w
     here = ap (λ (l : List ℕ). getD l (suc (length beside)) 0) up
 
     suffices : (d : Need) → d ≡ nothing → ((μ (memory want) ≤ k) → (μ (memory next) ≤ k) → (next ≢ 0) → ⊥)
-        → Comes k memory (stand op path beside want lock) (byNeed (stand op path (beside ++ want ∷ []) want lock) made d)
+        → Comes k memory (stand op path locks beside sidelocks want lock) (byNeed (stand op path locks (beside ++ want ∷ []) (sidelocks ++ under lock ∷ []) want lock) made d)
     suffices d e never =
-        ended (ap (byNeed (stand op path (beside ++ want ∷ []) want lock) made) e)
+        ended (ap (byNeed (stand op path locks (beside ++ want ∷ []) (sidelocks ++ under lock ∷ []) want lock) made) e)
         (λ h q w. ⊎-elim
         (λ s. never (s .1) (subst (λ (p : ℕ). μ (memory p) ≤ k) here (s .2)) (λ z. s .3 (here ∙ z)))
         (λ s. never-both-kinds op del (s .0))
@@ -410,7 +415,7 @@ module _ (op : Op) (k : ℕ) (memory : ℕ → Page) (path beside : List ℕ) (w
         (top (omega (arith, last)))
 
     above : (l : List ℕ) → drop (suc (length beside)) fathers ≡ l → ltb k (μ (memory want)) ≡ false → eqb next 0 || ltb k (μ (memory next)) ≡ false
-        → Comes k memory (stand op path beside want lock) (byNeed (stand op path (beside ++ want ∷ []) want lock) made (needed l))
+        → Comes k memory (stand op path locks beside sidelocks want lock) (byNeed (stand op path locks (beside ++ want ∷ []) (sidelocks ++ under lock ∷ []) want lock) made (needed l))
     unfolding needs
     above [] e t u = not-both (top-spares e) u
     above (g ∷ l) e t u =
@@ -421,7 +426,7 @@ module _ (op : Op) (k : ℕ) (memory : ℕ → Page) (path beside : List ℕ) (w
         let asks = cond-false nothing (needs k memory (keyOf op) next (g ∷ l) []) t ∙ cond-false nothing (sibling (neighbour (keyOf op) (memory g))) u in
         let short : μ (memory next) ≤ k = ltb-false k (μ (memory next)) (or-second-fails (eqb next 0) (ltb k (μ (memory next))) u) in
         let other : next ≢ 0 = eqb-false next 0 (or-first-fails (eqb next 0) (ltb k (μ (memory next))) u) in
-        further (stand op path (beside ++ want ∷ []) (neighbour (keyOf op) (memory g)) (heldLock op)) (ap (byNeed (stand op path (beside ++ want ∷ []) want lock) made) asks)
+        further (stand op path locks (beside ++ want ∷ []) (sidelocks ++ under lock ∷ []) (neighbour (keyOf op) (memory g)) (heldLock op)) (ap (byNeed (stand op path locks (beside ++ want ∷ []) (sidelocks ++ under lock ∷ []) want lock) made) asks)
         (fatherSibling at del (ltb-false k (μ (memory want)) t) (subst (λ (p : ℕ). μ (memory p) ≤ k) (sym here) short) (λ z. other (sym here ∙ z))
         (ap (λ (p : ℕ). neighbour (keyOf op) (memory p)) (sym father)) refl)
         (λ h q w. ⊎-elim
@@ -429,7 +434,7 @@ module _ (op : Op) (k : ℕ) (memory : ℕ → Page) (path beside : List ℕ) (w
         (λ s. absurd (never-both-kinds op del (s .0)))
         (from-leaf at w))
 
-    goes-up : (rest : List ℕ) → drop (suc (length beside)) fathers ≡ rest → Comes k memory (stand op path beside want lock) (byNeed (stand op path (beside ++ want ∷ []) want lock) made (needed rest))
+    goes-up : (rest : List ℕ) → drop (suc (length beside)) fathers ≡ rest → Comes k memory (stand op path locks beside sidelocks want lock) (byNeed (stand op path locks (beside ++ want ∷ []) (sidelocks ++ under lock ∷ []) want lock) made (needed rest))
     goes-up rest r =
         by-test (ltb k (μ (memory want)))
         (λ t. suffices (needed rest) (cond-true nothing (needs k memory (keyOf op) next rest []) t) (λ m _ _. not-both t (le-ltb k (μ (memory want)) m)))
@@ -438,41 +443,41 @@ module _ (op : Op) (k : ℕ) (memory : ℕ → Page) (path beside : List ℕ) (w
         (λ _ m o. not-both u (or-none (ne-eqb next 0 o) (le-ltb k (μ (memory next)) m))))
         (λ u. above rest r t u))
 
-    deletes-comes : Comes k memory (stand op path beside want lock) (deletes k memory (keyOf op) (stand op path (beside ++ want ∷ []) want lock) leaf fathers)
+    deletes-comes : Comes k memory (stand op path locks beside sidelocks want lock) (deletes k memory (keyOf op) (stand op path locks (beside ++ want ∷ []) (sidelocks ++ under lock ∷ []) want lock) leaf fathers)
     unfolding deletes
     deletes-comes =
         let fewer : suc (length beside) < suc (length fathers) = so .fewer in
-        subst (λ (d : Need). Comes k memory (stand op path beside want lock) (byNeed (stand op path (beside ++ want ∷ []) want lock) made d))
+        subst (λ (d : Need). Comes k memory (stand op path locks beside sidelocks want lock) (byNeed (stand op path locks (beside ++ want ∷ []) (sidelocks ++ under lock ∷ []) want lock) made d))
         (sym (needs-after k memory (keyOf op) leaf fathers beside want (omega (arith, fewer))
         (record { short = so .short; notRoot = so .notRoot; neighbours = so .neighbours; joining = so .joining; wantsNext = so .wantsNext })))
         (goes-up (drop (suc (length beside)) fathers) refl)
 
   up-comes : isDelete op ≡ true → (1 ≤ length path → (getD path 0 0 ≡ 0) ⊎ Safe op k (memory (getD path 0 0))) → (up : List ℕ) → reverse path ≡ up
       → SiblingsSoFar k memory (keyOf op) up beside want
-      → Comes k memory (stand op path beside want lock) (fromLeaf (λ (leaf : ℕ) (fathers : List ℕ). deletes k memory (keyOf op) (stand op path (beside ++ want ∷ []) want lock) leaf fathers) up)
+      → Comes k memory (stand op path locks beside sidelocks want lock) (fromLeaf (λ (leaf : ℕ) (fathers : List ℕ). deletes k memory (keyOf op) (stand op path locks (beside ++ want ∷ []) (sidelocks ++ under lock ∷ []) want lock) leaf fathers) up)
   up-comes del top [] e so = let none = so .fewer in absurd (omega (arith, none))
   up-comes del top (leaf ∷ fathers) e so = deletes-comes del leaf fathers e top so
 
 -- ---- all of it
 
-module _ (op : Op) (k : ℕ) (memory : ℕ → Page) (free path beside : List ℕ) (want : ℕ) (lock : Lock) (kept-so : KeptRightly k memory (stand op path beside want lock))
-    (stands : Stands k memory (stand op path beside want lock)) (rising : rises (memory want .entries) ≡ true) where
-  beside-comes : StandsAtLeaf memory path → Comes k memory (stand op path beside want lock) (besides k memory (stand op path beside want lock))
+module _ (op : Op) (k : ℕ) (memory : ℕ → Page) (free path beside : List ℕ) (want : ℕ) (lock : Lock) (locks sidelocks : List Under) (kept-so : KeptRightly k memory (stand op path locks beside sidelocks want lock))
+    (stands : Stands k memory (stand op path locks beside sidelocks want lock)) (rising : rises (memory want .entries) ≡ true) where
+  beside-comes : StandsAtLeaf memory path → Comes k memory (stand op path locks beside sidelocks want lock) (besides k memory (stand op path locks beside sidelocks want lock))
   unfolding besides
   beside-comes at =
-      cond-ind (Comes k memory (stand op path beside want lock)) (isNext op)
-      (λ next. left-comes op k memory path beside want lock at next)
+      cond-ind (Comes k memory (stand op path locks beside sidelocks want lock)) (isNext op)
+      (λ next. left-comes op k memory path beside want lock locks sidelocks at next)
       (λ other. ⊎-elim
       (λ c. absurd (c .aboveLeaf at))
-      (⊎-elim (λ a. up-comes op k memory path beside want lock at (a .deletes) (kept-so .top) (reverse path) refl (a .siblings)) (λ a. not-both (a .asksNext) other))
+      (⊎-elim (λ a. up-comes op k memory path beside want lock locks sidelocks at (a .deletes) (kept-so .top) (reverse path) refl (a .siblings)) (λ a. not-both (a .asksNext) other))
       stands)
 
-  pub granted-comes : Comes k memory (stand op path beside want lock) (granted k memory free (stand op path beside want lock))
+  pub granted-comes : Comes k memory (stand op path locks beside sidelocks want lock) (granted k memory free (stand op path locks beside sidelocks want lock))
   unfolding granted
   granted-comes =
-      cond-ind (Comes k memory (stand op path beside want lock)) (atItsLeaf memory (reverse path))
+      cond-ind (Comes k memory (stand op path locks beside sidelocks want lock)) (atItsLeaf memory (reverse path))
       (λ l. beside-comes (test-at-leaf memory path l))
-      (λ l. down-comes op k memory free path beside want lock (λ a. not-both (at-leaf-test memory path a) l) (kept-so .begins) rising)
+      (λ l. down-comes op k memory free path beside want lock locks sidelocks (λ a. not-both (at-leaf-test memory path a) l) (kept-so .begins) rising)
 
 -- the keys of every page that it holds or wants rise
 module _ (k n : ℕ) (ws path beside : List ℕ) (want : ℕ) (pages : Pages k n ws (path ++ beside ++ want ∷ [])) where
@@ -500,27 +505,27 @@ module _ (k n : ℕ) (ws path beside : List ℕ) (want : ℕ) (pages : Pages k n
       (member-last p path want (member-from p (path ++ want ∷ []) i 0 b refl))
 
 -- The rule's test of the pages passes exactly where they are sound in plain terms.
-pub sound-for-step : (k n : ℕ) (ws : List ℕ) (op : Op) (path beside : List ℕ) (want : ℕ) (lock : Lock)
-    → Exactly (soundForStep k n ws (stand op path beside want lock) ≡ true) (SoundForStep k n ws (stand op path beside want lock))
+pub sound-for-step : (k n : ℕ) (ws : List ℕ) (op : Op) (path beside : List ℕ) (want : ℕ) (lock : Lock) (locks sidelocks : List Under)
+    → Exactly (soundForStep k n ws (stand op path locks beside sidelocks want lock) ≡ true) (SoundForStep k n ws (stand op path locks beside sidelocks want lock))
 unfolding soundForStep
-sound-for-step k n ws op path beside want lock =
+sound-for-step k n ws op path beside want lock locks sidelocks =
     let memory : ℕ → Page = pageAt k ws in
     let pagesTest : Bool = pagesSound k n ws (path ++ beside ++ want ∷ []) in
-    let fits : Bool = fitting k memory (stand op path beside want lock) in
-    let new : Bool = nextIsNew (granted k memory (freePages k n ws) (stand op path beside want lock)) in (
+    let fits : Bool = fitting k memory (stand op path locks beside sidelocks want lock) in
+    let new : Bool = nextIsNew (granted k memory (freePages k n ws) (stand op path locks beside sidelocks want lock)) in (
       (λ h.
           let rest = and-first (pagesTest && fits) new h in
           let pages = pages-told k n ws (path ++ beside ++ want ∷ []) (and-first pagesTest fits rest) in
-          let (kept-so, wants, stands) = fitting-told op k memory path beside want lock (way-rises k n ws path beside want pages) (path-rises k n ws path beside want pages) (and-second pagesTest fits rest) in
+          let (kept-so, wants, stands) = fitting-told op k memory path beside want lock locks sidelocks (way-rises k n ws path beside want pages) (path-rises k n ws path beside want pages) (and-second pagesTest fits rest) in
           record {
             pages = pages;
             kept = kept-so;
             wants = wants;
             stands = stands;
-            new = new-told (granted-comes op k memory (freePages k n ws) path beside want lock kept-so stands (want-rises k n ws path beside want pages)) (and-second (pagesTest && fits) new h);
+            new = new-told (granted-comes op k memory (freePages k n ws) path beside want lock locks sidelocks kept-so stands (want-rises k n ws path beside want pages)) (and-second (pagesTest && fits) new h);
           }),
       (λ s.
           and-both
-          (and-both (pages-from k n ws (path ++ beside ++ want ∷ []) (s .pages)) (fitting-from op k memory path beside want lock (s .kept) (s .wants) (s .stands)))
-          (new-from (granted-comes op k memory (freePages k n ws) path beside want lock (s .kept) (s .stands) (want-rises k n ws path beside want (s .pages))) (s .new))),
+          (and-both (pages-from k n ws (path ++ beside ++ want ∷ []) (s .pages)) (fitting-from op k memory path beside want lock locks sidelocks (s .kept) (s .wants) (s .stands)))
+          (new-from (granted-comes op k memory (freePages k n ws) path beside want lock locks sidelocks (s .kept) (s .stands) (want-rises k n ws path beside want (s .pages))) (s .new))),
     )

@@ -33,6 +33,7 @@ use Rattle.slots.specs.declared.Slot.{Slot}
 use Rattle.slots.specs.declared.State.{State}
 use Rattle.slots.specs.declared.Answer.{Answer}
 use Rattle.slots.specs.declared.Answer.the-variants.{Waiting, Moved, Deleted, NoSuchKey, BadState, BadPool, BadSlot, Damaged, Regraded}
+use Rattle.slots.specs.declared.Under.{Under}
 use Rattle.slots.specs.Parts.{isOpen, isNext, isSecond, held, Stand, holding, onPages, wantBeside, withOp, standOf, slotAt}
 use Rattle.slots.specs.Heard.{heard, numberOf}
 use Rattle.slots.specs.Grant.{grants}
@@ -135,26 +136,27 @@ module _ (k n : ℕ) (ws : List ℕ) (x new old : ℕ) (way : Way) (z₀ : Stand
   beside-writes (leaf ∷ fathers) =
       need-writes (wantBeside z) _ (another (Deleted (information x (memory leaf .entries))) refl) (needs k memory x leaf fathers (z .beside ++ z .want ∷ []))
 
-  leaf-writes : Known k n ws (z .want) → (path fathers : List ℕ)
-      → Wrote (atLeaf (Regrade x new way) k memory (freePages k n ws) (onPages z path []) (z .want) fathers)
+  leaf-writes : Known k n ws (z .want) → (path : List ℕ) (locks : List Under) (fathers : List ℕ)
+      → Wrote (atLeaf (Regrade x new way) k memory (freePages k n ws) (onPages z path locks [] []) (z .want) fathers)
   unfolding atLeaf
-  leaf-writes known path fathers =
+  leaf-writes known path locks fathers =
       cond-ind Wrote (has x (memory (z .want) .entries))
       (λ there e.
       subst (λ (v : ℕ). OneWord ws (applied k (regrading memory x new (z .want)) ws) x v new) (ap (λ (a : Answer). getD (heard a) 1 0) e) (page-writes x new known there))
       (λ _. another NoSuchKey refl)
 
   -- by its way: where it begins again it writes nothing
-  way-writes : Known k n ws (z .want) → (path fathers : List ℕ) → Wrote (byWayAtLeaf k memory (freePages k n ws) (onPages z path []) (z .want) fathers)
-  way-writes known path fathers =
-      cond-ind Wrote (isSecond (z .op) && not (staysSecond (z .op) k memory (z .want))) (λ _. tt) (λ _. leaf-writes known path fathers)
+  way-writes : Known k n ws (z .want) → (path : List ℕ) (locks : List Under) (fathers : List ℕ)
+      → Wrote (byWayAtLeaf k memory (freePages k n ws) (onPages z path locks [] []) (z .want) fathers)
+  way-writes known path locks fathers =
+      cond-ind Wrote (isSecond (z .op) && not (staysSecond (z .op) k memory (z .want))) (λ _. tt) (λ _. leaf-writes known path locks fathers)
 
   granted-writes : Known k n ws (z .want) → Wrote (granted k memory (freePages k n ws) z)
   unfolding granted besides
   granted-writes known =
       cond-ind Wrote (atItsLeaf memory (reverse (z .path)))
       (λ _. cond-ind Wrote (isNext (z .op)) (λ asks. not-both asks (straight-stays (Regrade x new way) refl .1)) (λ _. beside-writes (reverse (z .path))))
-      (λ _. comes-down-by Wrote k memory (freePages k n ws) z (λ _ path fathers. way-writes known path fathers) (λ _. tt))
+      (λ _. comes-down-by Wrote k memory (freePages k n ws) z (λ _ path locks fathers. way-writes known path locks fathers) (λ _. tt))
 
   verdict-writes : (soundForStep k n ws z ≡ true → Known k n ws (z .want))
       → Wrote (verdict k n ws z)

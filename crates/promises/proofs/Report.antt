@@ -1,6 +1,6 @@
 -- A report says what the plain terms say, and nothing else satisfies them.
 use Prim.Native.Nat.{ℕ, _≤_, _<_}
-use mathlib.Core.Bool.{Bool, true, false, cond, _&&_}
+use mathlib.Core.Bool.{Bool, true, false, _&&_}
 use mathlib.Core.List.{List}
 use mathlib.Core.Logic.{_⊎_, inl, inr, ⊎-elim, _≢_}
 use mathlib.Core.Path.{_≡_, refl, sym, ap, subst, _∙_}
@@ -12,23 +12,22 @@ use borrow.Author.Tests.{eq-eqb, ltb-true, ltb-false}
 use Rattle.ground.specs.Limits.{slotCount}
 use Rattle.ground.specs.Tests.{member, listBelow}
 use Rattle.ground.proofs.Bools.{not-both, same-if-true-together, and-first, and-second, and-both}
-use Rattle.ground.proofs.Choice.{by-test, same-or-not, cond-true, cond-false}
+use Rattle.ground.proofs.Choice.{by-test, same-or-not, cond-ind}
 use Rattle.ground.proofs.Tests.{member-at, distinct-at, distinct-from, anyBelow-at, anyBelow-false-at, countBelow-same, length-listBelow, listBelow-at, listBelow-from, listBelow-distinct, firstBelow-passes, firstBelow-before, firstBelow-most, firstBelow-all-fail}
 use Rattle.slots.specs.declared.Lock.{Lock}
-use Rattle.slots.specs.declared.Lock.the-variants.{None, Rho, Xi}
+use Rattle.slots.specs.declared.Lock.the-variants.{None, Rho, Xi, UpdaterRho, Alpha}
 use Rattle.slots.specs.declared.State.{State}
-use Rattle.slots.specs.Parts.{isOpen, held, slotAt, holdsAt}
-use Rattle.slots.specs.Locks.{lockHeldAt}
+use Rattle.slots.specs.Parts.{held, slotAt, holdsAt}
+use Rattle.slots.specs.Locks.{lockHeldAt, sameLock}
 use Rattle.slots.specs.Heard.{lockNumber}
 use Rattle.slots.specs.Report.{holders, lowestHolder, heldUnder, lockKind}
 use Rattle.slots.proofs.SoundFacts.{SoundState}
-use Rattle.slots.proofs.LockLaws.{isLock, held-lock, is-xi}
-use Rattle.slots.proofs.Clashes.{update-alone}
-use Rattle.slots.proofs.GrantLaws.{holder-open}
+use Rattle.slots.proofs.LockLaws.{isLock, same-lock}
+use Rattle.slots.proofs.GrantLaws.{holder-locks}
 use Rattle.slots.proofs.OrderLaws.{length-counted}
-use Rattle.promises.specs.Terms.{Holds, WithRho}
-use Rattle.promises.specs.Report.{Holders, Nobody, Lowest, KindIs, Reports}
-use Rattle.promises.proofs.Terms.{in-member, xi-excludes, other-shares, never-both}
+use Rattle.promises.specs.Terms.{Holds, HoldsAs}
+use Rattle.promises.specs.Report.{Holders, Nobody, Lowest, HeldAs, NotHeldAs, KindIs, Reports}
+use Rattle.promises.proofs.Terms.{in-member, holds-as, as-held, sound-kind}
 
 module _ (st : State) (p : ℕ) where
   -- the slots that hold the page, by the rule's test
@@ -92,44 +91,42 @@ module _ (st : State) (p : ℕ) where
   under-of : (lock : Lock) (s : ℕ) → holdsAt st s p ≡ true → lockHeldAt st s p ≡ lock → under lock s ≡ true
   under-of lock s h e = and-both h (eq-eqb (lockNumber (lockHeldAt st s p)) (lockNumber lock) (ap lockNumber e))
 
-  kind-told : SoundState st → KindIs st p (lockKind st p)
-  kind-told f =
-      by-test (heldUnder st p Xi)
-      (λ x. subst (KindIs st p) (sym (cond-true Xi (cond (heldUnder st p Rho) Rho None) x)) (by-update (anyBelow-at (under Xi) slotCount x)))
-      (λ x. by-test (heldUnder st p Rho)
-      (λ r. subst (KindIs st p) (sym (cond-false Xi (cond (heldUnder st p Rho) Rho None) x ∙ cond-true Rho None r))
-      (by-reader (anyBelow-at (under Rho) slotCount r), λ s b h. all-read x s b (holds-test s h)))
-      (λ r. subst (KindIs st p) (sym (cond-false Xi (cond (heldUnder st p Rho) Rho None) x ∙ cond-false Rho None r))
-      (λ s b h. nobody x r s b (holds-test s h) (lockHeldAt st s p) refl)))
-    where
-      opened : (s : ℕ) → s < slotCount → holdsAt st s p ≡ true → isOpen (slotAt st s .task) ≡ true
-      opened s b holds = holder-open (st .n) (slotAt st s) p (f .slot s b) holds
+  module _ (f : SoundState st) where
+    -- the rule's test of a kind, and its plain terms
+    held-told : (lock : Lock) → heldUnder st p lock ≡ true → HeldAs st p lock
+    held-told lock t =
+        let (s, b, e) = anyBelow-at (under lock) slotCount t in
+        let holds = and-first (holdsAt st s p) (sameLock (lockHeldAt st s p) lock) e in
+        (s, b, subst (HoldsAs st s p) (same-lock (lockHeldAt st s p) lock (and-second (holdsAt st s p) (sameLock (lockHeldAt st s p) lock) e)) (holds-as st s p holds))
 
-      by-update : (s : ℕ) × (s < slotCount) × (under Xi s ≡ true) → KindIs st p Xi
-      by-update (s, b, t) =
-          let holds = and-first (holdsAt st s p) (eqb (lockNumber (lockHeldAt st s p)) (lockNumber Xi)) t in
-          let xi = is-xi (lockHeldAt st s p) (and-second (holdsAt st s p) (eqb (lockNumber (lockHeldAt st s p)) (lockNumber Xi)) t) in (
-            s,
-            b,
-            holds-told s holds,
-            xi-excludes (slotAt st s .task) xi,
-            λ u c h.
-                ⊎-elim (λ e. e) (λ n. not-both (holds-test u h) (update-alone st f s u p b c (λ e. n (sym e)) xi holds)) (same-or-not u s),
-          )
+    none-told : (lock : Lock) → heldUnder st p lock ≡ false → NotHeldAs st p lock
+    none-told lock t s b h =
+        not-both (under-of lock s (as-held st s p lock h) (sound-kind st f s p lock b h)) (anyBelow-false-at (under lock) slotCount t s b)
 
-      by-reader : (s : ℕ) × (s < slotCount) × (under Rho s ≡ true) → (s : ℕ) × (s < slotCount) × Holds st s p
-      by-reader (s, b, t) = (s, b, holds-told s (and-first (holdsAt st s p) (eqb (lockNumber (lockHeldAt st s p)) (lockNumber Rho)) t))
+    -- whoever holds the page holds it with one of the four
+    nobody : heldUnder st p Xi ≡ false → heldUnder st p Alpha ≡ false → heldUnder st p UpdaterRho ≡ false → heldUnder st p Rho ≡ false → Nobody st p
+    nobody x a u r s b h = by-kind (lockHeldAt st s p) refl
+      where
+        holds : holdsAt st s p ≡ true
+        holds = holds-test s h
 
-      all-read : heldUnder st p Xi ≡ false → (s : ℕ) → s < slotCount → holdsAt st s p ≡ true → WithRho st s
-      all-read x s b holds =
-          other-shares (slotAt st s .task) (opened s b holds)
-          (λ xi. not-both (under-of Xi s holds xi) (anyBelow-false-at (under Xi) slotCount x s b))
+        never : (lock : Lock) → heldUnder st p lock ≡ false → lockHeldAt st s p ≡ lock → ⊥
+        never lock t e = not-both (under-of lock s holds e) (anyBelow-false-at (under lock) slotCount t s b)
 
-      nobody : heldUnder st p Xi ≡ false → heldUnder st p Rho ≡ false → (s : ℕ) → s < slotCount → holdsAt st s p ≡ true
-          → (lock : Lock) → lockHeldAt st s p ≡ lock → ⊥
-      nobody x r s b holds None e = not-both (held-lock (slotAt st s) p (opened s b holds)) (ap isLock e)
-      nobody x r s b holds Rho e = not-both (under-of Rho s holds e) (anyBelow-false-at (under Rho) slotCount r s b)
-      nobody x r s b holds Xi e = not-both (under-of Xi s holds e) (anyBelow-false-at (under Xi) slotCount x s b)
+        by-kind : (lock : Lock) → lockHeldAt st s p ≡ lock → ⊥
+        by-kind None e = not-both (holder-locks (st .n) (slotAt st s) p (f .slot s b) holds) (ap isLock e)
+        by-kind Rho e = never Rho r e
+        by-kind Xi e = never Xi x e
+        by-kind UpdaterRho e = never UpdaterRho u e
+        by-kind Alpha e = never Alpha a e
+
+    kind-told : KindIs st p (lockKind st p)
+    kind-told =
+        cond-ind (KindIs st p) (heldUnder st p Xi) (held-told Xi)
+        (λ x. cond-ind (KindIs st p) (heldUnder st p Alpha) (λ a. (held-told Alpha a, none-told Xi x))
+        (λ a. cond-ind (KindIs st p) (heldUnder st p UpdaterRho) (λ u. (held-told UpdaterRho u, none-told Alpha a, none-told Xi x))
+        (λ u. cond-ind (KindIs st p) (heldUnder st p Rho) (λ r. (held-told Rho r, none-told UpdaterRho u, none-told Alpha a, none-told Xi x))
+        (λ r. nobody x a u r))))
 
   -- ---- the whole
 
@@ -137,16 +134,38 @@ module _ (st : State) (p : ℕ) where
   reports-so f = record { kindIs = kind-told f; countIs = counted; lowestIs = lowest-told }
 
   -- no second kind, count or lowest holder satisfies the plain terms
+  held-some : (lock : Lock) → HeldAs st p lock → Nobody st p → ⊥
+  held-some lock (s, b, h) none = none s b (holds-told s (as-held st s p lock h))
+
+  never-both : (lock : Lock) → HeldAs st p lock → NotHeldAs st p lock → ⊥
+  never-both lock (s, b, h) none = none s b h
+
   kind-once : (a b : Lock) → KindIs st p a → KindIs st p b → a ≡ b
   kind-once None None x y = refl
-  kind-once None Rho x y = absurd (x (y .0 .0) (y .0 .1) (y .0 .2))
-  kind-once None Xi x y = absurd (x (y .0) (y .1) (y .2))
-  kind-once Rho None x y = absurd (y (x .0 .0) (x .0 .1) (x .0 .2))
+  kind-once None Rho x y = absurd (held-some Rho (y .0) x)
+  kind-once None Xi x y = absurd (held-some Xi (y) x)
+  kind-once None UpdaterRho x y = absurd (held-some UpdaterRho (y .0) x)
+  kind-once None Alpha x y = absurd (held-some Alpha (y .0) x)
+  kind-once Rho None x y = absurd (held-some Rho (x .0) y)
   kind-once Rho Rho x y = refl
-  kind-once Rho Xi x y = absurd (never-both (slotAt st (y .0) .task) (x .1 (y .0) (y .1) (y .2)) (y .3))
-  kind-once Xi None x y = absurd (y (x .0) (x .1) (x .2))
-  kind-once Xi Rho x y = absurd (never-both (slotAt st (x .0) .task) (y .1 (x .0) (x .1) (x .2)) (x .3))
+  kind-once Rho Xi x y = absurd (never-both Xi (y) (x .3))
+  kind-once Rho UpdaterRho x y = absurd (never-both UpdaterRho (y .0) (x .1))
+  kind-once Rho Alpha x y = absurd (never-both Alpha (y .0) (x .2))
+  kind-once Xi None x y = absurd (held-some Xi (x) y)
+  kind-once Xi Rho x y = absurd (never-both Xi (x) (y .3))
   kind-once Xi Xi x y = refl
+  kind-once Xi UpdaterRho x y = absurd (never-both Xi (x) (y .2))
+  kind-once Xi Alpha x y = absurd (never-both Xi (x) (y .1))
+  kind-once UpdaterRho None x y = absurd (held-some UpdaterRho (x .0) y)
+  kind-once UpdaterRho Rho x y = absurd (never-both UpdaterRho (x .0) (y .1))
+  kind-once UpdaterRho Xi x y = absurd (never-both Xi (y) (x .2))
+  kind-once UpdaterRho UpdaterRho x y = refl
+  kind-once UpdaterRho Alpha x y = absurd (never-both Alpha (y .0) (x .1))
+  kind-once Alpha None x y = absurd (held-some Alpha (x .0) y)
+  kind-once Alpha Rho x y = absurd (never-both Alpha (x .0) (y .2))
+  kind-once Alpha Xi x y = absurd (never-both Xi (y) (x .1))
+  kind-once Alpha UpdaterRho x y = absurd (never-both Alpha (x .0) (y .1))
+  kind-once Alpha Alpha x y = refl
 
   lowest-same : (a b : ℕ) → Lowest st p a → Lowest st p b → a ≡ b
   lowest-same a b x y =

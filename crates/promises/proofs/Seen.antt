@@ -122,7 +122,7 @@ module _ (k : ℕ) (memory : ℕ → Page) (free : List ℕ) (z : Stand) where
 
   -- coming down, what is told at the leaf is told at the granted page
   coming-seen : SeenBy P (comesDown k memory free z)
-  coming-seen = comes-down-by (SeenBy P) k memory free z (λ leaf path fathers. way-seen k memory free (onPages z path []) (z .want) fathers leaf) (λ _. tt)
+  coming-seen = comes-down-by (SeenBy P) k memory free z (λ leaf path locks fathers. way-seen k memory free (onPages z path locks [] []) (z .want) fathers leaf) (λ _. tt)
 
   left-seen : SeenBy P (goesLeft memory z)
   unfolding goesLeft

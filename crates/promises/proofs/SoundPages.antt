@@ -24,6 +24,7 @@ use Rattle.pool.specs.Pool.{wordsOf, pageAt}
 use Rattle.change.specs.Deletion.{Need, nothing, sibling, astray, needs}
 use Rattle.slots.specs.declared.Op.{Op}
 use Rattle.slots.specs.declared.Lock.{Lock}
+use Rattle.slots.specs.declared.Under.{Under}
 use Rattle.slots.specs.Parts.{keyOf, isDelete, isNext, Stand, stand}
 use Rattle.slots.specs.Locks.{sameLock}
 use Rattle.slots.proofs.LockLaws.{same-lock, lock-same}
@@ -190,13 +191,13 @@ way-from memory x (p ∷ (q ∷ rest)) w =
 
 -- ---- what is still held
 
-kept-told : (op : Op) (k : ℕ) (memory : ℕ → Page) (path beside : List ℕ) (want : ℕ) (lock : Lock) → rightlyKept op k memory path want ≡ true → KeptRightly k memory (stand op path beside want lock)
-kept-told op k memory [] beside want lock h = record {
+kept-told : (op : Op) (k : ℕ) (memory : ℕ → Page) (path beside : List ℕ) (want : ℕ) (lock : Lock) (locks sidelocks : List Under) → rightlyKept op k memory path want ≡ true → KeptRightly k memory (stand op path locks beside sidelocks want lock)
+kept-told op k memory [] beside want lock locks sidelocks h = record {
   begins = λ _. eqb-true want 0 h;
   top = λ b. absurd (omega (arith, b));
   unsafe = λ i b _. omega (arith, b);
 }
-kept-told op k memory (t ∷ below) beside want lock h =
+kept-told op k memory (t ∷ below) beside want lock locks sidelocks h =
     let top = eqb t 0 || isSafe op k (memory t) in
     let under = all (λ (p : ℕ). not (isSafe op k (memory p))) below in
     record {
@@ -206,9 +207,9 @@ kept-told op k memory (t ∷ below) beside want lock h =
           (not-true (isSafe op k (memory (getD below i 0))) (all-at (λ (p : ℕ). not (isSafe op k (memory p))) below 0 (and-second top under h) i (omega (arith, b))));
     }
 
-kept-from : (op : Op) (k : ℕ) (memory : ℕ → Page) (path beside : List ℕ) (want : ℕ) (lock : Lock) → KeptRightly k memory (stand op path beside want lock) → rightlyKept op k memory path want ≡ true
-kept-from op k memory [] beside want lock f = eq-eqb want 0 (f .begins refl)
-kept-from op k memory (t ∷ below) beside want lock f =
+kept-from : (op : Op) (k : ℕ) (memory : ℕ → Page) (path beside : List ℕ) (want : ℕ) (lock : Lock) (locks sidelocks : List Under) → KeptRightly k memory (stand op path locks beside sidelocks want lock) → rightlyKept op k memory path want ≡ true
+kept-from op k memory [] beside want lock locks sidelocks f = eq-eqb want 0 (f .begins refl)
+kept-from op k memory (t ∷ below) beside want lock locks sidelocks f =
     and-both
     (⊎-elim (λ e. or-first (isSafe op k (memory t)) (eq-eqb t 0 e)) (λ s. or-second (eqb t 0) (safe-is k op (memory t) .1 s)) (f .top (omega arith)))
     (all-from (λ (p : ℕ). not (isSafe op k (memory p))) below 0
@@ -238,10 +239,10 @@ is-sibling nothing want h = absurd (false≢true h)
 is-sibling (sibling s) want h = ap sibling (eqb-true s want h)
 is-sibling astray want h = absurd (false≢true h)
 
-so-far-told : (op : Op) (k : ℕ) (memory : ℕ → Page) (path up beside : List ℕ) (want : ℕ) (lock : Lock) → rightlyBeside k memory (stand op path beside want lock) up ≡ true
+so-far-told : (op : Op) (k : ℕ) (memory : ℕ → Page) (path up beside : List ℕ) (want : ℕ) (lock : Lock) (locks sidelocks : List Under) → rightlyBeside k memory (stand op path locks beside sidelocks want lock) up ≡ true
     → (isDelete op ≡ true) × SiblingsSoFar k memory (keyOf op) up beside want
-so-far-told op k memory path [] beside want lock h = absurd (false≢true h)
-so-far-told op k memory path (leaf ∷ fathers) beside want lock h =
+so-far-told op k memory path [] beside want lock locks sidelocks h = absurd (false≢true h)
+so-far-told op k memory path (leaf ∷ fathers) beside want lock locks sidelocks h =
     let x = keyOf op in
     let a = isDelete op in
     let b = has x (memory leaf .entries) in
@@ -265,10 +266,10 @@ so-far-told op k memory path (leaf ∷ fathers) beside want lock h =
       },
     )
 
-so-far-from : (op : Op) (k : ℕ) (memory : ℕ → Page) (path up beside : List ℕ) (want : ℕ) (lock : Lock) → isDelete op ≡ true
-    → SiblingsSoFar k memory (keyOf op) up beside want → rightlyBeside k memory (stand op path beside want lock) up ≡ true
-so-far-from op k memory path [] beside want lock e f = let none = f .fewer in absurd (omega (arith, none))
-so-far-from op k memory path (leaf ∷ fathers) beside want lock e f =
+so-far-from : (op : Op) (k : ℕ) (memory : ℕ → Page) (path up beside : List ℕ) (want : ℕ) (lock : Lock) (locks sidelocks : List Under) → isDelete op ≡ true
+    → SiblingsSoFar k memory (keyOf op) up beside want → rightlyBeside k memory (stand op path locks beside sidelocks want lock) up ≡ true
+so-far-from op k memory path [] beside want lock locks sidelocks e f = let none = f .fewer in absurd (omega (arith, none))
+so-far-from op k memory path (leaf ∷ fathers) beside want lock locks sidelocks e f =
     let x = keyOf op in
     let (i, b, key) = f .there in
     let fewer = f .fewer in
@@ -332,10 +333,10 @@ is-none : {A : Type 0} (xs : List A) → isNone xs ≡ true → xs ≡ []
 is-none [] h = refl
 is-none (x ∷ xs) h = absurd (false≢true h)
 
-across-told : (op : Op) (k : ℕ) (memory : ℕ → Page) (path second : List ℕ) (want : ℕ) (lock : Lock) → StandsAtLeaf memory path → Way memory (keyOf op) path
-    → rightlyAcross k memory (stand op path second want lock) path ≡ true → GoesAcross k memory (stand op path second want lock)
-across-told op k memory [] second want lock l w h = absurd (false≢true h)
-across-told op k memory (top ∷ below) second want lock l w h =
+across-told : (op : Op) (k : ℕ) (memory : ℕ → Page) (path second : List ℕ) (want : ℕ) (lock : Lock) (locks sidelocks : List Under) → StandsAtLeaf memory path → Way memory (keyOf op) path
+    → rightlyAcross k memory (stand op path locks second sidelocks want lock) path ≡ true → GoesAcross k memory (stand op path locks second sidelocks want lock)
+across-told op k memory [] second want lock locks sidelocks l w h = absurd (false≢true h)
+across-told op k memory (top ∷ below) second want lock locks sidelocks l w h =
     let x = keyOf op in
     let a = isNext op in
     let es = memory (getD (reverse (top ∷ below)) 0 0) .entries in
@@ -356,10 +357,10 @@ across-told op k memory (top ∷ below) second want lock l w h =
       leftmost = t .leftmost;
     }
 
-across-from : (op : Op) (k : ℕ) (memory : ℕ → Page) (path second : List ℕ) (want : ℕ) (lock : Lock) → GoesAcross k memory (stand op path second want lock)
-    → rightlyAcross k memory (stand op path second want lock) path ≡ true
-across-from op k memory [] second want lock g = let some = g .atLeaf .0 in absurd (omega (arith, some))
-across-from op k memory (top ∷ below) second want lock g =
+across-from : (op : Op) (k : ℕ) (memory : ℕ → Page) (path second : List ℕ) (want : ℕ) (lock : Lock) (locks sidelocks : List Under) → GoesAcross k memory (stand op path locks second sidelocks want lock)
+    → rightlyAcross k memory (stand op path locks second sidelocks want lock) path ≡ true
+across-from op k memory [] second want lock locks sidelocks g = let some = g .atLeaf .0 in absurd (omega (arith, some))
+across-from op k memory (top ∷ below) second want lock locks sidelocks g =
     let x = keyOf op in
     let es = memory (getD (reverse (top ∷ below)) 0 0) .entries in
     and-both
@@ -371,58 +372,58 @@ across-from op k memory (top ∷ below) second want lock g =
 abbrev pub Stands : ℕ → (ℕ → Page) → Stand → Type 0
 Stands k memory z = ComesDown memory z ⊎ (AsksSibling k memory z ⊎ GoesAcross k memory z)
 
-module _ (op : Op) (k : ℕ) (memory : ℕ → Page) (path beside : List ℕ) (want : ℕ) (lock : Lock) where
+module _ (op : Op) (k : ℕ) (memory : ℕ → Page) (path beside : List ℕ) (want : ℕ) (lock : Lock) (locks sidelocks : List Under) where
   abbrev atIt : Bool
-  atIt = descends memory (keyOf op) path && (rightlyBeside k memory (stand op path beside want lock) (reverse path) || rightlyAcross k memory (stand op path beside want lock) path)
+  atIt = descends memory (keyOf op) path && (rightlyBeside k memory (stand op path locks beside sidelocks want lock) (reverse path) || rightlyAcross k memory (stand op path locks beside sidelocks want lock) path)
 
   abbrev above : Bool
   above = descends memory (keyOf op) (path ++ want ∷ []) && isNone beside
 
-  pub fitting-told : Rising memory (path ++ want ∷ []) → Rising memory path → fitting k memory (stand op path beside want lock) ≡ true
-      → KeptRightly k memory (stand op path beside want lock) × WantsAs memory (stand op path beside want lock) × Stands k memory (stand op path beside want lock)
+  pub fitting-told : Rising memory (path ++ want ∷ []) → Rising memory path → fitting k memory (stand op path locks beside sidelocks want lock) ≡ true
+      → KeptRightly k memory (stand op path locks beside sidelocks want lock) × WantsAs memory (stand op path locks beside sidelocks want lock) × Stands k memory (stand op path locks beside sidelocks want lock)
   unfolding fitting
   fitting-told r s h =
       let keep = rightlyKept op k memory path want in
       let due = sameLock lock (lockDue op memory (reverse path)) in
       let rest = cond (atItsLeaf memory (reverse path)) atIt above in
       let both = and-first (keep && due) rest h in (
-        kept-told op k memory path beside want lock (and-first keep due both),
-        wants-as memory (stand op path beside want lock) (same-lock lock (lockDue op memory (reverse path)) (and-second keep due both)),
+        kept-told op k memory path beside want lock locks sidelocks (and-first keep due both),
+        wants-as memory (stand op path locks beside sidelocks want lock) (same-lock lock (lockDue op memory (reverse path)) (and-second keep due both)),
         by-test (atItsLeaf memory (reverse path))
             (λ l. at-it (test-at-leaf memory path l) (sym (cond-true atIt above l) ∙ and-second (keep && due) rest h))
             (λ l. inl (down (λ a. not-both (at-leaf-test memory path a) l) (sym (cond-false atIt above l) ∙ and-second (keep && due) rest h))),
       )
     where
-      at-it : StandsAtLeaf memory path → atIt ≡ true → Stands k memory (stand op path beside want lock)
+      at-it : StandsAtLeaf memory path → atIt ≡ true → Stands k memory (stand op path locks beside sidelocks want lock)
       at-it l t =
-          let w = way-told memory (keyOf op) path s (and-first (descends memory (keyOf op) path) (rightlyBeside k memory (stand op path beside want lock) (reverse path) || rightlyAcross k memory (stand op path beside want lock) path) t) in
+          let w = way-told memory (keyOf op) path s (and-first (descends memory (keyOf op) path) (rightlyBeside k memory (stand op path locks beside sidelocks want lock) (reverse path) || rightlyAcross k memory (stand op path locks beside sidelocks want lock) path) t) in
           ⊎-elim
-          (λ b. let (d, f) = so-far-told op k memory path (reverse path) beside want lock b in inr (inl (record { deletes = d; atLeaf = l; way = w; siblings = f })))
-          (λ b. inr (inr (across-told op k memory path beside want lock l w b)))
-          (or-cases (rightlyBeside k memory (stand op path beside want lock) (reverse path)) (rightlyAcross k memory (stand op path beside want lock) path)
-          (and-second (descends memory (keyOf op) path) (rightlyBeside k memory (stand op path beside want lock) (reverse path) || rightlyAcross k memory (stand op path beside want lock) path) t))
+          (λ b. let (d, f) = so-far-told op k memory path (reverse path) beside want lock locks sidelocks b in inr (inl (record { deletes = d; atLeaf = l; way = w; siblings = f })))
+          (λ b. inr (inr (across-told op k memory path beside want lock locks sidelocks l w b)))
+          (or-cases (rightlyBeside k memory (stand op path locks beside sidelocks want lock) (reverse path)) (rightlyAcross k memory (stand op path locks beside sidelocks want lock) path)
+          (and-second (descends memory (keyOf op) path) (rightlyBeside k memory (stand op path locks beside sidelocks want lock) (reverse path) || rightlyAcross k memory (stand op path locks beside sidelocks want lock) path) t))
 
-      down : (StandsAtLeaf memory path → ⊥) → above ≡ true → ComesDown memory (stand op path beside want lock)
+      down : (StandsAtLeaf memory path → ⊥) → above ≡ true → ComesDown memory (stand op path locks beside sidelocks want lock)
       down l t = record {
         aboveLeaf = l;
         way = way-told memory (keyOf op) (path ++ want ∷ []) r (and-first (descends memory (keyOf op) (path ++ want ∷ [])) (isNone beside) t);
         nothingBeside = is-none beside (and-second (descends memory (keyOf op) (path ++ want ∷ [])) (isNone beside) t);
       }
 
-  pub fitting-from : KeptRightly k memory (stand op path beside want lock) → WantsAs memory (stand op path beside want lock) → Stands k memory (stand op path beside want lock) → fitting k memory (stand op path beside want lock) ≡ true
+  pub fitting-from : KeptRightly k memory (stand op path locks beside sidelocks want lock) → WantsAs memory (stand op path locks beside sidelocks want lock) → Stands k memory (stand op path locks beside sidelocks want lock) → fitting k memory (stand op path locks beside sidelocks want lock) ≡ true
   unfolding fitting
   fitting-from f w s =
       and-both
-      (and-both (kept-from op k memory path beside want lock f)
-      (ap (λ (l : Lock). sameLock l (lockDue op memory (reverse path))) (wanted-due memory (stand op path beside want lock) w) ∙ lock-same (lockDue op memory (reverse path))))
+      (and-both (kept-from op k memory path beside want lock locks sidelocks f)
+      (ap (λ (l : Lock). sameLock l (lockDue op memory (reverse path))) (wanted-due memory (stand op path locks beside sidelocks want lock) w) ∙ lock-same (lockDue op memory (reverse path))))
       (⊎-elim
       (λ c. cond-false atIt above (false-if-not-true (atItsLeaf memory (reverse path)) (λ l. c .aboveLeaf (test-at-leaf memory path l)))
       ∙ and-both (way-from memory (keyOf op) (path ++ want ∷ []) (c .way)) (ap isNone (c .nothingBeside)))
       (⊎-elim
       (λ a. cond-true atIt above (at-leaf-test memory path (a .atLeaf))
       ∙ and-both (way-from memory (keyOf op) path (a .way))
-      (or-first (rightlyAcross k memory (stand op path beside want lock) path) (so-far-from op k memory path (reverse path) beside want lock (a .deletes) (a .siblings))))
+      (or-first (rightlyAcross k memory (stand op path locks beside sidelocks want lock) path) (so-far-from op k memory path (reverse path) beside want lock locks sidelocks (a .deletes) (a .siblings))))
       (λ a. cond-true atIt above (at-leaf-test memory path (a .atLeaf))
       ∙ and-both (way-from memory (keyOf op) path (a .way))
-      (or-second (rightlyBeside k memory (stand op path beside want lock) (reverse path)) (across-from op k memory path beside want lock a))))
+      (or-second (rightlyBeside k memory (stand op path locks beside sidelocks want lock) (reverse path)) (across-from op k memory path beside want lock locks sidelocks a))))
       s)

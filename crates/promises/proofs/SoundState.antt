@@ -8,7 +8,7 @@ use native.Mathlib.Omega.{arith}
 use lib.Dec.{leb, ltb, eqb}
 use borrow.Author.Tests.{leb-true, le-leb, ltb-true, lt-ltb, eqb-true, eq-eqb}
 use Rattle.ground.specs.Limits.{largestK, largestN, tallest, slotCount, searchHolds, regradeHolds, secondHolds, pathHolds, siblingHolds}
-use Rattle.ground.proofs.Bools.{not-both, false-if-not-true, and-first, and-second, and-both, or-first, or-second, or-cases}
+use Rattle.ground.proofs.Bools.{and-first, and-second, and-both, or-first, or-second, or-cases}
 use Rattle.ground.proofs.Tests.{member-at, distinct-at, distinct-from}
 use Rattle.slots.specs.declared.Op.{Op}
 use Rattle.slots.specs.declared.Op.the-variants.{Search, Insert, Delete, Next, Regrade}
@@ -19,15 +19,14 @@ use Rattle.slots.specs.declared.Task.{Task}
 use Rattle.slots.specs.declared.Task.the-variants.{Closed, Open}
 use Rattle.slots.specs.declared.State.{State}
 use Rattle.slots.specs.Parts.{isOpen, isSecond, heldLock, held, slotAt, wantAt, waitingOrder}
-use Rattle.slots.specs.Locks.{lockHeldAt, sameLock, canWant, clash}
+use Rattle.slots.specs.Locks.{lockHeldAt, sameLock, canHold, canWant}
 use Rattle.slots.specs.Sound.{withinLimits, wantsRightly, sound}
 use Rattle.slots.proofs.SoundFacts.{SoundState, sound-facts, facts-sound}
-use Rattle.slots.proofs.Clashes.{update-alone}
-use Rattle.slots.proofs.LockLaws.{same-lock, lock-same, can-want-held}
+use Rattle.slots.proofs.LockLaws.{same-lock, lock-same, can-hold, can-hold-held, can-want-held}
 use Rattle.runs.proofs.Progress.{opened}
-use Rattle.promises.specs.Terms.{Exactly}
+use Rattle.promises.specs.Terms.{Exactly, GoTogether}
 use Rattle.promises.specs.SoundState.{Numbers, InLimits, CanWant, IsSound}
-use Rattle.promises.proofs.Terms.{in-member, holds-rho, holds-xi, one-kind, second-named, named-second, xi-excludes, excludes-xi, clash-xi}
+use Rattle.promises.proofs.Terms.{in-member, together-told, with-goes, kind-is, second-named, named-second, holds-as, as-held, sound-kind}
 
 pub numbers : Numbers
 unfolding largestK largestN tallest slotCount searchHolds regradeHolds secondHolds pathHolds siblingHolds
@@ -89,17 +88,13 @@ limits-from (Open (Regrade x v Second)) path beside h = none-from secondHolds pa
 wants-told : (op : Op) (lock : Lock) → canWant op lock ≡ true → CanWant op lock
 wants-told op lock h =
     ⊎-elim
-    (λ e. ⊎-elim
-    (λ r. inl (same-lock lock (heldLock op) e ∙ holds-rho op r, r))
-    (λ never. inr (same-lock lock (heldLock op) e ∙ holds-xi op never, inl never))
-    (one-kind op))
-    (λ e. inr (same-lock lock Xi (and-second (isSecond op) (sameLock lock Xi) e), inr (second-named op (and-first (isSecond op) (sameLock lock Xi) e))))
+    (λ e. inl (kind-is op lock .0 (same-lock lock (heldLock op) e)))
+    (λ e. inr (second-named op (and-first (isSecond op) (sameLock lock Xi) e), same-lock lock Xi (and-second (isSecond op) (sameLock lock Xi) e)))
     (or-cases (sameLock lock (heldLock op)) (isSecond op && sameLock lock Xi) h)
 
 wants-from : (op : Op) (lock : Lock) → CanWant op lock → canWant op lock ≡ true
-wants-from op lock (inl (e, r)) = ap (canWant op) (e ∙ sym (holds-rho op r)) ∙ can-want-held op
-wants-from op lock (inr (e, inl never)) = ap (canWant op) (e ∙ sym (holds-xi op never)) ∙ can-want-held op
-wants-from op lock (inr (e, inr second)) =
+wants-from op lock (inl g) = ap (canWant op) (with-goes op lock g) ∙ can-want-held op
+wants-from op lock (inr (second, e)) =
     ap (canWant op) e ∙ or-second (sameLock Xi (heldLock op)) (and-both (named-second op second) (lock-same Xi))
 
 -- of a task; a closed slot's want is not looked at
@@ -128,9 +123,12 @@ told st f = record {
   different = λ s b o. distinct-at (wantAt st s ∷ held (slotAt st s)) 0 (f .slot s b .different (ap isOpen (o .1)));
   limits = λ s b. limits-told (slotAt st s .task) (slotAt st s .depth) (slotAt st s .breadth) (f .slot s b .limits);
   wants = λ s op b runs. rightly-told (slotAt st s .task) op (slotAt st s .lock) (f .slot s b .rightly) runs;
-  alone = λ s t p b c n u i j.
-      not-both (in-member p (held (slotAt st t)) j)
-      (update-alone st f s t p b c n (excludes-xi (slotAt st s .task) (u .0) (u .1) (u .2)) (in-member p (held (slotAt st s)) i));
+  holds = λ s p op lock b runs h.
+      kind-is op lock .0 (sym (sound-kind st f s p lock b h) ∙ can-hold op (lockHeldAt st s p) (f .slot s b .under op runs p (as-held st s p lock h)));
+  together = λ s t p x y b c n h g.
+      subst (λ (l : Lock). GoTogether l y) (sound-kind st f s p x b h)
+      (subst (GoTogether (lockHeldAt st s p)) (sound-kind st f t p y c g)
+      (together-told (lockHeldAt st s p) (lockHeldAt st t p) .0 (f .locks s t b c n p (as-held st s p x h) (as-held st t p y g))));
 }
 
 from : (st : State) → IsSound st → SoundState st
@@ -149,14 +147,12 @@ from st g = record {
     below = λ o p m. g .below s p b (opened (slotAt st s .task) o) (member-at p (wantAt st s ∷ held (slotAt st s)) 0 m);
     different = λ o. distinct-from (wantAt st s ∷ held (slotAt st s)) 0 (g .different s b (opened (slotAt st s .task) o));
     rightly = rightly-from (slotAt st s .task) (slotAt st s .lock) (λ op runs. g .wants s op b runs);
+    under = λ op runs p m.
+        ap (canHold op) (with-goes op (lockHeldAt st s p) (g .holds s p op (lockHeldAt st s p) b runs (holds-as st s p m))) ∙ can-hold-held op;
   };
-  locks = λ s t b c n p h m. false-if-not-true (clash (lockHeldAt st s p) (lockHeldAt st t p)) (λ e.
-      let mine = member-at p (held (slotAt st s)) 0 h in
-      let theirs = member-at p (held (slotAt st t)) 0 m in
-      ⊎-elim
-      (λ x. g .alone s t p b c n (xi-excludes (slotAt st s .task) x) mine theirs)
-      (λ x. g .alone t s p c b (λ q. n (sym q)) (xi-excludes (slotAt st t .task) x) theirs mine)
-      (clash-xi (lockHeldAt st s p) (lockHeldAt st t p) e));
+  locks = λ s t b c n p h m.
+      together-told (lockHeldAt st s p) (lockHeldAt st t p) .1
+      (g .together s t p (lockHeldAt st s p) (lockHeldAt st t p) b c n (holds-as st s p h) (holds-as st t p m));
 }
 
 pub sound-is : (st : State) → Exactly (sound st ≡ true) (IsSound st)

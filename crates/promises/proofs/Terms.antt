@@ -1,80 +1,156 @@
 -- The plain terms and the tests of the rules: one gives the other.
-use Prim.Native.Nat.{ℕ, suc}
-use mathlib.Core.Bool.{true, false, _&&_, false≢true}
+use Prim.Native.Nat.{ℕ, zero, suc, _<_}
+use mathlib.Core.Bool.{Bool, true, false, not, _&&_, _||_, false≢true}
 use mathlib.Core.List.{List, [], _∷_, reverse}
-use mathlib.Core.Logic.{_⊎_, inl, inr, ⊎-elim}
-use mathlib.Core.Path.{_≡_, refl, sym, ap, ap₂, subst, _∙_}
+use mathlib.Core.Path.{_≡_, refl, sym, ap, subst, _∙_}
 use native.Mathlib.Omega.{arith}
 use lib.Dec.{eqb}
 use lib.ListN.{length, getD, length-reverse}
-use borrow.Author.Tests.{eqb-true, eq-eqb}
-use Rattle.ground.specs.Tests.{member}
+use borrow.Author.Tests.{eqb-true, eq-eqb, ne-eqb, not-true}
+use Rattle.ground.specs.Limits.{slotCount}
+use Rattle.ground.specs.Tests.{member, distinct}
 use Rattle.ground.proofs.Bools.{not-both, false-if-not-true, and-first, and-second, and-both}
 use Rattle.ground.proofs.Choice.{by-test, cond-true, cond-false}
-use Rattle.ground.proofs.Tests.{member-from}
+use Rattle.ground.proofs.Tests.{member-from, member-at}
 use Rattle.page.specs.Words.{Page}
 use Rattle.slots.specs.declared.Op.{Op}
 use Rattle.slots.specs.declared.Op.the-variants.{Search, Insert, Delete, Next, Regrade}
 use Rattle.slots.specs.declared.Way.the-variants.{First, Second}
-use Rattle.slots.specs.declared.Task.{Task}
-use Rattle.slots.specs.declared.Task.the-variants.{Closed, Open}
 use Rattle.slots.specs.declared.Lock.{Lock}
-use Rattle.slots.specs.declared.Lock.the-variants.{None, Rho, Xi}
-use Rattle.slots.specs.Parts.{isOpen, isSecond, heldLock, Stand, stand}
-use Rattle.slots.specs.Locks.{lockOf, clash}
-use Rattle.slots.proofs.LockLaws.{none-not-xi, rho-not-xi, second-rho}
+use Rattle.slots.specs.declared.Lock.the-variants.{None, Rho, Xi, UpdaterRho, Alpha}
+use Rattle.slots.specs.declared.Under.{Under}
+use Rattle.slots.specs.declared.State.{State}
+use Rattle.slots.specs.Parts.{isSecond, heldLock, held, heldLocks, under, Stand, stand, slotAt, holdsAt}
+use Rattle.slots.specs.Locks.{lockAmong, lockHeldAt, clash}
+use Rattle.slots.proofs.SoundFacts.{SoundState}
+use Rattle.slots.proofs.GrantLaws.{holder-open}
+use Rattle.slots.proofs.LockLaws.{rho-not-xi, updater-not-xi}
 use Rattle.footing.specs.Fitting.{lockDue}
-use Rattle.footing.proofs.LookLaws.{below-first}
-use Rattle.promises.specs.Terms.{Exactly, In, HoldsRho, BySecond, WantsAs}
+use Rattle.promises.specs.Terms.{Exactly, In, GoTogether, HoldsAs, GoesWith, ByFirst, BySecond, AboveItsLeaf, WantsAs}
 
 -- what stands in a list is a member of it (`member-at` is the way back)
 pub in-member : (x : ℕ) (xs : List ℕ) → In x xs → member x xs ≡ true
 in-member x xs (i, b, e) = member-from x xs i 0 b e
 
--- ---- the kind under which an operation holds
+-- ---- kinds of lock
 
-data LockSays (op : Op) : Type 0 where
-  shares : heldLock op ≡ Rho → HoldsRho op → LockSays op
-  excludes : heldLock op ≡ Xi → (HoldsRho op → ⊥) → LockSays op
+-- the rule's table is 02's
+pub together-told : (a b : Lock) → Exactly (clash a b ≡ false) (GoTogether a b)
+together-told None None = (λ _. tt, λ _. refl)
+together-told None Rho = (λ _. tt, λ _. refl)
+together-told None Xi = (λ _. tt, λ _. refl)
+together-told None UpdaterRho = (λ _. tt, λ _. refl)
+together-told None Alpha = (λ _. tt, λ _. refl)
+together-told Rho None = (λ _. tt, λ _. refl)
+together-told Rho Rho = (λ _. tt, λ _. refl)
+together-told Rho Xi = (λ e. not-both refl e, λ g. absurd g)
+together-told Rho UpdaterRho = (λ _. tt, λ _. refl)
+together-told Rho Alpha = (λ _. tt, λ _. refl)
+together-told Xi None = (λ _. tt, λ _. refl)
+together-told Xi Rho = (λ e. not-both refl e, λ g. absurd g)
+together-told Xi Xi = (λ e. not-both refl e, λ g. absurd g)
+together-told Xi UpdaterRho = (λ e. not-both refl e, λ g. absurd g)
+together-told Xi Alpha = (λ e. not-both refl e, λ g. absurd g)
+together-told UpdaterRho None = (λ _. tt, λ _. refl)
+together-told UpdaterRho Rho = (λ _. tt, λ _. refl)
+together-told UpdaterRho Xi = (λ e. not-both refl e, λ g. absurd g)
+together-told UpdaterRho UpdaterRho = (λ _. tt, λ _. refl)
+together-told UpdaterRho Alpha = (λ e. not-both refl e, λ g. absurd g)
+together-told Alpha None = (λ _. tt, λ _. refl)
+together-told Alpha Rho = (λ _. tt, λ _. refl)
+together-told Alpha Xi = (λ e. not-both refl e, λ g. absurd g)
+together-told Alpha UpdaterRho = (λ e. not-both refl e, λ g. absurd g)
+together-told Alpha Alpha = (λ e. not-both refl e, λ g. absurd g)
 
-lock-says : (op : Op) → LockSays op
-lock-says (Search x) = shares refl tt
-lock-says (Insert x v First) = excludes refl (λ r. r)
-lock-says (Insert x v Second) = shares refl tt
-lock-says (Delete x First) = excludes refl (λ r. r)
-lock-says (Delete x Second) = shares refl tt
-lock-says (Next x) = shares refl tt
-lock-says (Regrade x v First) = excludes refl (λ r. r)
-lock-says (Regrade x v Second) = shares refl tt
+pub clash-apart : (a b : Lock) → clash a b ≡ true → GoTogether a b → ⊥
+clash-apart a b c g = not-both c (together-told a b .1 g)
 
-pub holds-rho : (op : Op) → HoldsRho op → heldLock op ≡ Rho
-holds-rho op r = by-lock (lock-says op)
-  where
-    by-lock : LockSays op → heldLock op ≡ Rho
-    by-lock (shares e _) = e
-    by-lock (excludes e never) = absurd (never r)
+pub apart-clash : (a b : Lock) → (GoTogether a b → ⊥) → clash a b ≡ true
+apart-clash a b never = by-test (clash a b) (λ c. c) (λ f. absurd (never (together-told a b .0 f)))
 
-pub holds-xi : (op : Op) → (HoldsRho op → ⊥) → heldLock op ≡ Xi
-holds-xi op never = by-lock (lock-says op)
-  where
-    by-lock : LockSays op → heldLock op ≡ Xi
-    by-lock (shares e r) = absurd (never r)
-    by-lock (excludes e _) = e
+-- the kind with which an operation goes down
+pub goes-with : (op : Op) → GoesWith op (heldLock op)
+goes-with (Search x) = refl
+goes-with (Insert x v First) = refl
+goes-with (Insert x v Second) = refl
+goes-with (Delete x First) = refl
+goes-with (Delete x Second) = refl
+goes-with (Next x) = refl
+goes-with (Regrade x v First) = refl
+goes-with (Regrade x v Second) = refl
 
-pub rho-held : (op : Op) → heldLock op ≡ Rho → HoldsRho op
-rho-held op e = by-lock (lock-says op)
-  where
-    by-lock : LockSays op → HoldsRho op
-    by-lock (shares _ r) = r
-    by-lock (excludes f _) = absurd (rho-not-xi (sym e ∙ f))
+pub with-goes : (op : Op) (lock : Lock) → GoesWith op lock → lock ≡ heldLock op
+with-goes (Search x) lock e = e
+with-goes (Insert x v First) lock e = e
+with-goes (Insert x v Second) lock e = e
+with-goes (Delete x First) lock e = e
+with-goes (Delete x Second) lock e = e
+with-goes (Next x) lock e = e
+with-goes (Regrade x v First) lock e = e
+with-goes (Regrade x v Second) lock e = e
 
--- it is one of the two
-pub one-kind : (op : Op) → HoldsRho op ⊎ (HoldsRho op → ⊥)
-one-kind op = by-lock (lock-says op)
-  where
-    by-lock : LockSays op → HoldsRho op ⊎ (HoldsRho op → ⊥)
-    by-lock (shares _ r) = inl r
-    by-lock (excludes _ never) = inr never
+pub kind-is : (op : Op) (lock : Lock) → Exactly (lock ≡ heldLock op) (GoesWith op lock)
+kind-is op lock = ((λ e. subst (GoesWith op) (sym e) (goes-with op)), with-goes op lock)
+
+-- who goes down with ξ updates by the first way
+pub xi-first : (op : Op) → heldLock op ≡ Xi → ByFirst op
+xi-first (Search x) e = absurd (rho-not-xi e)
+xi-first (Insert x v First) e = tt
+xi-first (Insert x v Second) e = absurd (updater-not-xi e)
+xi-first (Delete x First) e = tt
+xi-first (Delete x Second) e = absurd (updater-not-xi e)
+xi-first (Next x) e = absurd (rho-not-xi e)
+xi-first (Regrade x v First) e = tt
+xi-first (Regrade x v Second) e = absurd (updater-not-xi e)
+
+-- the kind in the cell of a page: the first cell that has it,
+pub among-at : (p : ℕ) (pages : List ℕ) (locks : List Under) → member p pages ≡ true
+    → (i : ℕ) × (i < length pages) × (getD pages i 0 ≡ p) × (getD locks i (under None) .lock ≡ lockAmong p pages locks)
+unfolding member lockAmong
+among-at p [] locks m = not-both m refl
+among-at p (q ∷ pages) [] m = let (i, b, e) = member-at p (q ∷ pages) 0 m in (i, b, e, refl)
+among-at p (q ∷ pages) (u ∷ locks) m =
+    by-test (eqb p q)
+    (λ e. (0, omega arith, sym (eqb-true p q e), sym (cond-true (u .lock) (lockAmong p pages locks) e)))
+    (λ e.
+    let (i, b, at, kind) = among-at p pages locks (sym (ap (λ (h : Bool). h || member p pages) e) ∙ m) in
+    (suc i, omega arith, at, kind ∙ sym (cond-false (u .lock) (lockAmong p pages locks) e)))
+
+-- and every one, if none has it twice
+pub among-once : (pages : List ℕ) (locks : List Under) (i : ℕ) → distinct pages ≡ true → i < length pages
+    → lockAmong (getD pages i 0) pages locks ≡ getD locks i (under None) .lock
+unfolding distinct lockAmong
+among-once [] locks i d b = absurd (omega arith)
+among-once (q ∷ pages) [] zero d b = refl
+among-once (q ∷ pages) [] (suc i) d b = refl
+among-once (q ∷ pages) (u ∷ locks) zero d b = cond-true (u .lock) (lockAmong q pages locks) (eq-eqb q q refl)
+among-once (q ∷ pages) (u ∷ locks) (suc i) d b =
+    let inside : i < length pages = omega arith in
+    let apart = not-true (member q pages) (and-first (not (member q pages)) (distinct pages) d) in
+    cond-false (u .lock) (lockAmong (getD pages i 0) pages locks)
+    (ne-eqb (getD pages i 0) q (λ e. not-both (member-from q pages i 0 inside e) apart))
+    ∙ among-once pages locks i (and-second (not (member q pages)) (distinct pages) d) inside
+
+-- what a slot holds it holds with the kind that the rule reads
+pub holds-as : (st : State) (s p : ℕ) → holdsAt st s p ≡ true → HoldsAs st s p (lockHeldAt st s p)
+holds-as st s p h = among-at p (held (slotAt st s)) (heldLocks (slotAt st s)) h
+
+pub as-held : (st : State) (s p : ℕ) (lock : Lock) → HoldsAs st s p lock → holdsAt st s p ≡ true
+as-held st s p lock (i, b, e, _) = member-from p (held (slotAt st s)) i 0 b e
+
+pub as-kind : (st : State) (s p : ℕ) (lock : Lock) → distinct (held (slotAt st s)) ≡ true → HoldsAs st s p lock → lockHeldAt st s p ≡ lock
+as-kind st s p lock d (i, b, e, k) =
+    subst (λ (q : ℕ). lockAmong q (held (slotAt st s)) (heldLocks (slotAt st s)) ≡ lock) e (among-once (held (slotAt st s)) (heldLocks (slotAt st s)) i d b ∙ k)
+
+-- in a sound state no slot holds a page twice
+pub held-once : (st : State) → SoundState st → (s : ℕ) → s < slotCount → (p : ℕ) → holdsAt st s p ≡ true → distinct (held (slotAt st s)) ≡ true
+unfolding distinct
+held-once st f s b p h =
+    let slot = slotAt st s in
+    and-second (not (member (slot .want) (held slot))) (distinct (held slot)) (f .slot s b .different (holder-open (st .n) slot p (f .slot s b) h))
+
+pub sound-kind : (st : State) → SoundState st → (s p : ℕ) (lock : Lock) → s < slotCount → HoldsAs st s p lock → lockHeldAt st s p ≡ lock
+sound-kind st f s p lock b h = as-kind st s p lock (held-once st f s b p (as-held st s p lock h)) h
 
 -- ---- the second way
 
@@ -98,103 +174,47 @@ named-second (Next x) b = absurd b
 named-second (Regrade x v First) b = absurd b
 named-second (Regrade x v Second) b = refl
 
--- by it an operation holds with ρ
-pub second-shares : (op : Op) → BySecond op → HoldsRho op
-second-shares op b = rho-held op (second-rho op (named-second op b))
-
 -- ---- the kind that is wanted
 
 -- what is due by the rule is what the plain terms say, by the path upward
-due-as : (op : Op) (memory : ℕ → Page) (path beside : List ℕ) (want : ℕ) (lock : Lock) (up : List ℕ) → reverse path ≡ up
-    → lock ≡ lockDue op memory up → WantsAs memory (stand op path beside want lock)
-due-as op memory path beside want lock [] turned e = record {
-  excludes = λ never. e ∙ holds-xi op never;
-  leaf = λ a. absurd (omega (arith, a .1, sym (length-reverse path) ∙ ap length turned));
-  shares = λ r _. e ∙ holds-rho op r;
-}
-due-as op memory path beside want lock (p ∷ up) turned e =
-    let here : getD (reverse path) 0 0 ≡ p = ap (λ (ps : List ℕ). getD ps 0 0) turned in
-    let some : length path ≡ suc (length up) = sym (length-reverse path) ∙ ap length turned in
-    record {
-      excludes = λ never. e ∙ below-first op (memory p) (false-if-not-true (isSecond op) (λ s. never (second-shares op (second-named op s)))) ∙ holds-xi op never;
-      leaf = λ a. e ∙ cond-true Xi (heldLock op) (and-both (named-second op (a .0)) (eq-eqb (memory p .level) 2 (ap (λ (q : ℕ). memory q .level) (sym here) ∙ a .2)));
-      shares = λ r other. e
-          ∙ cond-false Xi (heldLock op) (false-if-not-true (isSecond op && eqb (memory p .level) 2) (λ both. other (
-            second-named op (and-first (isSecond op) (eqb (memory p .level) 2) both),
-            omega (arith, some),
-            ap (λ (q : ℕ). memory q .level) here ∙ eqb-true (memory p .level) 2 (and-second (isSecond op) (eqb (memory p .level) 2) both),
-          )))
-          ∙ holds-rho op r;
-    }
+module _ (op : Op) (memory : ℕ → Page) (path : List ℕ) (locks : List Under) (beside : List ℕ) (sidelocks : List Under) (want : ℕ) (lock : Lock) where
+  abbrev z : Stand
+  z = stand op path locks beside sidelocks want lock
+
+  -- above its leaf, by the lowest page of the path
+  above-test : (p : ℕ) (up : List ℕ) → reverse path ≡ p ∷ up → isSecond op && eqb (memory p .level) 2 ≡ true → AboveItsLeaf memory z
+  above-test p up turned both = (
+    second-named op (and-first (isSecond op) (eqb (memory p .level) 2) both),
+    omega (arith, sym (length-reverse path) ∙ ap length turned),
+    ap (λ (ps : List ℕ). memory (getD ps 0 0) .level) turned ∙ eqb-true (memory p .level) 2 (and-second (isSecond op) (eqb (memory p .level) 2) both),
+  )
+
+  test-above : (p : ℕ) (up : List ℕ) → reverse path ≡ p ∷ up → AboveItsLeaf memory z → isSecond op && eqb (memory p .level) 2 ≡ true
+  test-above p up turned a =
+      and-both (named-second op (a .0)) (eq-eqb (memory p .level) 2 (ap (λ (ps : List ℕ). memory (getD ps 0 0) .level) (sym turned) ∙ a .2))
+
+  nothing-above : reverse path ≡ [] → AboveItsLeaf memory z → ⊥
+  nothing-above turned a = absurd (omega (arith, a .1, sym (length-reverse path) ∙ ap length turned))
+
+  due-as : (up : List ℕ) → reverse path ≡ up → lock ≡ lockDue op memory up → WantsAs memory z
+  due-as [] turned e = record { leaf = λ a. absurd (nothing-above turned a); other = λ _. subst (GoesWith op) (sym e) (goes-with op) }
+  due-as (p ∷ up) turned e = record {
+    leaf = λ a. e ∙ cond-true Xi (heldLock op) (test-above p up turned a);
+    other = λ no. subst (GoesWith op)
+        (sym (e ∙ cond-false Xi (heldLock op) (false-if-not-true (isSecond op && eqb (memory p .level) 2) (λ both. no (above-test p up turned both)))))
+        (goes-with op);
+  }
+
+  -- and the other way
+  as-due : (up : List ℕ) → reverse path ≡ up → WantsAs memory z → lock ≡ lockDue op memory up
+  as-due [] turned w = with-goes op lock (w .other (nothing-above turned))
+  as-due (p ∷ up) turned w =
+      by-test (isSecond op && eqb (memory p .level) 2)
+      (λ both. w .leaf (above-test p up turned both) ∙ sym (cond-true Xi (heldLock op) both))
+      (λ no. with-goes op lock (w .other (λ a. not-both (test-above p up turned a) no)) ∙ sym (cond-false Xi (heldLock op) no))
 
 pub wants-as : (memory : ℕ → Page) (z : Stand) → z .lock ≡ lockDue (z .op) memory (reverse (z .path)) → WantsAs memory z
-wants-as memory z e = due-as (z .op) memory (z .path) (z .beside) (z .want) (z .lock) (reverse (z .path)) refl e
-
--- and the other way
-as-due : (op : Op) (memory : ℕ → Page) (path beside : List ℕ) (want : ℕ) (lock : Lock) (up : List ℕ) → reverse path ≡ up
-    → WantsAs memory (stand op path beside want lock) → lock ≡ lockDue op memory up
-as-due op memory path beside want lock [] turned w =
-    let none : length path ≡ 0 = sym (length-reverse path) ∙ ap length turned in
-    ⊎-elim
-    (λ r. w .shares r (λ a. absurd (omega (arith, a .1, none))) ∙ sym (holds-rho op r))
-    (λ never. w .excludes never ∙ sym (holds-xi op never))
-    (one-kind op)
-as-due op memory path beside want lock (p ∷ up) turned w =
-    let here : getD (reverse path) 0 0 ≡ p = ap (λ (ps : List ℕ). getD ps 0 0) turned in
-    let some : length path ≡ suc (length up) = sym (length-reverse path) ∙ ap length turned in
-    by-test (isSecond op && eqb (memory p .level) 2)
-    (λ both. w .leaf (
-      second-named op (and-first (isSecond op) (eqb (memory p .level) 2) both),
-      omega (arith, some),
-      ap (λ (q : ℕ). memory q .level) here ∙ eqb-true (memory p .level) 2 (and-second (isSecond op) (eqb (memory p .level) 2) both),
-    ) ∙ sym (cond-true Xi (heldLock op) both))
-    (λ no. ⊎-elim
-    (λ r. w .shares r (λ a. not-both (and-both (named-second op (a .0)) (eq-eqb (memory p .level) 2 (ap (λ (q : ℕ). memory q .level) (sym here) ∙ a .2))) no) ∙ sym (holds-rho op r))
-    (λ never. w .excludes never ∙ sym (holds-xi op never))
-    (one-kind op) ∙ sym (cond-false Xi (heldLock op) no))
+wants-as memory z e = due-as (z .op) memory (z .path) (z .locks) (z .beside) (z .sidelocks) (z .want) (z .lock) (reverse (z .path)) refl e
 
 pub wanted-due : (memory : ℕ → Page) (z : Stand) → WantsAs memory z → z .lock ≡ lockDue (z .op) memory (reverse (z .path))
-wanted-due memory z w = as-due (z .op) memory (z .path) (z .beside) (z .want) (z .lock) (reverse (z .path)) refl w
-
--- ---- slots
-
--- a task that holds with ξ is open with such an operation,
-pub xi-excludes : (task : Task) → lockOf task ≡ Xi → (op : Op) × (task ≡ Open op) × (HoldsRho op → ⊥)
-xi-excludes Closed x = absurd (none-not-xi x)
-xi-excludes (Open op) x = (op, refl, λ r. rho-not-xi (sym (holds-rho op r) ∙ x))
-
--- and such an operation holds with ξ
-pub excludes-xi : (task : Task) (op : Op) → task ≡ Open op → (HoldsRho op → ⊥) → lockOf task ≡ Xi
-excludes-xi task op e never = ap lockOf e ∙ holds-xi op never
-
--- an open task that does not hold with ξ holds with ρ
-pub other-shares : (task : Task) → isOpen task ≡ true → (lockOf task ≡ Xi → ⊥) → (op : Op) × (task ≡ Open op) × HoldsRho op
-other-shares Closed o x = not-both o refl
-other-shares (Open op) o x = (op, refl, ⊎-elim (λ r. r) (λ never. absurd (x (holds-xi op never))) (one-kind op))
-
--- where two kinds clash, one of them is ξ
-pub clash-xi : (a b : Lock) → clash a b ≡ true → (a ≡ Xi) ⊎ (b ≡ Xi)
-clash-xi None None e = not-both e refl
-clash-xi None Rho e = not-both e refl
-clash-xi None Xi e = inr refl
-clash-xi Rho None e = not-both e refl
-clash-xi Rho Rho e = not-both e refl
-clash-xi Rho Xi e = inr refl
-clash-xi Xi None e = inl refl
-clash-xi Xi Rho e = inl refl
-clash-xi Xi Xi e = inl refl
-
--- ρ goes with ρ, and with nothing else
-pub clashes-so : (a b : Lock) → (a ≡ Rho) ⊎ (a ≡ Xi) → (b ≡ Rho) ⊎ (b ≡ Xi) → Exactly (clash a b ≡ false) ((a ≡ Rho) × (b ≡ Rho))
-clashes-so a b (inl e) (inl f) = ((λ _. (e, f)), (λ _. ap₂ clash e f))
-clashes-so a b (inl e) (inr f) = ((λ c. not-both (ap₂ clash e f) c), (λ r. absurd (rho-not-xi (sym (r .1) ∙ f))))
-clashes-so a b (inr e) (inl f) = ((λ c. not-both (ap₂ clash e f) c), (λ r. absurd (rho-not-xi (sym (r .0) ∙ e))))
-clashes-so a b (inr e) (inr f) = ((λ c. not-both (ap₂ clash e f) c), (λ r. absurd (rho-not-xi (sym (r .0) ∙ e))))
-
--- no task holds with ρ and with ξ
-abbrev SharesTask : Task → Type 0
-SharesTask Closed = ⊥
-SharesTask (Open op) = HoldsRho op
-
-pub never-both : (task : Task) → (op : Op) × (task ≡ Open op) × HoldsRho op → (op : Op) × (task ≡ Open op) × (HoldsRho op → ⊥) → ⊥
-never-both task (op, e, r) (op′, f, never) = never (subst SharesTask f (subst SharesTask (sym e) r))
+wanted-due memory z w = as-due (z .op) memory (z .path) (z .locks) (z .beside) (z .sidelocks) (z .want) (z .lock) (reverse (z .path)) refl w

@@ -3,6 +3,7 @@
 -- free, no two locks clash, and each step takes and gives up just the locks the rules name."
 -- Next of 02 (i) and the regrading of 02 (iv) are among the operations: whatever is said of every operation is said of them.
 -- 02 (iii): "Demands 2 and 3 stand, with Waiting given exactly by the new rule.": `StepLocks`, its fields waits and waitsFor.
+-- 02 (vi), kinds of lock: `AfterEveryCall`, its fields locks and heldAs.
 -- 02 (v), updates by the second way: `AfterEveryCall`, its fields wantsAs, secondHeld and secondAbove; `MovesOn`, its field taken; `Ends`, its
 -- fields writes and stays.
 use Prim.Native.Nat.{ℕ, suc, _-_, _≤_, _<_}
@@ -10,7 +11,7 @@ use mathlib.Core.Bool.{true, false, not}
 use mathlib.Core.List.{List, [], _∷_, _++_}
 use mathlib.Core.Logic.{_⊎_, _≢_}
 use mathlib.Core.Path.{_≡_}
-use lib.ListN.{length, replicate}
+use lib.ListN.{length, getD, replicate}
 use Rattle.ground.specs.Limits.{slotCount}
 use Rattle.ground.specs.Tests.{member, distinct}
 use Rattle.page.specs.Words.{Entry, Page, μ, size}
@@ -22,13 +23,12 @@ use Rattle.slots.specs.declared.Op.the-variants.{Search, Insert, Delete, Next, 
 use Rattle.slots.specs.declared.Way.{Way}
 use Rattle.slots.specs.declared.Way.the-variants.{First}
 use Rattle.slots.specs.declared.Lock.{Lock}
-use Rattle.slots.specs.declared.Lock.the-variants.{Rho, Xi}
-use Rattle.slots.specs.declared.Task.the-variants.{Open}
+use Rattle.slots.specs.declared.Lock.the-variants.{None, Xi}
 use Rattle.slots.specs.declared.Slot.{Slot}
 use Rattle.slots.specs.declared.State.{State}
 use Rattle.slots.specs.declared.Answer.{Answer}
 use Rattle.slots.specs.declared.Answer.the-variants.{Waiting, Moved, Begun, Next as NextLot, Regraded}
-use Rattle.slots.specs.Parts.{keyOf, isDelete, isNext, isSecond, firstWay, heldLock, goesBeside, held, standOf, slotAt, openAt, wantAt, holdsAt, waitingOrder, Opened}
+use Rattle.slots.specs.Parts.{keyOf, isDelete, isNext, isSecond, firstWay, heldLock, goesBeside, held, heldLocks, under, standOf, slotAt, openAt, wantAt, holdsAt, waitingOrder, Opened}
 use Rattle.slots.specs.Locks.{lockHeld, lockWanted, clash}
 use Rattle.slots.specs.Grant.{olderThan}
 use Rattle.slots.specs.Sound.{sound}
@@ -42,7 +42,7 @@ use Rattle.runs.specs.Run.{Start, runFrom, Run}
 use Rattle.runs.specs.Stance.{Safe, Stance, Takes}
 use Rattle.runs.specs.Waits.{Barred, Before}
 use Rattle.runs.specs.PlainFacts.{Among, AllBelow}
-use Rattle.promises.specs.Terms.{Exactly, HoldsRho, BySecond, WithRho, WithXi, WantsXi, WantsAs}
+use Rattle.promises.specs.Terms.{Exactly, GoTogether, HoldsAs, GoesWith, BySecond, WantsXi, WantsAs}
 
 -- ---- after every call
 
@@ -58,12 +58,13 @@ pub record AfterEveryCall (k n : ℕ) (st : State) (ws : List ℕ) : Type 0 wher
   pub free : (q : ℕ) → q < n → occurs q height tree ≡ 0 → wordsOf k q ws ≡ replicate (size k) 0
   -- the state is sound
   pub soundState : sound st ≡ true
-  -- "no two locks clash": two different slots that hold one page both hold it with ρ
-  pub locks : (s u p : ℕ) → s < slotCount → u < slotCount → s ≢ u → holdsAt st s p ≡ true → holdsAt st u p ≡ true → WithRho st s × WithRho st u
+  -- "no two locks clash": two different slots that hold one page hold it with kinds that go together
+  pub locks : (s u p : ℕ) (a b : Lock) → s < slotCount → u < slotCount → s ≢ u → HoldsAs st s p a → HoldsAs st u p b → GoTogether a b
   -- "just the locks the rules name", where everybody stands: an open slot as `Stance` says; a closed one holds nothing
   pub stands : (s : ℕ) (op : Op) → s < slotCount → Opened st s op → Stance k (pageAt k ws) height tree (standOf op (slotAt st s))
   pub closed : (s : ℕ) → s < slotCount → openAt st s ≡ false → held (slotAt st s) ≡ []
-  -- and with which kind of lock it wants its page
+  -- with which kind of lock it holds a page, and with which it wants one
+  pub heldAs : (s p : ℕ) (op : Op) (lock : Lock) → s < slotCount → Opened st s op → HoldsAs st s p lock → GoesWith op lock
   pub wantsAs : (s : ℕ) (op : Op) → s < slotCount → Opened st s op → WantsAs (pageAt k ws) (standOf op (slotAt st s))
   -- Regrading: "every page is safe for it, so it holds at most 1"
   pub oneHeld : (s x v : ℕ) (way : Way) → s < slotCount → Opened st s (Regrade x v way) → length (held (slotAt st s)) ≤ 1
@@ -109,7 +110,7 @@ Seen P answer = (y v : ℕ) → answer ≡ NextLot y v → (P .level ≡ 1) × A
 
 -- Once granted its want, slot s has a ξ-lock on page q: it wanted it with ξ, or holds it with ξ.
 abbrev pub HasXi : State → ℕ → ℕ → Type 0
-HasXi st s q = ((q ≡ wantAt st s) × WantsXi st s) ⊎ ((holdsAt st s q ≡ true) × WithXi st s)
+HasXi st s q = ((q ≡ wantAt st s) × WantsXi st s) ⊎ HoldsAs st s q Xi
 
 -- "An answer that ends the operation gives up every lock and closes the slot."
 pub record Ends (st : State) (ws : List ℕ) (s : ℕ) (after : Left) : Type 0 where
@@ -133,14 +134,14 @@ pub record Ends (st : State) (ws : List ℕ) (s : ℕ) (after : Left) : Type 0 w
   -- the lot that a Next answers it reads on the leaf that this step was granted, not on one without its lock
   pub seen : Seen (pageAt (st .k) ws (wantAt st s)) (after .answer)
 
--- Another slot is in slot s's way: it holds the page that s wants, or wants it too and stands before s in the waiting order; and one of
--- the two locks is ξ.
+-- Another slot is in slot s's way: it holds the page that s wants, or wants it too and stands before s in the waiting order; and the two locks do not
+-- go together.
 pub record InTheWay (st : State) (s : ℕ) : Type 0 where
   pub slot : ℕ
   pub inside : slot < slotCount
   pub other : slot ≢ s
-  pub there : ((holdsAt st slot (wantAt st s) ≡ true) × (WithXi st slot ⊎ WantsXi st s))
-      ⊎ ((wantAt st slot ≡ wantAt st s) × Before slot s (waitingOrder st) × (WantsXi st slot ⊎ WantsXi st s))
+  pub there : ((lock : Lock) × HoldsAs st slot (wantAt st s) lock × (GoTogether lock (slotAt st s .lock) → ⊥))
+      ⊎ ((wantAt st slot ≡ wantAt st s) × Before slot s (waitingOrder st) × (GoTogether (slotAt st slot .lock) (slotAt st s .lock) → ⊥))
 
 -- "each step takes and gives up just the locks the rules name"
 pub record StepLocks (st : State) (ws : List ℕ) (s : ℕ) (after : Left) : Type 0 where
@@ -196,11 +197,12 @@ pub record Words (k : ℕ) : Type 0 where
   -- "its right neighbour under the same father; if it has none, the left one": of the page to which F routes x
   pub right : (x : ℕ) (F : Page) → place x (F .entries) < μ F → neighbour x F ≡ pointer (suc (place x (F .entries))) F
   pub left : (x : ℕ) (F : Page) → μ F ≤ place x (F .entries) → neighbour x F ≡ pointer (place x (F .entries) - 1) F
-  -- "Two ρ on a page go together; ξ goes with nothing."
-  pub clashes : (a b : Lock) → (a ≡ Rho) ⊎ (a ≡ Xi) → (b ≡ Rho) ⊎ (b ≡ Xi) → Exactly (clash a b ≡ false) ((a ≡ Rho) × (b ≡ Rho))
-  -- the kind under which an operation holds its pages, whatever page it is, and the kind that a slot wants
-  pub heldRho : (op : Op) (a : Slot) (p : ℕ) → a .task ≡ Open op → HoldsRho op → (heldLock op ≡ Rho) × (lockHeld a p ≡ Rho)
-  pub heldXi : (op : Op) (a : Slot) (p : ℕ) → a .task ≡ Open op → (HoldsRho op → ⊥) → (heldLock op ≡ Xi) × (lockHeld a p ≡ Xi)
+  -- the rule's table of kinds is 02's
+  pub clashes : (a b : Lock) → Exactly (clash a b ≡ false) (GoTogether a b)
+  -- the kind with which an operation goes down, the kind of a page that a slot holds, and the kind that it wants
+  pub kind : (op : Op) (lock : Lock) → Exactly (lock ≡ heldLock op) (GoesWith op lock)
+  pub heldKind : (a : Slot) (i : ℕ) → distinct (held a) ≡ true → i < length (held a)
+      → lockHeld a (getD (held a) i 0) ≡ getD (heldLocks a) i (under None) .lock
   pub wanted : (a : Slot) → lockWanted a ≡ a .lock
   -- "Wants stand in a waiting order, oldest first."
   pub older : (s t : ℕ) (order : List ℕ) → distinct order ≡ true → member s order ≡ true → Exactly (member t (olderThan s order) ≡ true) (Before t s order)

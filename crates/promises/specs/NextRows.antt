@@ -1,17 +1,18 @@
 -- The next lot on the bench: where a Next goes, which pages it holds on its way, who waits for whom, and what is refused.
 -- A second program answers the same (`rust/twin`, whose tests read this table, its calls and its answers).
 use Prim.Native.Nat.{ℕ, zero, suc, _+_, _*_}
-use mathlib.Core.List.{List, [], _∷_, _++_}
+use mathlib.Core.List.{List, [], _∷_, _++_, map}
 use lib.ListN.{set, take, drop}
 use Rattle.slots.specs.declared.Op.{Op}
 use Rattle.slots.specs.declared.Op.the-variants.{Insert, Delete, Next}
 use Rattle.slots.specs.declared.Way.the-variants.{First}
 use Rattle.slots.specs.declared.Lock.{Lock}
 use Rattle.slots.specs.declared.Lock.the-variants.{None, Rho, Xi}
+use Rattle.slots.specs.declared.Slot.{Slot}
 use Rattle.slots.specs.declared.State.{State}
 use Rattle.slots.specs.declared.Answer.the-variants.{Reported, BadState, Damaged, Next as NextLot, None as NoLot}
 use Rattle.slots.specs.Heard.{heard}
-use Rattle.slots.specs.Parts.{heldLock, openSlot, idleState}
+use Rattle.slots.specs.Parts.{heldLock, under, openSlot, idleState}
 use Rattle.runs.specs.Run.{Call, begin, step, report, Told, ran}
 use Rattle.promises.specs.Bench.{Row, row, runs, puts, two, three, pool, caseE}
 use Rattle.promises.specs.MoreRows.{damaged, answers}
@@ -68,10 +69,15 @@ abbrev pub watched : ℕ → List ℕ → List Call
 watched zero ps = []
 watched (suc n) ps = step 0 ∷ looks ps ++ watched n ps
 
--- a state of n pages in which slot 0 has this operation, wants this page with this kind of lock, and holds this path and what stands
--- beside it
+-- a slot with this operation that wants this page with this kind of lock, and holds this path and what stands beside it, each page with the kind of
+-- its operation
+abbrev pub slotHolding : Op → ℕ → Lock → List ℕ → List ℕ → Slot
+slotHolding op want lock path beside =
+    openSlot op want lock path (map (λ (p : ℕ). under (heldLock op)) path) beside (map (λ (p : ℕ). under (heldLock op)) beside)
+
+-- a state of n pages in which slot 0 is such a slot
 abbrev pub slotWanting : ℕ → Op → ℕ → Lock → List ℕ → List ℕ → State
-slotWanting n op want lock path beside = record { k = 1; n = n; slots = set (idleState 1 n .slots) 0 (openSlot op want lock path beside); order = idleState 1 n .order; waiting = 1 }
+slotWanting n op want lock path beside = record { k = 1; n = n; slots = set (idleState 1 n .slots) 0 (slotHolding op want lock path beside); order = idleState 1 n .order; waiting = 1 }
 
 -- that wants it with the kind under which it holds
 abbrev pub slotOpen : ℕ → Op → ℕ → List ℕ → List ℕ → State

@@ -1,4 +1,4 @@
--- What a lock report says, in plain terms: by the slots that hold the page, and by their operations. "A lock report for a page gives the lock
+-- What a lock report says, in plain terms: by the slots that hold the page, and by the kinds of lock that they hold it with. "A lock report for a page gives the lock
 -- kind, how many slots hold the page, and the lowest-numbered holder; with no holder: none, 0, and 16."
 use Prim.Native.Nat.{ℕ, _<_}
 use mathlib.Core.List.{List}
@@ -8,8 +8,8 @@ use lib.ListN.{length}
 use Rattle.ground.specs.Limits.{slotCount}
 use Rattle.slots.specs.declared.State.{State}
 use Rattle.slots.specs.declared.Lock.{Lock}
-use Rattle.slots.specs.declared.Lock.the-variants.{None, Rho, Xi}
-use Rattle.promises.specs.Terms.{Exactly, In, Once, Holds, WithRho, WithXi}
+use Rattle.slots.specs.declared.Lock.the-variants.{None, Rho, Xi, UpdaterRho, Alpha}
+use Rattle.promises.specs.Terms.{Exactly, In, Once, Holds, HoldsAs}
 
 -- these slots, all different, are just those that hold the page
 pub record Holders (st : State) (p : ℕ) (slots : List ℕ) : Type 0 where
@@ -26,12 +26,20 @@ pub record Lowest (st : State) (p s : ℕ) : Type 0 where
   pub holds : Holds st s p
   pub noneBelow : (t : ℕ) → t < s → Holds st t p → ⊥
 
--- "Searches use ρ-locks, insertions and deletions ξ-locks."; a Next reads with ρ, a regrading writes with ξ, and by the second way updates
--- hold with ρ. None: nobody holds the page; ρ: somebody does, and all who do hold with ρ; ξ: one slot does, and it holds with ξ.
+-- some slot holds the page with this kind of lock; none does
+abbrev pub HeldAs : State → ℕ → Lock → Type 0
+HeldAs st p lock = (s : ℕ) × (s < slotCount) × HoldsAs st s p lock
+
+abbrev pub NotHeldAs : State → ℕ → Lock → Type 0
+NotHeldAs st p lock = (s : ℕ) → s < slotCount → HoldsAs st s p lock → ⊥
+
+-- "the lock kind .. with no holder: none". 02 (vi): "a lock report gives the first that is there of ξ, α, updater's ρ, ρ"
 abbrev pub KindIs : State → ℕ → Lock → Type 0
 KindIs st p None = Nobody st p
-KindIs st p Rho = ((s : ℕ) × (s < slotCount) × Holds st s p) × ((s : ℕ) → s < slotCount → Holds st s p → WithRho st s)
-KindIs st p Xi = (s : ℕ) × (s < slotCount) × Holds st s p × WithXi st s × ((t : ℕ) → t < slotCount → Holds st t p → t ≡ s)
+KindIs st p Xi = HeldAs st p Xi
+KindIs st p Alpha = HeldAs st p Alpha × NotHeldAs st p Xi
+KindIs st p UpdaterRho = HeldAs st p UpdaterRho × NotHeldAs st p Alpha × NotHeldAs st p Xi
+KindIs st p Rho = HeldAs st p Rho × NotHeldAs st p UpdaterRho × NotHeldAs st p Alpha × NotHeldAs st p Xi
 
 pub record Reports (st : State) (p : ℕ) (kind : Lock) (count lowest : ℕ) : Type 0 where
   -- "the lock kind"

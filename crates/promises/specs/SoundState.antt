@@ -1,5 +1,5 @@
 -- A sound state in plain terms. "What the caller hears" of document 01; what may be held by a Next, by a regrading and by the second way is
--- 02 (i)'s, (iv)'s and (v)'s.
+-- 02 (i)'s, (iv)'s and (v)'s, and the kinds of lock are 02 (vi)'s.
 -- Demand 1 has that the rule's test, `sound`, passes exactly then.
 use Prim.Native.Nat.{ℕ, _≤_, _<_}
 use mathlib.Core.List.{_∷_}
@@ -10,12 +10,12 @@ use Rattle.slots.specs.declared.Op.{Op}
 use Rattle.slots.specs.declared.Op.the-variants.{Search, Insert, Delete, Next, Regrade}
 use Rattle.slots.specs.declared.Way.the-variants.{First, Second}
 use Rattle.slots.specs.declared.Lock.{Lock}
-use Rattle.slots.specs.declared.Lock.the-variants.{Rho, Xi}
+use Rattle.slots.specs.declared.Lock.the-variants.{Xi}
 use Rattle.slots.specs.declared.Task.{Task}
 use Rattle.slots.specs.declared.Task.the-variants.{Closed, Open}
 use Rattle.slots.specs.declared.State.{State}
 use Rattle.slots.specs.Parts.{held, slotAt, wantAt, waitingOrder, Opened}
-use Rattle.promises.specs.Terms.{Exactly, In, Once, Holds, IsOpen, HoldsRho, BySecond, WithXi}
+use Rattle.promises.specs.Terms.{Exactly, In, Once, IsOpen, GoTogether, HoldsAs, GoesWith, BySecond}
 
 -- The numbers that the demands name.
 pub record Numbers : Type 0 where
@@ -49,10 +49,9 @@ InLimits (Open (Next x)) path beside = (path ≤ pathHolds) × (beside ≤ sibli
 InLimits (Open (Regrade x v First)) path beside = (path ≤ regradeHolds) × (beside ≡ 0)
 InLimits (Open (Regrade x v Second)) path beside = (path ≤ secondHolds) × (beside ≡ 0)
 
--- The kinds of lock that an operation can want at all: who holds with ξ wants with ξ, a search and a Next with ρ; by the second way "ρ-locks
--- down, a ξ-lock wanted on the leaf".
+-- The kinds of lock that an operation can want at all: the one with which it goes down, and by the second way "a ξ-lock wanted on the leaf".
 abbrev pub CanWant : Op → Lock → Type 0
-CanWant op lock = ((lock ≡ Rho) × HoldsRho op) ⊎ ((lock ≡ Xi) × ((HoldsRho op → ⊥) ⊎ BySecond op))
+CanWant op lock = GoesWith op lock ⊎ (BySecond op × (lock ≡ Xi))
 
 pub record IsSound (st : State) : Type 0 where
   -- "k and N are in range"
@@ -72,5 +71,7 @@ pub record IsSound (st : State) : Type 0 where
   pub limits : (s : ℕ) → s < slotCount → InLimits (slotAt st s .task) (slotAt st s .depth) (slotAt st s .breadth)
   -- the want is for a kind of lock that the operation can want
   pub wants : (s : ℕ) (op : Op) → s < slotCount → Opened st s op → CanWant op (slotAt st s .lock)
-  -- "no ξ-held page is held by another slot": an update by the first way holds its pages with ξ-locks
-  pub alone : (s t p : ℕ) → s < slotCount → t < slotCount → s ≢ t → WithXi st s → Holds st s p → Holds st t p → ⊥
+  -- and every page is held with a kind that it can hold one with: the one with which it goes down
+  pub holds : (s p : ℕ) (op : Op) (lock : Lock) → s < slotCount → Opened st s op → HoldsAs st s p lock → GoesWith op lock
+  -- "no ξ-held page is held by another slot"; 02 (vi): "a sound state has no clashing kinds on a page"
+  pub together : (s t p : ℕ) (a b : Lock) → s < slotCount → t < slotCount → s ≢ t → HoldsAs st s p a → HoldsAs st t p b → GoTogether a b

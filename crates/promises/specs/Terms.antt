@@ -9,9 +9,10 @@ use Rattle.page.specs.Words.{Page}
 use Rattle.slots.specs.declared.Op.{Op}
 use Rattle.slots.specs.declared.Op.the-variants.{Search, Insert, Delete, Next, Regrade}
 use Rattle.slots.specs.declared.Way.the-variants.{First, Second}
-use Rattle.slots.specs.declared.Lock.the-variants.{Rho, Xi}
+use Rattle.slots.specs.declared.Lock.{Lock}
+use Rattle.slots.specs.declared.Lock.the-variants.{None, Rho, Xi, UpdaterRho, Alpha}
 use Rattle.slots.specs.declared.State.{State}
-use Rattle.slots.specs.Parts.{held, slotAt, Stand, Opened}
+use Rattle.slots.specs.Parts.{held, heldLocks, under, slotAt, Stand, Opened}
 
 -- P holds exactly if Q does
 abbrev pub Exactly : Type 0 → Type 0 → Type 0
@@ -33,17 +34,66 @@ Holds st s p = In p (held (slotAt st s))
 abbrev pub IsOpen : State → ℕ → Type 0
 IsOpen st s = (op : Op) × Opened st s op
 
--- The operation holds its pages with ρ-locks: "Searches use ρ-locks", a Next "uses ρ-locks", and by the second way an update goes
--- "ρ-locks down". The others, updates by the first way, hold them with ξ-locks.
-abbrev pub HoldsRho : Op → Type 0
-HoldsRho (Search x) = Unit {0}
-HoldsRho (Insert x v First) = ⊥
-HoldsRho (Insert x v Second) = Unit {0}
-HoldsRho (Delete x First) = ⊥
-HoldsRho (Delete x Second) = Unit {0}
-HoldsRho (Next x) = Unit {0}
-HoldsRho (Regrade x v First) = ⊥
-HoldsRho (Regrade x v Second) = Unit {0}
+-- ---- kinds of lock
+
+-- 02 (vi): "ρ goes with all but ξ; updater's ρ with both ρ only; α with ρ only; ξ with nothing.": the kinds that go together on a page. What is no
+-- lock goes with everything.
+abbrev pub GoTogether : Lock → Lock → Type 0
+GoTogether None None = Unit {0}
+GoTogether None Rho = Unit {0}
+GoTogether None Xi = Unit {0}
+GoTogether None UpdaterRho = Unit {0}
+GoTogether None Alpha = Unit {0}
+GoTogether Rho None = Unit {0}
+GoTogether Rho Rho = Unit {0}
+GoTogether Rho Xi = ⊥
+GoTogether Rho UpdaterRho = Unit {0}
+GoTogether Rho Alpha = Unit {0}
+GoTogether Xi None = Unit {0}
+GoTogether Xi Rho = ⊥
+GoTogether Xi Xi = ⊥
+GoTogether Xi UpdaterRho = ⊥
+GoTogether Xi Alpha = ⊥
+GoTogether UpdaterRho None = Unit {0}
+GoTogether UpdaterRho Rho = Unit {0}
+GoTogether UpdaterRho Xi = ⊥
+GoTogether UpdaterRho UpdaterRho = Unit {0}
+GoTogether UpdaterRho Alpha = ⊥
+GoTogether Alpha None = Unit {0}
+GoTogether Alpha Rho = Unit {0}
+GoTogether Alpha Xi = ⊥
+GoTogether Alpha UpdaterRho = ⊥
+GoTogether Alpha Alpha = ⊥
+
+-- 02 (vi): "Each held page now carries its kind": slot s holds page p with a lock of this kind
+abbrev pub HoldsAs : State → ℕ → ℕ → Lock → Type 0
+HoldsAs st s p lock =
+    (i : ℕ) × (i < length (held (slotAt st s))) × (getD (held (slotAt st s)) i 0 ≡ p) × (getD (heldLocks (slotAt st s)) i (under None) .lock ≡ lock)
+
+-- The kind of lock with which an operation goes down: "Searches use ρ-locks, insertions and deletions ξ-locks." A Next "uses ρ-locks", a regrading "takes
+-- ξ-locks". 02 (v), by the second way: "ρ-locks down"; 02 (vi): "The ρ of (v) becomes a kind of its own, updater's ρ."
+abbrev pub GoesWith : Op → Lock → Type 0
+GoesWith (Search x) lock = lock ≡ Rho
+GoesWith (Insert x v First) lock = lock ≡ Xi
+GoesWith (Insert x v Second) lock = lock ≡ UpdaterRho
+GoesWith (Delete x First) lock = lock ≡ Xi
+GoesWith (Delete x Second) lock = lock ≡ UpdaterRho
+GoesWith (Next x) lock = lock ≡ Rho
+GoesWith (Regrade x v First) lock = lock ≡ Xi
+GoesWith (Regrade x v Second) lock = lock ≡ UpdaterRho
+
+-- ---- ways
+
+-- it is an update by the first way
+abbrev pub ByFirst : Op → Type 0
+ByFirst (Search x) = ⊥
+ByFirst (Insert x v First) = Unit {0}
+ByFirst (Insert x v Second) = ⊥
+ByFirst (Delete x First) = Unit {0}
+ByFirst (Delete x Second) = ⊥
+ByFirst (Next x) = ⊥
+ByFirst (Regrade x v First) = Unit {0}
+ByFirst (Regrade x v Second) = ⊥
 
 -- it is an update by the second way
 abbrev pub BySecond : Op → Type 0
@@ -56,12 +106,11 @@ BySecond (Next x) = ⊥
 BySecond (Regrade x v First) = ⊥
 BySecond (Regrade x v Second) = Unit {0}
 
--- slot s is open, and holds with ρ-locks what it holds; with ξ-locks
-abbrev pub WithRho : State → ℕ → Type 0
-WithRho st s = (op : Op) × Opened st s op × HoldsRho op
+-- slot s is open with one
+abbrev pub FirstAt : State → ℕ → Type 0
+FirstAt st s = (op : Op) × Opened st s op × ByFirst op
 
-abbrev pub WithXi : State → ℕ → Type 0
-WithXi st s = (op : Op) × Opened st s op × (HoldsRho op → ⊥)
+-- ---- wants
 
 -- slot s wants its page with a ξ-lock
 abbrev pub WantsXi : State → ℕ → Type 0
@@ -71,9 +120,8 @@ WantsXi st s = slotAt st s .lock ≡ Xi
 abbrev pub AboveItsLeaf : (ℕ → Page) → Stand → Type 0
 AboveItsLeaf memory z = BySecond (z .op) × (1 ≤ length (z .path)) × (memory (getD (reverse (z .path)) 0 0) .level ≡ 2)
 
--- The kind of lock with which a slot that stands here wants its page: the one under which it holds, but by the second way "a ξ-lock wanted on
+-- The kind of lock with which a slot that stands here wants its page: the one with which it goes down, but by the second way "a ξ-lock wanted on
 -- the leaf".
 pub record WantsAs (memory : ℕ → Page) (z : Stand) : Type 0 where
-  pub excludes : (HoldsRho (z .op) → ⊥) → z .lock ≡ Xi
   pub leaf : AboveItsLeaf memory z → z .lock ≡ Xi
-  pub shares : HoldsRho (z .op) → (AboveItsLeaf memory z → ⊥) → z .lock ≡ Rho
+  pub other : (AboveItsLeaf memory z → ⊥) → GoesWith (z .op) (z .lock)

@@ -6,13 +6,12 @@ use mathlib.Core.Logic.{_⊎_, _≢_}
 use mathlib.Core.Path.{_≡_}
 use Rattle.ground.specs.Limits.{slotCount}
 use Rattle.pool.specs.Pool.{pageAt}
-use Rattle.slots.specs.declared.Op.{Op}
 use Rattle.slots.specs.declared.State.{State}
 use Rattle.slots.specs.declared.Answer.the-variants.{Waiting}
-use Rattle.slots.specs.Parts.{openAt, wantAt, Opened}
+use Rattle.slots.specs.Parts.{openAt, wantAt}
 use Rattle.index.specs.Step.{stepped}
 use Rattle.runs.specs.Run.{Call, Start, runFrom, Run}
-use Rattle.promises.specs.Terms.{HoldsRho, WithXi}
+use Rattle.promises.specs.Terms.{FirstAt}
 use Rattle.promises.specs.Demand2.{InTheWay}
 
 -- slot s is open and wants page 0, or a page above the leaves
@@ -22,12 +21,12 @@ WantsUpper st ws s =
 
 -- every open slot searches, asks for the next lot, or updates by the second way and has not begun again
 abbrev pub NobodyByFirst : State → Type 0
-NobodyByFirst st = (s : ℕ) (op : Op) → s < slotCount → Opened st s op → HoldsRho op
+NobodyByFirst st = (s : ℕ) → s < slotCount → FirstAt st s → ⊥
 
 pub record TopOpen (st : State) (ws : List ℕ) : Type 0 where
   -- who waits for page 0 or for an upper page updates by the first way, or waits for one who does
   pub waitsFor : (s : ℕ) → WantsUpper st ws s → stepped st ws s .answer ≡ Waiting
-      → (way : InTheWay st s) × (WithXi st s ⊎ WithXi st (way .slot))
+      → (way : InTheWay st s) × (FirstAt st s ⊎ FirstAt st (way .slot))
   -- so, where nobody updates by the first way, nobody waits there
   pub free : NobodyByFirst st → (s : ℕ) → WantsUpper st ws s → stepped st ws s .answer ≢ Waiting
 

@@ -23,30 +23,30 @@ use Rattle.slots.specs.declared.State.{State}
 use Rattle.slots.specs.declared.Answer.{Answer}
 use Rattle.slots.specs.declared.Answer.the-variants.{Waiting, Moved, BadState, BadPool, BadSlot, SlotIdle}
 use Rattle.slots.specs.Parts.{isOpen, held, keyOf, heldLock, firstWay, Stand, freshStand, holding, standOf, slotOf, slotAt, openAt, wantAt, holdsAt, closedSlot, Opened}
-use Rattle.slots.specs.Locks.{lockOf}
+use Rattle.slots.specs.Locks.{lockHeld}
 use Rattle.slots.specs.Grant.{grants}
 use Rattle.slots.specs.Book.{rewritten, begins, goesOn, closes}
 use Rattle.slots.proofs.SoundFacts.{SoundState, facts-sound}
 use Rattle.slots.proofs.OrderLaws.{same-or-not}
 use Rattle.slots.proofs.Clashes.{update-alone, wanted-alone}
 use Rattle.slots.proofs.GrantLaws.{Takable, taking-fits}
-use Rattle.slots.proofs.Keeping.{Shaped, slot-here, slot-other, stand-new, begins-sound, begins-shaped, closes-sound, closes-shaped, goes-on-sound, goes-on-shaped}
+use Rattle.slots.proofs.Keeping.{Shaped, slot-here, slot-other, lock-new, stand-new, begins-sound, begins-shaped, closes-sound, closes-shaped, goes-on-sound, goes-on-shaped}
 use Rattle.footing.specs.Fitting.{verdict}
 use Rattle.index.specs.Step.{Left, left, acted, steppedTask, stepped}
 use Rattle.tree.specs.Tree.{Tr, PoolForms}
 use Rattle.tree.specs.Change.{memoryAfter, writtenPages}
 use Rattle.tree.proofs.Words.{fit-writes, applied-memory, pool-leads}
-use Rattle.runs.specs.Stance.{WantsWith, Stance, Takes}
+use Rattle.runs.specs.Stance.{HoldsWith, Locked, Stance, Takes}
 use Rattle.runs.specs.Step.{Writable, Ended, Comes, moves, stops}
 use Rattle.runs.proofs.Invariant.{Invariant, scene}
 use Rattle.runs.proofs.Placing.{WellHeld, well-held}
 use Rattle.runs.proofs.Others.{others-keep, others-wait}
 use Rattle.runs.proofs.Stepping.{same-key, granted-comes}
-use Rattle.runs.proofs.Locking.{due-wanted}
+use Rattle.runs.proofs.Locking.{held-with, paired, due-held-can, fresh-holds, due-wanted}
 
 -- a slot stands in a pool
 abbrev StandsIn : ℕ → List ℕ → (l : ℕ) → Tr l → Op → Slot → Type 0
-StandsIn k ws l t op slot = Stance k (pageAt k ws) l t (standOf op slot) × WantsWith (pageAt k ws) (standOf op slot)
+StandsIn k ws l t op slot = Stance k (pageAt k ws) l t (standOf op slot) × Locked (pageAt k ws) (standOf op slot)
 
 -- an open task has one operation, and a closed one none
 abbrev opOf : Task → Op → Op
@@ -111,14 +111,14 @@ module _ (st : State) (ws : List ℕ) (inv : Invariant st ws) (s : ℕ) (b : s <
     where
       here : StandsIn (st .k) ws (inv .height) (inv .tree) op (slotOf (freshStand op))
       here =
-          subst (λ (z : Stand). Stance (st .k) (pageAt (st .k) ws) (inv .height) (inv .tree) z × WantsWith (pageAt (st .k) ws) z) (sym (stand-new (freshStand op)))
-          (inl (record { noPath = refl; noSiblings = refl; wantsRoot = refl }), refl)
+          subst (λ (z : Stand). Stance (st .k) (pageAt (st .k) ws) (inv .height) (inv .tree) z × Locked (pageAt (st .k) ws) z) (sym (stand-new (freshStand op) (paired (freshStand op) (fresh-holds op))))
+          (inl (record { noPath = refl; noSiblings = refl; wantsRoot = refl }), record { wants = refl; holds = fresh-holds op })
 
   -- Going on: the slot holds what it took and stands again.
   pub move-keeps : (op : Op) (z : Stand) → Opened st s op → grants st s ≡ true
       → firstWay (z .op) ≡ firstWay op
       → Stance (st .k) (pageAt (st .k) ws) (inv .height) (inv .tree) z
-      → WantsWith (pageAt (st .k) ws) z
+      → Locked (pageAt (st .k) ws) z
       → ((p : ℕ) → member p (holding z) ≡ true → Takable st s (slotOf z) p)
       → Invariant (goesOn st s z) ws
   unfolding goesOn
@@ -126,7 +126,8 @@ module _ (st : State) (ws : List ℕ) (inv : Invariant st ws) (s : ℕ) (b : s <
       slot-anew (slotOf z) _ _ ws (inv .height) (inv .tree)
       (goes-on-shaped st (inv .shaped) (inv .sound) s b z opened)
       (goes-on-sound st (inv .shaped) (inv .sound) s b z opened (well .limits) (well .below) (well .different)
-      (due-wanted (z .op) (z .lock) (pageAt (st .k) ws) (reverse (z .path)) locked)
+      (due-wanted (z .op) (z .lock) (pageAt (st .k) ws) (reverse (z .path)) (locked .wants))
+      (due-held-can z (locked .holds))
       (λ u c n p m. taking-fits st (inv .sound) s b granted (slotOf z) p (from p m) u c n))
       (inv .forms)
       (λ op′ e. let same : z .op ≡ op′ = same-op e in
@@ -145,7 +146,7 @@ module _ (st : State) (ws : List ℕ) (inv : Invariant st ws) (s : ℕ) (b : s <
 
       here : StandsIn (st .k) ws (inv .height) (inv .tree) (z .op) (slotOf z)
       here =
-          subst (λ (y : Stand). Stance (st .k) (pageAt (st .k) ws) (inv .height) (inv .tree) y × WantsWith (pageAt (st .k) ws) y) (sym (stand-new z)) (stance, locked)
+          subst (λ (y : Stand). Stance (st .k) (pageAt (st .k) ws) (inv .height) (inv .tree) y × Locked (pageAt (st .k) ws) y) (sym (stand-new z (paired z (locked .holds)))) (stance, locked)
 
   -- What an operation writes as it ends no other slot holds: it has ξ-locks on what it writes.
   pub others-unwritten : (op : Op) (a : Answer) (writes : List Write) → Opened st s op → grants st s ≡ true
@@ -162,7 +163,7 @@ module _ (st : State) (ws : List ℕ) (inv : Invariant st ws) (s : ℕ) (b : s <
 
       alone : Writable (standOf op (slotAt st s)) q → holdsAt st u q ≡ false
       alone (inl (w, xi)) = subst (λ (p : ℕ). holdsAt st u p ≡ false) (sym w) (wanted-alone st (inv .sound) s u c n granted xi)
-      alone (inr (h, xi)) = update-alone st (inv .sound) s u q b c (λ i. n (sym i)) (ap lockOf runs ∙ xi) h
+      alone (inr (h, xi)) = update-alone st (inv .sound) s u q b c (λ i. n (sym i)) xi h
 
   -- Ending: the slot closes, and what it wrote no other slot holds.
   pub end-keeps : (op : Op) (a : Answer) (writes : List Write) → Opened st s op → grants st s ≡ true
@@ -176,7 +177,7 @@ module _ (st : State) (ws : List ℕ) (inv : Invariant st ws) (s : ℕ) (b : s <
       (pool-leads (st .k) (st .n) ws (inv .height) (inv .tree) writes (e .entries) (inv .forms) (e .leads))
       (λ op′ c. absurd (closed-open c))
       (λ u op′ c n rs. subst
-      (λ (m : ℕ → Page). Stance (st .k) m (e .leads .height) (e .leads .tree) (standOf op′ (slotAt st u)) × WantsWith m (standOf op′ (slotAt st u)))
+      (λ (m : ℕ → Page). Stance (st .k) m (e .leads .height) (e .leads .tree) (standOf op′ (slotAt st u)) × Locked m (standOf op′ (slotAt st u)))
       (sym memory-after) (
         others-keep (st .k) (st .n) (pageAt (st .k) ws) (inv .height) (inv .tree) writes (e .entries) (standOf op′ (slotAt st u))
             (inv .sound .kLeast) (inv .keys u op′ c rs) (inv .forms .forms) (e .leads) (others-unwritten op a writes runs granted e u op′ c n rs) (inv .stands u op′ c rs),
@@ -202,7 +203,7 @@ pub data StepOf (st : State) (ws : List ℕ) (inv : Invariant st ws) (s : ℕ) :
       → stepped st ws s ≡ left Moved (goesOn st s z) ws
       → firstWay (z .op) ≡ firstWay op
       → Stance (st .k) (pageAt (st .k) ws) (inv .height) (inv .tree) z
-      → WantsWith (pageAt (st .k) ws) z
+      → Locked (pageAt (st .k) ws) z
       → Takes (st .k) (pageAt (st .k) ws) (standOf op (slotAt st s)) z
       → StepOf st ws inv s
   -- the operation ends
@@ -269,15 +270,19 @@ takes-from k memory z z′ (inr (inr (inr g))) p m =
     not-both (subst (λ (y : Stand). member p (holding y) ≡ true) (g .fresh) m) (member-none p)
 
 -- what it keeps it holds under the kind that it held it under, and what it takes under the kind that it wanted it with
-takable : (st : State) (s : ℕ) (op : Op) → Opened st s op → (k : ℕ) (memory : ℕ → Page) (z : Stand) → Takes k memory (standOf op (slotAt st s)) z
+takable : (st : State) (s : ℕ) (op : Op) → Opened st s op → HoldsWith (standOf op (slotAt st s)) → (k : ℕ) (memory : ℕ → Page) (z : Stand)
+    → HoldsWith z → Takes k memory (standOf op (slotAt st s)) z
     → (p : ℕ) → member p (holding z) ≡ true → Takable st s (slotOf z) p
-takable st s op runs k memory z takes p m = by-case takes
+takable st s op runs was k memory z now takes p m = by-case takes
   where
+    kind-now : z .op ≡ op → lockHeld (slotOf z) p ≡ heldLock op
+    kind-now same = lock-new z (paired z now) p ∙ held-with z now p m ∙ ap heldLock same
+
     under : z .op ≡ op → slotAt st s .lock ≡ heldLock op → Takable st s (slotOf z) p
     under same kind =
         ⊎-elim
-        (λ h. inl (h, ap heldLock same ∙ sym (ap lockOf runs)))
-        (λ w. inr (w, ap heldLock same ∙ sym kind))
+        (λ h. inl (h, kind-now same ∙ sym (held-with (standOf op (slotAt st s)) was p h)))
+        (λ w. inr (w, kind-now same ∙ sym kind))
         (takes-from k memory (standOf op (slotAt st s)) z takes p m)
 
     by-case : Takes k memory (standOf op (slotAt st s)) z → Takable st s (slotOf z) p
@@ -293,6 +298,6 @@ step-keeps st ws inv s (idle b c e) = subst (λ (r : Left). Invariant (r .state)
 step-keeps st ws inv s (waits op b runs g e) = subst (λ (r : Left). Invariant (r .state) (r .words)) (sym e) inv
 step-keeps st ws inv s (onward op z b runs g e same stance locked takes) =
     subst (λ (r : Left). Invariant (r .state) (r .words)) (sym e)
-    (move-keeps st ws inv s b op z runs g same stance locked (takable st s op runs (st .k) (pageAt (st .k) ws) z takes))
+    (move-keeps st ws inv s b op z runs g same stance locked (takable st s op runs (inv .locked s op b runs .holds) (st .k) (pageAt (st .k) ws) z (locked .holds) takes))
 step-keeps st ws inv s (over op a writes b runs g e ended) =
     subst (λ (r : Left). Invariant (r .state) (r .words)) (sym e) (end-keeps st ws inv s b op a writes runs g ended)

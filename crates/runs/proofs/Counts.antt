@@ -32,7 +32,7 @@ use Rattle.index.specs.Step.{Left, stepped}
 use Rattle.index.proofs.Refusals.{step-refused}
 use Rattle.tree.proofs.Search.{way-facts}
 use Rattle.runs.specs.Run.{Call, begin, step, report, called, InWords}
-use Rattle.runs.specs.Stance.{BeginsAgain}
+use Rattle.runs.specs.Stance.{HoldsWith, BeginsAgain}
 use Rattle.runs.specs.Step.{Comes, moves, stops}
 use Rattle.runs.specs.Counts.{grantedTo, grantsOf, endsWithin, heightGranted, secondTask, secondAt, beginsAgain, grantsSecond, Behind, behind, behindAgain, FirstCounts, SecondCounts, GrantCounts, CountsFrom}
 use Rattle.runs.proofs.Invariant.{Invariant}
@@ -189,8 +189,8 @@ module _ (st : State) (ws : List ℕ) (inv : Invariant st ws) (s : ℕ) (g : Goe
       z : Stand
       z = standOf (g .op) (slotAt st s)
 
-      went-on : (z′ : Stand) → Lower z z′ ⊎ BeginsAgain (st .k) memory z z′ → WentDown (goesOn st s z′) ws s (g .op) m (length path)
-      went-on z′ (inl low) =
+      went-on : (z′ : Stand) → HoldsWith z′ → Lower z z′ ⊎ BeginsAgain (st .k) memory z z′ → WentDown (goesOn st s z′) ws s (g .op) m (length path)
+      went-on z′ locks (inl low) =
           let here = goes-on-here st (inv .shaped) s (g .inside) z′ in
           let holds : pathOf (slotAt (goesOn st s z′) s) ≡ z′ .path = ap pathOf here ∙ path-new z′ in
           lower
@@ -202,8 +202,8 @@ module _ (st : State) (ws : List ℕ) (inv : Invariant st ws) (s : ℕ) (g : Goe
                 ∙ ap (λ (p : ℕ). memory p .level) (ap lowestOf holds ∙ low .lowest)
                 ∙ wanted;
           })
-          (λ first. omega (arith, after-moving st ws inv s g z′, lower-left memory z z′ (m + 1) low first wanted, low .most, low .some))
-      went-on z′ (inr a) =
+          (λ first. omega (arith, after-moving st ws inv s g z′ locks, lower-left memory z z′ (m + 1) low first wanted, low .most, low .some))
+      went-on z′ locks (inr a) =
           let here = goes-on-here st (inv .shaped) s (g .inside) z′ in
           again (a .second)
           (ap (λ (slot : Slot). slot .task) here ∙ ap (λ (y : Stand). Open (y .op)) (a .fresh))
@@ -214,7 +214,7 @@ module _ (st : State) (ws : List ℕ) (inv : Invariant st ws) (s : ℕ) (g : Goe
           → WentDown (stepped st ws s .state) (stepped st ws s .words) s (g .op) m (length path)
       by-comes (moves z′ e same stance locked takes) =
           subst (λ (r : Left). WentDown (r .state) (r .words) s (g .op) m (length path)) (sym (moved st ws inv s g z′ e))
-          (went-on z′ (takes-lower (st .k) memory z z′ (λ at. not-both (at-leaf-test memory path at) above) takes))
+          (went-on z′ (locked .holds) (takes-lower (st .k) memory z z′ (λ at. not-both (at-leaf-test memory path at) above) takes))
       by-comes (stops a writes e ended) =
           let leaf = coming-ends (st .k) (st .n) ws z above a writes e in
           over

@@ -17,6 +17,7 @@ use Rattle.page.specs.Words.{Page, isLeaf}
 use Rattle.page.specs.Place.{route}
 use Rattle.slots.specs.declared.Op.{Op}
 use Rattle.slots.specs.declared.Lock.{Lock}
+use Rattle.slots.specs.declared.Under.{Under}
 use Rattle.slots.specs.Parts.{keyOf, Stand, onPages, wantsNext}
 use Rattle.footing.specs.Granted.{isSafe, kept, atItsLeaf}
 use Rattle.footing.specs.Fitting.{descends, rightlyKept, rightlyBeside, rightlyAcross, isNone, fitting}
@@ -204,8 +205,8 @@ module _ (k : ℕ) (memory : ℕ → Page) (l : ℕ) (t : Tr l) (z : Stand) (fac
     reached-level = level-on-way memory (keyOf (z .op)) l t facts (r .lower) (z .want) (r .fathers ++ r .upper) (r .whole)
 
     -- above the leaves, its route for the key is the next page of the way
-    pub reached-next : isLeaf (memory (z .want)) ≡ false → (lock : Lock) → Coming k memory l t (wantsNext (onPages z path []) (route (keyOf (z .op)) (memory (z .want))) lock)
-    reached-next upperPage lock =
+    pub reached-next : isLeaf (memory (z .want)) ≡ false → (locks : List Under) (lock : Lock) → Coming k memory l t (wantsNext (onPages z path locks [] []) (route (keyOf (z .op)) (memory (z .want))) lock)
+    reached-next upperPage locks lock =
         let higher = eqb-false (memory (z .want) .level) 1 upperPage in
         let some : 1 ≤ length (r .lower)
         = by-test (ltb 0 (length (r .lower)))

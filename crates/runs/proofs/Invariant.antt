@@ -10,7 +10,7 @@ use Rattle.slots.specs.Parts.{keyOf, slotAt, standOf, Opened}
 use Rattle.slots.proofs.SoundFacts.{SoundState}
 use Rattle.slots.proofs.Keeping.{Shaped}
 use Rattle.tree.specs.Tree.{Tr, PoolForms}
-use Rattle.runs.specs.Stance.{WantsWith, Stance}
+use Rattle.runs.specs.Stance.{Locked, Stance}
 use Rattle.runs.specs.Step.{Scene}
 
 pub record Invariant (st : State) (ws : List ℕ) : Type 0 where
@@ -22,7 +22,7 @@ pub record Invariant (st : State) (ws : List ℕ) : Type 0 where
   pub keys : (s : ℕ) (op : Op) → s < slotCount → Opened st s op → keyOf op < wordRange
   pub stands : (s : ℕ) (op : Op) → s < slotCount → Opened st s op
       → Stance (st .k) (pageAt (st .k) ws) height tree (standOf op (slotAt st s))
-  pub locked : (s : ℕ) (op : Op) → s < slotCount → Opened st s op → WantsWith (pageAt (st .k) ws) (standOf op (slotAt st s))
+  pub locked : (s : ℕ) (op : Op) → s < slotCount → Opened st s op → Locked (pageAt (st .k) ws) (standOf op (slotAt st s))
 
 -- what is known of an open slot
 pub scene : (st : State) (ws : List ℕ) (inv : Invariant st ws) (s : ℕ) (op : Op) → s < slotCount → Opened st s op

@@ -38,7 +38,7 @@ use Rattle.tree.specs.Facts.{WayFacts}
 use Rattle.tree.proofs.Insertion.{insertionLeads, roomOfTree}
 use Rattle.tree.proofs.Regrading.{regradingLeads}
 use Rattle.tree.proofs.Words.{free-facts}
-use Rattle.runs.specs.Stance.{Rightly, WantsWith, Stance, Takes}
+use Rattle.runs.specs.Stance.{Rightly, Locked, Stance, Takes}
 use Rattle.runs.specs.Plain.{Reply, reply, plain}
 use Rattle.runs.specs.Step.{NoRoomLeft, AsPlain, Writable, Ended}
 use Rattle.runs.proofs.Paths.{member-reverse}
@@ -48,7 +48,7 @@ use Rattle.runs.proofs.Needing.{AtLeaf, leaf-ends, leaf-on-course}
 -- What a slot that stands here comes to by this verdict: it goes on with the same operation, by its way or begun again by the first way, and
 -- stands as it should, or its operation ends.
 pub data Does (k n : ℕ) (ws : List ℕ) (l : ℕ) (t : Tr l) (z : Stand) (v : Verdict) : Type 0 where
-  on : (z′ : Stand) → v ≡ goes z′ → firstWay (z′ .op) ≡ firstWay (z .op) → Stance k (pageAt k ws) l t z′ → WantsWith (pageAt k ws) z′ → Takes k (pageAt k ws) z z′
+  on : (z′ : Stand) → v ≡ goes z′ → firstWay (z′ .op) ≡ firstWay (z .op) → Stance k (pageAt k ws) l t z′ → Locked (pageAt k ws) z′ → Takes k (pageAt k ws) z z′
       → Does k n ws l t z v
   done : (a : Answer) (writes : List Write) → v ≡ ends a writes → Ended k n ws l t z a writes → Does k n ws l t z v
 

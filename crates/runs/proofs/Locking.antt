@@ -1,10 +1,11 @@
 -- The kind of lock that a slot wants its next page with, where it stands, and what sets the second way apart.
 use Prim.Native.Nat.{ℕ}
 use mathlib.Core.Bool.{true, false, _&&_}
-use mathlib.Core.List.{List, [], _∷_, reverse}
+use mathlib.Core.List.{List, [], _∷_, _++_, reverse, map, map-append}
 use mathlib.Core.Logic.{_≢_}
-use mathlib.Core.Path.{_≡_, refl, sym, ap, subst, _∙_}
+use mathlib.Core.Path.{_≡_, refl, sym, ap, ap₂, subst, _∙_}
 use lib.Dec.{eqb}
+use lib.ListN.{length, length-map}
 use borrow.Author.Tests.{eq-eqb, ne-eqb}
 use Rattle.ground.specs.Tests.{member}
 use Rattle.ground.proofs.Tests.{member-here}
@@ -16,13 +17,15 @@ use Rattle.slots.specs.declared.Op.the-variants.{Search, Insert, Delete, Next, 
 use Rattle.slots.specs.declared.Way.the-variants.{First, Second}
 use Rattle.slots.specs.declared.Lock.{Lock}
 use Rattle.slots.specs.declared.Lock.the-variants.{Xi}
-use Rattle.slots.specs.Parts.{onlyReads, isDelete, isNext, heldLock, isSecond, Stand}
-use Rattle.slots.specs.Locks.{sameLock, canWant}
-use Rattle.slots.proofs.LockLaws.{lock-same, can-want-held}
-use Rattle.footing.specs.Granted.{lockBelow}
+use Rattle.slots.specs.declared.Under.{Under}
+use Rattle.slots.specs.Parts.{onlyReads, isDelete, isNext, heldLock, isSecond, under, Stand, holding, freshStand, onPages, wantBeside, wantsNext, slotOf}
+use Rattle.slots.specs.Locks.{lockAmong, lockHeld, lockIn, sameLock, canHold, canWant}
+use Rattle.slots.proofs.LockLaws.{lock-same, among-map, can-hold-held, can-want-held}
+use Rattle.slots.proofs.Keeping.{Paired, lock-new}
+use Rattle.footing.specs.Granted.{isSafe, kept, keptLocks, lockBelow}
 use Rattle.footing.specs.Fitting.{lockDue}
 use Rattle.footing.proofs.LookLaws.{below-first}
-use Rattle.runs.specs.Stance.{WantsWith}
+use Rattle.runs.specs.Stance.{WantsWith, heldDue, HoldsWith}
 
 -- who does not go by the second way wants with the kind under which it holds
 pub due-held : (op : Op) (memory : ℕ → Page) (up : List ℕ) → isSecond op ≡ false → lockDue op memory up ≡ heldLock op
@@ -87,6 +90,56 @@ pub due-by : (op : Op) (memory after : ℕ → Page) (up : List ℕ) → ((q : �
     → lockDue op memory up ≡ lockDue op after up
 due-by op memory after [] same = refl
 due-by op memory after (p ∷ up) same = ap (lockBelow op) (sym (same p (member-here p up)))
+
+-- ---- the kinds of held pages
+
+-- what a slot holds it holds under the kind that is due
+pub held-with : (z : Stand) → HoldsWith z → (p : ℕ) → member p (holding z) ≡ true → lockIn z p ≡ heldDue z p
+held-with z w p m =
+    ap (lockAmong p (holding z)) (ap₂ (λ (ls ss : List Under). ls ++ ss) (w .path) (w .beside) ∙ sym (map-append (λ (q : ℕ). under (heldDue z q)) (z .path) (z .beside)))
+    ∙ among-map (heldDue z) p (holding z) m
+
+-- a kind for every page
+pub paired : (z : Stand) → HoldsWith z → Paired z
+paired z w = record {
+  path = ap length (w .path) ∙ length-map (z .path) (λ (q : ℕ). under (heldDue z q));
+  beside = ap length (w .beside) ∙ length-map (z .beside) (λ (q : ℕ). under (heldDue z q));
+}
+
+-- what it can hold
+pub due-held-can : (z : Stand) → HoldsWith z → (p : ℕ) → member p (holding z) ≡ true → canHold (z .op) (lockHeld (slotOf z) p) ≡ true
+due-held-can z w p m = ap (canHold (z .op)) (lock-new z (paired z w) p ∙ held-with z w p m) ∙ can-hold-held (z .op)
+
+-- who has just begun holds nothing
+pub fresh-holds : (op : Op) → HoldsWith (freshStand op)
+fresh-holds op = record { path = refl; beside = refl }
+
+-- the wanted page is taken with the kind under which the operation holds: alone, or behind the path
+pub kept-holds : (k : ℕ) (memory : ℕ → Page) (z : Stand) → HoldsWith z → z .lock ≡ heldLock (z .op) → (q : ℕ) (lock : Lock)
+    → HoldsWith (wantsNext (onPages z (kept k memory z) (keptLocks k memory z) [] []) q lock)
+kept-holds k memory z w same q lock = record {
+  path =
+      by-test (isSafe (z .op) k (memory (z .want)))
+      (λ y.
+      cond-true (under (z .lock) ∷ []) (z .locks ++ under (z .lock) ∷ []) y
+      ∙ ap (λ (l : Lock). under l ∷ []) same
+      ∙ ap (map (λ (p : ℕ). under (heldLock (z .op)))) (sym (cond-true (z .want ∷ []) (z .path ++ z .want ∷ []) y)))
+      (λ f.
+      cond-false (under (z .lock) ∷ []) (z .locks ++ under (z .lock) ∷ []) f
+      ∙ ap₂ (λ (ls : List Under) (l : Lock). ls ++ under l ∷ []) (w .path) same
+      ∙ sym (map-append (λ (p : ℕ). under (heldLock (z .op))) (z .path) (z .want ∷ []))
+      ∙ ap (map (λ (p : ℕ). under (heldLock (z .op)))) (sym (cond-false (z .want ∷ []) (z .path ++ z .want ∷ []) f)));
+  beside = refl;
+}
+
+-- or beside it
+pub beside-holds : (z : Stand) → HoldsWith z → z .lock ≡ heldLock (z .op) → (q : ℕ) (lock : Lock) → HoldsWith (wantsNext (wantBeside z) q lock)
+beside-holds z w same q lock = record {
+  path = w .path;
+  beside =
+      ap₂ (λ (ls : List Under) (l : Lock). ls ++ under l ∷ []) (w .beside) same
+      ∙ sym (map-append (λ (p : ℕ). under (heldLock (z .op))) (z .beside) (z .want ∷ []));
+}
 
 -- what is due an operation can want
 due-can : (op : Op) (memory : ℕ → Page) (up : List ℕ) → canWant op (lockDue op memory up) ≡ true

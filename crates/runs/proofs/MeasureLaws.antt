@@ -35,13 +35,14 @@ use Rattle.tree.specs.Change.{writtenPages}
 use Rattle.tree.proofs.Height.{height-facts}
 use Rattle.tree.proofs.Memory.{absent-times, unwritten}
 use Rattle.tree.proofs.Words.{fit-writes, applied-memory}
-use Rattle.runs.specs.Stance.{StandsAtLeaf, BeginsAgain, Takes}
+use Rattle.runs.specs.Stance.{HoldsWith, StandsAtLeaf, BeginsAgain, Takes}
 use Rattle.runs.specs.Step.{Comes, moves, stops}
 use Rattle.runs.proofs.Invariant.{Invariant, scene}
 use Rattle.runs.proofs.Stepping.{granted-comes}
 use Rattle.runs.proofs.Fathers.{upward-held}
 use Rattle.runs.proofs.Progress.{opened as open-task}
 use Rattle.runs.proofs.Calls.{granted-does, others-unwritten}
+use Rattle.runs.proofs.Locking.{paired}
 use Rattle.runs.proofs.Measure.{lowestOf, leftFirst, leftOpen, beside-first, left-by-first, left-by-second, second-some, second-start, second-coming, leftTask, leftSlot, grantsLeft, Low, Where, atStart, onTheWay, atTheLeaf, where-it-stands, left-some, left-start, left-coming, left-leaf, left-bounds, left-first-most}
 use Rattle.runs.proofs.Steps.{Goes}
 
@@ -292,10 +293,10 @@ module _ (st : State) (ws : List ℕ) (inv : Invariant st ws) (s : ℕ) (g : Goe
   comes = granted-comes (st .k) (st .n) ws (inv .height) (inv .tree) (standAt st s op) (scene st ws inv s op (g .inside) (g .runs))
 
   -- the measure once it has moved
-  pub after-moving : (z′ : Stand) → grantsLeft (goesOn st s z′) ws s ≡ leftAt (pageAt (st .k) ws) z′
-  after-moving z′ =
+  pub after-moving : (z′ : Stand) → HoldsWith z′ → grantsLeft (goesOn st s z′) ws s ≡ leftAt (pageAt (st .k) ws) z′
+  after-moving z′ holds =
       ap₂ (λ (k : ℕ) (slot : Slot). leftSlot (pageAt k ws) slot) (goes-on-k st s z′) (goes-on-here st (inv .shaped) s (g .inside) z′)
-      ∙ ap (leftAt (pageAt (st .k) ws)) (stand-new z′)
+      ∙ ap (leftAt (pageAt (st .k) ws)) (stand-new z′ (paired z′ holds))
 
   pub moved : (z′ : Stand) → verdictOf st ws s op ≡ goes z′ → stepped st ws s ≡ left Moved (goesOn st s z′) ws
   moved z′ e = granted-does st ws inv s op (g .inside) (g .runs) (g .granted) ∙ ap (acted st ws s) e
@@ -349,7 +350,7 @@ module _ (st : State) (ws : List ℕ) (inv : Invariant st ws) (s : ℕ) (g : Goe
           let was = left-of-open st ws inv s op (g .runs) in
           let falls = moved-falls (st .k) M (inv .height) (inv .tree) z z′ (not-too-tall st ws inv)
           (where-slot st ws inv s op (g .inside) (g .runs)) takes in
-          let is = after-moving z′ in
+          let is = after-moving z′ (locked .holds) in
           subst (λ (r : Left). grantsLeft (r .state) (r .words) s < grantsLeft st ws s) (sym (moved z′ e)) (omega (arith, was, falls, is))
       by-comes (stops a writes e ended) =
           let some = measure-bound st ws inv s (g .inside) (ap isOpen (g .runs)) .0 in

@@ -22,16 +22,17 @@ use Rattle.pool.specs.Pool.{pageAt, freePages}
 use Rattle.slots.specs.declared.Op.the-variants.{Next}
 use Rattle.slots.specs.declared.Answer.the-variants.{None as NoLot}
 use Rattle.slots.specs.declared.Lock.the-variants.{Rho}
+use Rattle.slots.specs.declared.Under.{Under}
 use Rattle.slots.specs.Parts.{onlyReads, Stand, onPages, wantBeside, wantsNext, withOp}
 use Rattle.footing.specs.Granted.{isSafe, nextAnswer, crosses, byNearest, atLeaf, goesLeft, besides}
 use Rattle.footing.specs.Fitting.{isNone, leftmost, turnsRight, rightlyAcross}
 use Rattle.tree.specs.Tree.{Tr, entriesOf, way, leafOn, Forms, PoolForms}
 use Rattle.tree.specs.Facts.{WayFacts, SameFirst, NextFacts}
 use Rattle.tree.proofs.Next.{next-facts}
-use Rattle.runs.specs.Stance.{WantsWith, Rightly, Crossing, StandsAtLeaf, Takes}
+use Rattle.runs.specs.Stance.{HoldsWith, Locked, Rightly, Crossing, StandsAtLeaf, Takes}
 use Rattle.runs.specs.Plain.{plain}
 use Rattle.runs.specs.Step.{Ended}
-use Rattle.runs.proofs.Locking.{due-held}
+use Rattle.runs.proofs.Locking.{due-held, beside-holds}
 use Rattle.runs.proofs.PlainLaws.{above-key}
 use Rattle.runs.proofs.HeldPath.{below-unsafe}
 use Rattle.runs.proofs.Across.{Across, across, top-upward, first-facts, second-facts, second-level}
@@ -107,13 +108,14 @@ module _ (k n : ℕ) (ws : List ℕ) (l : ℕ) (t : Tr l) (pool : PoolForms k n 
       nothing-ends k n ws l t pool z₀ (Next x) (nextAnswer found)
       (inl (record { answer = same; entries = refl; room = λ y v w e m. absurd (true≢false (ap onlyReads e)) }))
 
-  -- where it stands with this path
-  abbrev down : List ℕ → Stand
-  down path = onPages (withOp (Next x) z₀) path []
+  -- where it stands with this path, held so
+  abbrev down : List ℕ → List Under → Stand
+  down path locks = onPages (withOp (Next x) z₀) path locks [] []
 
-  module _ (path : List ℕ) (leaf : ℕ) (fathers upper : List ℕ) (upward : reverse path ≡ leaf ∷ fathers)
+  module _ (path : List ℕ) (locks : List Under) (leaf : ℕ) (fathers upper : List ℕ) (upward : reverse path ≡ leaf ∷ fathers)
       (whole : way x l t ≡ leaf ∷ (fathers ++ upper)) (rightly : Rightly (Next x) k memory path)
-      (takes : (q : ℕ) → Takes k memory (withOp (Next x) z₀) (wantsNext (down path) q Rho)) where
+      (takes : (q : ℕ) → Takes k memory (withOp (Next x) z₀) (wantsNext (down path locks) q Rho))
+      (holds : (q : ℕ) → HoldsWith (wantsNext (down path locks) q Rho)) where
     onWay : way x l t ≡ reverse path ++ upper
     onWay = whole ∙ ap (λ (ps : List ℕ). ps ++ upper) (sym upward)
 
@@ -141,7 +143,7 @@ module _ (k n : ℕ) (ws : List ℕ) (l : ℕ) (t : Tr l) (pool : PoolForms k n 
 
     -- it goes on to the next child to the right of the top page
     goes-across : atOrAbove x (leafOn x l t) ≡ [] → isSafe (Next x) k (memory (getD path 0 0)) ≡ true
-        → Crossing k memory l t (wantsNext (down path) (neighbour x (memory (getD path 0 0))) Rho)
+        → Crossing k memory l t (wantsNext (down path locks) (neighbour x (memory (getD path 0 0))) Rho)
     goes-across none safe = record {
       asksNext = refl;
       upper = upper;
@@ -179,17 +181,17 @@ module _ (k n : ℕ) (ws : List ℕ) (l : ℕ) (t : Tr l) (pool : PoolForms k n 
 
     -- by the top page, where the leaf has no such key
     by-top : (ps : List ℕ) → path ≡ ps → atOrAbove x (leafOn x l t) ≡ []
-        → Does k n ws l t (withOp (Next x) z₀) (crosses x k memory (down path) ps)
+        → Does k n ws l t (withOp (Next x) z₀) (crosses x k memory (down path locks) ps)
     by-top [] e none = absurd (omega (arith, ap length e, rightly .some))
     by-top (top ∷ below) e none =
         let first : getD path 0 0 ≡ top = ap (λ (ps : List ℕ). getD ps 0 0) e in
         cond-ind (Does k n ws l t (withOp (Next x) z₀)) (isSafe (Next x) k (memory top))
         (λ safe.
-        on (wantsNext (down path) (neighbour x (memory top)) Rho) refl refl
+        on (wantsNext (down path locks) (neighbour x (memory top)) Rho) refl refl
         (inr (inr (inr
-        (subst (λ (p : ℕ). Crossing k memory l t (wantsNext (down path) (neighbour x (memory p)) Rho)) first
+        (subst (λ (p : ℕ). Crossing k memory l t (wantsNext (down path locks) (neighbour x (memory p)) Rho)) first
         (goes-across none (ap (λ (p : ℕ). isSafe (Next x) k (memory p)) first ∙ safe))))))
-        (sym (due-held (Next x) memory (reverse path) refl))
+        (record { wants = sym (due-held (Next x) memory (reverse path) refl); holds = holds (neighbour x (memory top)) })
         (takes (neighbour x (memory top))))
         (λ f.
         done NoLot [] refl
@@ -197,14 +199,14 @@ module _ (k n : ℕ) (ws : List ℕ) (l : ℕ) (t : Tr l) (pool : PoolForms k n 
         (ap nextAnswer (sym (nexts .nowhere none (nothing-right (ap (λ (p : ℕ). isSafe (Next x) k (memory p)) first ∙ f)))))))
 
     by-nearest : (found : List Entry) → atOrAbove x (leafOn x l t) ≡ found
-        → Does k n ws l t (withOp (Next x) z₀) (byNearest (crosses x k memory (down path) path) found)
+        → Does k n ws l t (withOp (Next x) z₀) (byNearest (crosses x k memory (down path locks) path) found)
     by-nearest [] e = by-top path refl e
     by-nearest (first ∷ rest) e =
         done (nextAnswer (first ∷ rest)) [] refl
         (answers (first ∷ rest)
         (ap nextAnswer (sym e) ∙ first-answers (atOrAbove x (leafOn x l t)) (atOrAbove x es) (nexts .here first rest e)))
 
-    pub next-does : Does k n ws l t (withOp (Next x) z₀) (atLeaf (Next x) k memory (freePages k n ws) (down path) leaf fathers)
+    pub next-does : Does k n ws l t (withOp (Next x) z₀) (atLeaf (Next x) k memory (freePages k n ws) (down path locks) leaf fathers)
     unfolding atLeaf
     next-does = by-nearest (atOrAbove x (memory leaf .entries)) (ap (atOrAbove x) (sym leaf-entries))
 
@@ -328,7 +330,7 @@ module _ (x k n : ℕ) (ws : List ℕ) (l : ℕ) (t : Tr l) (pool : PoolForms k 
       ∙ ap (λ (P : Page). nextAnswer (atOrAbove x (P .entries))) (second-facts k n pages l t forms z key two-ways .leaf)
       ∙ above-answers x (leafOn y l t) (entriesOf l t) (two-ways .beyond .nearest leaf-none none-lower)
 
-  left-does : WantsWith pages z → Does k n ws l t z (goesLeft pages z)
+  left-does : Locked pages z → Does k n ws l t z (goesLeft pages z)
   unfolding goesLeft
   left-does locked =
       cond-ind (Does k n ws l t z) (isLeaf (pages (z .want)))
@@ -337,9 +339,12 @@ module _ (x k n : ℕ) (ws : List ℕ) (l : ℕ) (t : Tr l) (pool : PoolForms k 
       (answers k n ws l t pool one z₀ x key first-way (atOrAbove x (pages (z .want) .entries)) (second-answers y)))
       (λ f.
       on (wantsNext (wantBeside z) (pointer 0 (pages (z .want))) Rho) refl refl (inr (inr (inr (one-more f))))
-      (sym (due-held (Next x) pages (reverse (z .path)) refl))
-      (inr (inr (inl (record { same = refl; under = locked ∙ due-held (Next x) pages (reverse (z .path)) refl; beside = refl; atLeaf = crossing-leaf; still = refl; holds = refl })))))
+      (record {
+        wants = sym (due-held (Next x) pages (reverse (z .path)) refl);
+        holds = beside-holds z (locked .holds) (locked .wants ∙ due-held (Next x) pages (reverse (z .path)) refl) (pointer 0 (pages (z .want))) Rho;
+      })
+      (inr (inr (inl (record { same = refl; under = locked .wants ∙ due-held (Next x) pages (reverse (z .path)) refl; beside = refl; atLeaf = crossing-leaf; still = refl; holds = refl })))))
 
-  pub crossing-does : WantsWith pages z → Does k n ws l t z (besides k pages z)
+  pub crossing-does : Locked pages z → Does k n ws l t z (besides k pages z)
   unfolding besides
   crossing-does = left-does

@@ -25,7 +25,7 @@ use Rattle.tree.specs.Change.{memoryAfter, writtenPages, Leads}
 use Rattle.tree.proofs.Memory.{absent-times, unwritten}
 use Rattle.tree.proofs.Search.{way-facts}
 use Rattle.tree.proofs.Ways.{place-facts}
-use Rattle.runs.specs.Stance.{WantsWith, Rightly, Coming, WantsSibling, Crossing, Stance}
+use Rattle.runs.specs.Stance.{Locked, Rightly, Coming, WantsSibling, Crossing, Stance}
 use Rattle.runs.proofs.Paths.{first-below, member-reverse, stretch}
 use Rattle.runs.proofs.Locking.{due-by}
 
@@ -233,11 +233,14 @@ module _ (k n : ℕ) (memory : ℕ → Page) (l : ℕ) (t : Tr l) (writes : List
 pub others-wait : (k n : ℕ) (memory : ℕ → Page) (l : ℕ) (t : Tr l) (writes : List Write) (es : List Entry) (z : Stand)
     → keyOf (z .op) < wordRange → Forms k n memory l t → (leads : Leads k n memory l t writes es)
     → ((q : ℕ) → member q (holding z) ≡ true → member q (writtenPages writes) ≡ false)
-    → WantsWith memory z
-    → WantsWith (memoryAfter memory writes) z
-others-wait k n memory l t writes es z key forms leads apart locked =
-    locked ∙ due-by (z .op) memory (memoryAfter memory writes) (reverse (z .path))
-    (λ q m. same k n memory l t writes es z key forms leads apart q (of-upward k n memory l t writes es z key forms leads apart q m))
+    → Locked memory z
+    → Locked (memoryAfter memory writes) z
+others-wait k n memory l t writes es z key forms leads apart locked = record {
+  wants =
+      locked .wants ∙ due-by (z .op) memory (memoryAfter memory writes) (reverse (z .path))
+      (λ q m. same k n memory l t writes es z key forms leads apart q (of-upward k n memory l t writes es z key forms leads apart q m));
+  holds = locked .holds;
+}
 
 pub others-keep : (k n : ℕ) (memory : ℕ → Page) (l : ℕ) (t : Tr l) (writes : List Write) (es : List Entry) (z : Stand)
     → 1 ≤ k → keyOf (z .op) < wordRange → Forms k n memory l t → (leads : Leads k n memory l t writes es)

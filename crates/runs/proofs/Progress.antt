@@ -25,7 +25,7 @@ use Rattle.slots.specs.declared.State.{State}
 use Rattle.slots.specs.Parts.{keyOf, heldLock, isOpen, pathOf, standOf, slotAt, openAt, wantAt, holdsAt, waitingOrder}
 use Rattle.slots.specs.declared.Lock.{Lock}
 use Rattle.slots.specs.declared.Lock.the-variants.{Xi}
-use Rattle.slots.specs.Locks.{lockOf, lockHeldAt, lockWantedAt, clash}
+use Rattle.slots.specs.Locks.{lockHeldAt, lockWantedAt, clash}
 use Rattle.slots.specs.Grant.{olderThan, clashingWant, noClash, noOlder, grants}
 use Rattle.slots.proofs.LockLaws.{op-locks, xi-clashes, clash-swap}
 use Rattle.slots.proofs.Clashes.{no-two-locks-clash}
@@ -33,10 +33,11 @@ use Rattle.slots.proofs.GrantLaws.{granted-no-clash, holder-open}
 use Rattle.slots.proofs.OrderLaws.{same-or-not}
 use Rattle.tree.specs.Tree.{Tr, Stands, Forms}
 use Rattle.tree.specs.Facts.{Placed}
-use Rattle.runs.specs.Stance.{WantsWith, Stance}
+use Rattle.runs.specs.Stance.{Locked, Stance}
 use Rattle.runs.specs.Waits.{Holder, Older, Barred}
 use Rattle.runs.proofs.Invariant.{Invariant}
 use Rattle.runs.proofs.Fathers.{Father, Top, one-father, root-fatherless, wants-under, held-under, wants-inside, wants-placed}
+use Rattle.runs.proofs.Locking.{held-with}
 use Rattle.runs.proofs.Barring.{Later, leaf-wanted, leaf-held}
 
 -- ---- what bars a want
@@ -202,7 +203,7 @@ module _ (st : State) (ws : List ℕ) (inv : Invariant st ws) where
     key : keyOf op < wordRange
     runs : slotAt st s .task ≡ Open op
     stance : Stance (st .k) (pageAt (st .k) ws) (inv .height) (inv .tree) (standOf op (slotAt st s))
-    locked : WantsWith (pageAt (st .k) ws) (standOf op (slotAt st s))
+    locked : Locked (pageAt (st .k) ws) (standOf op (slotAt st s))
 
   standing : (s : ℕ) → s < slotCount → openAt st s ≡ true → OpenStance s
   standing s b o =
@@ -213,8 +214,8 @@ module _ (st : State) (ws : List ℕ) (inv : Invariant st ws) where
   holder-opens s h = holder-open (st .n) (slotAt st (h .slot)) (wantAt st s) (inv .sound .slot (h .slot) (h .below)) (h .holds)
 
   -- the kinds under which a slot holds its pages are one
-  held-by : (s p : ℕ) (op : Op) → slotAt st s .task ≡ Open op → lockHeldAt st s p ≡ heldLock op
-  held-by s p op runs = ap lockOf runs
+  held-by : (s p : ℕ) → s < slotCount → (op : Op) → slotAt st s .task ≡ Open op → holdsAt st s p ≡ true → lockHeldAt st s p ≡ heldLock op
+  held-by s p b op runs holds = held-with (standOf op (slotAt st s)) (inv .locked s op b runs .holds) p holds
 
   -- Who holds the wanted page with a clashing lock holds it as the top page of its path, or he holds its father too, as the slot does that
   -- wants the page. Then the slot wants it with another kind than it holds the father under, and the holder wants a page to the right of it.
@@ -236,17 +237,18 @@ module _ (st : State) (ws : List ℕ) (inv : Invariant st ws) where
       (subst (Father memory (inv .height) (inv .tree) (u .above)) root (u .father))))
       (λ w′.
       let same = one-father (st .k) (st .n) memory (inv .height) (inv .tree) forms (w′ .above) (u .above) p (w′ .father) (u .father) in
+      let mine : holdsAt st s (u .above) ≡ true = subst (λ (q : ℕ). holdsAt st s q ≡ true) same (w′ .held) in
       let apart : clash (heldLock (it .op)) (heldLock (me .op)) ≡ false
-      = sym (ap₂ clash (held-by v (u .above) (it .op) (it .runs)) (held-by s (u .above) (me .op) (me .runs)))
-      ∙ no-two-locks-clash st (inv .sound) v s (u .above) (h .below) b (h .other) (u .held) (subst (λ (q : ℕ). holdsAt st s q ≡ true) same (w′ .held)) in
+      = sym (ap₂ clash (held-by v (u .above) (h .below) (it .op) (it .runs) (u .held)) (held-by s (u .above) b (me .op) (me .runs) mine))
+      ∙ no-two-locks-clash st (inv .sound) v s (u .above) (h .below) b (h .other) (u .held) mine in
       let against : clash (heldLock (it .op)) (slotAt st s .lock) ≡ true
-      = ap (λ (lock : Lock). clash lock (slotAt st s .lock)) (sym (held-by v p (it .op) (it .runs))) ∙ h .clashes in
+      = ap (λ (lock : Lock). clash lock (slotAt st s .lock)) (sym (held-by v p (h .below) (it .op) (it .runs) (h .holds))) ∙ h .clashes in
       let other : slotAt st s .lock ≢ heldLock (me .op) = λ e. not-both (ap (clash (heldLock (it .op))) (sym e) ∙ against) apart in
       inr
       (leaf-held (st .k) (st .n) memory (inv .height) (inv .tree) (inv .sound .kLeast) forms (standOf (it .op) (slotAt st v)) (it .key) (it .stance)
       (λ xi. not-both (clash-swap Xi (heldLock (me .op)) ∙ xi-clashes (heldLock (me .op)) (op-locks (me .op))) (ap (λ (lock : Lock). clash lock (heldLock (me .op))) (sym xi) ∙ apart))
       p (h .holds)
-      (leaf-wanted (st .k) (st .n) memory (inv .height) (inv .tree) (inv .sound .kLeast) forms (standOf (me .op) (slotAt st s)) (me .key) (me .stance) (me .locked) other)
+      (leaf-wanted (st .k) (st .n) memory (inv .height) (inv .tree) (inv .sound .kLeast) forms (standOf (me .op) (slotAt st s)) (me .key) (me .stance) (me .locked .wants) other)
       w))
       (wants-under (st .k) (st .n) memory (inv .height) (inv .tree) forms (standOf (me .op) (slotAt st s)) (me .key) (me .stance)))
       (held-under (st .k) (st .n) memory (inv .height) (inv .tree) forms (standOf (it .op) (slotAt st v)) (it .key) (it .stance) p (h .holds))

@@ -28,11 +28,12 @@ use Rattle.slots.specs.declared.Way.{Way}
 use Rattle.slots.specs.declared.Way.the-variants.{First, Second}
 use Rattle.slots.specs.declared.Lock.{Lock}
 use Rattle.slots.specs.declared.Lock.the-variants.{Rho, Xi}
+use Rattle.slots.specs.declared.Under.{Under}
 use Rattle.slots.specs.declared.Answer.the-variants.{NoSuchKey}
 use Rattle.slots.specs.Parts.{keyOf, onlyReads, isSecond, firstWay, heldLock, Stand, freshStand, holding, onPages, wantBeside, wantsNext, withOp}
 use Rattle.slots.proofs.OperationLaws.{first-key}
 use Rattle.slots.proofs.LockLaws.{first-same, first-twice, first-not-second}
-use Rattle.footing.specs.Granted.{Verdict, broken, goes, ends, isSafe, lockBelow, kept, deletes, again, answeredAtOnce, staysSecond, atLeaf, fromLeaf, byWayAtLeaf, comesDown, besides, atItsLeaf, granted}
+use Rattle.footing.specs.Granted.{Verdict, broken, goes, ends, isSafe, lockBelow, kept, keptLocks, deletes, again, answeredAtOnce, staysSecond, atLeaf, fromLeaf, byWayAtLeaf, comesDown, besides, atItsLeaf, granted}
 use Rattle.footing.specs.Fitting.{pagesSound, descends, rightlyBeside, rightlyAcross, sameLevels, isSibling, isNone, lockDue, fitting, nextIsNew, soundForStep, verdict}
 use Rattle.footing.proofs.KeepLaws.{second-safe}
 use Rattle.tree.specs.Tree.{Tr, Stands, way, Forms, PoolForms}
@@ -41,12 +42,12 @@ use Rattle.ground.proofs.Choice.{by-test}
 use Rattle.tree.proofs.Search.{way-facts}
 use Rattle.tree.proofs.Ways.{place-facts}
 use Rattle.tree.proofs.SoundPages.{pool-sound}
-use Rattle.runs.specs.Stance.{Rightly, WantsWith, WantsSibling, Crossing, Stance, StandsAtLeaf, Takes}
+use Rattle.runs.specs.Stance.{Rightly, WantsWith, HoldsWith, Locked, WantsSibling, Crossing, Stance, StandsAtLeaf, Takes}
 use Rattle.runs.specs.Step.{Scene, Writable, Comes, moves, stops}
 use Rattle.runs.proofs.Paths.{member-reverse}
 use Rattle.runs.proofs.Placing.{well-held}
 use Rattle.runs.proofs.Needing.{AtLeaf, leaf-goes, beside-leaf, beside-asked}
-use Rattle.runs.proofs.Locking.{due-held, due-above, due-leaf, lock-test, update-xi}
+use Rattle.runs.proofs.Locking.{due-held, due-above, due-leaf, lock-test, held-with, fresh-holds, kept-holds, beside-holds, update-xi}
 use Rattle.runs.proofs.Granting.{Down, Reached, descends-way, rightly-alone, rightly-test, starting-down, coming-down, down-above, down-fitting, down-reached, reached-next, reached-leaf}
 use Rattle.runs.proofs.Landing.{Does, on, done, leaf-is, leaf-has, search-does, insert-does, missing-ends, delete-does, regrade-does}
 use Rattle.runs.proofs.NextSteps.{next-does, crossing-leaf, crossing-test, crossing-does}
@@ -105,7 +106,7 @@ module _ (k n : ℕ) (ws : List ℕ) (l : ℕ) (t : Tr l) (z : Stand) (scene : S
       (well-held k n ws l t z scene .pages q (member-first q (z .want) (holding z) m)))
 
   -- a page that it would want next is none that it would then hold
-  new-test : (z′ : Stand) → firstWay (z′ .op) ≡ firstWay (z .op) → Stance k memory l t z′ → WantsWith memory z′ → nextIsNew (goes z′) ≡ true
+  new-test : (z′ : Stand) → firstWay (z′ .op) ≡ firstWay (z .op) → Stance k memory l t z′ → Locked memory z′ → nextIsNew (goes z′) ≡ true
   unfolding distinct
   new-test z′ same stance locked =
       let later : Scene k n ws l t z′
@@ -142,7 +143,7 @@ test-at-leaf memory path test =
 
 -- at its leaf, by the operation; an update by the first way, or one by the second way that stays: `rightly` is known of it where it makes a change
 module _ (k n : ℕ) (ws : List ℕ) (l : ℕ) (t : Tr l) (pool : PoolForms k n ws l t) (one : 1 ≤ k) (z₀ : Stand) (path : List ℕ)
-    (leaf : ℕ) (last : leaf ≡ z₀ .want) (fathers upper : List ℕ) (upward : reverse path ≡ leaf ∷ fathers) where
+    (locks : List Under) (leaf : ℕ) (last : leaf ≡ z₀ .want) (fathers upper : List ℕ) (upward : reverse path ≡ leaf ∷ fathers) where
   -- what is known of an operation there
   record Landed (op : Op) : Type 0 where
     key : keyOf op < wordRange
@@ -150,7 +151,8 @@ module _ (k n : ℕ) (ws : List ℕ) (l : ℕ) (t : Tr l) (pool : PoolForms k n 
     whole : way (keyOf op) l t ≡ leaf ∷ (fathers ++ upper)
     rightly : (isSecond op ≡ true → answeredAtOnce op (pageAt k ws leaf .entries) ≡ false) → Rightly (firstWay op) k (pageAt k ws) path
     alone : isSecond op ≡ true → answeredAtOnce op (pageAt k ws leaf .entries) ≡ false → isSafe (firstWay op) k (pageAt k ws leaf) ≡ true
-    takes : isSecond op ≡ false → (q : ℕ) → Takes k (pageAt k ws) (withOp op z₀) (wantsNext (onPages (withOp op z₀) path []) q (heldLock op))
+    takes : isSecond op ≡ false → (q : ℕ) → Takes k (pageAt k ws) (withOp op z₀) (wantsNext (onPages (withOp op z₀) path locks [] []) q (heldLock op))
+    holds : isSecond op ≡ false → (q : ℕ) → HoldsWith (wantsNext (onPages (withOp op z₀) path locks [] []) q (heldLock op))
     inside : onlyReads op ≡ false → (q : ℕ) → member q path ≡ true → Writable (withOp op z₀) q
 
   -- the leaf is on the path
@@ -160,7 +162,7 @@ module _ (k n : ℕ) (ws : List ℕ) (l : ℕ) (t : Tr l) (pool : PoolForms k n 
 
   -- a deletion whose key is there
   module _ (y : ℕ) (way′ : Way) (at : Landed (Delete y way′)) (h : has y (pageAt k ws leaf .entries) ≡ true) where
-    deletion-leaf : AtLeaf k n (pageAt k ws) l t y (onPages z₀ path []) leaf fathers
+    deletion-leaf : AtLeaf k n (pageAt k ws) l t y (onPages z₀ path locks [] []) leaf fathers
     deletion-leaf = record {
       forms = pool .forms;
       kLeast = one;
@@ -180,11 +182,11 @@ module _ (k n : ℕ) (ws : List ℕ) (l : ℕ) (t : Tr l) (pool : PoolForms k n 
   -- it goes on to the sibling; by the second way its leaf can spare an entry, and it needs none
   further : (y : ℕ) (way′ : Way) (at : Landed (Delete y way′)) (h : has y (pageAt k ws leaf .entries) ≡ true) (s : ℕ)
       → needs k (pageAt k ws) y leaf fathers [] ≡ sibling s
-      → Does k n ws l t (withOp (Delete y way′) z₀) (goes (wantsNext (onPages (withOp (Delete y way′) z₀) path []) s (heldLock (Delete y way′))))
+      → Does k n ws l t (withOp (Delete y way′) z₀) (goes (wantsNext (onPages (withOp (Delete y way′) z₀) path locks [] []) s (heldLock (Delete y way′))))
   further y First at h s e =
-      on (wantsNext (onPages (withOp (Delete y First) z₀) path []) s Xi) refl refl
+      on (wantsNext (onPages (withOp (Delete y First) z₀) path locks [] []) s Xi) refl refl
       (inr (inr (inl (leaf-goes (deletion-leaf y First at h) s e Xi))))
-      (sym (due-held (Delete y First) (pageAt k ws) (reverse path) refl))
+      (record { wants = sym (due-held (Delete y First) (pageAt k ws) (reverse path) refl); holds = at .holds refl s })
       (at .takes refl s)
   further y Second at h s e =
       let stands = leaf-goes (deletion-leaf y Second at h) s e Xi in
@@ -193,40 +195,43 @@ module _ (k n : ℕ) (ws : List ℕ) (l : ℕ) (t : Tr l) (pool : PoolForms k n 
       absurd (omega (arith, short, ltb-true k (μ (pageAt k ws leaf)) (at .alone refl (not-of-true h))))
 
   landed-does : (op : Op) → Landed op
-      → Does k n ws l t (withOp op z₀) (atLeaf op k (pageAt k ws) (freePages k n ws) (onPages (withOp op z₀) path []) leaf fathers)
+      → Does k n ws l t (withOp op z₀) (atLeaf op k (pageAt k ws) (freePages k n ws) (onPages (withOp op z₀) path locks [] []) leaf fathers)
   unfolding atLeaf
   landed-does (Search y) at =
-      search-does k n ws l t pool z₀ y (at .facts) leaf (fathers ++ upper) (at .whole) (onPages (withOp (Search y) z₀) path []) fathers
+      search-does k n ws l t pool z₀ y (at .facts) leaf (fathers ++ upper) (at .whole) (onPages (withOp (Search y) z₀) path locks [] []) fathers
   landed-does (Insert y v way′) at =
-      insert-does k n ws l t pool z₀ y (at .facts) leaf (fathers ++ upper) (at .whole) (at .key) v way′ (onPages (withOp (Insert y v way′) z₀) path []) fathers upper upward
+      insert-does k n ws l t pool z₀ y (at .facts) leaf (fathers ++ upper) (at .whole) (at .key) v way′ (onPages (withOp (Insert y v way′) z₀) path locks [] []) fathers upper upward
       (at .whole ∙ ap (λ (ps : List ℕ). ps ++ upper) (sym upward))
       (λ new. at .rightly (λ _. leaf-has (pageAt k ws) y l t (at .facts) leaf (fathers ++ upper) (at .whole) ∙ new))
       one (at .inside refl)
   landed-does (Delete y way′) at =
       cond-ind (Does k n ws l t (withOp (Delete y way′) z₀)) (has y (pageAt k ws leaf .entries))
       (λ h.
-      delete-does k n ws l t pool z₀ y (at .facts) leaf (fathers ++ upper) (at .whole) way′ (onPages z₀ path []) fathers
+      delete-does k n ws l t pool z₀ y (at .facts) leaf (fathers ++ upper) (at .whole) way′ (onPages z₀ path locks [] []) fathers
       (deletion-leaf y way′ at h) (further y way′ at h) (deletion-inside y way′ at h))
       (λ f.
       done NoSuchKey [] refl
       (missing-ends k n ws l t pool z₀ y (at .facts) leaf (fathers ++ upper) (at .whole) way′
       (sym (leaf-has (pageAt k ws) y l t (at .facts) leaf (fathers ++ upper) (at .whole)) ∙ f)))
   landed-does (Next y) at =
-      next-does k n ws l t pool one z₀ y (at .key) (at .facts) path leaf fathers upper upward (at .whole) (at .rightly (λ s. absurd (false≢true s))) (at .takes refl)
+      next-does k n ws l t pool one z₀ y (at .key) (at .facts) path locks leaf fathers upper upward (at .whole) (at .rightly (λ s. absurd (false≢true s))) (at .takes refl) (at .holds refl)
   landed-does (Regrade y v way′) at =
       regrade-does k n ws l t pool z₀ y (at .facts) leaf (fathers ++ upper) (at .whole) (at .key) v way′ last
-      (at .inside refl (z₀ .want) leaf-inside) (onPages (withOp (Regrade y v way′) z₀) path []) fathers
+      (at .inside refl (z₀ .want) leaf-inside) (onPages (withOp (Regrade y v way′) z₀) path locks [] []) fathers
 
 module _ (k n : ℕ) (ws : List ℕ) (l : ℕ) (t : Tr l) (z : Stand) (scene : Scene k n ws l t z) (none : z .beside ≡ []) (down : Down k (pageAt k ws) l t z) where
   abbrev path′ : List ℕ
   path′ = kept k (pageAt k ws) z
+
+  abbrev locks′ : List Under
+  locks′ = keptLocks k (pageAt k ws) z
 
   -- it does not stand at its leaf
   above : StandsAtLeaf (pageAt k ws) (z .path) → ⊥
   above at = true≢false (sym (at-leaf-test (pageAt k ws) (z .path) at) ∙ down-above k (pageAt k ws) l t z (facts k n ws l t z scene) down)
 
   -- "if the page has μ < 2k, all its ancestors are given up", or nothing is
-  down-takes : z .lock ≡ heldLock (z .op) → (q : ℕ) (lock : Lock) → Takes k (pageAt k ws) z (wantsNext (onPages z path′ []) q lock)
+  down-takes : z .lock ≡ heldLock (z .op) → (q : ℕ) (lock : Lock) → Takes k (pageAt k ws) z (wantsNext (onPages z path′ locks′ [] []) q lock)
   down-takes under q lock =
       ⊎-elim
       (λ y. inl (record { same = refl; under = under; comesDown = above; safe = y; noSiblings = none; holds = cond-true (z .want ∷ []) (z .path ++ z .want ∷ []) y; still = refl }))
@@ -257,7 +262,7 @@ module _ (k n : ℕ) (ws : List ℕ) (l : ℕ) (t : Tr l) (z : Stand) (scene : S
   again-does leafPage second gone =
       on (freshStand (firstWay (z .op))) refl (first-twice (z .op))
       (inl (record { noPath = refl; noSiblings = refl; wantsRoot = refl }))
-      refl
+      (record { wants = refl; holds = fresh-holds (firstWay (z .op)) })
       (inr (inr (inr (record {
         second = second;
         leaf = eqb-true (pageAt k ws (z .want) .level) 1 leafPage;
@@ -298,7 +303,7 @@ module _ (k n : ℕ) (ws : List ℕ) (l : ℕ) (t : Tr l) (z : Stand) (scene : S
         let level = eqb-true (pageAt k ws (z .want) .level) 1 leafPage in
         let next = facts k n ws l t z scene .father (down .lower) (z .want) p (up ++ down .upper)
         (down .whole ∙ ap (λ (ps : List ℕ). down .lower ++ z .want ∷ (ps ++ down .upper)) e) in
-        scene .locked
+        scene .locked .wants
         ∙ ap (lockDue (z .op) (pageAt k ws)) e
         ∙ due-leaf (z .op) (pageAt k ws) p up second (omega (arith, next .1, level))
 
@@ -311,11 +316,11 @@ module _ (k n : ℕ) (ws : List ℕ) (l : ℕ) (t : Tr l) (z : Stand) (scene : S
         (λ first.
         let xi = update-xi (z .op) updates first in
         ⊎-elim
-        (λ e. inl (e, scene .locked ∙ due-held (z .op) (pageAt k ws) (reverse (z .path)) first ∙ xi))
-        (λ h. inr (h, xi))
+        (λ e. inl (e, scene .locked .wants ∙ due-held (z .op) (pageAt k ws) (reverse (z .path)) first ∙ xi))
+        (λ h. inr (h, held-with z (scene .locked .holds) q h ∙ xi))
         (member-cases q (z .want) (holding z) (kept-inside k (pageAt k ws) z q m)))
 
-    landed-here : Landed k n ws l t (scene .forms) (scene .kLeast) z path′ (z .want) refl (reached .fathers) (reached .upper) (reached .upward) (z .op)
+    landed-here : Landed k n ws l t (scene .forms) (scene .kLeast) z path′ locks′ (z .want) refl (reached .fathers) (reached .upper) (reached .upward) (z .op)
     landed-here =
         let way-of = facts k n ws l t z scene in
         record {
@@ -329,28 +334,29 @@ module _ (k n : ℕ) (ws : List ℕ) (l : ℕ) (t : Tr l) (z : Stand) (scene : S
               (rightly-alone (firstWay (z .op)) k (pageAt k ws) (z .want) (safe-here second (unanswered second))))
               (λ first. subst (λ (o : Op). Rightly o k (pageAt k ws) path′) (sym (first-same (z .op) first)) (reached .rightly));
           alone = safe-here;
-          takes = λ first q. down-takes (scene .locked ∙ due-held (z .op) (pageAt k ws) (reverse (z .path)) first) q (heldLock (z .op));
+          takes = λ first q. down-takes (scene .locked .wants ∙ due-held (z .op) (pageAt k ws) (reverse (z .path)) first) q (heldLock (z .op));
+          holds = λ first q. kept-holds k (pageAt k ws) z (scene .locked .holds) (scene .locked .wants ∙ due-held (z .op) (pageAt k ws) (reverse (z .path)) first) q (heldLock (z .op));
           inside = inside-here;
         }
 
-    stays-does : Does k n ws l t z (atLeaf (z .op) k (pageAt k ws) (freePages k n ws) (onPages z path′ []) (z .want) (reached .fathers))
+    stays-does : Does k n ws l t z (atLeaf (z .op) k (pageAt k ws) (freePages k n ws) (onPages z path′ locks′ [] []) (z .want) (reached .fathers))
     stays-does =
-        landed-does k n ws l t (scene .forms) (scene .kLeast) z path′ (z .want) refl (reached .fathers) (reached .upper) (reached .upward)
+        landed-does k n ws l t (scene .forms) (scene .kLeast) z path′ locks′ (z .want) refl (reached .fathers) (reached .upper) (reached .upward)
         (z .op) landed-here
 
   -- above the leaves: it was wanted with the kind under which it is held
   upper-lock : (up : List ℕ) → reverse (z .path) ≡ up → isLeaf (pageAt k ws (z .want)) ≡ false → z .lock ≡ heldLock (z .op)
-  upper-lock [] e upperPage = scene .locked ∙ ap (lockDue (z .op) (pageAt k ws)) e
+  upper-lock [] e upperPage = scene .locked .wants ∙ ap (lockDue (z .op) (pageAt k ws)) e
   upper-lock (p ∷ up) e upperPage =
       let higher = eqb-false (pageAt k ws (z .want) .level) 1 upperPage in
       let next = facts k n ws l t z scene .father (down .lower) (z .want) p (up ++ down .upper)
       (down .whole ∙ ap (λ (ps : List ℕ). down .lower ++ z .want ∷ (ps ++ down .upper)) e) in
-      scene .locked
+      scene .locked .wants
       ∙ ap (lockDue (z .op) (pageAt k ws)) e
       ∙ due-above (z .op) (pageAt k ws) p up (λ two. higher (omega (arith, next .1)))
 
   -- and the kind of lock of the next want
-  next-locked : (q : ℕ) → WantsWith (pageAt k ws) (wantsNext (onPages z path′ []) q (lockBelow (z .op) (pageAt k ws (z .want))))
+  next-locked : (q : ℕ) → WantsWith (pageAt k ws) (wantsNext (onPages z path′ locks′ [] []) q (lockBelow (z .op) (pageAt k ws (z .want))))
   next-locked q = ap (lockDue (z .op) (pageAt k ws)) (sym (reached .upward))
 
   comes-down : Does k n ws l t z (comesDown k (pageAt k ws) (freePages k n ws) z)
@@ -360,15 +366,19 @@ module _ (k n : ℕ) (ws : List ℕ) (l : ℕ) (t : Tr l) (z : Stand) (scene : S
       cond-ind (Does k n ws l t z) (isLeaf (pageAt k ws (z .want)))
       (λ y.
       subst
-      (λ (up : List ℕ). Does k n ws l t z (fromLeaf (byWayAtLeaf k (pageAt k ws) (freePages k n ws) (onPages z path′ [])) up))
+      (λ (up : List ℕ). Does k n ws l t z (fromLeaf (byWayAtLeaf k (pageAt k ws) (freePages k n ws) (onPages z path′ locks′ [] [])) up))
       (sym (reached .upward))
       (cond-ind (Does k n ws l t z) (isSecond (z .op) && not stays-here)
       (λ a. again-does y (and-first (isSecond (z .op)) (not stays-here) a) (not-true stays-here (and-second (isSecond (z .op)) (not stays-here) a)))
       (λ s. stays-does y (λ second. not-false stays-here (false-if-not-true (not stays-here) (λ g. not-both (and-both second g) s))))))
       (λ f.
-      on (wantsNext (onPages z path′ []) (route (keyOf (z .op)) (pageAt k ws (z .want))) (lockBelow (z .op) (pageAt k ws (z .want)))) refl refl
-      (inr (inl (reached-next k (pageAt k ws) l t z way-of path′ reached f (lockBelow (z .op) (pageAt k ws (z .want))))))
-      (next-locked (route (keyOf (z .op)) (pageAt k ws (z .want))))
+      on (wantsNext (onPages z path′ locks′ [] []) (route (keyOf (z .op)) (pageAt k ws (z .want))) (lockBelow (z .op) (pageAt k ws (z .want)))) refl refl
+      (inr (inl (reached-next k (pageAt k ws) l t z way-of path′ reached f locks′ (lockBelow (z .op) (pageAt k ws (z .want))))))
+      (record {
+        wants = next-locked (route (keyOf (z .op)) (pageAt k ws (z .want)));
+        holds = kept-holds k (pageAt k ws) z (scene .locked .holds) (upper-lock (reverse (z .path)) refl f) (route (keyOf (z .op)) (pageAt k ws (z .want)))
+            (lockBelow (z .op) (pageAt k ws (z .want)));
+      })
       (down-takes (upper-lock (reverse (z .path)) refl f) (route (keyOf (z .op)) (pageAt k ws (z .want))) (lockBelow (z .op) (pageAt k ws (z .want)))))
 
   down-comes : Comes k n ws l t z
@@ -376,7 +386,7 @@ module _ (k n : ℕ) (ws : List ℕ) (l : ℕ) (t : Tr l) (z : Stand) (scene : S
   down-comes =
       let way-of = facts k n ws l t z scene in
       does-comes k n ws l t z scene
-      (down-fitting k (pageAt k ws) l t z way-of down none (scene .locked))
+      (down-fitting k (pageAt k ws) l t z way-of down none (scene .locked .wants))
       (subst (Does k n ws l t z)
       (sym
       (cond-false
@@ -467,7 +477,7 @@ module _ (y k n : ℕ) (ws : List ℕ) (l : ℕ) (t : Tr l) (z₀ : Stand)
     unfolding fitting
     beside-fitting =
         and-both
-        (and-both (rightly-test (Delete y First) k (pageAt k ws) (z .path) (z .want) (at .rightly)) (lock-test (pageAt k ws) z (scene .locked)))
+        (and-both (rightly-test (Delete y First) k (pageAt k ws) (z .path) (z .want) (at .rightly)) (lock-test (pageAt k ws) z (scene .locked .wants)))
         (cond-true
         (descends (pageAt k ws) y (z .path)
         && (rightlyBeside k (pageAt k ws) z (reverse (z .path)) || rightlyAcross k (pageAt k ws) z (z .path)))
@@ -494,8 +504,8 @@ module _ (y k n : ℕ) (ws : List ℕ) (l : ℕ) (t : Tr l) (z₀ : Stand)
     beside-writable : (q : ℕ) → member q (leaf ∷ fathers ++ (z .beside ++ z .want ∷ [])) ≡ true → Writable z q
     beside-writable q m =
         ⊎-elim
-        (λ e. inl (e, scene .locked ∙ due-held (Delete y First) (pageAt k ws) (reverse (z .path)) refl))
-        (λ h. inr (h, refl))
+        (λ e. inl (e, scene .locked .wants ∙ due-held (Delete y First) (pageAt k ws) (reverse (z .path)) refl))
+        (λ h. inr (h, held-with z (scene .locked .holds) q h))
         (member-cases q (z .want) (holding z) (beside-inside q m))
 
     -- one sibling more is needed
@@ -504,8 +514,11 @@ module _ (y k n : ℕ) (ws : List ℕ) (l : ℕ) (t : Tr l) (z₀ : Stand)
     beside-further s e =
         on (wantsNext (wantBeside z) s Xi) refl refl
         (inr (inr (inl (leaf-goes (beside-asked at asks) s e Xi))))
-        (sym (due-held (Delete y First) (pageAt k ws) (reverse (z .path)) refl))
-        (inr (inr (inl (record { same = refl; under = scene .locked ∙ due-held (Delete y First) (pageAt k ws) (reverse (z .path)) refl; beside = refl; atLeaf = test-at-leaf (pageAt k ws) (z .path) at-leaf; still = refl; holds = refl }))))
+        (record {
+          wants = sym (due-held (Delete y First) (pageAt k ws) (reverse (z .path)) refl);
+          holds = beside-holds z (scene .locked .holds) (scene .locked .wants ∙ due-held (Delete y First) (pageAt k ws) (reverse (z .path)) refl) s Xi;
+        })
+        (inr (inr (inl (record { same = refl; under = scene .locked .wants ∙ due-held (Delete y First) (pageAt k ws) (reverse (z .path)) refl; beside = refl; atLeaf = test-at-leaf (pageAt k ws) (z .path) at-leaf; still = refl; holds = refl }))))
 
     beside-does : Does k n ws l t z (besides k (pageAt k ws) z)
     unfolding besides
@@ -562,7 +575,7 @@ module _ (y k n : ℕ) (ws : List ℕ) (l : ℕ) (t : Tr l) (z₀ : Stand)
   unfolding fitting
   crossing-fitting =
       and-both
-      (and-both (rightly-test (Next y) k (pageAt k ws) (past .path) (past .want) (c .rightly)) (lock-test (pageAt k ws) past (scene .locked)))
+      (and-both (rightly-test (Next y) k (pageAt k ws) (past .path) (past .want) (c .rightly)) (lock-test (pageAt k ws) past (scene .locked .wants)))
       (cond-true
       (descends (pageAt k ws) y (past .path)
       && (rightlyBeside k (pageAt k ws) past (reverse (past .path)) || rightlyAcross k (pageAt k ws) past (past .path)))

@@ -23,8 +23,9 @@ use Rattle.slots.specs.declared.Way.the-variants.{First, Second}
 use Rattle.slots.specs.declared.Answer.{Answer}
 use Rattle.slots.specs.declared.Answer.the-variants.{Inserted, AlreadyThere, Deleted, NoSuchKey, NoRoom, Regraded}
 use Rattle.slots.specs.Heard.{numberOf}
+use Rattle.slots.specs.declared.Under.{Under}
 use Rattle.slots.specs.Parts.{isSecond, Stand, onPages}
-use Rattle.footing.specs.Granted.{Verdict, broken, goes, ends, isSafe, byNeed, deletes, staysSecond, atLeaf, fromLeaf, byWayAtLeaf, comesDown, besides, atItsLeaf, granted}
+use Rattle.footing.specs.Granted.{Verdict, broken, goes, ends, isSafe, keptLocks, byNeed, deletes, staysSecond, atLeaf, fromLeaf, byWayAtLeaf, comesDown, besides, atItsLeaf, granted}
 use Rattle.footing.specs.Fitting.{soundForStep, verdict}
 use Rattle.runs.proofs.PlainLaws.{clashes}
 
@@ -41,22 +42,24 @@ ends-if h (ends a writes) = h
 
 -- What holds of the wanted page as a leaf, on whatever path it stands then, and of every verdict that goes on, holds of coming down.
 pub comes-down-by : (P : Verdict → Type 0) (k : ℕ) (memory : ℕ → Page) (free : List ℕ) (z : Stand)
-    → (isLeaf (memory (z .want)) ≡ true → (path fathers : List ℕ) → P (byWayAtLeaf k memory free (onPages z path []) (z .want) fathers))
+    → (isLeaf (memory (z .want)) ≡ true → (path : List ℕ) (locks : List Under) (fathers : List ℕ) → P (byWayAtLeaf k memory free (onPages z path locks [] []) (z .want) fathers))
     → ((y : Stand) → P (goes y)) → P (comesDown k memory free z)
 unfolding comesDown
 comes-down-by P k memory free z at-leaf further =
-    let reached : List ℕ → List ℕ → Verdict = λ (path up : List ℕ). fromLeaf (byWayAtLeaf k memory free (onPages z path [])) up in
+    let reached : List ℕ → List Under → List ℕ → Verdict
+    = λ (path : List ℕ) (locks : List Under) (up : List ℕ). fromLeaf (byWayAtLeaf k memory free (onPages z path locks [] [])) up in
+    let under′ : List Under = keptLocks k memory z in
     cond-ind P (isLeaf (memory (z .want)))
-    (λ leaf. cond-ind (λ (path : List ℕ). P (reached path (reverse path))) (isSafe (z .op) k (memory (z .want)))
-    (λ _. at-leaf leaf (z .want ∷ []) [])
-    (λ _. subst (λ (up : List ℕ). P (reached (z .path ++ z .want ∷ []) up)) (sym (reverse-append (z .path) (z .want ∷ [])))
-    (at-leaf leaf (z .path ++ z .want ∷ []) (reverse (z .path)))))
+    (λ leaf. cond-ind (λ (path : List ℕ). P (reached path under′ (reverse path))) (isSafe (z .op) k (memory (z .want)))
+    (λ _. at-leaf leaf (z .want ∷ []) under′ [])
+    (λ _. subst (λ (up : List ℕ). P (reached (z .path ++ z .want ∷ []) under′ up)) (sym (reverse-append (z .path) (z .want ∷ [])))
+    (at-leaf leaf (z .path ++ z .want ∷ []) under′ (reverse (z .path)))))
     (λ _. further _)
 
 comes-down-ends : (k : ℕ) (memory : ℕ → Page) (free : List ℕ) (z : Stand) → EndsIf (isLeaf (memory (z .want))) (comesDown k memory free z)
 comes-down-ends k memory free z =
     comes-down-by (EndsIf (isLeaf (memory (z .want)))) k memory free z
-    (λ leaf path fathers. ends-if leaf (byWayAtLeaf k memory free (onPages z path []) (z .want) fathers)) (λ _. tt)
+    (λ leaf path locks fathers. ends-if leaf (byWayAtLeaf k memory free (onPages z path locks [] []) (z .want) fathers)) (λ _. tt)
 
 -- it does not go by the second way, or does not begin again at this leaf
 abbrev pub stillBy : Op → ℕ → (ℕ → Page) → ℕ → Bool
@@ -76,7 +79,7 @@ way-ends k memory free z leaf fathers =
 
 comes-down-stays : (k : ℕ) (memory : ℕ → Page) (free : List ℕ) (z : Stand) → EndsIf (stillBy (z .op) k memory (z .want)) (comesDown k memory free z)
 comes-down-stays k memory free z =
-    comes-down-by (EndsIf (stillBy (z .op) k memory (z .want))) k memory free z (λ _ path fathers. way-ends k memory free (onPages z path []) (z .want) fathers) (λ _. tt)
+    comes-down-by (EndsIf (stillBy (z .op) k memory (z .want))) k memory free z (λ _ path locks fathers. way-ends k memory free (onPages z path locks [] []) (z .want) fathers) (λ _. tt)
 
 -- ---- room
 
@@ -141,7 +144,7 @@ way-lacks k memory free z leaf fathers =
 
 comes-down-lacks : (k : ℕ) (memory : ℕ → Page) (free : List ℕ) (z : Stand) → FirstLacks (z .op) (comesDown k memory free z)
 comes-down-lacks k memory free z =
-    comes-down-by (FirstLacks (z .op)) k memory free z (λ _ path fathers. way-lacks k memory free (onPages z path []) (z .want) fathers) (λ _. tt)
+    comes-down-by (FirstLacks (z .op)) k memory free z (λ _ path locks fathers. way-lacks k memory free (onPages z path locks [] []) (z .want) fathers) (λ _. tt)
 
 -- What the step comes to in these words.
 module _ (k n : ℕ) (ws : List ℕ) (z : Stand) where

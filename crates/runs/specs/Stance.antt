@@ -3,7 +3,7 @@
 -- downward, the way of a key from the leaf upward.
 use Prim.Native.Nat.{ℕ, suc, _*_, _≤_, _<_}
 use mathlib.Core.Bool.{true, false}
-use mathlib.Core.List.{List, [], _∷_, _++_, reverse}
+use mathlib.Core.List.{List, [], _∷_, _++_, reverse, map}
 use mathlib.Core.Logic.{_⊎_, _≢_}
 use mathlib.Core.Path.{_≡_}
 use lib.ListN.{length, getD}
@@ -13,7 +13,8 @@ use Rattle.page.specs.Short.{neighbour}
 use Rattle.slots.specs.declared.Op.{Op}
 use Rattle.slots.specs.declared.Op.the-variants.{Search, Insert, Delete, Next, Regrade}
 use Rattle.slots.specs.declared.Way.the-variants.{First, Second}
-use Rattle.slots.specs.Parts.{keyOf, isDelete, isNext, isSecond, firstWay, heldLock, goesBeside, Stand, freshStand}
+use Rattle.slots.specs.declared.Lock.{Lock}
+use Rattle.slots.specs.Parts.{keyOf, isDelete, isNext, isSecond, firstWay, heldLock, goesBeside, under, Stand, freshStand}
 use Rattle.footing.specs.Granted.{isSafe, answeredAtOnce}
 use Rattle.footing.specs.Fitting.{lockDue}
 use Rattle.tree.specs.Tree.{Tr, entriesOf, way}
@@ -93,6 +94,20 @@ pub record Crossing (k : ℕ) (memory : ℕ → Page) (l : ℕ) (t : Tr l) (z : 
 -- leaf": ξ exactly if the lowest page that it holds is on level 2.
 abbrev pub WantsWith : (ℕ → Page) → Stand → Type 0
 WantsWith memory z = z .lock ≡ lockDue (z .op) memory (reverse (z .path))
+
+-- The kind of lock under which the rules would have it hold page p: one for all.
+abbrev pub heldDue : Stand → ℕ → Lock
+heldDue z p = heldLock (z .op)
+
+-- 02 (vi): "Each held page now carries its kind": the one that is due.
+pub record HoldsWith (z : Stand) : Type 0 where
+  pub path : z .locks ≡ map (λ (p : ℕ). under (heldDue z p)) (z .path)
+  pub beside : z .sidelocks ≡ map (λ (p : ℕ). under (heldDue z p)) (z .beside)
+
+-- The kinds of lock with which it wants and holds.
+pub record Locked (memory : ℕ → Page) (z : Stand) : Type 0 where
+  pub wants : WantsWith memory z
+  pub holds : HoldsWith z
 
 -- An open slot stands in the tree as the rules would have it.
 abbrev pub Stance : ℕ → (ℕ → Page) → (l : ℕ) → Tr l → Stand → Type 0

@@ -17,14 +17,15 @@ use Rattle.slots.specs.declared.Way.{Way}
 use Rattle.slots.specs.declared.Lock.the-variants.{Xi}
 use Rattle.slots.specs.declared.Answer.{Answer}
 use Rattle.slots.specs.declared.Answer.the-variants.{NoRoom, Regraded}
-use Rattle.slots.specs.Parts.{keyOf, onlyReads, heldLock, firstWay, Stand, holding}
+use Rattle.slots.specs.Parts.{keyOf, onlyReads, firstWay, Stand, holding}
+use Rattle.slots.specs.Locks.{lockIn}
 use Rattle.slots.specs.Heard.{isOneOf, writing}
 use Rattle.footing.specs.Granted.{goes, ends}
 use Rattle.footing.specs.Fitting.{verdict}
 use Rattle.tree.specs.Tree.{Tr, entriesOf, occurs, PoolForms}
 use Rattle.tree.specs.Change.{writtenPages, Leads}
 use Rattle.tree.specs.Insertion.{treeRoom}
-use Rattle.runs.specs.Stance.{WantsWith, Stance, Takes}
+use Rattle.runs.specs.Stance.{Locked, Stance, Takes}
 use Rattle.runs.specs.Plain.{plain}
 
 -- What is known of an open slot of a run.
@@ -35,7 +36,7 @@ pub record Scene (k n : ℕ) (ws : List ℕ) (l : ℕ) (t : Tr l) (z : Stand) : 
   pub key : keyOf (z .op) < wordRange
   pub forms : PoolForms k n ws l t
   pub stance : Stance k (pageAt k ws) l t z
-  pub locked : WantsWith (pageAt k ws) z
+  pub locked : Locked (pageAt k ws) z
 
 -- How an operation ends: as the plain list has it; or NoRoom, "exactly when a new key needs more pages than are free", and
 -- nothing is written.
@@ -57,7 +58,7 @@ pub record AsPlain (op : Op) (k n : ℕ) (ws : List ℕ) (l : ℕ) (t : Tr l) (a
 
 -- A page on which the slot has a ξ-lock once its want is granted: the wanted one, if it wanted it with ξ, or one that it held with ξ.
 abbrev pub Writable : Stand → ℕ → Type 0
-Writable z q = ((q ≡ z .want) × (z .lock ≡ Xi)) ⊎ ((member q (holding z) ≡ true) × (heldLock (z .op) ≡ Xi))
+Writable z q = ((q ≡ z .want) × (z .lock ≡ Xi)) ⊎ ((member q (holding z) ≡ true) × (lockIn z q ≡ Xi))
 
 -- One statement of what an operation does that ends, by whatever way it came down: it ends with this answer and these writes, which lead to a tree with the entries es.
 pub record Ended (k n : ℕ) (ws : List ℕ) (l : ℕ) (t : Tr l) (z : Stand) (a : Answer) (writes : List Write) : Type 0 where
@@ -79,7 +80,7 @@ pub data Comes (k n : ℕ) (ws : List ℕ) (l : ℕ) (t : Tr l) (z : Stand) : Ty
       → verdict k n ws z ≡ goes z′
       → firstWay (z′ .op) ≡ firstWay (z .op)
       → Stance k (pageAt k ws) l t z′
-      → WantsWith (pageAt k ws) z′
+      → Locked (pageAt k ws) z′
       → Takes k (pageAt k ws) z z′
       → Comes k n ws l t z
   stops : (a : Answer) (writes : List Write)

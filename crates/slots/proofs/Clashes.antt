@@ -11,8 +11,8 @@ use Rattle.slots.specs.Parts.{slotAt, wantAt, holdsAt}
 use Rattle.slots.specs.Locks.{lockHeldAt, lockWantedAt, clash}
 use Rattle.slots.specs.Grant.{grants}
 use Rattle.slots.proofs.SoundFacts.{SoundState}
-use Rattle.slots.proofs.LockLaws.{xi-clashes, held-lock}
-use Rattle.slots.proofs.GrantLaws.{granted-no-clash, holder-open}
+use Rattle.slots.proofs.LockLaws.{xi-clashes}
+use Rattle.slots.proofs.GrantLaws.{granted-no-clash, holder-locks}
 
 -- Two slots that hold one page hold it with locks that go together.
 pub no-two-locks-clash : (st : State) → SoundState st → (s t p : ℕ) → s < slotCount → t < slotCount → s ≢ t → holdsAt st s p ≡ true → holdsAt st t p ≡ true → clash (lockHeldAt st s p) (lockHeldAt st t p) ≡ false
@@ -20,7 +20,7 @@ no-two-locks-clash st f s t p b c n = f .locks s t b c n p
 
 -- whatever holds a page clashes with ξ
 holder-clashes : (st : State) → SoundState st → (t p : ℕ) → t < slotCount → holdsAt st t p ≡ true → clash (lockHeldAt st t p) Xi ≡ true
-holder-clashes st f t p c h = xi-clashes (lockHeldAt st t p) (held-lock (slotAt st t) p (holder-open (st .n) (slotAt st t) p (f .slot t c) h))
+holder-clashes st f t p c h = xi-clashes (lockHeldAt st t p) (holder-locks (st .n) (slotAt st t) p (f .slot t c) h)
 
 -- A page held under ξ is held by no other slot,
 pub update-alone : (st : State) → SoundState st → (s t p : ℕ) → s < slotCount → t < slotCount → s ≢ t → lockHeldAt st s p ≡ Xi → holdsAt st s p ≡ true → holdsAt st t p ≡ false

@@ -12,17 +12,18 @@ use Rattle.ground.specs.Limits.{slotCount}
 use Rattle.ground.specs.Tests.{member}
 use Rattle.ground.proofs.Bools.{not-both, and-first, and-second}
 use Rattle.ground.proofs.Tests.{member-none}
+use Rattle.slots.specs.declared.Op.{Op}
 use Rattle.slots.specs.declared.Task.{Task}
 use Rattle.slots.specs.declared.Task.the-variants.{Closed, Open}
 use Rattle.slots.specs.declared.Slot.{Slot}
 use Rattle.slots.specs.declared.Lock.{Lock}
 use Rattle.slots.specs.declared.State.{State}
-use Rattle.slots.specs.Parts.{isOpen, held, pathOf, besideOf, slotAt, wantAt, holdsAt}
+use Rattle.slots.specs.Parts.{isOpen, heldLock, held, pathOf, besideOf, slotAt, wantAt, holdsAt}
 use Rattle.slots.specs.Locks.{lockHeld, lockHeldAt, lockWantedAt, clash}
 use Rattle.slots.specs.Sound.{withinLimits}
 use Rattle.slots.specs.Grant.{noClash, noOlder, grants}
 use Rattle.slots.proofs.SoundFacts.{SoundSlot, SoundState}
-use Rattle.slots.proofs.LockLaws.{clash-swap, others-go}
+use Rattle.slots.proofs.LockLaws.{isLock, can-hold, can-hold-locks, clash-swap, others-go}
 
 -- No other slot holds the wanted page of a granted slot with a clashing lock.
 pub granted-no-clash : (st : State) (s : ℕ) → grants st s ≡ true → (t : ℕ) → t < slotCount → t ≢ s → holdsAt st t (wantAt st s) ≡ true → clash (lockHeldAt st t (wantAt st s)) (lockWantedAt st s) ≡ false
@@ -42,6 +43,18 @@ holder-task (Open op) depth beside p path siblings h m = refl
 pub holder-open : (n : ℕ) (s : Slot) (p : ℕ) → SoundSlot n s → member p (held s) ≡ true → isOpen (s .task) ≡ true
 unfolding pathOf besideOf
 holder-open n s p f m = holder-task (s .task) (s .depth) (s .breadth) p (s .path) (s .beside) (f .limits) m
+
+-- what it holds it holds under the kind of its operation,
+pub held-lock : (n : ℕ) (s : Slot) (op : Op) (p : ℕ) → SoundSlot n s → s .task ≡ Open op → member p (held s) ≡ true → lockHeld s p ≡ heldLock op
+held-lock n s op p f e m = can-hold op (lockHeld s p) (f .under op e p m)
+
+-- so with a lock
+holder-under : (n : ℕ) (s : Slot) (p : ℕ) (task : Task) → SoundSlot n s → s .task ≡ task → isOpen task ≡ true → member p (held s) ≡ true → isLock (lockHeld s p) ≡ true
+holder-under n s p Closed f e o m = not-both o refl
+holder-under n s p (Open op) f e o m = can-hold-locks op (lockHeld s p) (f .under op e p m)
+
+pub holder-locks : (n : ℕ) (s : Slot) (p : ℕ) → SoundSlot n s → member p (held s) ≡ true → isLock (lockHeld s p) ≡ true
+holder-locks n s p f m = holder-under n s p (s .task) f refl (holder-open n s p f m) m
 
 -- A granted slot that holds from now on a page that it held, under the same kind, or the one that it wanted, under the kind that it wanted,
 -- clashes with no other slot that holds it: what `goes-on-sound` asks.

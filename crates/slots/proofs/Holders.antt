@@ -11,7 +11,7 @@ use Rattle.ground.proofs.Bools.{and-both, and-first-fails}
 use Rattle.ground.proofs.Choice.{cond-true, cond-false}
 use Rattle.ground.proofs.Tests.{anyBelow-from, anyBelow-fails, countBelow-fails, countBelow-less, firstBelow-passes, firstBelow-before, firstBelow-fails}
 use Rattle.slots.specs.declared.Lock.{Lock}
-use Rattle.slots.specs.declared.Lock.the-variants.{None, Rho, Xi}
+use Rattle.slots.specs.declared.Lock.the-variants.{None, Rho, Xi, UpdaterRho, Alpha}
 use Rattle.slots.specs.declared.State.{State}
 use Rattle.slots.specs.Parts.{holdsAt}
 use Rattle.slots.specs.Locks.{lockHeldAt}
@@ -32,7 +32,7 @@ nobody-holds st p h =
     record {
       count = none;
       lowest = firstBelow-fails (λ (s : ℕ). holdsAt st s p) slotCount h;
-      kind = cond-false Xi _ (not-under Xi) ∙ cond-false Rho None (not-under Rho);
+      kind = cond-false Xi _ (not-under Xi) ∙ cond-false Alpha _ (not-under Alpha) ∙ cond-false UpdaterRho _ (not-under UpdaterRho) ∙ cond-false Rho None (not-under Rho);
     }
   where
     not-under : (lock : Lock) → heldUnder st p lock ≡ false

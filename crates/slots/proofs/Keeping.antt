@@ -7,19 +7,23 @@ use mathlib.Core.Path.{_≡_, refl, sym, ap, ap₂, subst, _∙_}
 use mathlib.Core.List.{List, [], _∷_, _++_}
 use native.Mathlib.Omega.{arith}
 use lib.ListN.{length, getD, take, drop, set, replicate, length-set, length-append, length-drop, length-replicate}
-use lib.Seq.{getD-set-same, getD-set-other, take-append-seam}
+use lib.Seq.{getD-set-same, getD-set-other}
 use Rattle.ground.specs.Limits.{largestK, largestN, slotCount, searchHolds, regradeHolds, secondHolds, pathHolds, siblingHolds}
-use Rattle.ground.specs.Tests.{member, distinct, padded}
+use Rattle.ground.specs.Tests.{member, distinct, filled}
+use Rattle.ground.proofs.Padded.{filled-list}
 use Rattle.ground.proofs.Bools.{false-if-not-true, not-both, and-both}
 use Rattle.ground.proofs.Tests.{member-none, member-one, member-append, member-inside, member-last, distinct-none, distinct-snoc}
 use Rattle.slots.specs.declared.Op.{Op}
 use Rattle.slots.specs.declared.Op.the-variants.{Search, Insert, Delete, Next, Regrade}
 use Rattle.slots.specs.declared.Way.the-variants.{First, Second}
-use Rattle.slots.specs.declared.Task.the-variants.{Open}
+use Rattle.slots.specs.declared.Task.{Task}
+use Rattle.slots.specs.declared.Task.the-variants.{Closed, Open}
+use Rattle.slots.specs.declared.Lock.the-variants.{None}
+use Rattle.slots.specs.declared.Under.{Under}
 use Rattle.slots.specs.declared.Slot.{Slot}
 use Rattle.slots.specs.declared.State.{State}
-use Rattle.slots.specs.Parts.{isOpen, held, pathOf, besideOf, Stand, holding, onPages, freshStand, standOf, slotOf, slotAt, openAt, holdsAt, waitingOrder, closedSlot, idleState}
-use Rattle.slots.specs.Locks.{lockHeld, lockHeldAt, canWant, clash}
+use Rattle.slots.specs.Parts.{isOpen, held, pathOf, besideOf, locksOf, sidelocksOf, lockCells, under, Stand, holding, holdingLocks, onPages, freshStand, standOf, slotOf, slotAt, openAt, holdsAt, waitingOrder, closedSlot, idleState}
+use Rattle.slots.specs.Locks.{lockAmong, lockHeld, lockHeldAt, canHold, canWant, clash}
 use Rattle.slots.specs.Sound.{withinLimits}
 use Rattle.slots.specs.Book.{rewritten, leaving, begins, goesOn, closes}
 use Rattle.slots.proofs.SoundFacts.{SoundSlot, SoundState}
@@ -98,30 +102,50 @@ keeps-sound st shaped f s b slot order waiting g =
 -- ---- what a new slot holds
 
 pub path-new : (z : Stand) → pathOf (slotOf z) ≡ z .path
-unfolding pathOf padded
-path-new z = take-append-seam (z .path) (replicate (pathHolds - length (z .path)) 0)
+unfolding pathOf
+path-new z = filled-list 0 pathHolds (z .path)
 
 pub beside-new : (z : Stand) → besideOf (slotOf z) ≡ z .beside
-unfolding besideOf padded
-beside-new z = take-append-seam (z .beside) (replicate (pathHolds - length (z .beside)) 0)
+unfolding besideOf
+beside-new z = filled-list 0 pathHolds (z .beside)
 
 pub held-new : (z : Stand) → held (slotOf z) ≡ holding z
 held-new z = ap₂ (λ (ps ss : List ℕ). ps ++ ss) (path-new z) (beside-new z)
 
--- where a slot stands that was made to stand there
-pub stand-new : (z : Stand) → standOf (z .op) (slotOf z) ≡ z
-stand-new z = ap₂ (onPages z) (path-new z) (beside-new z)
+-- a kind for every page
+pub record Paired (z : Stand) : Type 0 where
+  pub path : length (z .locks) ≡ length (z .path)
+  pub beside : length (z .sidelocks) ≡ length (z .beside)
+
+module _ (z : Stand) (paired : Paired z) where
+  pub locks-new : locksOf (slotOf z) ≡ z .locks
+  unfolding locksOf
+  locks-new = ap (λ (m : ℕ). take m (lockCells (z .locks))) (sym (paired .path)) ∙ filled-list (under None) pathHolds (z .locks)
+
+  pub sidelocks-new : sidelocksOf (slotOf z) ≡ z .sidelocks
+  unfolding sidelocksOf
+  sidelocks-new = ap (λ (m : ℕ). take m (lockCells (z .sidelocks))) (sym (paired .beside)) ∙ filled-list (under None) pathHolds (z .sidelocks)
+
+  -- under which kind it holds a page
+  pub lock-new : (p : ℕ) → lockHeld (slotOf z) p ≡ lockAmong p (holding z) (holdingLocks z)
+  lock-new p = ap₂ (lockAmong p) (held-new z) (ap₂ (λ (ls ss : List Under). ls ++ ss) locks-new sidelocks-new)
+
+  -- where a slot stands that was made to stand there
+  pub stand-new : standOf (z .op) (slotOf z) ≡ z
+  stand-new =
+      ap₂ (λ (path : List ℕ) (locks : List Under). onPages z path locks (besideOf (slotOf z)) (sidelocksOf (slotOf z))) (path-new z) locks-new
+      ∙ ap₂ (λ (beside : List ℕ) (sidelocks : List Under). onPages z (z .path) (z .locks) beside sidelocks) (beside-new z) sidelocks-new
 
 -- a slot that holds nothing clashes with none
 holds-none : (slot : Slot) → held slot ≡ [] → {X : Type 0} (p : ℕ) → member p (held slot) ≡ true → X
 holds-none slot e p m = not-both m (ap (member p) e ∙ member-none p)
 
 closed-holds-nothing : held closedSlot ≡ []
-unfolding pathOf besideOf padded
+unfolding pathOf besideOf filled
 closed-holds-nothing = refl
 
 closed-sound : (n : ℕ) → SoundSlot n closedSlot
-closed-sound n = record { limits = refl; below = λ o. not-both o refl; different = λ o. not-both o refl; rightly = refl }
+closed-sound n = record { limits = refl; below = λ o. not-both o refl; different = λ o. not-both o refl; rightly = refl; under = λ op e p m. holds-none closedSlot closed-holds-nothing p m }
 
 begun-limits : (op : Op) → withinLimits (Open op) 0 0 ≡ true
 unfolding searchHolds regradeHolds secondHolds pathHolds siblingHolds
@@ -150,7 +174,15 @@ begun-sound n op h =
       below = λ _ p m. subst (λ (q : ℕ). q < n) (sym (member-one p 0 (subst (λ (l : List ℕ). member p (0 ∷ l) ≡ true) holds m))) h;
       different = λ _. subst (λ (l : List ℕ). distinct (0 ∷ l) ≡ true) (sym holds) refl;
       rightly = can-want-held op;
+      under = λ _ _ p m. holds-none (slotOf (freshStand op)) holds p m;
     }
+
+open-op : {a b : Op} → Open a ≡ Open b → a ≡ b
+open-op {a} e = ap (λ (t : Task). opIn a t) e
+  where
+    opIn : Op → Task → Op
+    opIn none Closed = none
+    opIn none (Open op) = op
 
 -- ---- the three ways a slot changes
 
@@ -222,11 +254,12 @@ module _ (st : State) (shaped : Shaped st) (f : SoundState st) (s : ℕ) (b : s 
       → ((p : ℕ) → member p (z .want ∷ holding z) ≡ true → p < st .n)
       → distinct (z .want ∷ holding z) ≡ true
       → canWant (z .op) (z .lock) ≡ true
+      → ((p : ℕ) → member p (holding z) ≡ true → canHold (z .op) (lockHeld (slotOf z) p) ≡ true)
       → ((t : ℕ) → t < slotCount → t ≢ s → (p : ℕ) → member p (holding z) ≡ true → holdsAt st t p ≡ true
       → clash (lockHeld (slotOf z) p) (lockHeldAt st t p) ≡ false)
       → SoundState (goesOn st s z)
   unfolding goesOn
-  goes-on-sound z opened limits below different rightly locks =
+  goes-on-sound z opened limits below different rightly under locks =
       let slot = slotOf z in
       let holds : holding z ≡ held slot = sym (held-new z) in
       let g : SoundSlot (st .n) slot = record {
@@ -234,6 +267,7 @@ module _ (st : State) (shaped : Shaped st) (f : SoundState st) (s : ℕ) (b : s 
         below = λ _ p m. below p (subst (λ (l : List ℕ). member p (z .want ∷ l) ≡ true) (sym holds) m);
         different = λ _. subst (λ (l : List ℕ). distinct (z .want ∷ l) ≡ true) holds different;
         rightly = rightly;
+        under = λ op e p m. subst (λ (o : Op). canHold o (lockHeld slot p) ≡ true) (open-op e) (under p (subst (λ (l : List ℕ). member p l ≡ true) (sym holds) m));
       } in
       keeps-sound st shaped f s b slot (leaving s (waitingOrder st) ++ s ∷ drop (st .waiting) (st .order)) (st .waiting)
       (subst (λ (l : List ℕ). Fits st s slot l (st .waiting)) (sym (waiting-requeued st s order-long (f .orderNames s b opened) slot))

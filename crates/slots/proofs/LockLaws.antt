@@ -1,27 +1,29 @@
 -- The table of kinds of lock, and a page held against the locks of the other slots.
-use Prim.Native.Nat.{ℕ, _<_}
+use Prim.Native.Nat.{ℕ, zero, suc, _<_}
 use mathlib.Core.Bool.{Bool, true, false, not, _&&_, _||_}
 use mathlib.Core.Logic.{_≢_, ⊎-elim}
-use mathlib.Core.Path.{_≡_, refl, ap, _∙_}
+use mathlib.Core.Path.{_≡_, refl, sym, ap, _∙_}
+use mathlib.Core.List.{List, [], _∷_, _++_, map}
 use native.Mathlib.Omega.{arith}
 use lib.Dec.{eqb}
-use borrow.Author.Tests.{eqb-false, ne-eqb, not-true}
+use lib.ListN.{length, getD, take}
+use lib.Seq.{length-take-le, getD-take}
+use borrow.Author.Tests.{eq-eqb, eqb-true, eqb-false, ne-eqb, not-true}
 use Rattle.ground.specs.Limits.{slotCount}
-use Rattle.ground.proofs.Bools.{not-both, false-if-not-true, and-first, and-second, and-both, or-first, or-second, or-cases, not-of-false}
-use Rattle.ground.proofs.Choice.{by-test}
-use Rattle.ground.proofs.Tests.{allBelow-at, allBelow-from}
+use Rattle.ground.proofs.Bools.{not-both, false-if-not-true, same-if-true-together, and-first, and-second, and-both, or-first, or-second, or-cases, or-first-fails, or-second-fails, not-of-false}
+use Rattle.ground.specs.Tests.{all, member, distinct}
+use Rattle.ground.proofs.Choice.{by-test, cond-true, cond-false}
+use Rattle.ground.proofs.Tests.{all-at, all-from, all-from-members, not-member-from, distinct-at, allBelow-at, allBelow-from}
 use Rattle.slots.specs.declared.Op.{Op}
 use Rattle.slots.specs.declared.Op.the-variants.{Search, Insert, Delete, Next, Regrade}
 use Rattle.slots.specs.declared.Way.the-variants.{First, Second}
-use Rattle.slots.specs.declared.Task.{Task}
-use Rattle.slots.specs.declared.Task.the-variants.{Closed, Open}
 use Rattle.slots.specs.declared.Lock.{Lock}
-use Rattle.slots.specs.declared.Lock.the-variants.{None, Rho, Xi}
-use Rattle.slots.specs.declared.Slot.{Slot}
+use Rattle.slots.specs.declared.Lock.the-variants.{None, Rho, Xi, UpdaterRho, Alpha}
+use Rattle.slots.specs.declared.Under.{Under}
 use Rattle.slots.specs.declared.State.{State}
 use Rattle.slots.specs.Operations.{heldLock, isSecond, firstWay}
-use Rattle.slots.specs.Parts.{isOpen, holdsAt}
-use Rattle.slots.specs.Locks.{lockOf, lockHeld, lockHeldAt, sameLock, canWant, clash, noClashOn}
+use Rattle.slots.specs.Parts.{under, holdsAt}
+use Rattle.slots.specs.Locks.{lockAmong, lockHeldAt, sameLock, canHold, canWant, clash, noClashOn}
 use Rattle.slots.specs.Heard.{lockNumber}
 
 -- ---- the table
@@ -31,24 +33,52 @@ pub clash-swap : (a b : Lock) → clash a b ≡ clash b a
 clash-swap None None = refl
 clash-swap None Rho = refl
 clash-swap None Xi = refl
+clash-swap None UpdaterRho = refl
+clash-swap None Alpha = refl
 clash-swap Rho None = refl
 clash-swap Rho Rho = refl
 clash-swap Rho Xi = refl
+clash-swap Rho UpdaterRho = refl
+clash-swap Rho Alpha = refl
 clash-swap Xi None = refl
 clash-swap Xi Rho = refl
 clash-swap Xi Xi = refl
+clash-swap Xi UpdaterRho = refl
+clash-swap Xi Alpha = refl
+clash-swap UpdaterRho None = refl
+clash-swap UpdaterRho Rho = refl
+clash-swap UpdaterRho Xi = refl
+clash-swap UpdaterRho UpdaterRho = refl
+clash-swap UpdaterRho Alpha = refl
+clash-swap Alpha None = refl
+clash-swap Alpha Rho = refl
+clash-swap Alpha Xi = refl
+clash-swap Alpha UpdaterRho = refl
+clash-swap Alpha Alpha = refl
 
 -- a lock at all
 abbrev pub isLock : Lock → Bool
 isLock None = false
 isLock Rho = true
 isLock Xi = true
+isLock UpdaterRho = true
+isLock Alpha = true
 
 -- "ξ goes with nothing"
 pub xi-clashes : (a : Lock) → isLock a ≡ true → clash a Xi ≡ true
 xi-clashes None o = o
 xi-clashes Rho o = refl
 xi-clashes Xi o = refl
+xi-clashes UpdaterRho o = refl
+xi-clashes Alpha o = refl
+
+-- "ρ goes with all but ξ"
+pub clashes-rho : (a : Lock) → clash a Rho ≡ true → a ≡ Xi
+clashes-rho None e = not-both e refl
+clashes-rho Rho e = not-both e refl
+clashes-rho Xi e = refl
+clashes-rho UpdaterRho e = not-both e refl
+clashes-rho Alpha e = not-both e refl
 
 -- ---- the locks of slots
 
@@ -63,21 +93,101 @@ op-locks (Next x) = refl
 op-locks (Regrade x v First) = refl
 op-locks (Regrade x v Second) = refl
 
-open-locks : (task : Task) → isOpen task ≡ true → isLock (lockOf task) ≡ true
-open-locks Closed o = o
-open-locks (Open op) o = op-locks op
+-- the kind in the cell of a page, where the cells hold what goes by the page
+pub among-map : (f : ℕ → Lock) (p : ℕ) (pages : List ℕ) → member p pages ≡ true → lockAmong p pages (map (λ (q : ℕ). under (f q)) pages) ≡ f p
+unfolding lockAmong member
+among-map f p [] m = not-both m refl
+among-map f p (q ∷ pages) m =
+    by-test (eqb p q)
+    (λ e. cond-true (f q) (lockAmong p pages (map (λ (r : ℕ). under (f r)) pages)) e ∙ ap f (sym (eqb-true p q e)))
+    (λ e. cond-false (f q) (lockAmong p pages (map (λ (r : ℕ). under (f r)) pages)) e ∙ among-map f p pages (sym (ap (λ (b : Bool). b || member p pages) e) ∙ m))
 
-pub held-lock : (s : Slot) (p : ℕ) → isOpen (s .task) ≡ true → isLock (lockHeld s p) ≡ true
-held-lock s p o = open-locks (s .task) o
+-- ---- the kind in the cell of a page
 
--- a slot that goes on with its operation holds what it keeps under the kind that it held it under
-pub kept-lock : (next was : Slot) → next .task ≡ was .task → (p : ℕ) → lockHeld next p ≡ lockHeld was p
-kept-lock next was same p = ap lockOf same
+-- none, if the page is not there
+pub among-none : (p : ℕ) (pages : List ℕ) (locks : List Under) → member p pages ≡ false → lockAmong p pages locks ≡ None
+unfolding lockAmong member
+among-none p [] locks f = refl
+among-none p (q ∷ pages) [] f = refl
+among-none p (q ∷ pages) (u ∷ locks) f =
+    cond-false (u .lock) (lockAmong p pages locks) (or-first-fails (eqb p q) (member p pages) f)
+    ∙ among-none p pages locks (or-second-fails (eqb p q) (member p pages) f)
+
+-- the kind in the first cell that has the page
+pub among-at : (p : ℕ) (pages : List ℕ) (locks : List Under) (j : ℕ) → length locks ≡ length pages → j < length pages
+    → getD pages j 0 ≡ p → member p (take j pages) ≡ false → lockAmong p pages locks ≡ getD locks j (under None) .lock
+unfolding lockAmong member
+among-at p [] locks j same h e f = absurd (omega arith)
+among-at p (q ∷ pages) [] j same h e f = absurd (omega arith)
+among-at p (q ∷ pages) (u ∷ locks) zero same h e f = cond-true (u .lock) (lockAmong p pages locks) (eq-eqb p q (sym e))
+among-at p (q ∷ pages) (u ∷ locks) (suc j) same h e f =
+    cond-false (u .lock) (lockAmong p pages locks) (or-first-fails (eqb p q) (member p (take j pages)) f)
+    ∙ among-at p pages locks j (omega arith) (omega arith) e (or-second-fails (eqb p q) (member p (take j pages)) f)
+
+-- where no page stands twice, the kind of a page is that of its cell
+pub among-each : (pages : List ℕ) (locks : List Under) → length locks ≡ length pages → distinct pages ≡ true
+    → (j : ℕ) → j < length pages → lockAmong (getD pages j 0) pages locks ≡ getD locks j (under None) .lock
+among-each pages locks same different j h =
+    among-at (getD pages j 0) pages locks j same h refl
+    (not-member-from (getD pages j 0) (take j pages) 0
+    (λ i b e.
+    let before : i < j = omega (arith, length-take-le j pages (omega arith)) in
+    distinct-at pages 0 different i j before h (sym (getD-take j pages i 0 before) ∙ e)))
+
+-- a test that every kind passes, the kind of every page passes
+pub among-passes : (test : Lock → Bool) (p : ℕ) (pages : List ℕ) (locks : List Under) → length locks ≡ length pages
+    → all (λ (u : Under). test (u .lock)) locks ≡ true → member p pages ≡ true → test (lockAmong p pages locks) ≡ true
+unfolding lockAmong member all
+among-passes test p [] locks same t m = not-both m refl
+among-passes test p (q ∷ pages) [] same t m = absurd (omega arith)
+among-passes test p (q ∷ pages) (u ∷ locks) same t m =
+    by-test (eqb p q)
+    (λ e. ap test (cond-true (u .lock) (lockAmong p pages locks) e) ∙ and-first (test (u .lock)) (all (λ (v : Under). test (v .lock)) locks) t)
+    (λ e.
+    ap test (cond-false (u .lock) (lockAmong p pages locks) e)
+    ∙ among-passes test p pages locks (omega arith) (and-second (test (u .lock)) (all (λ (v : Under). test (v .lock)) locks) t)
+    (sym (ap (λ (b : Bool). b || member p pages) e) ∙ m))
+
+-- and the other way round, where no page stands twice
+pub among-every : (test : Lock → Bool) (pages : List ℕ) (locks : List Under) → length locks ≡ length pages → distinct pages ≡ true
+    → all (λ (u : Under). test (u .lock)) locks ≡ all (λ (p : ℕ). test (lockAmong p pages locks)) pages
+among-every test pages locks same different =
+    same-if-true-together (all (λ (u : Under). test (u .lock)) locks) (all (λ (p : ℕ). test (lockAmong p pages locks)) pages)
+    (λ t. all-from-members (λ (p : ℕ). test (lockAmong p pages locks)) pages (λ p m. among-passes test p pages locks same t m))
+    (λ t. all-from (λ (u : Under). test (u .lock)) locks (under None)
+    (λ j h.
+    let within : j < length pages = omega arith in
+    sym (ap test (among-each pages locks same different j within)) ∙ all-at (λ (p : ℕ). test (lockAmong p pages locks)) pages 0 t j within))
+
+-- cells behind others: the kind in the first ones, if the page is there, and else in those behind them
+module _ (p : ℕ) (more : List ℕ) (others : List Under) where
+  pub among-first : (pages : List ℕ) (locks : List Under) → length locks ≡ length pages → member p pages ≡ true
+      → lockAmong p (pages ++ more) (locks ++ others) ≡ lockAmong p pages locks
+  unfolding lockAmong member
+  among-first [] locks same m = not-both m refl
+  among-first (q ∷ pages) [] same m = absurd (omega arith)
+  among-first (q ∷ pages) (u ∷ locks) same m =
+      by-test (eqb p q)
+      (λ e. cond-true (u .lock) (lockAmong p (pages ++ more) (locks ++ others)) e ∙ sym (cond-true (u .lock) (lockAmong p pages locks) e))
+      (λ e.
+      cond-false (u .lock) (lockAmong p (pages ++ more) (locks ++ others)) e
+      ∙ among-first pages locks (omega arith) (sym (ap (λ (b : Bool). b || member p pages) e) ∙ m)
+      ∙ sym (cond-false (u .lock) (lockAmong p pages locks) e))
+
+  pub among-behind : (pages : List ℕ) (locks : List Under) → length locks ≡ length pages → member p pages ≡ false
+      → lockAmong p (pages ++ more) (locks ++ others) ≡ lockAmong p more others
+  unfolding lockAmong member
+  among-behind [] [] same f = refl
+  among-behind [] (u ∷ locks) same f = absurd (omega arith)
+  among-behind (q ∷ pages) [] same f = absurd (omega arith)
+  among-behind (q ∷ pages) (u ∷ locks) same f =
+      cond-false (u .lock) (lockAmong p (pages ++ more) (locks ++ others)) (or-first-fails (eqb p q) (member p pages) f)
+      ∙ among-behind pages locks (omega arith) (or-second-fails (eqb p q) (member p pages) f)
 
 -- ---- the second way
 
--- who goes by the second way holds with ρ
-pub second-rho : (op : Op) → isSecond op ≡ true → heldLock op ≡ Rho
+-- who goes by the second way holds with updater's ρ
+pub second-rho : (op : Op) → isSecond op ≡ true → heldLock op ≡ UpdaterRho
 second-rho (Search x) e = not-both e refl
 second-rho (Insert x v First) e = not-both e refl
 second-rho (Insert x v Second) e = refl
@@ -115,30 +225,63 @@ pub is-xi : (l : Lock) → eqb (lockNumber l) (lockNumber Xi) ≡ true → l ≡
 is-xi None e = not-both e refl
 is-xi Rho e = not-both e refl
 is-xi Xi e = refl
+is-xi UpdaterRho e = not-both e refl
+is-xi Alpha e = not-both e refl
 
--- ξ is another kind than ρ and none
+-- ξ is another kind than none, ρ and updater's ρ
 pub none-not-xi : None ≡ Xi → ⊥
 none-not-xi e = let z : _≡_ {A = ℕ} 0 2 = ap lockNumber e in omega arith
 
 pub rho-not-xi : Rho ≡ Xi → ⊥
 rho-not-xi e = let z : _≡_ {A = ℕ} 1 2 = ap lockNumber e in omega arith
 
+pub updater-not-xi : UpdaterRho ≡ Xi → ⊥
+updater-not-xi e = let z : _≡_ {A = ℕ} 3 2 = ap lockNumber e in omega arith
+
 -- kinds of one number are the same
 pub same-lock : (a b : Lock) → sameLock a b ≡ true → a ≡ b
 same-lock None None e = refl
 same-lock None Rho e = not-both e refl
 same-lock None Xi e = not-both e refl
+same-lock None UpdaterRho e = not-both e refl
+same-lock None Alpha e = not-both e refl
 same-lock Rho None e = not-both e refl
 same-lock Rho Rho e = refl
 same-lock Rho Xi e = not-both e refl
+same-lock Rho UpdaterRho e = not-both e refl
+same-lock Rho Alpha e = not-both e refl
 same-lock Xi None e = not-both e refl
 same-lock Xi Rho e = not-both e refl
 same-lock Xi Xi e = refl
+same-lock Xi UpdaterRho e = not-both e refl
+same-lock Xi Alpha e = not-both e refl
+same-lock UpdaterRho None e = not-both e refl
+same-lock UpdaterRho Rho e = not-both e refl
+same-lock UpdaterRho Xi e = not-both e refl
+same-lock UpdaterRho UpdaterRho e = refl
+same-lock UpdaterRho Alpha e = not-both e refl
+same-lock Alpha None e = not-both e refl
+same-lock Alpha Rho e = not-both e refl
+same-lock Alpha Xi e = not-both e refl
+same-lock Alpha UpdaterRho e = not-both e refl
+same-lock Alpha Alpha e = refl
 
 pub lock-same : (a : Lock) → sameLock a a ≡ true
 lock-same None = refl
 lock-same Rho = refl
 lock-same Xi = refl
+lock-same UpdaterRho = refl
+lock-same Alpha = refl
+
+-- an operation holds every page under one kind
+pub can-hold : (op : Op) (lock : Lock) → canHold op lock ≡ true → lock ≡ heldLock op
+can-hold op lock e = same-lock lock (heldLock op) e
+
+pub can-hold-held : (op : Op) → canHold op (heldLock op) ≡ true
+can-hold-held op = lock-same (heldLock op)
+
+pub can-hold-locks : (op : Op) (lock : Lock) → canHold op lock ≡ true → isLock lock ≡ true
+can-hold-locks op lock e = ap isLock (can-hold op lock e) ∙ op-locks op
 
 -- an operation can want the kind under which it holds
 pub can-want-held : (op : Op) → canWant op (heldLock op) ≡ true

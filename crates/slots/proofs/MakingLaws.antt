@@ -10,7 +10,7 @@ use lib.ListN.{length, getD, take, drop, set, length-append, length-drop, take-a
 use lib.Seq.{set-at, take-suc, drop-cons, drop-append-le, slice-empty, length-take-le, append-snoc, take-take, getD-take}
 use Rattle.ground.specs.Tests.{member}
 use Rattle.ground.proofs.Bools.{not-both}
-pub use Rattle.ground.proofs.Padded.{padded-add, padded-more}
+pub use Rattle.ground.proofs.Padded.{padded-add, padded-more, filled-add, filled-more}
 use Rattle.ground.proofs.Tests.{member-none, member-cases, member-other}
 use Rattle.slots.specs.Book.{leaving}
 use Rattle.slots.proofs.OrderLaws.{leaving-here, leaving-there}

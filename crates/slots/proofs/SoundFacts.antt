@@ -1,7 +1,7 @@
 -- A sound state as facts: the test of document 01, taken apart and put together again.
 use Prim.Native.Nat.{ℕ, _≤_, _<_}
 use mathlib.Core.Bool.{Bool, true, false, not, _&&_, _||_}
-use mathlib.Core.Path.{_≡_, refl}
+use mathlib.Core.Path.{_≡_, refl, subst}
 use mathlib.Core.List.{_∷_}
 use lib.Dec.{leb, ltb}
 use borrow.Author.Tests.{leb-true, le-leb, ltb-true, lt-ltb}
@@ -9,13 +9,14 @@ use Rattle.ground.specs.Limits.{largestK, kInRange, largestN, nInRange, slotCou
 use Rattle.ground.specs.Tests.{all, allBelow, member, distinct}
 use Rattle.ground.proofs.Bools.{not-both, and-first, and-second, and-both}
 use Rattle.ground.proofs.Tests.{all-member, all-from-members, allBelow-at, allBelow-from}
+use Rattle.slots.specs.declared.Op.{Op}
 use Rattle.slots.specs.declared.Task.{Task}
 use Rattle.slots.specs.declared.Task.the-variants.{Closed, Open}
 use Rattle.slots.specs.declared.Slot.{Slot}
 use Rattle.slots.specs.declared.State.{State}
 use Rattle.slots.specs.Parts.{isOpen, held, slotAt, openAt, holdsAt, waitingOrder, idleState}
-use Rattle.slots.specs.Locks.{lockHeldAt, clash, noClashOn}
-use Rattle.slots.specs.Sound.{namesEach, orderSound, withinLimits, belowAndOnce, ifOpen, wantsRightly, slotSound, noClashingHolds, sound}
+use Rattle.slots.specs.Locks.{lockHeld, lockHeldAt, canHold, clash, noClashOn}
+use Rattle.slots.specs.Sound.{namesEach, orderSound, withinLimits, belowAndOnce, ifOpen, wantsRightly, holdsRightly, slotSound, noClashingHolds, sound}
 use Rattle.slots.proofs.LockLaws.{others-go, others-go-from}
 
 -- one slot, in a pool of n pages
@@ -27,6 +28,8 @@ pub record SoundSlot (n : ℕ) (s : Slot) : Type 0 where
   pub different : isOpen (s .task) ≡ true → distinct (s .want ∷ held s) ≡ true
   -- its want is for a kind of lock that its operation can want
   pub rightly : wantsRightly (s .task) (s .lock) ≡ true
+  -- what it holds it holds under a kind that its operation can hold a page under
+  pub under : (op : Op) → s .task ≡ Open op → (p : ℕ) → member p (held s) ≡ true → canHold op (lockHeld s p) ≡ true
 
 pub record SoundState (st : State) : Type 0 where
   pub kLeast : 1 ≤ st .k
@@ -52,6 +55,15 @@ if-open-from : (task : Task) (test : Bool) → (isOpen task ≡ true → test �
 if-open-from Closed test h = refl
 if-open-from (Open op) test h = h refl
 
+-- what is held, by the task
+holds-under : (task : Task) (s : Slot) → holdsRightly task s ≡ true → (op : Op) → task ≡ Open op → (p : ℕ) → member p (held s) ≡ true → canHold op (lockHeld s p) ≡ true
+holds-under task s h op e p m =
+    all-member (λ (q : ℕ). canHold op (lockHeld s q)) (held s) (subst (λ (t : Task). holdsRightly t s ≡ true) e h) p m
+
+under-holds : (task : Task) (s : Slot) → ((op : Op) → task ≡ Open op → (p : ℕ) → member p (held s) ≡ true → canHold op (lockHeld s p) ≡ true) → holdsRightly task s ≡ true
+under-holds Closed s h = refl
+under-holds (Open op) s h = all-from-members (λ (q : ℕ). canHold op (lockHeld s q)) (held s) (h op refl)
+
 pub sound-slot : (n : ℕ) (s : Slot) → slotSound n s ≡ true → SoundSlot n s
 unfolding slotSound
 sound-slot n s h =
@@ -59,23 +71,28 @@ sound-slot n s h =
     let names = all (λ (p : ℕ). ltb p n) (s .want ∷ held s) in
     let opened = ifOpen (s .task) (belowAndOnce n s) in
     let wants = wantsRightly (s .task) (s .lock) in
-    let both = and-first (within && opened) wants h in
+    let holds = holdsRightly (s .task) s in
+    let three = and-first (within && opened && wants) holds h in
+    let both = and-first (within && opened) wants three in
     let pages : isOpen (s .task) ≡ true → belowAndOnce n s ≡ true = if-open (s .task) (belowAndOnce n s) (and-second within opened both) in
     record {
       limits = and-first within opened both;
       below = λ o p m. ltb-true p n (all-member (λ (q : ℕ). ltb q n) (s .want ∷ held s) (and-first names (distinct (s .want ∷ held s)) (pages o)) p m);
       different = λ o. and-second names (distinct (s .want ∷ held s)) (pages o);
-      rightly = and-second (within && opened) wants h;
+      rightly = and-second (within && opened) wants three;
+      under = holds-under (s .task) s (and-second (within && opened && wants) holds h);
     }
 
 pub slot-sound : (n : ℕ) (s : Slot) → SoundSlot n s → slotSound n s ≡ true
 unfolding slotSound
 slot-sound n s h =
     and-both
+    (and-both
     (and-both (h .limits)
     (if-open-from (s .task) (belowAndOnce n s)
     (λ o. and-both (all-from-members (λ (q : ℕ). ltb q n) (s .want ∷ held s) (λ p m. lt-ltb p n (h .below o p m))) (h .different o))))
-    (h .rightly)
+    (h .rightly))
+    (under-holds (s .task) s (h .under))
 
 -- the test of k and N, and those that go through the slots, by name
 abbrev numbersTest : State → Bool

@@ -5,15 +5,17 @@ use mathlib.Core.Path.{_≡_, refl, sym, ap, _∙_}
 use mathlib.Core.List.{List, [], _∷_}
 use lib.Dec.{eqb}
 use Rattle.slots.specs.declared.Lock.{Lock}
-use Rattle.slots.specs.declared.Lock.the-variants.{None, Rho, Xi}
+use Rattle.slots.specs.declared.Lock.the-variants.{None, Rho, Xi, UpdaterRho, Alpha}
 use Rattle.slots.specs.declared.Answer.{Answer}
 use Rattle.slots.specs.declared.Answer.the-variants.{Waiting, Moved, Found, NotFound, Inserted, AlreadyThere, Deleted, NoSuchKey, NoRoom, Begun, Made, Reported, BadState, BadPool, BadSlot, SlotBusy, SlotIdle, Damaged, BadPage, Next, None as NoLot, Regraded}
 use Rattle.slots.specs.Heard.{lockNumber, lockNamed, answersWith, numberOf, heard}
 
-lock-back : (l : Lock) → lockNamed (lockNumber l) ≡ l
+pub lock-back : (l : Lock) → lockNamed (lockNumber l) ≡ l
 lock-back None = refl
 lock-back Rho = refl
 lock-back Xi = refl
+lock-back UpdaterRho = refl
+lock-back Alpha = refl
 
 -- the first of a list with this number
 abbrev numbered : ℕ → List Answer → Answer

@@ -10,20 +10,22 @@ use lib.Dec.{eqb, leb, ltb}
 use lib.ListN.{length, getD}
 use Rattle.ground.specs.Tests.{member}
 use Rattle.slots.specs.declared.Lock.{Lock}
-use Rattle.slots.specs.declared.Lock.the-variants.{None, Rho, Xi}
+use Rattle.slots.specs.declared.Lock.the-variants.{None, Rho, Xi, UpdaterRho, Alpha}
 use Rattle.slots.specs.declared.hearing.Heard.{Heard}
 use Rattle.slots.specs.declared.Answer.{Answer}
 use Rattle.slots.specs.declared.Answer.the-variants.{Waiting, Moved, Found, NotFound, Inserted, AlreadyThere, Deleted, NoSuchKey, NoRoom, Begun, Made, Reported, BadState, BadPool, BadSlot, SlotBusy, SlotIdle, Damaged, BadPage, Next, None as NoLot, Regraded}
 
--- none, ρ, ξ
+-- none, ρ, ξ; and those of 02 (vi) behind them
 abbrev pub lockNumber : Lock → ℕ
 lockNumber None = 0
 lockNumber Rho = 1
 lockNumber Xi = 2
+lockNumber UpdaterRho = 3
+lockNumber Alpha = 4
 
--- the lock kind of a number
+-- the lock kind of a number; a number that is no kind stands for none
 abbrev pub lockNamed : ℕ → Lock
-lockNamed i = cond (eqb i 0) None (cond (eqb i 1) Rho Xi)
+lockNamed i = cond (eqb i 1) Rho (cond (eqb i 2) Xi (cond (eqb i 3) UpdaterRho (cond (eqb i 4) Alpha None)))
 
 -- the number of the first answer, Waiting: the refusals stand below it
 abbrev pub firstAnswer : ℕ

@@ -7,7 +7,7 @@ use lib.Dec.{eqb}
 use Rattle.slots.specs.declared.Way.{Way}
 use Rattle.slots.specs.declared.Way.the-variants.{First, Second}
 use Rattle.slots.specs.declared.Lock.{Lock}
-use Rattle.slots.specs.declared.Lock.the-variants.{Rho, Xi}
+use Rattle.slots.specs.declared.Lock.the-variants.{Rho, Xi, UpdaterRho}
 use Rattle.slots.specs.declared.Op.{Op}
 use Rattle.slots.specs.declared.Op.the-variants.{Search, Insert, Delete, Next, Regrade}
 use Rattle.slots.specs.declared.operations.Asked.{Asked}
@@ -36,13 +36,13 @@ byWay Second first second = second
 
 -- kind, key, information, reads, beside, lock.
 -- "Searches use ρ-locks, insertions and deletions ξ-locks." Next: "It uses ρ-locks". Regrading: "It takes ξ-locks". 02 (v), the second way:
--- "ρ-locks down, a ξ-lock wanted on the leaf". There a deletion takes no siblings.
+-- "ρ-locks down, a ξ-lock wanted on the leaf"; 02 (vi): "The ρ of (v) becomes a kind of its own, updater's ρ." There a deletion takes no siblings.
 abbrev pub rowOf : Op → Row
 rowOf (Search x) = row 1 x 0 true false Rho
-rowOf (Insert x v way) = row (byWay way 2 6) x v false false (byWay way Xi Rho)
-rowOf (Delete x way) = row (byWay way 3 7) x 0 false (byWay way true false) (byWay way Xi Rho)
+rowOf (Insert x v way) = row (byWay way 2 6) x v false false (byWay way Xi UpdaterRho)
+rowOf (Delete x way) = row (byWay way 3 7) x 0 false (byWay way true false) (byWay way Xi UpdaterRho)
 rowOf (Next x) = row 4 x 0 true true Rho
-rowOf (Regrade x v way) = row (byWay way 5 8) x v false false (byWay way Xi Rho)
+rowOf (Regrade x v way) = row (byWay way 5 8) x v false false (byWay way Xi UpdaterRho)
 
 -- all operations with this key and information, in the order of their kinds
 abbrev pub operations : ℕ → ℕ → List Op

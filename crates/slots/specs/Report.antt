@@ -6,7 +6,7 @@ use Rattle.ground.specs.Limits.{slotCount}
 use Rattle.ground.specs.Tests.{anyBelow, countBelow, firstBelow}
 use Rattle.slots.specs.declared.State.{State}
 use Rattle.slots.specs.declared.Lock.{Lock}
-use Rattle.slots.specs.declared.Lock.the-variants.{None, Rho, Xi}
+use Rattle.slots.specs.declared.Lock.the-variants.{None, Rho, Xi, UpdaterRho, Alpha}
 use Rattle.slots.specs.declared.Answer.{Answer}
 use Rattle.slots.specs.declared.Answer.the-variants.{Reported, BadState, BadPage}
 use Rattle.slots.specs.Parts.{holdsAt}
@@ -35,12 +35,14 @@ holdersMask st p = maskBelow slotCount (λ (s : ℕ). holdsAt st s p)
 abbrev pub heldUnder : State → ℕ → Lock → Bool
 heldUnder st p lock = anyBelow slotCount (λ (s : ℕ). holdsAt st s p && eqb (lockNumber (lockHeldAt st s p)) (lockNumber lock))
 
--- "the lock kind .. with no holder: none": the first that is there, the strongest kind before the others
+-- "the lock kind .. with no holder: none". 02 (vi): "a lock report gives the first that is there of ξ, α, updater's ρ, ρ"
 abbrev pub lockKind : State → ℕ → Lock
 lockKind st p =
     cond (heldUnder st p Xi) Xi
+    (cond (heldUnder st p Alpha) Alpha
+    (cond (heldUnder st p UpdaterRho) UpdaterRho
     (cond (heldUnder st p Rho) Rho
-    None)
+    None)))
 
 -- "Report: 1, 7."
 unfoldable pub reported : State → ℕ → Answer

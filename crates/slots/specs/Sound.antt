@@ -14,7 +14,7 @@ use Rattle.slots.specs.declared.State.{State}
 use Rattle.slots.specs.declared.Lock.{Lock}
 use Rattle.slots.specs.Operations.{byWay}
 use Rattle.slots.specs.Parts.{held, slotAt, openAt}
-use Rattle.slots.specs.Locks.{lockHeldAt, canWant, noClashOn}
+use Rattle.slots.specs.Locks.{lockHeld, lockHeldAt, canHold, canWant, noClashOn}
 
 -- the first so many cells of an order name each open slot once and no other
 unfoldable pub namesEach : (ℕ → Bool) → ℕ → List ℕ → Bool
@@ -66,11 +66,19 @@ abbrev pub wantsRightly : Task → Lock → Bool
 wantsRightly Closed lock = true
 wantsRightly (Open op) lock = canWant op lock
 
+-- every page is held under a kind that the operation can hold one under. A closed slot holds none.
+abbrev pub holdsRightly : Task → Slot → Bool
+holdsRightly Closed s = true
+holdsRightly (Open op) s = all (λ (p : ℕ). canHold op (lockHeld s p)) (held s)
+
 unfoldable pub slotSound : ℕ → Slot → Bool
 slotSound n s =
-    withinLimits (s .task) (s .depth) (s .breadth) && ifOpen (s .task) (belowAndOnce n s) && wantsRightly (s .task) (s .lock)
+    withinLimits (s .task) (s .depth) (s .breadth)
+    && ifOpen (s .task) (belowAndOnce n s)
+    && wantsRightly (s .task) (s .lock)
+    && holdsRightly (s .task) s
 
--- "no ξ-held page is held by another slot": page by page, no two slots hold one under kinds that clash
+-- "no ξ-held page is held by another slot"; 02 (vi): "a sound state has no clashing kinds on a page"
 unfoldable pub noClashingHolds : State → Bool
 noClashingHolds st =
     allBelow slotCount (λ (s : ℕ). all (λ (p : ℕ). noClashOn st s p (lockHeldAt st s p)) (held (slotAt st s)))

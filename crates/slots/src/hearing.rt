@@ -7,7 +7,7 @@ ghost use Rattle.slots.specs.Heard.{lockNumber, numbersOf, listed};
 // The number of an answer, how many values it has, and three values, 0 where it has none.
 pub struct Heard(pub u32, pub u32, pub u32, pub u32, pub u32);
 
-// none, ρ, ξ
+// none, ρ, ξ, updater's ρ, α
 pub fn lock_number(lock: Lock) -> u32
     ensures { λ r. ⌜ r ≡ lockNumber lock ⌝ }
 {
@@ -15,6 +15,8 @@ pub fn lock_number(lock: Lock) -> u32
         Lock::None => 0,
         Lock::Rho => 1,
         Lock::Xi => 2,
+        Lock::UpdaterRho => 3,
+        Lock::Alpha => 4,
     }
 }
 

@@ -1,24 +1,10 @@
-// The lock of a task, and whether a slot holds a page.
-use crate::Lock;
+// Whether a slot holds a page.
 use crate::Slot;
-use crate::Task;
-use crate::operations::held_lock;
 use ground::HELD;
 ghost use mathlib.Core.Path.{_≡_};
 ghost use lib.ListN.{take};
 ghost use Rattle.ground.specs.Tests.{member};
 ghost use Rattle.slots.specs.Parts.{held};
-ghost use Rattle.slots.specs.Locks.{lockOf};
-
-// The lock under which a task holds its pages: none, if it is closed.
-pub fn lock_of(task: Task) -> Lock
-    ensures { λ r. ⌜ r ≡ lockOf task ⌝ }
-{
-    match task {
-        Task::Closed => Lock::None,
-        Task::Open(op) => held_lock(op),
-    }
-}
 
 // Page p stands in one of the first `count` cells.
 fn among(cells: [u32; HELD], count: usize, p: u32) -> bool

@@ -1,6 +1,7 @@
 // Slots and locks: who holds what, who waits for whom. The state and what the caller hears.
 pub mod hearing;
 pub mod holding;
+pub mod locking;
 pub mod making;
 pub mod operations;
 
@@ -32,16 +33,23 @@ pub enum Task {
 }
 
 // An open slot holds the pages of its path, from the top downward, and pages beside it: a deletion's siblings, from the leaf's
-// upward, or the second way of a Next, from the top downward. It wants exactly one more page, with a lock of this kind. Cells behind a
-// length are not looked at.
+// upward, or the second way of a Next, from the top downward; each under a lock of the kind in the same cell of `locks` or `sidelocks`. It
+// wants exactly one more page, with a lock of the kind `lock`. Cells behind a length are not looked at.
 pub struct Slot {
     pub task: Task,
     pub want: u32,
     pub lock: Lock,
     pub path: [u32; HELD],
+    pub locks: [Under; HELD],
     pub depth: usize,
     pub beside: [u32; HELD],
+    pub sidelocks: [Under; HELD],
     pub breadth: usize,
+}
+
+// The kind of lock under which a page is held.
+pub struct Under {
+    pub lock: Lock,
 }
 
 // The state that the rules speak of: k, the number of pages, the slots, and the waiting order, oldest first.
@@ -53,11 +61,13 @@ pub struct State {
     pub waiting: usize,
 }
 
-// Kinds of lock, as a report gives them.
+// Kinds of lock, in the order of their numbers in a report. A new one goes to the end: no number told to a caller changes.
 pub enum Lock {
     None,
     Rho,
     Xi,
+    UpdaterRho,
+    Alpha,
 }
 
 // What the caller hears: refusals, then answers, in the order of their numbers. A new one goes to the end, whatever its number: so the

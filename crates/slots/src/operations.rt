@@ -119,11 +119,11 @@ pub fn first_way(op: Op) -> Op
 
 // The lock under which an update holds its pages, by its way.
 fn way_lock(way: Way) -> Lock
-    ensures { λ r. ⌜ r ≡ byWay way Lock.Xi Lock.Rho ⌝ }
+    ensures { λ r. ⌜ r ≡ byWay way Lock.Xi Lock.UpdaterRho ⌝ }
 {
     match way {
         Way::First => Lock::Xi,
-        Way::Second => Lock::Rho,
+        Way::Second => Lock::UpdaterRho,
     }
 }
 

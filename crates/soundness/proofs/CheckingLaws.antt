@@ -1,4 +1,4 @@
--- Laws for the test of a state, on lists: the first elements of a list pass a test or differ, and pages are named one by one.
+-- Laws for the test of a state, on lists: the first elements of a list pass a test or differ, pages are named one by one, and so are locks.
 use Prim.Native.Nat.{ℕ, _+_, _≤_, _<_}
 use mathlib.Core.Bool.{Bool, true, false, not, _&&_, _||_}
 use mathlib.Core.List.{List, [], _++_}
@@ -10,10 +10,11 @@ use borrow.Author.Tests.{eq-eqb, ne-eqb, lt-ltb, le-ltb}
 use lib.Dec.{eqb, ltb}
 use lib.ListN.{length, getD, take}
 use lib.Seq.{length-take-le, getD-take}
-use Rattle.ground.specs.Tests.{all, member, distinct}
+use Rattle.ground.specs.Tests.{all, allBelow, member, distinct}
 use Rattle.ground.proofs.Bools.{and-both, and-first, and-second, and-first-fails, and-second-fails, or-cases, or-first-fails, or-second-fails, not-of-true, not-of-false, false-if-not-true}
-use Rattle.ground.proofs.Tests.{all-none, all-more, all-stops, member-append, member-at, distinct-none, distinct-more, distinct-at}
-use Rattle.soundness.specs.Checking.{enters, mayEnter}
+use Rattle.ground.proofs.Tests.{all-none, all-more, all-stops, member-append, member-at, distinct-none, distinct-more, distinct-at, allBelow-none, allBelow-more, allBelow-stops}
+use Rattle.lent.specs.Words.{cell, numberIn}
+use Rattle.soundness.specs.Checking.{enters, mayEnter, columnUnder}
 
 -- ---- the first elements of a list, one more in each turn
 
@@ -100,3 +101,22 @@ module _ (n want : ℕ) (own pages : List ℕ) (i : ℕ) where
 
         again : member p (take i pages) ≡ true → all (enters n want own) (take count pages) && distinct (take count pages) ≡ false
         again w = and-second-fails (all (enters n want own) (take count pages)) (differ-stop pages i count h room w)
+
+-- ---- the locks of a column, one more in each turn
+
+module _ (ws : List ℕ) (row s number : ℕ) where
+  abbrev has : ℕ → Bool
+  has j = eqb (numberIn (cell ws (row + j) s)) number
+
+  pub under-none : columnUnder ws row s 0 number ≡ true
+  unfolding columnUnder
+  under-none = allBelow-none has
+
+  pub under-on : (i : ℕ) → columnUnder ws row s i number ≡ true → numberIn (cell ws (row + i) s) ≡ number → columnUnder ws row s (i + 1) number ≡ true
+  unfolding columnUnder
+  under-on i t e =
+      ap (λ (m : ℕ). allBelow m has) (add-one i) ∙ allBelow-more has i ∙ and-both t (eq-eqb (numberIn (cell ws (row + i) s)) number e)
+
+  pub under-stop : (i count : ℕ) → i < count → (numberIn (cell ws (row + i) s) ≡ number → ⊥) → columnUnder ws row s count number ≡ false
+  unfolding columnUnder
+  under-stop i count h n = allBelow-stops has count i h (ne-eqb (numberIn (cell ws (row + i) s)) number n)

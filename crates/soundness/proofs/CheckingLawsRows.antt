@@ -1,28 +1,35 @@
 -- Laws for the rows of the slots: what they tell of a slot's pages, and that with the slots that hold more than one page they
 -- are the rule of a sound slot.
-use Prim.Native.Nat.{ℕ, zero, suc, _-_, _≤_, _<_}
-use mathlib.Core.Bool.{Bool, true, false, cond, not, _&&_, _||_, and-true, and-false}
+use Prim.Native.Nat.{ℕ, zero, suc, _+_, _-_, _≤_, _<_}
+use mathlib.Core.Bool.{Bool, true, false, not, _&&_, _||_, and-true, and-false}
 use mathlib.Core.List.{List, [], _∷_, _++_}
 use mathlib.Core.Logic.{_⊎_, inl, inr, ⊎-elim}
 use mathlib.Core.Path.{_≡_, refl, sym, ap, ap₂, _∙_}
 use native.Mathlib.Omega.{arith}
 use borrow.Author.Tests.{eq-eqb, eqb-true, le-leb, lt-leb, leb-true, ltb-true, ltb-false, not-true}
 use lib.Dec.{eqb, ltb, leb}
-use lib.ListN.{length, getD, take}
+use lib.ListN.{length, getD, take, length-append}
+use lib.Seq.{length-take-le}
 use Rattle.ground.specs.Limits.{searchHolds, regradeHolds, secondHolds, pathHolds, siblingHolds}
 use Rattle.ground.specs.Tests.{all, allBelow, member, distinct}
-use Rattle.ground.proofs.Bools.{and-first, and-second, and-both, or-cases, or-second, or-first-fails, or-second-fails, not-of-false, same-if-true-together, true-or-false, not-both}
-use Rattle.ground.proofs.Tests.{allBelow-at}
-use Rattle.slots.specs.declared.Lock.the-variants.{None, Rho, Xi}
-use Rattle.slots.specs.Heard.{lockNumber}
-use Rattle.slots.specs.Parts.{pathOf, besideOf}
-use Rattle.slots.specs.Sound.{withinLimits, belowAndOnce, ifOpen, wantsRightly, slotSound}
+use Rattle.ground.proofs.Bools.{and-first, and-second, and-both, and-first-fails, or-cases, or-first, or-second, or-first-fails, or-second-fails, not-of-false, same-if-true-together, true-or-false}
+use Rattle.ground.proofs.Choice.{by-test}
+use Rattle.ground.proofs.Tests.{all-none, all-append, all-more, allBelow-none, allBelow-more, allBelow-at}
+use Rattle.slots.specs.declared.Lock.{Lock}
+use Rattle.slots.specs.declared.Lock.the-variants.{None, Rho, Xi, UpdaterRho}
+use Rattle.slots.specs.declared.Under.{Under}
+use Rattle.slots.specs.declared.Slot.{Slot}
+use Rattle.slots.specs.Heard.{lockNumber, lockNamed}
+use Rattle.slots.specs.Parts.{under, held, heldLocks, pathOf, besideOf, locksOf, sidelocksOf}
+use Rattle.slots.specs.Locks.{lockHeld, sameLock}
+use Rattle.slots.specs.Sound.{withinLimits, belowAndOnce, ifOpen, wantsRightly, holdsRightly, slotSound}
+use Rattle.slots.proofs.LockLaws.{isLock, among-every}
 use Rattle.lent.specs.Layout.{rowLength, columnLength, kindRow, keyRow, informationRow, wantRow, lockRow, depthRow, breadthRow, pathRow, besideRow}
-use Rattle.lent.specs.Words.{cell, column, highestKind, taskFrom, lockRead, slotIn}
+use Rattle.lent.specs.Words.{cell, pageIn, numberIn, column, lockColumn, highestKind, taskFrom, slotIn}
 use Rattle.lent.specs.Holds.{WithinRows}
-use Rattle.lent.proofs.HoldLaws.{by-kind}
-use Rattle.lent.proofs.StateLaws.{length-column, column-cell}
-use Rattle.soundness.specs.Checking.{pagesRow, kindWants, rowFine, mayHoldMore, deepFine}
+use Rattle.lent.proofs.HoldLaws.{by-kind, same-number}
+use Rattle.lent.proofs.StateLaws.{length-column, column-cell, length-locks, lock-cell}
+use Rattle.soundness.specs.Checking.{kindLock, topRow, kindWants, rowFine, mayHoldMore, columnUnder, underKind, deepFine}
 
 -- ---- what the rows tell of the pages
 
@@ -72,6 +79,72 @@ rows-of-pages n want (suc d) (x ∷ path) rest long e =
     let other = or-first-fails (eqb want x) (member want (take d path ++ rest)) (not-true (member want pages) (and-first (not (member want pages)) (distinct pages) differ)) in
     and-both (and-first (ltb want n) (all (λ (p : ℕ). ltb p n) pages) low) (or-second (eqb (suc d) 0) (and-both below (not-of-false other)))
 
+-- ---- the locks of the pages
+
+-- the lock of the top is asked behind what is asked of its page
+lock-behind : (a z x l : Bool) → a && (z || x && l) ≡ a && (z || x) && (z || l)
+lock-behind true true x l = refl
+lock-behind true false x l = refl
+lock-behind false z x l = refl
+
+module _ (ws : List ℕ) (s number : ℕ) where
+  -- one page or none is held
+  under-shallow : (depth breadth : ℕ) → ltb 1 depth || ltb 0 breadth ≡ false
+      → eqb depth 0 || eqb (numberIn (cell ws pathRow s)) number ≡ columnUnder ws pathRow s depth number && columnUnder ws besideRow s breadth number
+  unfolding columnUnder allBelow
+  under-shallow depth breadth e =
+      let none : breadth ≡ 0 = omega (arith, ltb-false 0 breadth (or-second-fails (ltb 1 depth) (ltb 0 breadth) e)) in
+      by-depth depth (ltb-false 1 depth (or-first-fails (ltb 1 depth) (ltb 0 breadth) e))
+      ∙ ap (λ (b : ℕ). columnUnder ws pathRow s depth number && columnUnder ws besideRow s b number) (sym none)
+    where
+      by-depth : (d : ℕ) → d ≤ 1 → eqb d 0 || eqb (numberIn (cell ws pathRow s)) number ≡ columnUnder ws pathRow s d number && true
+      by-depth zero h = refl
+      by-depth (suc zero) h = sym (and-true (eqb (numberIn (cell ws pathRow s)) number))
+      by-depth (suc (suc d)) h = absurd (omega arith)
+
+  -- however many are held
+  under-top : (depth : ℕ) → columnUnder ws pathRow s depth number ≡ true → eqb depth 0 || eqb (numberIn (cell ws pathRow s)) number ≡ true
+  unfolding columnUnder
+  under-top zero e = refl
+  under-top (suc d) e =
+      or-second (eqb (suc d) 0) (allBelow-at (λ (j : ℕ). eqb (numberIn (cell ws (pathRow + j) s)) number) (suc d) e 0 (omega arith))
+
+-- the numbers of a column as locks
+under-cells : (lock : Lock) → isLock lock ≡ true → (ws : List ℕ) (row s count : ℕ) → count ≤ columnLength
+    → columnUnder ws row s count (lockNumber lock) ≡ all (λ (u : Under). sameLock (u .lock) lock) (take count (lockColumn ws row s))
+unfolding columnUnder
+under-cells lock o ws row s zero h =
+    allBelow-none (λ (j : ℕ). eqb (numberIn (cell ws (row + j) s)) (lockNumber lock)) ∙ sym (all-none (λ (u : Under). sameLock (u .lock) lock))
+under-cells lock o ws row s (suc i) h =
+    allBelow-more (λ (j : ℕ). eqb (numberIn (cell ws (row + j) s)) (lockNumber lock)) i
+    ∙ ap₂ (λ (a b : Bool). a && b) (under-cells lock o ws row s i (omega arith))
+    (same-number lock o (numberIn (cell ws (row + i) s)) ∙ ap (λ (u : Under). sameLock (u .lock) lock) (sym (lock-cell ws row s i (omega arith))))
+    ∙ sym (all-more (λ (u : Under). sameLock (u .lock) lock) (lockColumn ws row s) i (under None) (omega (arith, length-locks ws row s)))
+
+-- A slot that holds no page twice: the locks of its pages are those in their cells.
+module _ (ws : List ℕ) (s : ℕ) (path : cell ws depthRow s ≤ columnLength) (beside : cell ws breadthRow s ≤ columnLength) where
+  paired : length (heldLocks (slotIn ws s)) ≡ length (held (slotIn ws s))
+  unfolding pathOf besideOf locksOf sidelocksOf
+  paired =
+      let d : ℕ = cell ws depthRow s in
+      let b : ℕ = cell ws breadthRow s in
+      length-append (take d (lockColumn ws pathRow s)) (take b (lockColumn ws besideRow s))
+      ∙ ap₂ (λ (x y : ℕ). x + y) (long d (lockColumn ws pathRow s) (length-locks ws pathRow s) path) (long b (lockColumn ws besideRow s) (length-locks ws besideRow s) beside)
+      ∙ sym (ap₂ (λ (x y : ℕ). x + y) (long d (column ws pathRow s) (length-column ws pathRow s) path) (long b (column ws besideRow s) (length-column ws besideRow s) beside))
+      ∙ sym (length-append (take d (column ws pathRow s)) (take b (column ws besideRow s)))
+    where
+      long : {A : Type 0} (m : ℕ) (l : List A) → length l ≡ columnLength → m ≤ columnLength → length (take m l) ≡ m
+      long m l e h = length-take-le m l (omega arith)
+
+  under-held : (lock : Lock) → isLock lock ≡ true → distinct (held (slotIn ws s)) ≡ true
+      → columnUnder ws pathRow s (cell ws depthRow s) (lockNumber lock) && columnUnder ws besideRow s (cell ws breadthRow s) (lockNumber lock)
+      ≡ all (λ (p : ℕ). sameLock (lockHeld (slotIn ws s) p) lock) (held (slotIn ws s))
+  unfolding pathOf besideOf locksOf sidelocksOf
+  under-held lock o different =
+      ap₂ (λ (a b : Bool). a && b) (under-cells lock o ws pathRow s (cell ws depthRow s) path) (under-cells lock o ws besideRow s (cell ws breadthRow s) beside)
+      ∙ sym (all-append (λ (u : Under). sameLock (u .lock) lock) (take (cell ws depthRow s) (lockColumn ws pathRow s)) (take (cell ws breadthRow s) (lockColumn ws besideRow s)))
+      ∙ among-every (λ (l : Lock). sameLock l lock) (held (slotIn ws s)) (heldLocks (slotIn ws s)) paired different
+
 -- ---- what a fine row says
 
 -- more than one page is held
@@ -86,17 +159,21 @@ fewer depth breadth = eqb breadth 0 || ltb breadth depth
 abbrev rowLimits : ℕ → ℕ → ℕ → Bool
 rowLimits kind depth breadth = leb kind highestKind && leb depth columnLength && (not (eqb kind 0) || eqb depth 0) && fewer depth breadth
 
+-- and what is asked of the wanted page and of the top behind them
+abbrev rowPages : ℕ → ℕ → ℕ → ℕ → ℕ → Bool → Bool
+rowPages kind depth breadth n want top = rowLimits kind depth breadth && (eqb kind 0 || ltb want n) && top
+
 pub record Row (kind depth breadth : ℕ) : Type 0 where
   pub exists : kind ≤ highestKind
   pub path : depth ≤ columnLength
   pub beside : breadth ≤ columnLength
   pub closed : kind ≡ 0 → (depth ≡ 0) × (breadth ≡ 0)
 
-pub row-says : (kind depth breadth n want top : ℕ) → pagesRow kind depth breadth n want top ≡ true → Row kind depth breadth
+row-says : (kind depth breadth n want : ℕ) (top : Bool) → rowPages kind depth breadth n want top ≡ true → Row kind depth breadth
 row-says kind depth breadth n want top e =
     let g = not (eqb kind 0) || eqb depth 0 in
     let w = eqb kind 0 || ltb want n in
-    let limits = and-first (rowLimits kind depth breadth) w (and-first (rowLimits kind depth breadth && w) (eqb depth 0 || (ltb top n && not (eqb want top))) e) in
+    let limits = and-first (rowLimits kind depth breadth) w (and-first (rowLimits kind depth breadth && w) top e) in
     let numbers = and-first (leb kind highestKind && leb depth columnLength && g) (fewer depth breadth) limits in
     let both = and-first (leb kind highestKind && leb depth columnLength) g numbers in
     let l = leb-true depth columnLength (and-second (leb kind highestKind) (leb depth columnLength) both) in
@@ -178,26 +255,26 @@ fits true w t true false p f g = and-false (w && t)
 fits true w t true true true f g = and-true (w && t) ∙ g refl
 fits true w t true true false f g = and-false (w && t)
 
-module _ (key information depth breadth n want top : ℕ) (pages : Bool)
-    (same : more depth breadth ≡ false → named depth n want top ≡ pages) (told : pages ≡ true → named depth n want top ≡ true) where
+module _ (key information depth breadth n want : ℕ) (top pages : Bool) (empty : depth ≡ 0 → top ≡ true)
+    (same : more depth breadth ≡ false → ltb want n && top ≡ pages) (told : pages ≡ true → ltb want n && top ≡ true) where
   abbrev Fits : ℕ → Type 0
-  Fits kind = pagesRow kind depth breadth n want top && (not (more depth breadth) || (mayHoldMore kind breadth && pages))
+  Fits kind = rowPages kind depth breadth n want top && (not (more depth breadth) || (mayHoldMore kind breadth && pages))
       ≡ withinLimits (taskFrom kind key information) depth breadth && ifOpen (taskFrom kind key information) pages
 
   -- the limits of an open kind are the rule's; what is left are the pages
   limited : (onPath aside : ℕ) (m : Bool)
       → leb depth columnLength && true && fewer depth breadth && (not (more depth breadth) || m) ≡ most onPath aside depth breadth
-      → leb depth columnLength && true && fewer depth breadth && ltb want n && (eqb depth 0 || (ltb top n && not (eqb want top))) && (not (more depth breadth) || (m && pages)) ≡ most onPath aside depth breadth && pages
+      → leb depth columnLength && true && fewer depth breadth && ltb want n && top && (not (more depth breadth) || (m && pages)) ≡ most onPath aside depth breadth && pages
   limited onPath aside m e =
-      fits (leb depth columnLength && true && fewer depth breadth) (ltb want n) (eqb depth 0 || (ltb top n && not (eqb want top))) (more depth breadth) m pages same told
+      fits (leb depth columnLength && true && fewer depth breadth) (ltb want n) top (more depth breadth) m pages same told
       ∙ ap (λ (l : Bool). l && pages) e
 
   -- a closed slot: nothing is held, and nothing asked of its pages
   nothing : Fits 0
   nothing =
-      same-if-true-together (pagesRow 0 depth breadth n want top && (not (more depth breadth) || false)) (most 0 0 depth breadth && true)
+      same-if-true-together (rowPages 0 depth breadth n want top && (not (more depth breadth) || false)) (most 0 0 depth breadth && true)
       (λ e.
-      let none = row-says 0 depth breadth n want top (and-first (pagesRow 0 depth breadth n want top) (not (more depth breadth) || false) e) .closed refl in
+      let none = row-says 0 depth breadth n want top (and-first (rowPages 0 depth breadth n want top) (not (more depth breadth) || false) e) .closed refl in
       ap₂ (λ (d b : ℕ). most 0 0 d b && true) (none .0) (none .1))
       (λ e.
       let both = and-first (leb depth 0 && leb breadth 0) (fewer depth breadth) (and-first (most 0 0 depth breadth) true e) in
@@ -205,7 +282,7 @@ module _ (key information depth breadth n want top : ℕ) (pages : Bool)
       let aside = leb-true breadth 0 (and-second (leb depth 0) (leb breadth 0) both) in
       let no-path : depth ≡ 0 = omega arith in
       let none-aside : breadth ≡ 0 = omega arith in
-      ap₂ (λ (d b : ℕ). pagesRow 0 d b n want top && (not (more d b) || false)) no-path none-aside)
+      ap₂ (λ (d b : ℕ). rowPages 0 d b n want top && (not (more d b) || false)) no-path none-aside ∙ and-both (empty no-path) refl)
 
   -- a search, a regrading, and the updates by the second way
   at-most-one : Fits 1
@@ -232,80 +309,195 @@ module _ (key information depth breadth n want top : ℕ) (pages : Bool)
       at-most-one
       at-most-one
 
+-- what is within the limits of a kind is within the rows
+limits-short : (key information depth breadth kind : ℕ) → kind ≤ highestKind → withinLimits (taskFrom kind key information) depth breadth ≡ true → (depth ≤ columnLength) × (breadth ≤ columnLength)
+unfolding searchHolds regradeHolds secondHolds pathHolds siblingHolds
+limits-short key information depth breadth =
+    by-kind (λ (kind : ℕ). withinLimits (taskFrom kind key information) depth breadth ≡ true → (depth ≤ columnLength) × (breadth ≤ columnLength))
+    (few 0 0 (omega arith) (omega arith))
+    (few 1 0 (omega arith) (omega arith))
+    (few 10 0 (omega arith) (omega arith))
+    (few 10 9 (omega arith) (omega arith))
+    (few 10 9 (omega arith) (omega arith))
+    (few 1 0 (omega arith) (omega arith))
+    (few 1 0 (omega arith) (omega arith))
+    (few 1 0 (omega arith) (omega arith))
+    (few 1 0 (omega arith) (omega arith))
+  where
+    few : (onPath aside : ℕ) → onPath ≤ columnLength → aside ≤ columnLength → most onPath aside depth breadth ≡ true → (depth ≤ columnLength) × (breadth ≤ columnLength)
+    few onPath aside a b e =
+        let both = and-first (leb depth onPath && leb breadth aside) (fewer depth breadth) e in
+        let path = leb-true depth onPath (and-first (leb depth onPath) (leb breadth aside) both) in
+        let beside = leb-true breadth aside (and-second (leb depth onPath) (leb breadth aside) both) in
+        (omega arith, omega arith)
+
 -- ---- the lock of the want
-
--- a number reads as ρ, or as ξ, if it is that lock's
-read-rho : (i : ℕ) → eqb i (lockNumber Rho) ≡ eqb (lockNumber (lockRead i)) (lockNumber Rho)
-read-rho i = by-two (eqb i (lockNumber Rho)) (eqb i (lockNumber Xi))
-  where
-    by-two : (rho xi : Bool) → rho ≡ eqb (lockNumber (cond rho Rho (cond xi Xi None))) (lockNumber Rho)
-    by-two true xi = refl
-    by-two false true = refl
-    by-two false false = refl
-
-read-xi : (i : ℕ) → eqb i (lockNumber Xi) ≡ eqb (lockNumber (lockRead i)) (lockNumber Xi)
-read-xi i =
-    by-two (eqb i (lockNumber Rho)) (eqb i (lockNumber Xi)) (λ t. ap (λ (j : ℕ). eqb j (lockNumber Xi)) (eqb-true i (lockNumber Rho) t))
-  where
-    by-two : (rho xi : Bool) → (rho ≡ true → xi ≡ false) → xi ≡ eqb (lockNumber (cond rho Rho (cond xi Xi None))) (lockNumber Xi)
-    by-two true true apart = not-both refl (apart refl)
-    by-two true false apart = refl
-    by-two false true apart = refl
-    by-two false false apart = refl
 
 -- kind by kind: the lock that it can want is the rule's
 module _ (key information lock : ℕ) where
   abbrev Wants : ℕ → Type 0
-  Wants kind = eqb kind 0 || kindWants kind lock ≡ wantsRightly (taskFrom kind key information) (lockRead lock)
+  Wants kind = eqb kind 0 || kindWants kind lock ≡ wantsRightly (taskFrom kind key information) (lockNamed lock)
 
-  reads : eqb lock (lockNumber Rho) || false ≡ eqb (lockNumber (lockRead lock)) (lockNumber Rho) || false
-  reads = ap (λ (b : Bool). b || false) (read-rho lock)
+  reads : eqb lock (lockNumber Rho) || false ≡ sameLock (lockNamed lock) Rho || false
+  reads = ap (λ (b : Bool). b || false) (same-number Rho refl lock)
 
-  updates : eqb lock (lockNumber Xi) || false ≡ eqb (lockNumber (lockRead lock)) (lockNumber Xi) || false
-  updates = ap (λ (b : Bool). b || false) (read-xi lock)
+  updates : eqb lock (lockNumber Xi) || false ≡ sameLock (lockNamed lock) Xi || false
+  updates = ap (λ (b : Bool). b || false) (same-number Xi refl lock)
 
-  either : eqb lock (lockNumber Rho) || eqb lock (lockNumber Xi) ≡ eqb (lockNumber (lockRead lock)) (lockNumber Rho) || eqb (lockNumber (lockRead lock)) (lockNumber Xi)
-  either = ap₂ (λ (a b : Bool). a || b) (read-rho lock) (read-xi lock)
+  either : eqb lock (lockNumber UpdaterRho) || eqb lock (lockNumber Xi) ≡ sameLock (lockNamed lock) UpdaterRho || sameLock (lockNamed lock) Xi
+  either = ap₂ (λ (a b : Bool). a || b) (same-number UpdaterRho refl lock) (same-number Xi refl lock)
 
   wants-fit : (kind : ℕ) → kind ≤ highestKind → Wants kind
   wants-fit = by-kind Wants refl reads updates updates reads updates either either either
 
+-- ---- the locks of what is held
+
+-- kind by kind: the pages of a slot are under the lock of its kind, as the rule has it
+module _ (ws : List ℕ) (n s key information : ℕ) (path : cell ws depthRow s ≤ columnLength) (beside : cell ws breadthRow s ≤ columnLength) where
+  abbrev slot : Slot
+  slot = slotIn ws s
+
+  -- all pages are held under the lock of this number
+  abbrev under-number : ℕ → Bool
+  under-number number = columnUnder ws pathRow s (cell ws depthRow s) number && columnUnder ws besideRow s (cell ws breadthRow s) number
+
+  abbrev Holds : ℕ → Type 0
+  Holds kind = ifOpen (taskFrom kind key information) (belowAndOnce n slot && under-number (kindLock kind))
+      ≡ ifOpen (taskFrom kind key information) (belowAndOnce n slot) && holdsRightly (taskFrom kind key information) slot
+
+  under-lock : (lock : Lock) → isLock lock ≡ true
+      → belowAndOnce n slot && under-number (lockNumber lock) ≡ belowAndOnce n slot && all (λ (p : ℕ). sameLock (lockHeld slot p) lock) (held slot)
+  unfolding distinct
+  under-lock lock o =
+      by-test (belowAndOnce n slot)
+      (λ t.
+      let names = all (λ (p : ℕ). ltb p n) (slot .want ∷ held slot) in
+      let different = and-second (not (member (slot .want) (held slot))) (distinct (held slot)) (and-second names (distinct (slot .want ∷ held slot)) t) in
+      ap (λ (b : Bool). belowAndOnce n slot && b) (under-held ws s path beside lock o different))
+      (λ f.
+      and-first-fails (under-number (lockNumber lock)) f
+      ∙ sym (and-first-fails (all (λ (p : ℕ). sameLock (lockHeld slot p) lock) (held slot)) f))
+
+  holds-fit : (kind : ℕ) → kind ≤ highestKind → Holds kind
+  holds-fit =
+      by-kind Holds
+      refl
+      (under-lock Rho refl)
+      (under-lock Xi refl)
+      (under-lock Xi refl)
+      (under-lock Rho refl)
+      (under-lock Xi refl)
+      (under-lock UpdaterRho refl)
+      (under-lock UpdaterRho refl)
+      (under-lock UpdaterRho refl)
+
 -- ---- one slot
 
--- the test of the lock stands among those of the pages in the rows, and behind them in the rule
-lock-last : (r k d : Bool) → r && k && d ≡ r && d && k
-lock-last false k d = refl
-lock-last true true d = sym (and-true d)
-lock-last true false d = sym (and-false d)
+-- the test of the lock wanted stands among those of the pages in the rows, and behind them in the rule
+want-last : (r k d : Bool) → r && k && d ≡ r && d && k
+want-last false k d = refl
+want-last true true d = sym (and-true d)
+want-last true false d = sym (and-false d)
 
--- the rows and the pages of a slot that holds more are the rule
-pub slot-fits : (ws : List ℕ) (n s : ℕ) → cell ws kindRow s ≤ highestKind → rowFine ws n s && deepFine ws n s ≡ slotSound n (slotIn ws s)
-unfolding slotSound pathOf besideOf
-slot-fits ws n s known =
-    let path : List ℕ = column ws pathRow s in
-    let first : getD path 0 0 ≡ cell ws pathRow s = column-cell ws pathRow s 0 (omega arith) in
-    lock-last (pagesRow (cell ws kindRow s) (cell ws depthRow s) (cell ws breadthRow s) n (cell ws wantRow s) (cell ws pathRow s)) (eqb (cell ws kindRow s) 0 || kindWants (cell ws kindRow s) (cell ws lockRow s)) (deepFine ws n s)
-    ∙ ap₂ (λ (a b : Bool). a && b)
-    (kind-fits (cell ws keyRow s) (cell ws informationRow s) (cell ws depthRow s) (cell ws breadthRow s) n (cell ws wantRow s) (cell ws pathRow s) (belowAndOnce n (slotIn ws s))
-    (λ e. ap (named (cell ws depthRow s) n (cell ws wantRow s)) (sym first) ∙ shallow n (cell ws wantRow s) (cell ws depthRow s) (cell ws breadthRow s) path (column ws besideRow s) (length-column ws pathRow s) e)
-    (λ e. ap (named (cell ws depthRow s) n (cell ws wantRow s)) (sym first)
-    ∙ rows-of-pages n (cell ws wantRow s) (cell ws depthRow s) path (take (cell ws breadthRow s) (column ws besideRow s)) (length-column ws pathRow s) e)
-    (cell ws kindRow s) known)
-    (wants-fit (cell ws keyRow s) (cell ws informationRow s) (cell ws lockRow s) (cell ws kindRow s) known)
+-- and that of the locks held behind it
+holds-last : (w o h k : Bool) → w && (o && h) && k ≡ w && o && k && h
+holds-last false o h k = refl
+holds-last true false h k = refl
+holds-last true true true k = sym (and-true k)
+holds-last true true false k = sym (and-false k)
+
+together : (a b c : Bool) → a && b && c ≡ a && (b && c)
+together true b c = refl
+together false b c = refl
+
+module _ (ws : List ℕ) (n s : ℕ) (known : cell ws kindRow s ≤ highestKind) where
+  abbrev kind : ℕ
+  kind = cell ws kindRow s
+
+  abbrev depth : ℕ
+  depth = cell ws depthRow s
+
+  abbrev breadth : ℕ
+  breadth = cell ws breadthRow s
+
+  abbrev want : ℕ
+  want = cell ws wantRow s
+
+  abbrev top : Bool
+  top = topRow depth n want (cell ws pathRow s) (kindLock kind)
+
+  abbrev task-within : Bool
+  task-within = withinLimits (slotIn ws s .task) depth breadth
+
+  abbrev pages : Bool
+  pages = belowAndOnce n (slotIn ws s)
+
+  first : getD (column ws pathRow s) 0 0 ≡ pageIn (cell ws pathRow s)
+  first = column-cell ws pathRow s 0 (omega arith)
+
+  -- what the rows tell of the pages, and then of the lock of the top
+  top-parts : ltb want n && top ≡ named depth n want (getD (column ws pathRow s) 0 0) && (eqb depth 0 || eqb (numberIn (cell ws pathRow s)) (kindLock kind))
+  top-parts =
+      lock-behind (ltb want n) (eqb depth 0) (ltb (pageIn (cell ws pathRow s)) n && not (eqb want (pageIn (cell ws pathRow s)))) (eqb (numberIn (cell ws pathRow s)) (kindLock kind))
+      ∙ ap (λ (p : ℕ). named depth n want p && (eqb depth 0 || eqb (numberIn (cell ws pathRow s)) (kindLock kind))) (sym first)
+
+  rows-same : more depth breadth ≡ false → ltb want n && top ≡ pages && underKind ws s
+  unfolding pathOf besideOf
+  rows-same e =
+      top-parts
+      ∙ ap₂ (λ (a b : Bool). a && b)
+      (shallow n want depth breadth (column ws pathRow s) (column ws besideRow s) (length-column ws pathRow s) e)
+      (under-shallow ws s (kindLock kind) depth breadth e)
+
+  rows-told : pages && underKind ws s ≡ true → ltb want n && top ≡ true
+  unfolding pathOf besideOf
+  rows-told e =
+      top-parts
+      ∙ and-both
+      (rows-of-pages n want depth (column ws pathRow s) (take breadth (column ws besideRow s)) (length-column ws pathRow s) (and-first pages (underKind ws s) e))
+      (under-top ws s (kindLock kind) depth
+      (and-first (columnUnder ws pathRow s depth (kindLock kind)) (columnUnder ws besideRow s breadth (kindLock kind)) (and-second pages (underKind ws s) e)))
+
+  -- limits and pages
+  pages-fit : rowPages kind depth breadth n want top && deepFine ws n s ≡ task-within && ifOpen (slotIn ws s .task) (pages && underKind ws s)
+  pages-fit =
+      ap (λ (b : Bool). rowPages kind depth breadth n want top && (not (more depth breadth) || b)) (together (mayHoldMore kind breadth) pages (underKind ws s))
+      ∙ kind-fits (cell ws keyRow s) (cell ws informationRow s) depth breadth n want top (pages && underKind ws s)
+      (λ z. or-first (ltb (pageIn (cell ws pathRow s)) n && not (eqb want (pageIn (cell ws pathRow s))) && eqb (numberIn (cell ws pathRow s)) (kindLock kind)) (eq-eqb depth 0 z))
+      rows-same rows-told kind known
+
+  -- and the locks of the pages
+  locks-fit : task-within && ifOpen (slotIn ws s .task) (pages && underKind ws s) ≡ task-within && (ifOpen (slotIn ws s .task) pages && holdsRightly (slotIn ws s .task) (slotIn ws s))
+  locks-fit =
+      by-test task-within
+      (λ t.
+      let short = limits-short (cell ws keyRow s) (cell ws informationRow s) depth breadth kind known t in
+      ap (λ (b : Bool). task-within && b) (holds-fit ws n s (cell ws keyRow s) (cell ws informationRow s) (short .0) (short .1) kind known))
+      (λ f.
+      and-first-fails (ifOpen (slotIn ws s .task) (pages && underKind ws s)) f
+      ∙ sym (and-first-fails (ifOpen (slotIn ws s .task) pages && holdsRightly (slotIn ws s .task) (slotIn ws s)) f))
+
+  -- the rows and the pages of a slot that holds more are the rule
+  pub slot-fits : rowFine ws n s && deepFine ws n s ≡ slotSound n (slotIn ws s)
+  unfolding slotSound
+  slot-fits =
+      want-last (rowPages kind depth breadth n want top) (eqb kind 0 || kindWants kind (cell ws lockRow s)) (deepFine ws n s)
+      ∙ ap₂ (λ (a b : Bool). a && b) (pages-fit ∙ locks-fit) (wants-fit (cell ws keyRow s) (cell ws informationRow s) (cell ws lockRow s) kind known)
+      ∙ holds-last task-within (ifOpen (slotIn ws s .task) pages) (holdsRightly (slotIn ws s .task) (slotIn ws s)) (wantsRightly (slotIn ws s .task) (slotIn ws s .lock))
 
 -- ---- the rows of every slot
 
 module _ (ws : List ℕ) (n : ℕ) (e : allBelow rowLength (rowFine ws n) ≡ true) where
   pub row-at : (s : ℕ) → s < rowLength → Row (cell ws kindRow s) (cell ws depthRow s) (cell ws breadthRow s)
   row-at s h =
-      row-says (cell ws kindRow s) (cell ws depthRow s) (cell ws breadthRow s) n (cell ws wantRow s) (cell ws pathRow s)
-      (and-first (pagesRow (cell ws kindRow s) (cell ws depthRow s) (cell ws breadthRow s) n (cell ws wantRow s) (cell ws pathRow s)) (eqb (cell ws kindRow s) 0 || kindWants (cell ws kindRow s) (cell ws lockRow s))
+      let top = topRow (cell ws depthRow s) n (cell ws wantRow s) (cell ws pathRow s) (kindLock (cell ws kindRow s)) in
+      row-says (cell ws kindRow s) (cell ws depthRow s) (cell ws breadthRow s) n (cell ws wantRow s) top
+      (and-first (rowPages (cell ws kindRow s) (cell ws depthRow s) (cell ws breadthRow s) n (cell ws wantRow s) top) (eqb (cell ws kindRow s) 0 || kindWants (cell ws kindRow s) (cell ws lockRow s))
       (allBelow-at (rowFine ws n) rowLength e s h))
 
-  -- no path and no list of siblings is longer than its rows, and a closed slot holds nothing
+  -- no path and no list of siblings is longer than its rows
   pub rows-short : WithinRows ws
   rows-short = record {
     path = λ s h. row-at s h .path;
     beside = λ s h. row-at s h .beside;
-    closed = λ t h. row-at t h .closed;
   }

@@ -1,30 +1,24 @@
 -- The tests of a state in words together are the rule of a sound state, and what is known of the words of one.
 use Prim.Native.Nat.{ℕ, _≤_, _<_}
-use mathlib.Core.Bool.{Bool, true, false, cond, not, _&&_, _||_}
+use mathlib.Core.Bool.{Bool, true, false, not, _&&_, _||_}
 use mathlib.Core.List.{List}
 use mathlib.Core.Logic.{⊎-elim}
 use mathlib.Core.Path.{_≡_, refl, sym, ap, ap₂, _∙_, fun-ext}
 use borrow.Author.Tests.{ltb-true, ne-eqb, le-leb}
-use lib.Dec.{eqb, leb, ltb}
+use lib.Dec.{leb, ltb}
 use lib.ListN.{getD, take}
 use Rattle.ground.specs.Limits.{kInRange, nInRange, slotCount}
 use Rattle.ground.specs.Tests.{all, allBelow, member, distinct}
 use Rattle.ground.proofs.Bools.{and-first, and-second, and-both, not-of-false, and-first-fails, and-second-fails, not-both, false-if-not-true, true-or-false}
 use Rattle.ground.proofs.Choice.{by-test, cond-false}
-use Rattle.ground.proofs.Tests.{allBelow-same, allBelow-from}
-use Rattle.slots.specs.declared.Lock.{Lock}
-use Rattle.slots.specs.declared.Lock.the-variants.{None, Rho, Xi}
-use Rattle.slots.specs.declared.Task.{Task}
-use Rattle.slots.specs.declared.Task.the-variants.{Closed, Open}
+use Rattle.ground.proofs.Tests.{allBelow-same, allBelow-at, allBelow-from}
 use Rattle.slots.specs.declared.Slot.{Slot}
-use Rattle.slots.specs.Heard.{lockNumber}
 use Rattle.slots.specs.Parts.{idleState, slotAt, openAt, isOpen}
-use Rattle.slots.specs.Sound.{namesEach, orderSound, wantsRightly, slotSound, noClashingHolds, sound}
-use Rattle.slots.proofs.LockLaws.{isLock, can-want-locks}
-use Rattle.slots.proofs.SoundFacts.{SoundState, sound-facts, empty-unsound}
-use Rattle.lent.specs.Layout.{kAt, nAt, waitingAt, rowLength, kindRow, keyRow, informationRow, lockRow}
-use Rattle.lent.specs.Words.{cell, highestKind, taskFrom, lockRead, orderIn, asRead, known, stateOf}
-use Rattle.lent.specs.Holds.{WithinRows, isLockNumber, OpenOrder}
+use Rattle.slots.specs.Sound.{namesEach, orderSound, slotSound, noClashingHolds, sound}
+use Rattle.slots.proofs.SoundFacts.{SoundSlot, SoundState, sound-slot, sound-facts, empty-unsound}
+use Rattle.lent.specs.Layout.{kAt, nAt, waitingAt, rowLength, kindRow, keyRow, informationRow}
+use Rattle.lent.specs.Words.{cell, highestKind, taskFrom, orderIn, asRead, known, stateOf}
+use Rattle.lent.specs.Holds.{WithinRows, OpenOrder}
 use Rattle.lent.proofs.StateLaws.{slot-read, state-known}
 use Rattle.lent.proofs.HoldLaws.{all-both, by-kind, kind-known}
 use Rattle.soundness.specs.Checking.{rowFine, deepFine, openKind, xiAlone}
@@ -93,11 +87,12 @@ reorder true true false d a = refl
 reorder true false true d a = refl
 reorder true false false d a = refl
 
--- where the rows fail, what is asked last does not matter
-last-any : (n r w d a b : Bool) → r ≡ false → n && r && w && d && a ≡ n && r && w && d && b
-last-any false r w d a b f = refl
-last-any true true w d a b f = not-both refl f
-last-any true false w d a b f = refl
+-- where the slots fail, what is asked last does not matter
+last-any : (n w x a b : Bool) → x ≡ false → n && w && x && a ≡ n && w && x && b
+last-any false w x a b f = refl
+last-any true false x a b f = refl
+last-any true true true a b f = not-both refl f
+last-any true true false a b f = refl
 
 module _ (ws : List ℕ) where
   abbrev numbers : Bool
@@ -115,18 +110,27 @@ module _ (ws : List ℕ) where
   abbrev alones : Bool
   alones = allBelow rowLength (xiAlone ws)
 
+  abbrev slots : Bool
+  slots = allBelow slotCount (λ (s : ℕ). slotSound (getD ws nAt 0) (slotAt (asRead ws) s))
+
   abbrev clashless : Bool
   clashless = noClashingHolds (asRead ws)
+
+  -- one slot of a state whose slots are sound
+  slot-fact : slots ≡ true → (s : ℕ) → s < rowLength → SoundSlot (getD ws nAt 0) (slotAt (asRead ws) s)
+  unfolding slotCount
+  slot-fact t s h =
+      sound-slot (getD ws nAt 0) (slotAt (asRead ws) s) (allBelow-at (λ (u : ℕ). slotSound (getD ws nAt 0) (slotAt (asRead ws) u)) rowLength t s h)
 
   known-sound : known ws ≡ true → sound (asRead ws) ≡ numbers && rows && names && deeps && alones
   unfolding sound
   known-sound e =
-      ap (λ (w : Bool). numbers && w && allBelow slotCount (λ (s : ℕ). slotSound (getD ws nAt 0) (slotAt (asRead ws) s)) && clashless) (order-words ws e)
-      ∙ ap (λ (x : Bool). numbers && names && x && clashless) (sym (slots-words ws e))
-      ∙ reorder numbers names rows deeps clashless
-      ∙ by-test rows
-      (λ t. ap (λ (a : Bool). numbers && rows && names && deeps && a) (no-clashes ws e (rows-short ws (getD ws nAt 0) t)))
-      (last-any numbers rows names deeps clashless alones)
+      ap (λ (w : Bool). numbers && w && slots && clashless) (order-words ws e)
+      ∙ by-test slots
+      (λ t. ap (λ (a : Bool). numbers && names && slots && a) (no-clashes ws (getD ws nAt 0) e (slot-fact t)))
+      (last-any numbers names slots clashless alones)
+      ∙ ap (λ (x : Bool). numbers && names && x && alones) (sym (slots-words ws e))
+      ∙ reorder numbers names rows deeps alones
 
   unknown-state : known ws ≡ false → sound (stateOf ws) ≡ false
   unfolding stateOf
@@ -172,45 +176,20 @@ module _ (ws : List ℕ) where
       (and-first (numbers && rows && names) deeps
       (and-first (numbers && rows && names && deeps) alones (sym whole ∙ e))))
 
--- ---- locks wanted
-
--- a number stands for a lock, if it reads as one
-lock-there : (i : ℕ) → isLockNumber i ≡ isLock (lockRead i)
-lock-there i = by-two (eqb i (lockNumber Rho)) (eqb i (lockNumber Xi))
-  where
-    by-two : (rho xi : Bool) → rho || xi ≡ isLock (cond rho Rho (cond xi Xi None))
-    by-two true xi = refl
-    by-two false true = refl
-    by-two false false = refl
-
--- an open slot that wants rightly wants with a lock
-rightly-locks : (task : Task) (lock : Lock) → isOpen task ≡ true → wantsRightly task lock ≡ true → isLock lock ≡ true
-rightly-locks Closed lock o e = not-both o refl
-rightly-locks (Open op) lock o e = can-want-locks op lock e
-
-wants-lock : (ws : List ℕ) → SoundState (asRead ws) → (s : ℕ) → s < rowLength → openAt (asRead ws) s ≡ true → isLockNumber (cell ws lockRow s) ≡ true
-unfolding slotCount
-wants-lock ws facts s h o =
-    lock-there (cell ws lockRow s)
-    ∙ ap (λ (x : Slot). isLock (x .lock)) (sym (slot-read ws s h))
-    ∙ rightly-locks (slotAt (asRead ws) s .task) (slotAt (asRead ws) s .lock) o (facts .slot s h .rightly)
+-- ---- what is known of the words of a sound state
 
 order-open : (ws : List ℕ) → SoundState (asRead ws) → OpenOrder ws
 unfolding slotCount
 order-open ws facts = record {
   few = facts .waits;
   below = facts .orderBelow;
-  wants = λ t m. wants-lock ws facts t (facts .orderBelow t m) (facts .orderOpen t m);
 }
 
--- What is known of the words of a sound state.
 pub record SoundWords (ws : List ℕ) : Type 0 where
   pub exist : known ws ≡ true
   pub read : stateOf ws ≡ asRead ws
   pub facts : SoundState (asRead ws)
   pub short : WithinRows ws
-  -- an open slot wants with a lock, and so do those that wait
-  pub wants : (s : ℕ) → s < rowLength → openAt (asRead ws) s ≡ true → isLockNumber (cell ws lockRow s) ≡ true
   pub order : OpenOrder ws
 
 pub sound-words : (ws : List ℕ) → sound (stateOf ws) ≡ true → SoundWords ws
@@ -224,6 +203,5 @@ sound-words ws e =
       read = read;
       facts = facts;
       short = rows-short ws (getD ws nAt 0) fine;
-      wants = wants-lock ws facts;
       order = order-open ws facts;
     }

@@ -13,7 +13,7 @@ use Rattle.ground.proofs.Bools.{true-or-false, or-first, or-second, or-none, no
 use Rattle.ground.proofs.Tests.{allBelow-none, allBelow-at, allBelow-from, allBelow-stops}
 use Rattle.slots.specs.Report.{maskBelow}
 use Rattle.lent.specs.Layout.{rowLength}
-use Rattle.soundness.specs.Checking.{updates, aloneIn, xiAlone}
+use Rattle.soundness.specs.Checking.{updates, aloneIn, xiRow, xiAlone}
 use Rattle.soundness.proofs.MaskLaws.{mask-same, mask-empty, from, Next, next-of}
 
 -- the slots below `at` have been looked at, and the mask has those of the others that update
@@ -24,7 +24,7 @@ pub record Walked (ws : List ℕ) (left : ℕ) : Type 0 where
 
 module _ (ws : List ℕ) where
   idle : (s : ℕ) → updates ws s ≡ false → xiAlone ws s ≡ true
-  idle s e = or-first (aloneIn ws s) (not-of-false e)
+  idle s e = or-first (aloneIn ws s xiRow) (not-of-false e)
 
   pub walk-start : (left : ℕ) → left ≡ maskBelow rowLength (updates ws) → Walked ws left
   walk-start left e = record {
@@ -50,7 +50,7 @@ module _ (ws : List ℕ) where
 
     module _ (s : ℕ) (n : Next (updates ws) (w .at) s) where
       -- the next slot holds its pages alone: it is taken off the mask
-      pub walk-on : (less : ℕ) → less + 2 ^ s ≡ left → aloneIn ws s ≡ true → Walked ws less
+      pub walk-on : (less : ℕ) → less + 2 ^ s ≡ left → aloneIn ws s xiRow ≡ true → Walked ws less
       walk-on less e a = record {
         at = s + 1;
         alone =
@@ -68,5 +68,5 @@ module _ (ws : List ℕ) where
       }
 
       -- it does not
-      pub walk-stops : aloneIn ws s ≡ false → allBelow rowLength (xiAlone ws) ≡ false
+      pub walk-stops : aloneIn ws s xiRow ≡ false → allBelow rowLength (xiAlone ws) ≡ false
       walk-stops a = allBelow-stops (xiAlone ws) rowLength s (n .inside) (or-none (not-of-true (n .passed)) a)

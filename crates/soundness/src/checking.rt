@@ -13,7 +13,9 @@ use lent::cells::depth_at;
 use lent::cells::k_of;
 use lent::cells::kind_at;
 use lent::cells::n_of;
+use lent::cells::number_in;
 use lent::cells::order_at;
+use lent::cells::page_in;
 use lent::cells::sized;
 use lent::cells::top_at;
 use lent::cells::waiting_of;
@@ -21,13 +23,13 @@ use lent::cells::want_at;
 use lent::cells::wanted_lock_at;
 use lent::cells::wide;
 use lent::cells::word_at;
+use lent::granting::RHO;
 use lent::granting::XI;
 use lent::granting::column_has;
 use lent::granting::is_deep;
-use lent::granting::is_update;
-use lent::granting::kind_lock;
 use lent::granting::others_hold;
 use lent::granting::some_deep;
+use slots::locking::lock_table;
 use slots::operations::DELETES;
 use slots::operations::HIGHEST_KIND;
 use slots::operations::INSERTS;
@@ -39,14 +41,12 @@ ghost use mathlib.Core.Path.{_≡_};
 ghost use lib.ListN.{length, getD, take};
 ghost use Rattle.ground.specs.Limits.{kInRange, nInRange, slotCount};
 ghost use Rattle.ground.specs.Tests.{all, allBelow, countBelow};
-ghost use Rattle.slots.specs.declared.Lock.the-variants.{Xi};
-ghost use Rattle.slots.specs.Heard.{lockNumber};
 ghost use Rattle.slots.specs.Report.{maskBelow};
 ghost use Rattle.slots.specs.Sound.{namesEach, belowAndOnce, sound};
 ghost use Rattle.lent.specs.Layout.{waitingAt, rowLength, columnLength, kindRow, wantRow, pathRow, besideRow};
 ghost use Rattle.lent.specs.Words.{cell, column, slotIn, orderIn, stateOf};
 ghost use Rattle.lent.specs.Holds.{WithinRows, othersHold};
-ghost use Rattle.soundness.specs.Checking.{mayEnter, kindWants, fineRow, rowFine, mayHoldMore, moreFine, deepFine, openKind, aloneIn, updates, xiAlone};
+ghost use Rattle.soundness.specs.Checking.{mayEnter, updatesKind, kindLock, kindWants, fineRow, rowFine, mayHoldMore, columnUnder, underKind, moreFine, deepFine, openKind, aloneIn, updates, xiAlone};
 
 // The longest path, as the words have it.
 const DEPTH_LIMIT: u32 = HELD as u32;
@@ -67,6 +67,23 @@ pub fn numbers_in_range(k: usize, n: usize) -> bool
     n <= LARGEST_N
 }
 
+// A slot of this kind holds its pages under ξ: it is an insertion, a deletion (of all kinds these alone have the half 1) or a regrading,
+// by the first way. No way out in between: the rows ask this of several slots in one go. Where the three are compared one by one, the
+// compiler makes no vector code of it on Arm.
+fn is_update(kind: u32) -> bool
+    ensures { λ r. ⌜ r ≡ updatesKind kind ⌝ }
+{
+    (kind / 2 == 1) | (kind == REGRADES)
+}
+
+// The number of the lock under which an open slot of this kind holds its pages: ξ for an update by the first way, updater's ρ by the second
+// (the kinds behind the first way's), else ρ.
+fn kind_lock(kind: u32) -> u32
+    ensures { λ r. ⌜ r ≡ kindLock kind ⌝ }
+{
+    RHO + is_update(kind) as u32 + 2 * ((REGRADES < kind) as u32)
+}
+
 // An open slot of this kind can want with the lock of this number: with the one under which it holds, and by the second way (the kinds
 // behind the first way's) with ξ.
 fn kind_wants(kind: u32, lock: u32) -> bool
@@ -82,12 +99,13 @@ fn kind_wants(kind: u32, lock: u32) -> bool
 fn is_fine(kind: u32, depth: u32, breadth: u32, n: u32, want: u32, lock: u32, top: u32) -> bool
     ensures { λ r. ⌜ r ≡ fineRow kind depth breadth n want lock top ⌝ }
 {
+    let page = page_in(top);
     (kind <= HIGHEST_KIND)
         & (depth <= DEPTH_LIMIT)
         & ((kind != 0) | (depth == 0))
         & ((breadth == 0) | (breadth < depth))
         & ((kind == 0) | (want < n))
-        & ((depth == 0) | ((top < n) & (want != top)))
+        & ((depth == 0) | ((page < n) & (want != page) & (number_in(top) == kind_lock(kind))))
         & ((kind == 0) | kind_wants(kind, lock))
 }
 
@@ -122,7 +140,7 @@ fn may_enter(cells: &[u32; STATE], s: usize, n: u32, row: usize, count: usize, o
     let want = want_at(cells, s);
     let mut i = 0;
     while i < count {
-        let p = word_at(cells, row + i, s);
+        let p = page_in(word_at(cells, row + i, s));
         if n <= p {
             return false;
         }
@@ -164,7 +182,34 @@ fn may_hold_more(kind: u32, breadth: u32) -> bool
     (kind == DELETES) | (kind == NEXTS) | ((kind == INSERTS) & (breadth == 0))
 }
 
-// Slot s, which holds more than one page, may, and its pages are fine.
+// The first `count` rows from `row` on, of slot s, have the lock of this number.
+fn column_under(cells: &[u32; STATE], s: usize, row: usize, count: usize, lock: u32) -> bool
+    requires { ⌜ (s < rowLength) × (row ≤ besideRow) × (count ≤ columnLength) ⌝ }
+    ensures { λ r. ⌜ r ≡ columnUnder (now (cells .entry)) row s count lock ⌝ }
+{
+    let mut i = 0;
+    while i < count {
+        if number_in(word_at(cells, row + i, s)) != lock {
+            return false;
+        }
+        i += 1;
+    }
+    true
+}
+
+// All pages of slot s are held under the lock of its kind.
+fn under_kind(cells: &[u32; STATE], s: usize) -> bool
+    requires { ⌜ (s < rowLength) × WithinRows (now cells) ⌝ }
+    ensures { λ r. ⌜ r ≡ underKind (now (cells .entry)) s ⌝ }
+{
+    let lock = kind_lock(kind_at(cells, s));
+    if !column_under(cells, s, PATH, wide(depth_at(cells, s)), lock) {
+        return false;
+    }
+    column_under(cells, s, BESIDE, wide(breadth_at(cells, s)), lock)
+}
+
+// Slot s, which holds more than one page, may, its pages are fine, and held under the lock of its kind.
 fn more_fine(cells: &[u32; STATE], s: usize, n: u32) -> bool
     requires { ⌜ (s < rowLength) × WithinRows (now cells) ⌝ }
     ensures { λ r. ⌜ r ≡ moreFine (now (cells .entry)) n s ⌝ }
@@ -172,7 +217,10 @@ fn more_fine(cells: &[u32; STATE], s: usize, n: u32) -> bool
     if !may_hold_more(kind_at(cells, s), breadth_at(cells, s)) {
         return false;
     }
-    pages_fine(cells, s, n)
+    if !pages_fine(cells, s, n) {
+        return false;
+    }
+    under_kind(cells, s)
 }
 
 // Every slot that holds more than one page is so.
@@ -252,14 +300,15 @@ fn order_sound(cells: &[u32; STATE], waiting: usize, busy: [bool; SLOTS]) -> boo
     true
 }
 
-// No other slot holds one of the first `count` pages from `row` on, of slot s, under a lock that clashes with ξ.
-fn column_alone(cells: &[u32; STATE], s: usize, row: usize, count: usize) -> bool
-    requires { ⌜ (s < rowLength) × (row ≤ besideRow) × (count ≤ columnLength) × WithinRows (now cells) ⌝ }
-    ensures { λ r. ⌜ r ≡ all (λ (p : ℕ). not (othersHold (now (cells .entry)) s (lockNumber Xi) p)) (take count (column (now (cells .entry)) row s)) ⌝ }
+// No other slot holds one of the first `count` pages from row `from` on, of slot s, under a lock that clashes with the kind of this row
+// of the table.
+fn column_alone(cells: &[u32; STATE], s: usize, from: usize, count: usize, row: [bool; 4]) -> bool
+    requires { ⌜ (s < rowLength) × (from ≤ besideRow) × (count ≤ columnLength) × WithinRows (now cells) ⌝ }
+    ensures { λ r. ⌜ r ≡ all (λ (p : ℕ). not (othersHold (now (cells .entry)) s row p)) (take count (column (now (cells .entry)) from s)) ⌝ }
 {
     let mut i = 0;
     while i < count {
-        if others_hold(cells, s, XI, word_at(cells, row + i, s)) {
+        if others_hold(cells, s, row, page_in(word_at(cells, from + i, s))) {
             return false;
         }
         i += 1;
@@ -267,15 +316,15 @@ fn column_alone(cells: &[u32; STATE], s: usize, row: usize, count: usize) -> boo
     true
 }
 
-// No other slot holds a page that slot s holds, under a lock that clashes with ξ.
-fn is_alone(cells: &[u32; STATE], s: usize) -> bool
+// No other slot holds a page that slot s holds, under a lock that clashes with the kind of this row.
+fn is_alone(cells: &[u32; STATE], s: usize, row: [bool; 4]) -> bool
     requires { ⌜ (s < rowLength) × WithinRows (now cells) ⌝ }
-    ensures { λ r. ⌜ r ≡ aloneIn (now (cells .entry)) s ⌝ }
+    ensures { λ r. ⌜ r ≡ aloneIn (now (cells .entry)) s row ⌝ }
 {
-    if !column_alone(cells, s, PATH, wide(depth_at(cells, s))) {
+    if !column_alone(cells, s, PATH, wide(depth_at(cells, s)), row) {
         return false;
     }
-    column_alone(cells, s, BESIDE, wide(breadth_at(cells, s)))
+    column_alone(cells, s, BESIDE, wide(breadth_at(cells, s)), row)
 }
 
 // The slots that hold under ξ, one bit for each.
@@ -299,10 +348,12 @@ fn no_clashes(cells: &[u32; STATE]) -> bool
     requires { ⌜ WithinRows (now cells) ⌝ }
     ensures { λ r. ⌜ r ≡ allBelow rowLength (xiAlone (now (cells .entry))) ⌝ }
 {
+    let table = lock_table();
+    let row = table[wide(XI) - 1];
     let mut left = updating(cells);
     while left != 0 {
         let s = wide(u16::trailing_zeros(left));
-        if !is_alone(cells, s) {
+        if !is_alone(cells, s, row) {
             return false;
         }
         left = left - (1u16 << s);

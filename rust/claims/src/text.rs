@@ -46,7 +46,14 @@ fn lock(lock: Lock) -> &'static str {
         Lock::None => "None",
         Lock::Rho => "Rho",
         Lock::Xi => "Xi",
+        Lock::UpdaterRho => "UpdaterRho",
+        Lock::Alpha => "Alpha",
     }
+}
+
+/// A list of kinds of lock.
+fn locks(locks: &[Lock]) -> String {
+    list(locks.iter().map(|&kind| lock(kind).to_string()))
 }
 
 /// A call.
@@ -67,12 +74,14 @@ fn slot(slot: &Slot) -> String {
         format!("(Open {})", op(asked))
     });
     format!(
-        "slot {task} {} {} {} {} {} {}",
+        "slot {task} {} {} {} {} {} {} {} {}",
         slot.want,
         lock(slot.lock),
         numbers(&slot.path),
+        locks(&slot.path_locks),
         slot.depth,
         numbers(&slot.siblings),
+        locks(&slot.sibling_locks),
         slot.beside
     )
 }

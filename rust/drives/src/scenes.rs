@@ -4,7 +4,7 @@
 use draw::Random;
 use moments::{built, draw, limits, next_call, operation, Call, Draw, Moment};
 use twin::{
-    at, is_sound, kind, page_words, row, state_of, Lock, Op, State, Way, FRONT, SLOTS, STATE,
+    at, is_sound, kind, page_words, row, state_of, Lock, Op, State, Way, FRONT, HALF, SLOTS, STATE,
 };
 use versus::spoiled;
 
@@ -205,17 +205,18 @@ fn spoil_cells(
     let before = (scene.drive.state, scene.drive.words.clone());
     let mut places = Vec::new();
     for _ in 0..random.one(&[1, 1, 1, 2, 3]) {
-        let (place, was) = match letter {
+        let (place, word) = match letter {
             'w' => {
                 let place = pool_place(random, draw, scene);
-                (place, scene.drive.words.get(place).copied())
+                let was = scene.drive.words.get(place).copied();
+                (place, changed(random, draw, was.unwrap_or(0)))
             }
             _ => {
                 let place = state_place(random, scene);
-                (place, scene.drive.state.get(place).copied())
+                let was = scene.drive.state.get(place).copied();
+                (place, changed_cell(random, draw, place, was.unwrap_or(0)))
             }
         };
-        let word = changed(random, draw, was.unwrap_or(0));
         scene.text(&format!("{letter} {place} {word}"));
         places.push(place);
     }
@@ -267,13 +268,43 @@ fn state_place(random: &mut Random, scene: &Scene) -> usize {
     } else {
         random.one(&open)
     };
-    match random.below(12) {
+    match random.below(14) {
         0 => random.below(3) as usize,
         1 | 2 => random.below(FRONT as u64) as usize,
         3 => random.below(STATE as u64 + 1) as usize,
         4 | 5 => at(random.below(row::PATH as u64 + 2) as usize, slot),
         6 | 7 => at(row::SIBLINGS + random.below(3) as usize, slot),
+        8 | 9 => held_place(random, &scene.drive.state, slot),
         _ => at(random.below(row::PATH as u64) as usize, slot),
+    }
+}
+
+/// The word of a page that a slot holds; of its first cell, where it holds none.
+fn held_place(random: &mut Random, state: &[u32; STATE], slot: usize) -> usize {
+    let rows = |first: usize, count: usize| {
+        let held = state[at(count, slot)].min(10) as usize;
+        (first..first + held).map(|row| at(row, slot))
+    };
+    let path = rows(row::PATH, row::DEPTH);
+    let held: Vec<usize> = path.chain(rows(row::SIBLINGS, row::BESIDE)).collect();
+    if held.is_empty() {
+        at(row::PATH, slot)
+    } else {
+        random.one(&held)
+    }
+}
+
+/// Another word of the state. That of a held page has mostly another page or another kind of lock alone.
+fn changed_cell(random: &mut Random, draw: &Draw, place: usize, was: u32) -> u32 {
+    let (page, kind) = (was % HALF, was / HALF);
+    match random.below(4) {
+        0 | 1 if place >= at(row::PATH, 0) => changed(random, draw, page) % HALF + HALF * kind,
+        2 => {
+            let near = random.below(8) as u32;
+            let far = (kind + random.one(&[8, 256, HALF / 2])) % HALF;
+            page + HALF * random.one(&[near, near, near, far])
+        }
+        _ => changed(random, draw, was),
     }
 }
 
@@ -352,21 +383,17 @@ fn raw_scene(random: &mut Random, scene: &mut Scene) {
         if random.percent(open) {
             state[3 + state[2] as usize] = slot as u32;
             state[2] += 1;
-            for row in 0..row::COUNT {
-                state[at(row, slot)] = random.below(most) as u32;
-            }
-            let kind = random.from(u64::from(kind::SEARCH), u64::from(kind::LAST)) as u32;
-            state[at(row::KIND, slot)] = kind;
-            state[at(row::LOCK, slot)] = raw_lock(random, kind);
+            open_raw(random, &mut state, slot, most);
         } else if random.percent(20) {
-            // a closed slot's key, information, want and lock are not looked at
-            let any = random.from(row::KEY as u64, row::LOCK as u64) as usize;
-            state[at(any, slot)] = 7;
+            // a closed slot's key, information, want and lock are not looked at, nor its cells for pages
+            let rows = (row::KEY..=row::LOCK).chain(row::PATH..row::COUNT);
+            let row = random.one(&rows.collect::<Vec<usize>>());
+            state[at(row, slot)] = random.one(&[7, 7 * HALF, u32::MAX]);
         }
     }
     if random.percent(50) {
         let place = random.below(STATE as u64) as usize;
-        state[place] = random.below(20) as u32;
+        state[place] = random.below(20) as u32 + HALF * random.one(&[0, 0, 0, 1, 3, 7]);
     }
     scene.text(&format!("p {length} 0"));
     let words: Vec<u32> = (0..length).map(|_| random.below(most) as u32).collect();
@@ -386,13 +413,27 @@ fn raw_scene(random: &mut Random, scene: &mut Scene) {
     }
 }
 
-/// The number of a lock: mostly one that an operation of this kind wants.
+/// A slot of drawn words: an operation, and mostly the kinds of lock that are its own.
+fn open_raw(random: &mut Random, state: &mut [u32; STATE], slot: usize, most: u64) {
+    let kind = random.from(u64::from(kind::SEARCH), u64::from(kind::LAST)) as u32;
+    for row in 0..row::COUNT {
+        let word = random.below(most) as u32;
+        state[at(row, slot)] = match row {
+            row::KIND => kind,
+            row::LOCK => raw_lock(random, kind),
+            row::PATH.. => word + HALF * raw_lock(random, kind),
+            _ => word,
+        };
+    }
+}
+
+/// The number of a kind of lock: mostly the one with which an operation of this kind goes down.
 fn raw_lock(random: &mut Random, kind: u32) -> u32 {
     let own = Op::of(kind, 0, 0).map_or(Lock::None, Op::holds);
-    if random.percent(80) {
+    if random.percent(90) {
         own.number()
     } else {
-        random.below(4) as u32
+        random.below(8) as u32
     }
 }
 

@@ -1,5 +1,7 @@
 //! The comparison can fail: each bug that is put into the calls of the second program is found.
 
+#[path = "bugs/kinds.rs"]
+mod kinds;
 #[path = "bugs/like_readers.rs"]
 mod like_readers;
 
@@ -8,12 +10,13 @@ use std::fmt::Debug;
 use draw::Random;
 use drive_twin::{Calls, Twin};
 use drives::{cases, compare, draw_scene, smallest, Scene, KINDS};
+use kinds::{KindBug, KIND_BUGS, KIND_STATE_BUGS};
 use like_readers::{SecondBug, SECOND_BUGS, SECOND_STATE_BUGS};
 use twin::row::{BESIDE, DEPTH, INFORMATION, KEY, KIND, LOCK, PATH, WANT};
 use twin::Way::First;
 use twin::{
-    at, begin_lent, free_pages, kind, make_lent, page_words, report_lent, step_lent, words_of,
-    Answer, Lock, Op, State, STATE,
+    at, begin_lent, free_pages, held_in, held_word, kind, make_lent, page_words, report_lent,
+    step_lent, words_of, Answer, Lock, Op, State, STATE,
 };
 
 /// A call that something is wrong with.
@@ -278,7 +281,7 @@ impl Bug {
         let key = before[at(KEY, slot)];
         match (self, answer) {
             (Bug::NextGivesUp, Answer::Moved) if depth > 1 && beside == 0 => {
-                state[at(PATH, slot)] = before[at(WANT, slot)];
+                state[at(PATH, slot)] = held_word(before[at(WANT, slot)], Lock::Rho);
                 state[at(DEPTH, slot)] = 1;
             }
             (Bug::NextEndsAtLeaf, Answer::Moved) if words[leaf_word(state, slot)] == 1 => {
@@ -365,13 +368,17 @@ impl Bug {
         let meant: Vec<usize> = (0..16).filter(is_meant).collect();
         for &slot in &meant {
             state[at(KIND, slot)] = disguise;
-            state[at(LOCK, slot)] = lock.number();
+            lock_anew(state, slot, lock);
         }
         let answer = call(state);
+        if answer.number() <= Answer::Waiting.number() {
+            *state = before;
+            return answer;
+        }
         for slot in meant {
             if state[at(KIND, slot)] == disguise {
                 state[at(KIND, slot)] = kind::REGRADE;
-                state[at(LOCK, slot)] = Lock::Xi.number();
+                lock_anew(state, slot, Lock::Xi);
                 state[at(INFORMATION, slot)] = before[at(INFORMATION, slot)];
             }
         }
@@ -396,9 +403,18 @@ fn is_second(state: &[u32; STATE], slot: usize) -> bool {
     (kind::INSERT_SECOND..=kind::REGRADE_SECOND).contains(&state[at(KIND, slot)])
 }
 
-/// Whether a slot of a sound state wants its page with ρ.
+/// Puts what a slot holds on its path, and its want, under a kind of lock.
+fn lock_anew(state: &mut [u32; STATE], slot: usize, lock: Lock) {
+    state[at(LOCK, slot)] = lock.number();
+    for row in 0..state[at(DEPTH, slot)].min(10) as usize {
+        let (page, _) = held_in(state[at(PATH + row, slot)]);
+        state[at(PATH + row, slot)] = held_word(page, lock);
+    }
+}
+
+/// Whether a slot of a sound state wants its page with ρ, plain or updater's.
 fn reads(state: &[u32; STATE], slot: usize) -> bool {
-    state[at(LOCK, slot)] == Lock::Rho.number()
+    state[at(LOCK, slot)] != Lock::Xi.number()
 }
 
 /// The slots of a sound state that have wanted a slot's page for longer.
@@ -441,7 +457,7 @@ fn page_start(state: &[u32; STATE], page: u32) -> usize {
 /// Where the pool has the level of a slot's lowest path page.
 fn leaf_word(state: &[u32; STATE], slot: usize) -> usize {
     let lowest = state[at(PATH + state[at(DEPTH, slot)] as usize - 1, slot)];
-    page_start(state, lowest)
+    page_start(state, held_in(lowest).0)
 }
 
 /// Whether a slot that holds something is at its leaf, and so on its second way.
@@ -485,6 +501,9 @@ fn each_bug_is_found() {
     for bug in SECOND_BUGS.into_iter().chain(SECOND_STATE_BUGS) {
         is_found(bug, &scenes);
     }
+    for bug in KIND_BUGS.into_iter().chain(KIND_STATE_BUGS) {
+        is_found(bug, &scenes);
+    }
 }
 
 #[test]
@@ -520,4 +539,5 @@ fn a_case_of_the_documents_finds_each_shortcut() {
         .chain(request_bugs())
         .for_each(is_refuted::<Bug>);
     SECOND_BUGS.into_iter().for_each(is_refuted::<SecondBug>);
+    KIND_BUGS.into_iter().for_each(is_refuted::<KindBug>);
 }

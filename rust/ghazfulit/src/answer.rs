@@ -12,8 +12,8 @@ pub enum Way {
     /// With ξ-locks from page 0 on: what it holds nobody else can read.
     #[default]
     First,
-    /// With ρ-locks like a search, beside all who read, and a ξ-lock on its leaf alone. Where the change would reach beyond the leaf, and
-    /// where page 0 is a leaf, it gives up what it holds and begins again by the first way, which is answered [`Step::Moved`].
+    /// With updater's ρ, beside all who read, and a ξ-lock on its leaf alone. Where the change would reach beyond the leaf, and where page 0
+    /// is a leaf, it gives up what it holds and begins again by the first way, which is answered [`Step::Moved`].
     Second,
 }
 
@@ -295,14 +295,33 @@ impl Display for Refusal {
 
 impl Error for Refusal {}
 
-/// A kind of lock.
+/// A kind of lock, each with the kinds that it goes with on one page.
 #[derive(Clone, Copy, Debug, PartialEq, Eq, Hash)]
 #[non_exhaustive]
 pub enum Lock {
-    /// Of a search, a next or an update by the second way: others may read there too.
+    /// ρ, of a search or a next: it goes with all but ξ.
     Rho,
-    /// Of an update by the first way: it goes with nothing.
+    /// ξ, of an update by the first way: it goes with nothing.
     Xi,
+    /// Updater's ρ, of an update by the second way: it goes with ρ, and with others of its kind.
+    UpdaterRho,
+    /// α: it goes with ρ alone. No operation takes it yet.
+    Alpha,
+}
+
+impl Lock {
+    /// Each of them once.
+    const EACH: [Lock; 4] = [Lock::Rho, Lock::Xi, Lock::UpdaterRho, Lock::Alpha];
+
+    /// Its number, as the library tells it.
+    pub fn number(self) -> u32 {
+        match self {
+            Lock::Rho => numbers::LOCK_RHO,
+            Lock::Xi => numbers::LOCK_XI,
+            Lock::UpdaterRho => numbers::LOCK_UPDATER_RHO,
+            Lock::Alpha => numbers::LOCK_ALPHA,
+        }
+    }
 }
 
 impl Display for Lock {
@@ -310,6 +329,8 @@ impl Display for Lock {
         f.write_str(match self {
             Lock::Rho => "ρ",
             Lock::Xi => "ξ",
+            Lock::UpdaterRho => "updater's ρ",
+            Lock::Alpha => "α",
         })
     }
 }
@@ -317,9 +338,10 @@ impl Display for Lock {
 /// Who holds a page.
 #[derive(Clone, Copy, Debug, PartialEq, Eq, Hash)]
 pub struct Report {
-    /// The kind of lock, and the lowest-numbered slot that holds it.
+    /// The strongest kind of lock on it, which is the first that is there of ξ, α, updater's ρ and ρ; and the lowest-numbered slot that
+    /// holds it, under whatever kind.
     pub held: Option<(Lock, u32)>,
-    /// How many slots hold the page.
+    /// How many slots hold the page, under all kinds together.
     pub holders: u32,
 }
 
@@ -370,10 +392,10 @@ pub(crate) fn reported(answer: Answer) -> Result<Report, Refusal> {
     if number != numbers::REPORTED {
         return Err(refusal(number).unwrap_or_else(|| unheard(answer)));
     }
-    let held = match kind {
-        numbers::LOCK_RHO => Some((Lock::Rho, lowest)),
-        numbers::LOCK_XI => Some((Lock::Xi, lowest)),
-        _ => None,
-    };
-    Ok(Report { held, holders })
+    let mut each = Lock::EACH.into_iter();
+    let held = each.find(|lock| lock.number() == kind);
+    Ok(Report {
+        held: held.map(|lock| (lock, lowest)),
+        holders,
+    })
 }

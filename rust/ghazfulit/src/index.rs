@@ -67,7 +67,8 @@ impl Index<'static> {
         make(k, n, Words::Owned(vec![0; length]))
     }
 
-    /// Any state with any words of its own: what is not sound is refused call by call.
+    /// Any state with any words of its own: what is not sound is refused call by call. Words that an archive of another version left may mean
+    /// something else to this one.
     ///
     /// ```
     /// # use ghazfulit::{Index, Op, Refusal, Step};
@@ -178,10 +179,21 @@ impl<'w> Index<'w> {
     /// Who holds a page.
     ///
     /// ```
-    /// # use ghazfulit::{Index, Lock, Op, Refusal};
+    /// # use ghazfulit::{Index, Lock, Op, Refusal, Way};
     /// let mut index = Index::new(1, 3)?;
     /// assert_eq!(index.report(0)?.held, None);
     /// assert_eq!(index.report(3), Err(Refusal::BadPage));
+    /// for key in [10, 20, 30] {
+    ///     index.begin(0, Op::insert(key, 7))?;
+    ///     index.finish(0)?;
+    /// }
+    /// // a search and an update by the second way on page 0: the stronger lock is told, and the lower slot
+    /// for (slot, op) in [(0, Op::search(10)), (1, Op::delete(20).by(Way::Second))] {
+    ///     index.begin(slot, op)?;
+    ///     index.step(slot)?;
+    /// }
+    /// let report = index.report(0)?;
+    /// assert_eq!((report.held, report.holders), (Some((Lock::UpdaterRho, 0)), 2));
     /// # Ok::<(), Refusal>(())
     /// ```
     pub fn report(&self, page: u32) -> Result<Report, Refusal> {
@@ -224,7 +236,7 @@ mod tests {
     }
 
     #[test]
-    #[should_panic = "the archive is of version 1, and this crate of version 3"]
+    #[should_panic = "the archive is of version 1, and this crate of version 4"]
     fn another_version_is_refused() {
         hold_version(1);
     }

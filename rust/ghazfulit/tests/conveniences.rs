@@ -1,6 +1,8 @@
 //! What the crate has beside the calls: parts by value, an operation stepped to its end, the lots in order, sizes and texts.
 
-use ghazfulit::{numbers, pool_words, Index, Lot, Op, Refusal, Step, Stop, Way, SLOTS, STATE};
+use ghazfulit::{
+    numbers, pool_words, Index, Lock, Lot, Op, Refusal, Step, Stop, Way, SLOTS, STATE,
+};
 
 /// An insertion of a lot whose information is its key and 1.
 fn insert(key: u32) -> Op {
@@ -160,6 +162,16 @@ fn texts_and_numbers() {
     assert_eq!(next.told(), [numbers::NEXT_LOT, 4, 5, 0]);
     assert_eq!(Refusal::Damaged.number(), numbers::DAMAGED);
     assert_eq!(insert(4).numbers(), (numbers::INSERT, 4, 5));
+}
+
+#[test]
+fn the_kinds_of_lock() {
+    let kinds = [Lock::Rho, Lock::Xi, Lock::UpdaterRho, Lock::Alpha];
+    assert_eq!(kinds.map(Lock::number), [1, 2, 3, 4]);
+    assert_eq!(
+        kinds.map(|lock| lock.to_string()),
+        ["ρ", "ξ", "updater's ρ", "α"]
+    );
 }
 
 #[test]

@@ -123,12 +123,15 @@ fn an_update_goes_down_like_a_reader() {
     assert_eq!(index.step(0), Ok(Step::Moved));
     assert_eq!(index.step(1), Ok(Step::Moved));
     let report = index.report(0).expect("a page");
-    assert_eq!((report.held, report.holders), (Some((Lock::Rho, 0)), 2));
+    assert_eq!(
+        (report.held, report.holders),
+        (Some((Lock::UpdaterRho, 0)), 2)
+    );
     assert_eq!(index.step(0), Ok(Step::Inserted));
     assert_eq!(index.step(1), Ok(Step::Found(7)));
     // the leaf is full: it gives up all, and begins again by the first way
     index.begin(0, second(Op::insert(25, 7))).expect("begun");
-    for lock in [Some((Lock::Rho, 0)), None, Some((Lock::Xi, 0))] {
+    for lock in [Some((Lock::UpdaterRho, 0)), None, Some((Lock::Xi, 0))] {
         assert_eq!(index.step(0), Ok(Step::Moved));
         assert_eq!(index.report(0).expect("a page").held, lock);
     }
@@ -150,6 +153,34 @@ fn an_update_goes_down_like_a_reader() {
         [1, 1, 30, 7, 0, 0, 0],
     ];
     assert_eq!(index.words(), pages.concat());
+}
+
+#[test]
+fn a_held_page_has_its_kind_in_its_word() {
+    let mut index = Index::new(1, 3).expect("in range");
+    for key in [10, 20, 30] {
+        index.begin(0, Op::insert(key, 7)).expect("begun");
+        assert_eq!(index.step(0), Ok(Step::Inserted));
+    }
+    for (op, lock) in [
+        (Op::search(10), Lock::Rho),
+        (Op::regrade(10, 7), Lock::Xi),
+        (Op::regrade(10, 7).by(Way::Second), Lock::UpdaterRho),
+    ] {
+        index.begin(3, op).expect("begun");
+        assert_eq!(index.step(3), Ok(Step::Moved));
+        assert_eq!(index.report(0).expect("a page").held, Some((lock, 3)));
+        // the top of the path of slot 3: page 0, and the kind above it
+        let top = 19 + 16 * 7 + 3;
+        assert_eq!(index.state()[top], lock.number() << 16);
+        let (mut state, words) = (*index.state(), index.words().to_vec());
+        for number in (0..9).filter(|&number| number != lock.number()) {
+            state[top] = number << 16;
+            let mut other = Index::from_parts(state, words.clone());
+            assert_eq!(other.step(3), Err(Refusal::BadState), "{op:?} {number}");
+        }
+        index.finish(3).expect("it ends");
+    }
 }
 
 #[test]

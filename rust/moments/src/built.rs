@@ -4,7 +4,7 @@
 use draw::Random;
 use twin::{page_words, Lock, Op, Slot, State, Way};
 
-use crate::moment::{ask, Call, Moment};
+use crate::moment::{ask, spoil_lock, turn, Call, Moment};
 use crate::pages::{leads, operation, path_count, places, rubbish, write, Build};
 use crate::second_way::place_next;
 
@@ -39,10 +39,11 @@ fn spoil(random: &mut Random, build: &mut Build, slot: &mut Slot) {
     let key = slot.op.map_or(0, Op::key);
     let drawn = random.below(build.keys) as u32;
     let way = random.one(&Way::BOTH);
-    match random.below(18) {
+    match random.below(19) {
         12..=15 => turn_back(random, build, slot),
-        16 => slot.lock = random.one(&[Lock::Rho, Lock::Xi]),
-        17 => slot.op = slot.op.map(|op| op.by(way)),
+        16 => slot.lock = random.one(&[Lock::Xi, Lock::UpdaterRho, Lock::Rho]),
+        17 => turn(slot, way),
+        18 => spoil_lock(random, slot),
         0 => ask(
             slot,
             random.one(&[
@@ -99,6 +100,7 @@ fn add_sibling(random: &mut Random, build: &mut Build, slot: &mut Slot, other: u
         let (level, k) = (1 + random.below(3) as u32, build.k);
         write(random, build, other, level, k, None);
         slot.siblings[slot.beside] = other;
+        slot.sibling_locks[slot.beside] = slot.path_locks[0];
         slot.beside += 1;
     }
 }

@@ -3,7 +3,7 @@
 use draw::Random;
 use twin::{Lock, Op, Slot, State, Way};
 
-use crate::moment::{Call, Moment};
+use crate::moment::{any_lock, spoil_lock, Call, Moment};
 
 /// A report, a beginning and a step on one drawn state, with no words at all.
 pub fn limits(random: &mut Random) -> (Moment, Vec<Call>) {
@@ -74,8 +74,8 @@ fn second(random: &mut Random, key: u32) -> Op {
 /// A kind of lock that the operation can want, or now and then another.
 fn drawn_lock(random: &mut Random, op: Op) -> Lock {
     match op.way() {
-        _ if random.percent(3) => random.one(&[Lock::None, Lock::Rho, Lock::Xi]),
-        Some(Way::Second) => random.one(&[Lock::Rho, Lock::Xi]),
+        _ if random.percent(3) => any_lock(random),
+        Some(Way::Second) => random.one(&[Lock::UpdaterRho, Lock::Xi]),
         _ => op.holds(),
     }
 }
@@ -83,8 +83,8 @@ fn drawn_lock(random: &mut Random, op: Op) -> Lock {
 /// An open slot; its pages go on from the last slot's.
 fn drawn_slot(random: &mut Random, n: u32, next: &mut u32) -> Slot {
     let (op, depth, beside) = drawn_counts(random);
-    // some share pages with the last slot: only two that hold with ρ may
-    if op.holds() == Lock::Rho && random.percent(20) {
+    // some share pages with the last slot: only two that hold with ρ, plain or updater's, may
+    if op.holds() != Lock::Xi && random.percent(20) {
         *next = next.saturating_sub(random.below(12) as u32);
     }
     let beside = beside + usize::from(random.percent(2));
@@ -112,6 +112,10 @@ fn drawn_slot(random: &mut Random, n: u32, next: &mut u32) -> Slot {
         .take(beside)
         .for_each(|cell| *cell = page(random));
     slot.want = if random.percent(50) { 0 } else { page(random) };
+    slot = slot.holding(op.holds());
+    if random.percent(2) {
+        spoil_lock(random, &mut slot);
+    }
     slot
 }
 

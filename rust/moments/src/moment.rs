@@ -1,6 +1,9 @@
 //! A moment of the twin: state and words, and the calls made on it.
 
-use twin::{begin, must_wait, page_words, report, step, Answer, Op, Slot, State};
+use draw::Random;
+use twin::{
+    begin, must_wait, page_words, report, step, Answer, Lock, Op, Slot, State, Way, PATH, SIBLINGS,
+};
 
 /// One call of a run.
 #[derive(Clone, Copy, Debug)]
@@ -66,8 +69,38 @@ impl Moment {
     }
 }
 
-/// Puts another operation into a slot; it wants the page with the lock that it begins with.
+/// Puts another operation into a slot; it holds and wants with the lock that it begins with.
 pub(crate) fn ask(slot: &mut Slot, op: Op) {
     slot.op = Some(op);
-    slot.lock = op.holds();
+    *slot = slot.holding(op.holds()).wanting(op.holds());
+}
+
+/// The same operation by another way; it holds with the lock that it begins with then, and its want stays.
+pub(crate) fn turn(slot: &mut Slot, way: Way) {
+    if let Some(op) = slot.op.map(|op| op.by(way)) {
+        slot.op = Some(op);
+        *slot = slot.holding(op.holds());
+    }
+}
+
+/// A kind of lock, or none.
+pub(crate) fn any_lock(random: &mut Random) -> Lock {
+    random.one(&[
+        Lock::None,
+        Lock::Rho,
+        Lock::Xi,
+        Lock::UpdaterRho,
+        Lock::Alpha,
+    ])
+}
+
+/// Gives one page that a slot holds another kind of lock.
+pub(crate) fn spoil_lock(random: &mut Random, slot: &mut Slot) {
+    let (depth, beside) = (slot.depth.min(PATH), slot.beside.min(SIBLINGS));
+    let cells = slot.path_locks[..depth].iter_mut();
+    let mut cells: Vec<&mut Lock> = cells.chain(&mut slot.sibling_locks[..beside]).collect();
+    if !cells.is_empty() {
+        let at = random.below(cells.len() as u64) as usize;
+        *cells[at] = any_lock(random);
+    }
 }

@@ -2,10 +2,10 @@
 //! slot holds or wants, or cells of the state.
 
 use draw::Random;
-use twin::{page_words, Lock, Op, Slot, State, Way};
+use twin::{page_words, Op, Slot, State, Way};
 
 use crate::fresh::{draw, made, next_call, operation, Draw};
-use crate::moment::{ask, Call, Moment};
+use crate::moment::{any_lock, ask, spoil_lock, turn, Call, Moment};
 
 /// A moment in the middle of a random run, grown first and then mostly shrunk; best one where a
 /// deletion or a `Next` holds pages beside its path, or its leaf at least.
@@ -143,7 +143,7 @@ fn spoil_state(random: &mut Random, draw: &Draw, state: &mut State, number: usiz
     let key = random.below(draw.keys) as u32;
     let way = random.one(&Way::BOTH);
     let slot = &mut state.slots[number];
-    match random.below(22) {
+    match random.below(24) {
         0 => state.k = odd,
         1 => state.n = random.one(&[odd, draw.n - 1, draw.n + 1]),
         2 => {
@@ -163,14 +163,16 @@ fn spoil_state(random: &mut Random, draw: &Draw, state: &mut State, number: usiz
                 odd as usize,
                 slot.depth.wrapping_add(1),
                 slot.depth.wrapping_sub(1),
-            ])
+            ]);
+            hold_anew(random, slot);
         }
         9 => {
             slot.beside = random.one(&[
                 odd as usize,
                 slot.beside.wrapping_add(1),
                 slot.beside.wrapping_sub(1),
-            ])
+            ]);
+            hold_anew(random, slot);
         }
         10 => slot.path[cell] = page,
         11 => slot.path.swap(cell, random.below(10) as usize),
@@ -181,8 +183,17 @@ fn spoil_state(random: &mut Random, draw: &Draw, state: &mut State, number: usiz
         16 => ask(slot, Op::Insert(key, odd, way)),
         17 => ask(slot, Op::Next(key)),
         18 => ask(slot, Op::Regrade(key, odd, way)),
-        19 => slot.op = slot.op.map(|op| op.by(way)),
-        20 => slot.lock = random.one(&[Lock::None, Lock::Rho, Lock::Xi]),
+        19 => turn(slot, way),
+        20 => slot.lock = any_lock(random),
+        21 => spoil_lock(random, slot),
+        22 => *slot = slot.holding(any_lock(random)),
         _ => ask(slot, Op::Search(key)),
+    }
+}
+
+/// A page more that a slot holds mostly has the kind of its operation, so that the state is not refused for that.
+fn hold_anew(random: &mut Random, slot: &mut Slot) {
+    if let Some(op) = slot.op.filter(|_| random.percent(70)) {
+        *slot = slot.holding(op.holds());
     }
 }

@@ -1,9 +1,9 @@
-//! The draws reach what they are for: long and broken second ways of a `Next`, regradings of every outcome, and updates of the second way
-//! that end at their leaf or begin again.
+//! The draws reach what they are for: long and broken second ways of a `Next`, regradings of every outcome, updates of the second way
+//! that end at their leaf or begin again, and states that are refused for the kind of a lock alone.
 
 use draw::Random;
-use moments::{built, draw, draw_calls, made, spoiled_words, Call, Moment};
-use twin::{Answer, Op, Slot, Way};
+use moments::{built, draw, draw_calls, limits, made, spoiled_state, spoiled_words, Call, Moment};
+use twin::{is_sound, Answer, Lock, Op, Slot, State, Way};
 
 /// A moment's slot that is stepped, and its answer.
 fn stepped((mut moment, calls): (Moment, Vec<Call>)) -> Option<(Slot, Answer)> {
@@ -148,4 +148,46 @@ fn second_ways_in_schedules() {
     };
     // at page 0, and at a leaf below it
     assert!(again(0) - again(1) > 50 && again(1) > 50);
+}
+
+/// The same state with every page held under the kind of its slot's operation.
+fn held_right(state: &State) -> State {
+    let right = |slot: Slot| slot.op.map_or(slot, |op| slot.holding(op.holds()));
+    State {
+        slots: state.slots.map(right),
+        ..*state
+    }
+}
+
+/// Whether a sound state has a page that a slot reads and another one holds with updater's ρ.
+fn is_mixed(state: &State) -> bool {
+    let holds = |slot: &Slot, page, lock| slot.lock_on(page) == Some(lock);
+    let is_beside = |page: u32| {
+        let mut slots = state.slots.iter();
+        slots.any(|slot| holds(slot, page, Lock::UpdaterRho))
+    };
+    let mut slots = state.slots.iter();
+    slots.any(|slot| {
+        let mut held = slot.held().into_iter();
+        held.any(|page| holds(slot, page, Lock::Rho) && is_beside(page))
+    })
+}
+
+#[test]
+fn kinds_of_held_pages() {
+    let mut random = Random(10);
+    let near: Vec<State> = (0..3000).map(|_| limits(&mut random).0.state).collect();
+    let spoiled: Vec<State> = (0..1000)
+        .map(|_| spoiled_state(&mut random).0.state)
+        .collect();
+    let on_built: Vec<State> = (0..3000)
+        .filter_map(|_| built(&mut random))
+        .map(|(moment, _)| moment.state)
+        .collect();
+    let is_only_kind = |state: &&State| !is_sound(state) && is_sound(&held_right(state));
+    for states in [&near, &spoiled, &on_built] {
+        assert!(states.iter().filter(is_only_kind).count() > 10);
+    }
+    let is_sound_mixed = |state: &&State| is_sound(state) && is_mixed(state);
+    assert!(near.iter().filter(is_sound_mixed).count() > 10);
 }

@@ -1,8 +1,8 @@
 //! The state of a rival in two layouts: one struct a slot, and in columns.
 
 use ghazfulit::numbers::{
-    self, DELETE, DELETE_SECOND, INSERT, INSERT_SECOND, LARGEST_K, LARGEST_N, LOCK_RHO, LOCK_XI,
-    NEXT, REGRADE, REGRADE_SECOND, SEARCH,
+    self, DELETE, DELETE_SECOND, INSERT, INSERT_SECOND, LARGEST_K, LARGEST_N, LOCK_ALPHA, LOCK_RHO,
+    LOCK_UPDATER_RHO, LOCK_XI, NEXT, REGRADE, REGRADE_SECOND, SEARCH,
 };
 
 /// How many slots there are.
@@ -13,6 +13,33 @@ pub const CLOSED: u32 = 0;
 pub const HELD: usize = 10;
 /// Words of a state in columns.
 pub const STATE: usize = 19 + SLOTS * 27;
+
+/// The word of a held page: the page in the lower half, the number of the kind of its lock in the upper.
+fn pack(page: u32, lock: u32) -> u32 {
+    page | lock << 16
+}
+
+/// The page and the kind of such a word.
+fn unpack(word: u32) -> (u32, u32) {
+    (word & 0xffff, word >> 16)
+}
+
+/// The kinds of lock that clash with this one, a bit for each by its number.
+fn clashing(lock: u32) -> u32 {
+    const XI: u32 = 1 << LOCK_XI;
+    const UPDATERS: u32 = 1 << LOCK_UPDATER_RHO | 1 << LOCK_ALPHA;
+    match lock {
+        LOCK_RHO => XI,
+        LOCK_UPDATER_RHO => XI | 1 << LOCK_ALPHA,
+        LOCK_ALPHA => XI | UPDATERS,
+        _ => XI | UPDATERS | 1 << LOCK_RHO,
+    }
+}
+
+/// Whether such a set has a kind; what is none is in no set.
+fn has(kinds: u32, lock: u32) -> bool {
+    kinds >> (lock & 31) & 1 != 0
+}
 
 /// A set of pages.
 pub type Pages = [u64; 16];
@@ -38,6 +65,9 @@ pub struct Slot {
     pub beside: u32,
     pub path: [u32; HELD],
     pub siblings: [u32; HELD],
+    /// The kinds of lock under which they are held.
+    pub path_locks: [u32; HELD],
+    pub sibling_locks: [u32; HELD],
 }
 
 impl Slot {
@@ -58,6 +88,13 @@ impl Slot {
         path.iter()
             .chain(&self.siblings[..self.beside as usize])
             .copied()
+    }
+
+    /// The same with the kinds of their locks.
+    fn held_with(&self) -> impl Iterator<Item = (u32, u32)> + '_ {
+        let path = &self.path_locks[..self.depth as usize];
+        let beside = &self.sibling_locks[..self.beside as usize];
+        self.held().zip(path.iter().chain(beside).copied())
     }
 }
 
@@ -138,14 +175,12 @@ fn holds_so_many(kind: u32, depth: u32, beside: u32) -> bool {
     none | one | insertion | (both & (depth <= 10) & (beside <= 9) & few)
 }
 
-/// Whether a kind holds with ρ: searches, the next lot, and the second way.
-fn shares(kind: u32) -> bool {
-    (kind == SEARCH) | (kind == NEXT) | is_second(kind)
-}
-
-/// The kind of lock that a kind holds with.
+/// The kind of lock that a kind holds with: searches and the next lot ρ, the second way updater's ρ. These two go together, and ξ with
+/// nothing.
 pub fn lock_held(kind: u32) -> u32 {
-    if shares(kind) {
+    if is_second(kind) {
+        LOCK_UPDATER_RHO
+    } else if (kind == SEARCH) | (kind == NEXT) {
         LOCK_RHO
     } else {
         LOCK_XI
@@ -217,16 +252,18 @@ impl Layout for Structs {
     }
 
     fn grants(&self, s: usize) -> bool {
-        let (want, is_rho) = (self.slots[s].want, self.slots[s].lock == LOCK_RHO);
-        let held = self.slots.iter().enumerate().any(|(other, slot)| {
-            let clash = !(is_rho && shares(slot.kind));
-            other != s && clash && slot.held().any(|page| page == want)
-        });
+        let (want, barred_by) = (self.slots[s].want, clashing(self.slots[s].lock));
+        let is_in_the_way = |(page, lock): (u32, u32)| page == want && has(barred_by, lock);
+        let held = self
+            .slots
+            .iter()
+            .enumerate()
+            .any(|(other, slot)| other != s && slot.held_with().any(is_in_the_way));
         let mut older = self.order[..self.waiting]
             .iter()
             .take_while(|&&other| other as usize != s)
             .map(|&other| &self.slots[other as usize]);
-        !held && !older.any(|slot| slot.want == want && !(is_rho && slot.lock == LOCK_RHO))
+        !held && !older.any(|slot| is_in_the_way((slot.want, slot.lock)))
     }
 
     fn is_sound(&self) -> bool {
@@ -248,11 +285,12 @@ impl Layout for Structs {
             if slot.want >= self.n || !may_want(slot.kind, slot.lock) {
                 return false;
             }
-            for page in slot.held() {
-                if page >= self.n || page == slot.want {
+            let own = lock_held(slot.kind);
+            for (page, lock) in slot.held_with() {
+                if page >= self.n || page == slot.want || lock != own {
                     return false;
                 }
-                if shares(slot.kind) {
+                if lock != LOCK_XI {
                     put(&mut shared, page);
                 } else if put(&mut alone, page) {
                     return false;
@@ -309,8 +347,7 @@ impl Columns {
 
     /// Whether a slot other than s holds the page with a lock that clashes; rows only as far as some slot has them.
     fn is_held(&self, s: usize, page: u32) -> bool {
-        let kinds = self.row(KIND);
-        let is_rho = self.row(LOCK)[s] == LOCK_RHO;
+        let barred_by = clashing(self.row(LOCK)[s]);
         let mut hit = false;
         for (first, length) in [(PATH, DEPTH), (SIBLINGS, BESIDE)] {
             let lengths = self.row(length);
@@ -318,8 +355,9 @@ impl Columns {
             for i in 0..most.min(HELD as u32) {
                 let row = self.row(first + i as usize);
                 for other in 0..SLOTS {
-                    let clashes = !(shares(kinds[other]) & is_rho);
-                    hit |= (row[other] == page) & (i < lengths[other]) & clashes & (other != s);
+                    let (own, lock) = unpack(row[other]);
+                    let clashes = has(barred_by, lock);
+                    hit |= (own == page) & (i < lengths[other]) & clashes & (other != s);
                 }
             }
         }
@@ -364,11 +402,11 @@ impl Layout for Columns {
             ..Slot::default()
         };
         let (depth, beside) = (slot.depth as usize, slot.beside as usize);
-        for (i, cell) in slot.path.iter_mut().enumerate().take(depth) {
-            *cell = word(PATH + i);
+        for i in 0..depth {
+            (slot.path[i], slot.path_locks[i]) = unpack(word(PATH + i));
         }
-        for (i, cell) in slot.siblings.iter_mut().enumerate().take(beside) {
-            *cell = word(SIBLINGS + i);
+        for i in 0..beside {
+            (slot.siblings[i], slot.sibling_locks[i]) = unpack(word(SIBLINGS + i));
         }
         slot
     }
@@ -386,11 +424,11 @@ impl Layout for Columns {
         for (row, &cell) in single.iter().enumerate() {
             self.words[at(row, s)] = cell;
         }
-        for (i, &cell) in slot.path[..path].iter().enumerate() {
-            self.words[at(PATH + i, s)] = cell;
+        for i in 0..path {
+            self.words[at(PATH + i, s)] = pack(slot.path[i], slot.path_locks[i]);
         }
-        for (i, &cell) in slot.siblings[..siblings].iter().enumerate() {
-            self.words[at(SIBLINGS + i, s)] = cell;
+        for i in 0..siblings {
+            self.words[at(SIBLINGS + i, s)] = pack(slot.siblings[i], slot.sibling_locks[i]);
         }
     }
 
@@ -407,14 +445,12 @@ impl Layout for Columns {
 
     fn grants(&self, s: usize) -> bool {
         let (wants, locks) = (self.row(WANT), self.row(LOCK));
-        let want = wants[s];
-        let is_rho = locks[s] == LOCK_RHO;
+        let (want, barred_by) = (wants[s], clashing(locks[s]));
         let mut older = self.order()[..self.waiting()]
             .iter()
             .map(|&other| other as usize)
             .take_while(|&other| other != s);
-        let barred =
-            older.any(|other| wants[other] == want && !(is_rho && locks[other] == LOCK_RHO));
+        let barred = older.any(|other| wants[other] == want && has(barred_by, locks[other]));
         !barred && !self.is_held(s, want)
     }
 
@@ -446,16 +482,18 @@ impl Layout for Columns {
             left &= left - 1;
             let word = |row: usize| self.words[at(row, s)];
             let path = (0..depths[s] as usize).map(|i| word(PATH + i));
-            let pages = path.chain((0..besides[s] as usize).map(|i| word(SIBLINGS + i)));
-            for page in pages.clone() {
-                bad |= (page >= n) | (page == wants[s]);
-                if shares(kinds[s]) {
+            let held = path.chain((0..besides[s] as usize).map(|i| word(SIBLINGS + i)));
+            let held = held.map(unpack);
+            let own = lock_held(kinds[s]);
+            for (page, lock) in held.clone() {
+                bad |= (page >= n) | (page == wants[s]) | (lock != own);
+                if own != LOCK_XI {
                     put(&mut shared, page);
                 } else {
                     bad |= put(&mut alone, page);
                 }
             }
-            bad |= kinds[s] == NEXT && is_twice(pages);
+            bad |= kinds[s] == NEXT && is_twice(held.map(|(page, _)| page));
         }
         !bad && (0..16).all(|i| alone[i] & shared[i] == 0)
     }

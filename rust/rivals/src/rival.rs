@@ -235,18 +235,21 @@ fn fits(pool: &Pool, n: u32, slot: &Slot) -> bool {
         && is_sibling(beside, slot.want)
 }
 
-/// The wanted page is held now; a safe one gives up its ancestors.
+/// The wanted page is held now, under the kind with which it was wanted; a safe one gives up its ancestors.
 fn take(pool: &Pool, slot: &mut Slot) {
     if is_at_leaf(pool, slot) {
         slot.siblings[slot.beside as usize] = slot.want;
+        slot.sibling_locks[slot.beside as usize] = slot.lock;
         slot.beside += 1;
         return;
     }
     if is_safe(pool, slot, slot.want) {
         slot.path = Default::default();
+        slot.path_locks = Default::default();
         slot.depth = 0;
     }
     slot.path[slot.depth as usize] = slot.want;
+    slot.path_locks[slot.depth as usize] = slot.lock;
     slot.depth += 1;
 }
 

@@ -24,7 +24,7 @@ pub enum Answer {
     NoRoom,
     Begun,
     Made,
-    /// The lock kind (0 none, 1 ρ, 2 ξ), how many hold the page, the lowest holder.
+    /// The lock kind (0 none, 1 ρ, 2 ξ, 3 updater's ρ, 4 α), how many hold the page, the lowest holder.
     Reported(u32, u32, u32),
     /// The key and the information of the first entry at or above the key asked for.
     Next(u32, u32),

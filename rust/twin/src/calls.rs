@@ -65,15 +65,7 @@ pub fn step(given: &State, words: &mut [u32], slot: usize) -> (Answer, State) {
     };
     match grant(shape, words, &given.slots[slot], op) {
         Outcome::Damaged => (Answer::Damaged, *given),
-        Outcome::GoesOn {
-            want,
-            lock,
-            path,
-            siblings,
-        } => {
-            let went = Slot::open(op, want, &path, &siblings).wanting(lock);
-            (Answer::Moved, with_slot(given, slot, went))
-        }
+        Outcome::GoesOn(went) => (Answer::Moved, with_slot(given, slot, went)),
         Outcome::BeginsAgain => {
             let begun = begun(op.by(Way::First));
             (Answer::Moved, with_slot(given, slot, begun))

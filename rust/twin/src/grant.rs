@@ -13,12 +13,8 @@ use crate::state::Slot;
 
 /// How a granted step leaves the operation.
 pub enum Outcome {
-    GoesOn {
-        want: u32,
-        lock: Lock,
-        path: Vec<u32>,
-        siblings: Vec<u32>,
-    },
+    /// The slot then.
+    GoesOn(Slot),
     /// By the first way; nothing is held any more.
     BeginsAgain,
     Ends(Answer),
@@ -45,17 +41,18 @@ pub fn grant(shape: Shape, words: &mut [u32], slot: &Slot, op: Op) -> Outcome {
 
 /// The pages held and the wanted one, if they are sound for this step.
 fn read_sound(shape: Shape, words: &[u32], slot: &Slot, op: Op) -> Option<(Reach, Held)> {
-    let read = |number: u32| {
+    let read = |(&number, &lock): (&u32, &Lock)| {
         let page = read_page(words, shape.k, shape.n, number)?;
-        Some(Held { number, page })
+        Some(Held { number, lock, page })
     };
-    let path: Option<Vec<Held>> = slot.path().iter().map(|&number| read(number)).collect();
-    let siblings: Option<Vec<Held>> = slot.siblings().iter().map(|&number| read(number)).collect();
+    let all = |numbers: &[u32], locks: &[Lock]| -> Option<Vec<Held>> {
+        numbers.iter().zip(locks).map(read).collect()
+    };
     let reach = Reach {
-        path: path?,
-        siblings: siblings?,
+        path: all(slot.path(), &slot.path_locks)?,
+        siblings: all(slot.siblings(), &slot.sibling_locks)?,
     };
-    let wanted = read(slot.want)?;
+    let wanted = read((&slot.want, &slot.lock))?;
     let is_right = is_reach_right(shape.k, op, &reach)
         && is_want_right(shape.k, op, &reach, &wanted)
         && slot.lock == lock_due(op, &reach);
@@ -230,16 +227,26 @@ fn next_entry(key: u32, leaf: &Page, reach: &Reach) -> Option<Answer> {
 
 /// Goes on with a new want, if it is none of the pages then held.
 fn go_on(op: Op, want: u32, reach: &Reach) -> Outcome {
-    let numbers = |held: &[Held]| held.iter().map(|held| held.number).collect::<Vec<u32>>();
-    let (path, siblings) = (numbers(&reach.path), numbers(&reach.siblings));
-    if path.contains(&want) || siblings.contains(&want) {
-        return Outcome::Damaged;
-    }
-    Outcome::GoesOn {
+    let mut slot = Slot {
+        op: Some(op),
         want,
         lock: lock_due(op, reach),
-        path,
-        siblings,
+        depth: reach.path.len(),
+        beside: reach.siblings.len(),
+        ..Slot::CLOSED
+    };
+    lay(&reach.path, &mut slot.path, &mut slot.path_locks);
+    lay(&reach.siblings, &mut slot.siblings, &mut slot.sibling_locks);
+    if slot.holds(want) {
+        return Outcome::Damaged;
+    }
+    Outcome::GoesOn(slot)
+}
+
+/// Lays pages and their kinds of lock into the cells of a slot.
+fn lay(held: &[Held], numbers: &mut [u32], locks: &mut [Lock]) {
+    for (at, held) in held.iter().enumerate() {
+        (numbers[at], locks[at]) = (held.number, held.lock);
     }
 }
 

@@ -6,8 +6,13 @@
 //! | 3 to 18 | the waiting order, oldest first |
 //! | from 19 | rows of 16, one word a slot: kind, key, information, want, lock of the want, depth, number of pages beside, then 10 rows of the path and 10 of the pages beside |
 //!
-//! A kind is one of `kind`, and an open slot's lock one of `Lock`; any other is no state at all.
-//! Words that a slot's kind does not use are not looked at, and are 0 where a call writes the slot.
+//! The word of a page that is held has the page below `HALF`, and above it the number of the kind of its lock. The word of the page that is
+//! wanted is the page alone.
+//!
+//! A kind of operation is one of `kind`; any other is no state at all. A number that is no kind of lock stands for no lock, with which an open
+//! slot can neither hold nor want. Words that a slot's kind does not use are not looked at, and are 0 where a call writes the slot.
+
+use std::array::from_fn;
 
 use crate::answer::Answer;
 use crate::calls;
@@ -28,15 +33,15 @@ pub mod row {
     pub const INFORMATION: usize = 2;
     /// The page that it wants.
     pub const WANT: usize = 3;
-    /// The kind of lock that it wants there.
+    /// The kind of lock with which it wants it.
     pub const LOCK: usize = 4;
     /// How long its path is.
     pub const DEPTH: usize = 5;
     /// How many pages stand beside it.
     pub const BESIDE: usize = 6;
-    /// From here on the path.
+    /// From here on the path, each page with the kind of its lock.
     pub const PATH: usize = 7;
-    /// From here on the pages beside it.
+    /// From here on the pages beside it, in the same way.
     pub const SIBLINGS: usize = PATH + crate::state::PATH;
     /// Rows in all.
     pub const COUNT: usize = SIBLINGS + crate::state::SIBLINGS;
@@ -50,7 +55,20 @@ pub fn at(row: usize, slot: usize) -> usize {
     FRONT + SLOTS * row + slot
 }
 
-/// The state that the words say; `None` where an open slot has a kind of operation or of lock that does not exist.
+/// What one kind of lock counts in the word of a page that is held; pages are below it.
+pub const HALF: u32 = 1 << 16;
+
+/// The word of a page that is held under a kind of lock; there is room for pages below `HALF`.
+pub fn held_word(page: u32, lock: Lock) -> u32 {
+    page % HALF + HALF * lock.number()
+}
+
+/// The page of such a word, and the kind of its lock.
+pub fn held_in(word: u32) -> (u32, Lock) {
+    (word % HALF, Lock::of(word / HALF))
+}
+
+/// The state that the words say; `None` where a slot has a kind of operation that does not exist.
 pub fn state_of(words: &[u32; STATE]) -> Option<State> {
     let mut state = State::empty(words[0], words[1]);
     state.waiting = words[2] as usize;
@@ -66,23 +84,22 @@ pub fn state_of(words: &[u32; STATE]) -> Option<State> {
 /// One slot of the words.
 fn slot_of(words: &[u32; STATE], number: usize) -> Option<Slot> {
     let word = |row: usize| words[at(row, number)];
-    let lock = Lock::of(word(row::LOCK));
-    let (op, lock) = match word(row::KIND) {
-        // a closed slot's lock is not looked at
-        kind::CLOSED => (None, lock.unwrap_or(Lock::None)),
-        kind => {
-            let op = Op::of(kind, word(row::KEY), word(row::INFORMATION))?;
-            (Some(op), lock?)
-        }
+    let op = match word(row::KIND) {
+        kind::CLOSED => None,
+        kind => Some(Op::of(kind, word(row::KEY), word(row::INFORMATION))?),
     };
+    let path = |i| held_in(word(row::PATH + i));
+    let siblings = |i| held_in(word(row::SIBLINGS + i));
     Some(Slot {
         op,
         want: word(row::WANT),
-        lock,
+        lock: Lock::of(word(row::LOCK)),
         depth: word(row::DEPTH) as usize,
         beside: word(row::BESIDE) as usize,
-        path: std::array::from_fn(|i| word(row::PATH + i)),
-        siblings: std::array::from_fn(|i| word(row::SIBLINGS + i)),
+        path: from_fn(|i| path(i).0),
+        path_locks: from_fn(|i| path(i).1),
+        siblings: from_fn(|i| siblings(i).0),
+        sibling_locks: from_fn(|i| siblings(i).1),
     })
 }
 
@@ -119,10 +136,10 @@ fn write_slot(words: &mut [u32; STATE], state: &State, number: usize) {
     write(row::DEPTH, slot.depth as u32);
     write(row::BESIDE, slot.beside as u32);
     for (i, &page) in slot.path.iter().enumerate() {
-        write(row::PATH + i, page);
+        write(row::PATH + i, held_word(page, slot.path_locks[i]));
     }
     for (i, &page) in slot.siblings.iter().enumerate() {
-        write(row::SIBLINGS + i, page);
+        write(row::SIBLINGS + i, held_word(page, slot.sibling_locks[i]));
     }
 }
 

@@ -31,7 +31,8 @@ mod state;
 pub use answer::Answer;
 pub use calls::{begin, make, report, step};
 pub use lent::{
-    at, begin_lent, make_lent, report_lent, row, state_of, step_lent, words_of, FRONT, STATE,
+    at, begin_lent, held_in, held_word, make_lent, report_lent, row, state_of, step_lent, words_of,
+    FRONT, HALF, STATE,
 };
 pub use lock::Lock;
 pub use locks::must_wait;

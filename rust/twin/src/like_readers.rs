@@ -1,5 +1,5 @@
-//! Updates of the second way: they go down like readers, with ρ, and want their leaf alone with ξ. What they can do at the leaf alone
-//! is done there; for anything else they begin again by the first way.
+//! Updates of the second way: they go down like readers, with a ρ of their own, and want their leaf alone with ξ. What they can do at the
+//! leaf alone is done there; for anything else they begin again by the first way.
 
 use crate::lock::Lock;
 use crate::op::{Op, Way};

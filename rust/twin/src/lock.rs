@@ -1,4 +1,4 @@
-//! The kinds of lock, by number and by which go together.
+//! The kinds of lock: by number, by which go together, and by which is told first.
 
 /// A kind of lock.
 #[derive(Clone, Copy, Debug, PartialEq, Eq)]
@@ -9,14 +9,22 @@ pub enum Lock {
     Rho,
     /// ξ, for changing.
     Xi,
+    /// Updater's ρ, of one who reads his way down and may change the leaf.
+    UpdaterRho,
+    /// α, of one who may change the page and lets readers stay until then. No operation has it yet.
+    Alpha,
 }
 
 impl Lock {
-    /// The kind that a number names; `None` where there is no such kind.
-    pub fn of(number: u32) -> Option<Lock> {
-        [Lock::None, Lock::Rho, Lock::Xi]
-            .into_iter()
+    /// The four kinds, in the order in which a report looks for them.
+    pub const STRONGEST_FIRST: [Lock; 4] = [Lock::Xi, Lock::Alpha, Lock::UpdaterRho, Lock::Rho];
+
+    /// The kind that a number names; one that names no kind stands for none.
+    pub fn of(number: u32) -> Lock {
+        let mut kinds = Lock::STRONGEST_FIRST.into_iter();
+        kinds
             .find(|lock| lock.number() == number)
+            .unwrap_or(Lock::None)
     }
 
     /// Its number, as a report and the state's words have it.
@@ -25,11 +33,24 @@ impl Lock {
             Lock::None => 0,
             Lock::Rho => 1,
             Lock::Xi => 2,
+            Lock::UpdaterRho => 3,
+            Lock::Alpha => 4,
         }
     }
 
-    /// Whether two locks on a page clash: two ρ go together; ξ goes with nothing.
+    /// Whether two locks on a page clash.
     pub fn clashes(self, other: Lock) -> bool {
-        !(self == Lock::Rho && other == Lock::Rho)
+        !self.friends().contains(&other)
+    }
+
+    /// The kinds that it goes with: "ρ goes with all but ξ; updater's ρ with both ρ only; α with ρ only; ξ with nothing."
+    fn friends(self) -> &'static [Lock] {
+        match self {
+            Lock::Rho => &[Lock::Rho, Lock::UpdaterRho, Lock::Alpha],
+            Lock::UpdaterRho => &[Lock::Rho, Lock::UpdaterRho],
+            Lock::Alpha => &[Lock::Rho],
+            // none is no lock, and on no page
+            Lock::Xi | Lock::None => &[],
+        }
     }
 }

@@ -2,7 +2,7 @@
 
 use crate::answer::Answer;
 use crate::lock::Lock;
-use crate::state::State;
+use crate::state::{State, SLOTS};
 
 /// Whether a want must wait: another slot holds the page with a lock that clashes, or has wanted it for longer with one that does.
 pub fn must_wait(state: &State, number: usize) -> bool {
@@ -22,18 +22,19 @@ pub fn must_wait(state: &State, number: usize) -> bool {
 fn holders(state: &State, page: u32) -> Vec<(usize, Lock)> {
     let slots = state.slots.iter().enumerate();
     slots
-        .filter(|(_, slot)| slot.holds(page))
-        .filter_map(|(i, slot)| Some((i, slot.op?.holds())))
+        .filter_map(|(i, slot)| Some((i, slot.lock_on(page)?)))
         .collect()
 }
 
-/// The report for a page: kind, number of holders, lowest holder.
+/// The report for a page: the strongest kind that is there, number of holders, lowest holder.
 pub fn lock_report(state: &State, page: u32) -> Answer {
     let holders = holders(state, page);
-    match holders.first() {
-        None => Answer::Reported(Lock::None.number(), 0, 16),
-        Some(&(lowest, lock)) => {
-            Answer::Reported(lock.number(), holders.len() as u32, lowest as u32)
-        }
-    }
+    let is_there = |kind: &Lock| holders.iter().any(|(_, lock)| lock == kind);
+    let kind = Lock::STRONGEST_FIRST.into_iter().find(is_there);
+    let lowest = holders.first().map_or(SLOTS, |&(lowest, _)| lowest);
+    Answer::Reported(
+        kind.unwrap_or(Lock::None).number(),
+        holders.len() as u32,
+        lowest as u32,
+    )
 }

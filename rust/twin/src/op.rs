@@ -24,7 +24,7 @@ pub mod kind {
 pub enum Way {
     /// With ξ-locks all the way.
     First,
-    /// With ρ-locks like a reader, and a ξ-lock wanted on its leaf.
+    /// Like a reader, with updater's ρ, and a ξ-lock wanted on its leaf.
     Second,
 }
 
@@ -97,11 +97,12 @@ impl Op {
         }
     }
 
-    /// The kind of lock under which it holds its pages.
+    /// The kind of lock under which it holds its pages; under any other it can hold none.
     pub fn holds(self) -> Lock {
         match self.way() {
-            None | Some(Way::Second) => Lock::Rho,
+            None => Lock::Rho,
             Some(Way::First) => Lock::Xi,
+            Some(Way::Second) => Lock::UpdaterRho,
         }
     }
 

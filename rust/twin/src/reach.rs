@@ -1,5 +1,6 @@
 //! The pages that an operation holds, as they were read: what a granted step, its change and the second way of a `Next` all speak of.
 
+use crate::lock::Lock;
 use crate::page::Page;
 
 /// The pool's parameters.
@@ -9,10 +10,11 @@ pub struct Shape {
     pub n: u32,
 }
 
-/// A page with its number.
+/// A page with its number, and the kind of lock under which it is held or wanted.
 #[derive(Clone, Debug)]
 pub struct Held {
     pub number: u32,
+    pub lock: Lock,
     pub page: Page,
 }
 

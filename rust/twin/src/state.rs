@@ -10,7 +10,8 @@ pub const PATH: usize = 10;
 /// How many pages beside its path a slot has cells for.
 pub const SIBLINGS: usize = 10;
 
-/// One slot: closed, or open with an operation, the page it wants, the kind of lock that it wants there, and the pages it holds.
+/// One slot: closed, or open with an operation, the page it wants, the kind of lock that it wants there, and the pages it holds, each
+/// with the kind of lock under which it does.
 ///
 /// The path goes from the top downward. A deletion's siblings go from the leaf's upward; a
 /// `Next` has its second way there, from the top downward. The counts may be any numbers, even
@@ -21,8 +22,10 @@ pub struct Slot {
     pub want: u32,
     pub lock: Lock,
     pub path: [u32; PATH],
+    pub path_locks: [Lock; PATH],
     pub depth: usize,
     pub siblings: [u32; SIBLINGS],
+    pub sibling_locks: [Lock; SIBLINGS],
     pub beside: usize,
 }
 
@@ -44,29 +47,39 @@ impl Slot {
         want: 0,
         lock: Lock::None,
         path: [0; PATH],
+        path_locks: [Lock::None; PATH],
         depth: 0,
         siblings: [0; SIBLINGS],
+        sibling_locks: [Lock::None; SIBLINGS],
         beside: 0,
     };
 
-    /// A slot that holds just these pages and wants this one, with the kind of lock under which it holds.
+    /// A slot that holds just these pages and wants this one, all with the kind of lock under which its operation holds.
     pub fn open(op: Op, want: u32, path: &[u32], siblings: &[u32]) -> Slot {
         let mut slot = Slot {
             op: Some(op),
             want,
             lock: op.holds(),
+            depth: path.len(),
+            beside: siblings.len(),
             ..Slot::CLOSED
         };
         slot.path[..path.len()].copy_from_slice(path);
         slot.siblings[..siblings.len()].copy_from_slice(siblings);
-        slot.depth = path.len();
-        slot.beside = siblings.len();
-        slot
+        slot.holding(op.holds())
     }
 
     /// The same with another kind of lock wanted.
     pub fn wanting(self, lock: Lock) -> Slot {
         Slot { lock, ..self }
+    }
+
+    /// The same with every page held under this kind of lock; the counts may be larger than the arrays.
+    pub fn holding(mut self, lock: Lock) -> Slot {
+        let (depth, beside) = (self.depth.min(PATH), self.beside.min(SIBLINGS));
+        self.path_locks[..depth].fill(lock);
+        self.sibling_locks[..beside].fill(lock);
+        self
     }
 
     /// The path pages held, for counts within the arrays.
@@ -82,6 +95,19 @@ impl Slot {
     /// All pages held, for counts within the arrays.
     pub fn held(&self) -> Vec<u32> {
         [self.path(), self.siblings()].concat()
+    }
+
+    /// The same with the kind of lock under which each is held.
+    pub fn held_with(&self) -> impl Iterator<Item = (u32, Lock)> + '_ {
+        let path = self.path().iter().zip(&self.path_locks);
+        let siblings = self.siblings().iter().zip(&self.sibling_locks);
+        path.chain(siblings).map(|(&page, &lock)| (page, lock))
+    }
+
+    /// The kind of lock under which the slot holds the page, if it does.
+    pub fn lock_on(&self, page: u32) -> Option<Lock> {
+        let mut held = self.held_with();
+        held.find(|&(own, _)| own == page).map(|(_, lock)| lock)
     }
 
     /// Whether the slot holds the page.
@@ -145,6 +171,7 @@ fn is_slot_sound(slot: &Slot, n: u32) -> bool {
     slot.want < n
         && op.may_want(slot.lock)
         && held.iter().all(|&page| page < n)
+        && slot.held_with().all(|(_, lock)| lock == op.holds())
         && !is_twice
         && !slot.holds(slot.want)
 }
@@ -167,17 +194,14 @@ fn are_counts_sound(slot: &Slot) -> bool {
     slot.depth <= path && slot.beside <= beside && (slot.beside == 0 || slot.beside < slot.depth)
 }
 
-/// No ξ-held page is held by another slot; the slots are sound by themselves.
+/// No two slots hold a page under kinds of lock that clash; the slots are sound by themselves.
 fn are_locks_sound(state: &State) -> bool {
-    state.slots.iter().enumerate().all(|(number, slot)| {
-        let is_exclusive = slot.op.is_some_and(|op| op.holds() == Lock::Xi);
-        let is_elsewhere = |page: &u32| {
-            state
-                .slots
-                .iter()
-                .enumerate()
-                .any(|(other, its)| other != number && its.holds(*page))
-        };
-        !is_exclusive || !slot.held().iter().any(is_elsewhere)
-    })
+    let mut pairs = (0..SLOTS).flat_map(|one| (0..one).map(move |other| (one, other)));
+    pairs.all(|(one, other)| goes_together(&state.slots[one], &state.slots[other]))
+}
+
+/// Whether what two slots hold goes together, page by page.
+fn goes_together(one: &Slot, other: &Slot) -> bool {
+    let mut held = one.held_with();
+    held.all(|(page, lock)| other.lock_on(page).is_none_or(|its| !lock.clashes(its)))
 }

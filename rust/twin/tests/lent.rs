@@ -78,7 +78,7 @@ fn a_regrading_is_kind_5_with_its_information() {
     assert_eq!(state[3..], [0; STATE - 3]);
 }
 
-/// "chosen per operation at begin": kinds 6 to 8. They want page 0 with ρ, and by the first way with ξ.
+/// "chosen per operation at begin": kinds 6 to 8. They want page 0 with updater's ρ, and by the first way with ξ.
 #[test]
 fn the_second_way_has_kinds_of_its_own() {
     for (op, kind, information) in [
@@ -93,7 +93,7 @@ fn the_second_way_has_kinds_of_its_own() {
         expected[19 + 2] = kind;
         expected[19 + 16 + 2] = 10;
         expected[19 + 32 + 2] = information;
-        expected[19 + 64 + 2] = 1;
+        expected[19 + 64 + 2] = 3;
         assert_eq!(state, expected);
         assert_eq!(Op::of(kind, 10, information), Some(op));
         // page 0 is a leaf: it begins again, as kind 2, 3 or 5
@@ -111,7 +111,7 @@ fn words_and_state_give_each_other_back() {
     for _ in 0..2000 {
         let words: [u32; STATE] = std::array::from_fn(|at| match at {
             19..=34 => random.below(9) as u32,
-            83..=98 => random.below(3) as u32,
+            83..=98 => random.below(6) as u32,
             _ => random.bits() as u32 >> random.below(32),
         });
         let state = state_of(&words).expect("all kinds exist");
@@ -133,16 +133,16 @@ fn a_kind_that_does_not_exist_is_no_state() {
 /// Each number that is no kind, and each kind that the operation cannot want at all.
 #[test]
 fn a_lock_that_is_not_to_be_wanted_is_no_state() {
-    let locks = [0, 1, 2, 3, 4, u32::MAX];
+    let locks = [0, 1, 2, 3, 4, 5, 7, 65_536 + 1, u32::MAX];
     for (kind, sound) in [
         (1, &[1][..]),
         (2, &[2]),
         (3, &[2]),
         (4, &[1]),
         (5, &[2]),
-        (6, &[1, 2]),
-        (7, &[1, 2]),
-        (8, &[1, 2]),
+        (6, &[3, 2]),
+        (7, &[3, 2]),
+        (8, &[3, 2]),
         // a closed slot's is not looked at
         (0, &locks),
     ] {

@@ -11,10 +11,11 @@ use twin::{is_sound, report, step, Answer, Lock, Op, Slot};
 /// What a report says of a page: its kind of lock, how many hold it, and who.
 type Report = (u32, u32, u32);
 
-/// Nobody holds it, or slot 0 alone does, with ρ or with ξ.
+/// Nobody holds it, or slot 0 alone does: with ρ, with ξ, or with updater's ρ.
 const NONE: Report = (0, 0, 16);
 const RHO: Report = (1, 1, 0);
 const XI: Report = (2, 1, 0);
+const UPDATER: Report = (3, 1, 0);
 
 /// The report of every page.
 fn reports(run: &Run) -> Vec<Report> {
@@ -40,7 +41,7 @@ fn stands(op: Op, held: u32, want: u32, lock: Lock) -> Slot {
 fn judge(run: &mut Run, op: Op, steps: &[(Answer, Slot, &[Report])]) {
     let nobody = vec![NONE; run.n as usize];
     assert_eq!(run.begin(0, op), Answer::Begun);
-    assert_eq!(run.state.slots[0], begun(op, Lock::Rho));
+    assert_eq!(run.state.slots[0], begun(op, Lock::UpdaterRho));
     assert_eq!(reports(run), nobody);
     for (at, &(answer, slot, held)) in steps.iter().enumerate() {
         assert_eq!(run.step(0), answer, "{op:?}, step {at}");
@@ -51,11 +52,11 @@ fn judge(run: &mut Run, op: Op, steps: &[(Answer, Slot, &[Report])]) {
     assert_eq!(reports(run), nobody);
 }
 
-/// One that ends at its leaf, in E: page 0 is held meanwhile, with ρ.
+/// One that ends at its leaf, in E: page 0 is held meanwhile, with updater's ρ.
 fn judge_in_e(run: &mut Run, op: Op, leaf: u32, answer: Answer) {
     let above = stands(op, 0, leaf, Lock::Xi);
     let steps = [
-        (Answer::Moved, above, &[RHO, NONE, NONE][..]),
+        (Answer::Moved, above, &[UPDATER, NONE, NONE][..]),
         (answer, Slot::CLOSED, &[NONE, NONE, NONE]),
     ];
     judge(run, op, &steps);
@@ -88,7 +89,7 @@ fn a_full_leaf_begins_again() {
         };
         let all = |top: Report| [vec![top], vec![NONE; n as usize - 1]].concat();
         let steps = [
-            (Answer::Moved, stands(op, 0, 2, Lock::Xi), &all(RHO)[..]),
+            (Answer::Moved, stands(op, 0, 2, Lock::Xi), &all(UPDATER)[..]),
             (Answer::Moved, begun(first, Lock::Xi), &all(NONE)),
             (Answer::Moved, stands(first, 0, 2, Lock::Xi), &all(XI)),
             (answer, Slot::CLOSED, &all(NONE)),
@@ -145,7 +146,7 @@ fn a_leaf_that_would_be_short_begins_again() {
         (
             Answer::Moved,
             stands(op, 0, 1, Lock::Xi),
-            &[RHO, NONE, NONE][..],
+            &[UPDATER, NONE, NONE][..],
         ),
         (Answer::Moved, begun(first, Lock::Xi), &[NONE, NONE, NONE]),
         (
@@ -216,11 +217,15 @@ fn it_gives_up_its_father() {
     ] {
         let held = |page: u32| {
             let mut reports = [NONE; 8];
-            reports[page as usize] = RHO;
+            reports[page as usize] = UPDATER;
             reports
         };
         let steps = [
-            (Answer::Moved, stands(op, 0, upper, Lock::Rho), &held(0)[..]),
+            (
+                Answer::Moved,
+                stands(op, 0, upper, Lock::UpdaterRho),
+                &held(0)[..],
+            ),
             (
                 Answer::Moved,
                 stands(op, upper, leaf, Lock::Xi),
@@ -269,7 +274,7 @@ fn with_a_search_on_the_top_page() {
             run.begin(slot, op);
             assert_eq!(run.step(slot), Answer::Moved);
         }
-        assert_eq!(reports(&run), [(1, 2, 0), NONE, NONE]);
+        assert_eq!(reports(&run), [(3, 2, 0), NONE, NONE]);
         // on the leaf they clash, and the older want goes first
         let expected = [Answer::Inserted, Answer::Found(7)];
         assert_eq!(run.step(1), Answer::Waiting);
@@ -277,6 +282,29 @@ fn with_a_search_on_the_top_page() {
         assert_eq!(run.step(1), expected[1 - update]);
         run.check();
     }
+}
+
+/// "a lock report gives the first that is there of ξ, α, updater's ρ, ρ": not that of the lowest holder, who is told beside it.
+#[test]
+fn a_report_tells_the_strongest_kind() {
+    let mut run = three_levels();
+    let ops = [
+        Op::Search(10),
+        Op::Next(45),
+        Op::Insert(45, 7, Second),
+        Op::Search(50),
+    ];
+    for (slot, op) in ops.into_iter().enumerate() {
+        run.begin(slot, op);
+        assert_eq!(run.step(slot), Answer::Moved);
+    }
+    assert_eq!(reports(&run)[0], (3, 4, 0));
+    // one after the other goes down
+    for (slot, told) in [(0, (3, 3, 1)), (2, (1, 2, 1)), (3, (1, 1, 1))] {
+        assert_eq!(run.step(slot), Answer::Moved);
+        assert_eq!(reports(&run)[0], told);
+    }
+    assert_eq!(reports(&run)[6], (3, 2, 2));
 }
 
 /// Case J by the second way: the deletion does not wait.
@@ -302,7 +330,7 @@ fn with_an_update_of_the_first_way() {
     assert_eq!(run.step(1), Answer::Waiting);
     assert_eq!(run.step(0), Answer::NoRoom);
     assert_eq!(run.step(1), Answer::Moved);
-    // it holds page 0, with ρ
+    // it holds page 0, with updater's ρ
     run.begin(0, Op::Insert(6, 7, First));
     assert_eq!(run.step(0), Answer::Waiting);
     assert_eq!(run.step(1), Answer::Inserted);
@@ -318,7 +346,7 @@ fn behind_a_next_that_rests_on_the_leaf() {
     assert_eq!(reports(&run), [RHO, RHO, NONE]);
     run.begin(1, Op::Insert(5, 7, Second));
     assert_eq!(run.step(1), Answer::Moved);
-    assert_eq!(reports(&run), [(1, 2, 0), RHO, NONE]);
+    assert_eq!(reports(&run), [(3, 2, 0), RHO, NONE]);
     assert_eq!(run.step(1), Answer::Waiting);
     // the other leaf has an older want, with ρ
     run.begin(2, Op::Delete(20, Second));
@@ -351,10 +379,10 @@ fn two_insertions_on_one_leaf() {
     run.begin(1, Op::Insert(6, 7, Second));
     assert_eq!(run.step(0), Answer::Moved);
     assert_eq!(run.step(1), Answer::Moved);
-    assert_eq!(reports(&run), [(1, 2, 0), NONE, NONE, NONE]);
+    assert_eq!(reports(&run), [(3, 2, 0), NONE, NONE, NONE]);
     assert_eq!(run.step(1), Answer::Waiting);
     assert_eq!(run.step(0), Answer::Inserted);
-    assert_eq!(reports(&run), [(1, 1, 1), NONE, NONE, NONE]);
+    assert_eq!(reports(&run), [(3, 1, 1), NONE, NONE, NONE]);
     assert_eq!(run.step(1), Answer::Moved);
     assert_eq!(reports(&run), [NONE; 4]);
     assert_eq!(run.step(1), Answer::Moved);
@@ -465,27 +493,32 @@ fn what_it_may_hold_and_want() {
     for (op, answer) in UPDATES {
         let says =
             |path: &[u32], want, lock| says(Slot::open(op, want, path, &[]).wanting(lock), None);
-        // nothing held, page 0 wanted with ρ
-        assert_eq!(says(&[], 0, Lock::Rho), Answer::Moved);
+        // nothing held, page 0 wanted with updater's ρ
+        assert_eq!(says(&[], 0, Lock::UpdaterRho), Answer::Moved);
         assert_eq!(says(&[], 0, Lock::Xi), Answer::Damaged);
         for page in [1, 5, 7] {
-            assert_eq!(says(&[], page, Lock::Rho), Answer::Damaged);
+            assert_eq!(says(&[], page, Lock::UpdaterRho), Answer::Damaged);
         }
-        // one upper page held, its route wanted, below level 3 with ρ and below level 2 with ξ
-        assert_eq!(says(&[0], 5, Lock::Rho), Answer::Moved);
+        // one upper page held, its route wanted, below level 3 with updater's ρ and below level 2 with ξ
+        assert_eq!(says(&[0], 5, Lock::UpdaterRho), Answer::Moved);
         assert_eq!(says(&[0], 5, Lock::Xi), Answer::Damaged);
         assert_eq!(says(&[5], 2, Lock::Xi), answer);
-        assert_eq!(says(&[5], 2, Lock::Rho), Answer::Damaged);
-        assert_eq!(says(&[0], 6, Lock::Rho), Answer::Damaged);
+        assert_eq!(says(&[5], 2, Lock::UpdaterRho), Answer::Damaged);
+        assert_eq!(says(&[0], 6, Lock::UpdaterRho), Answer::Damaged);
         assert_eq!(says(&[5], 1, Lock::Xi), Answer::Damaged);
         // it never rests on its leaf
-        for (want, lock) in [(0, Lock::Rho), (1, Lock::Xi), (5, Lock::Rho), (6, Lock::Xi)] {
+        for (want, lock) in [
+            (0, Lock::UpdaterRho),
+            (1, Lock::Xi),
+            (5, Lock::UpdaterRho),
+            (6, Lock::Xi),
+        ] {
             assert_eq!(says(&[2], want, lock), Answer::Damaged);
         }
     }
 }
 
-/// The clauses of a sound state: one page at most, none beside it, ρ or ξ wanted, no page above the last, none that it holds.
+/// The clauses of a sound state: one page at most, none beside it, updater's ρ or ξ wanted, no page above the last, none that it holds.
 #[test]
 fn what_is_no_sound_state() {
     for (op, _) in UPDATES {
@@ -496,14 +529,33 @@ fn what_is_no_sound_state() {
         assert_eq!(says(&[0, 5], &[], 2, Lock::Xi), Answer::BadState);
         assert_eq!(says(&[5], &[1], 2, Lock::Xi), Answer::BadState);
         assert_eq!(says(&[], &[1], 2, Lock::Xi), Answer::BadState);
-        assert_eq!(says(&[5], &[], 2, Lock::None), Answer::BadState);
+        for lock in [Lock::None, Lock::Rho, Lock::Alpha] {
+            assert_eq!(says(&[5], &[], 2, lock), Answer::BadState);
+        }
         assert_eq!(says(&[5], &[], 5, Lock::Xi), Answer::BadState);
         assert_eq!(says(&[5], &[], 8, Lock::Xi), Answer::BadState);
         assert_eq!(says(&[8], &[], 2, Lock::Xi), Answer::BadState);
     }
 }
 
-/// A page that it holds may be held by others with ρ, and not with ξ; its want with ξ is no lock yet.
+/// Its one page is held under updater's ρ and no other kind, whatever is wanted.
+#[test]
+fn the_kind_of_what_it_holds() {
+    for (op, answer) in UPDATES {
+        let (above, next) = (
+            stands(op, 0, 5, Lock::UpdaterRho),
+            stands(op, 5, 2, Lock::Xi),
+        );
+        for (slot, right) in [(above, Answer::Moved), (next, answer)] {
+            assert_eq!(says(slot.holding(Lock::UpdaterRho), None), right);
+            for lock in [Lock::None, Lock::Rho, Lock::Xi, Lock::Alpha] {
+                assert_eq!(says(slot.holding(lock), None), Answer::BadState);
+            }
+        }
+    }
+}
+
+/// A page that it holds may be held by others with ρ or updater's ρ, and not with ξ; its want with ξ is no lock yet.
 #[test]
 fn who_holds_a_page_beside_it() {
     for (op, _) in UPDATES {
@@ -540,11 +592,11 @@ fn damaged_pages() {
         assert_eq!(on_leaf((0, 9)), answer);
         assert_eq!(on_leaf((7, 9)), answer);
         // from page 5 it would want the page that it then holds
-        let back = says(stands(op, 0, 5, Lock::Rho), Some((FIVE + 4, 5)));
+        let back = says(stands(op, 0, 5, Lock::UpdaterRho), Some((FIVE + 4, 5)));
         assert_eq!(back, Answer::Damaged);
         // page 0 as it is begun with, damaged
         for (at, word) in [(0, 0), (0, 11), (1, 3), (6, 1), (4, 5)] {
-            let begun = says(begun(op, Lock::Rho), Some((at, word)));
+            let begun = says(begun(op, Lock::UpdaterRho), Some((at, word)));
             assert_eq!(begun, Answer::Damaged, "{op:?} {at} {word}");
         }
     }
@@ -561,7 +613,7 @@ fn the_lock_goes_by_the_level_held() {
         run.step(0);
         assert_eq!(run.state.slots[0], stands(op, 0, 2, Lock::Xi));
         // page 5 on level 3 leads to no page on level 2, whatever is wanted
-        for lock in [Lock::Rho, Lock::Xi] {
+        for lock in [Lock::UpdaterRho, Lock::Xi] {
             let answer = says(stands(op, 5, 2, lock), Some((five, 3)));
             assert_eq!(answer, Answer::Damaged);
         }

@@ -34,7 +34,14 @@ fn spoil(random: &mut Random, state: &mut State) {
     let number = random.below(16) as usize;
     let way = random.one(&Way::BOTH);
     let slot = &mut state.slots[number];
-    match random.below(15) {
+    let lock = random.one(&[
+        Lock::None,
+        Lock::Rho,
+        Lock::Xi,
+        Lock::UpdaterRho,
+        Lock::Alpha,
+    ]);
+    match random.below(17) {
         0 => state.k = drawn,
         1 => state.n = drawn,
         2 => state.waiting = drawn as usize,
@@ -47,8 +54,10 @@ fn spoil(random: &mut Random, state: &mut State) {
         9 => slot.op = None,
         10 => slot.op = Some(Op::Next(drawn)),
         11 => slot.op = Some(Op::Regrade(drawn, 1, way)),
-        12 => slot.lock = random.one(&[Lock::None, Lock::Rho, Lock::Xi]),
+        12 => slot.lock = lock,
         13 => slot.op = slot.op.map(|op| op.by(way)),
+        14 => slot.path_locks[cell] = lock,
+        15 => slot.sibling_locks[cell] = lock,
         _ => slot.op = Some(Op::Delete(drawn, way)),
     }
 }

@@ -187,6 +187,8 @@ fn calls(name: &str, arguments: &[Value]) -> Option<Value> {
         ("None", []) => Number(0),
         ("Rho", []) => Number(1),
         ("Xi", []) => Number(2),
+        ("UpdaterRho", []) => Number(3),
+        ("Alpha", []) => Number(4),
         ("Search", [Number(key)]) => Value::Op(Op::Search(*key)),
         ("First", []) => Value::Way(Way::First),
         ("Second", []) => Value::Way(Way::Second),
@@ -237,7 +239,7 @@ fn place(name: &str, arguments: &[Value]) -> Option<Value> {
         }
         ("slotWanting", [Number(n), Value::Op(op), Number(want), Number(lock), path, beside]) => {
             let slot = open(*op, *want, &numbers(path), &numbers(beside));
-            opened(*n, &[slot.wanting(Lock::of(*lock)?)])
+            opened(*n, &[slot.wanting(Lock::of(*lock))])
         }
         ("ran", [List(_), Value::State(state), words]) => {
             let (state, words) = (**state, numbers(words));
@@ -276,8 +278,17 @@ fn place(name: &str, arguments: &[Value]) -> Option<Value> {
         }
         ("together", [Value::Op(one), Value::Op(other)]) => {
             let slots = [(one, 1), (other, 2)].map(|(op, want)| open(*op, want, &[5], &[]));
-            let from = [List(Vec::new()), opened(7, &slots), read("tensWords")];
-            applied("answers", &[applied("ran", &from), read("report 5 ∷ []")])
+            look_at_five(&slots)
+        }
+        ("carried", [Value::Op(op), path, locks, beside, sidelocks]) => {
+            let mut slot = open(*op, 6, &numbers(path), &numbers(beside));
+            lay(locks, &mut slot.path_locks);
+            lay(sidelocks, &mut slot.sibling_locks);
+            look_at_five(&[slot])
+        }
+        ("carriedOne", [Value::Op(op), Number(lock)]) => {
+            let slot = open(*op, 6, &[5], &[]);
+            look_at_five(&[slot.holding(Lock::of(*lock))])
         }
         ("once", [from]) => applied("answers", &[from.clone(), read("step 0 ∷ []")]),
         ("damaged", [from, Number(at), Number(word)]) => with_words(from, *at, &[*word]),
@@ -326,6 +337,19 @@ fn open(op: Op, want: u32, path: &[u32], beside: &[u32]) -> Slot {
     let mut slot = Slot::open(op, want, &path[..path.len().min(10)], beside);
     slot.depth = path.len();
     slot
+}
+
+/// Kinds of lock, by number, in the first cells.
+fn lay(locks: &Value, cells: &mut [Lock]) {
+    for (cell, lock) in cells.iter_mut().zip(numbers(locks)) {
+        *cell = Lock::of(lock);
+    }
+}
+
+/// What a report for page 5 says of three levels, in which these slots are open.
+fn look_at_five(slots: &[Slot]) -> Value {
+    let from = [List(Vec::new()), opened(7, slots), read("tensWords")];
+    applied("answers", &[applied("ran", &from), read("report 5 ∷ []")])
 }
 
 /// A state in which these slots are open, from slot 0 on, the lower one's want older.
@@ -379,7 +403,7 @@ fn every_row_is_heard() {
         ("regradeRows", 15),
         ("wideRows", 29),
         ("damageRows", 58),
-        ("secondRows", 76),
+        ("secondRows", 87),
     ] {
         let rows = list(&defined(name).expect("it is there"));
         assert_eq!(rows.len(), length, "{name}");

@@ -108,6 +108,7 @@ struct Reached {
     again: u64,
     at_once: u64,
     unbarred: u64,
+    mixed: u64,
 }
 
 impl Reached {
@@ -120,6 +121,7 @@ impl Reached {
         self.again += run.again;
         self.at_once += run.at_once;
         self.unbarred += run.unbarred;
+        self.mixed += run.mixed;
     }
 
     /// How often a `Next` had so many pages beside its path, or more.
@@ -151,6 +153,7 @@ fn small_pools() {
     assert!(reached.tallest >= 4);
     assert!(reached.beside_from(1) > 100);
     assert!(reached.again > 1000 && reached.at_once > 1000 && reached.unbarred > 1000);
+    assert!(reached.mixed > 1000);
 }
 
 #[test]
@@ -183,6 +186,7 @@ fn large_pools() {
     assert!(reached.tallest >= 6);
     assert!(reached.beside_from(2) > 100);
     assert!(reached.again > 1000 && reached.at_once > 1000 && reached.unbarred > 100);
+    assert!(reached.mixed > 1000);
 }
 
 #[test]

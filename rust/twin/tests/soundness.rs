@@ -1,4 +1,4 @@
-//! When a state is sound, clause by clause of document 01: a state that breaks one clause alone is
+//! When a state is sound, clause by clause of document 01 and of 02 (vi): a state that breaks one clause alone is
 //! BadState for every call, and the state beside it, just inside the limit, is not.
 
 use twin::Way::{First, Second};
@@ -15,24 +15,30 @@ fn idle() -> (State, Vec<u32>) {
     (state, words)
 }
 
-/// A slot that holds these pages and wants one more, with the kind of lock that it begins with.
-fn slot(op: Op, want: u32, path: &[u32], siblings: &[u32]) -> Slot {
-    let lock = match op {
+/// The kind of lock with which an operation goes down.
+fn own(op: Op) -> Lock {
+    match op {
         Op::Search(_) | Op::Next(_) => Lock::Rho,
         Op::Insert(_, _, way) | Op::Delete(_, way) | Op::Regrade(_, _, way) => match way {
             First => Lock::Xi,
-            Second => Lock::Rho,
+            Second => Lock::UpdaterRho,
         },
-    };
+    }
+}
+
+/// A slot that holds these pages and wants one more, all with the kind of lock with which it goes down.
+fn slot(op: Op, want: u32, path: &[u32], siblings: &[u32]) -> Slot {
     let mut slot = Slot {
         op: Some(op),
         want,
-        lock,
+        lock: own(op),
         ..Slot::CLOSED
     };
     slot.path[..path.len()].copy_from_slice(path);
+    slot.path_locks[..path.len()].fill(own(op));
     slot.depth = path.len();
     slot.siblings[..siblings.len()].copy_from_slice(siblings);
+    slot.sibling_locks[..siblings.len()].fill(own(op));
     slot.beside = siblings.len();
     slot
 }
@@ -65,6 +71,15 @@ const SECOND: [Op; 3] = [
     Op::Insert(5, 1, Second),
     Op::Delete(5, Second),
     Op::Regrade(5, 1, Second),
+];
+
+/// Every kind of lock, and none.
+const LOCKS: [Lock; 5] = [
+    Lock::None,
+    Lock::Rho,
+    Lock::Xi,
+    Lock::UpdaterRho,
+    Lock::Alpha,
 ];
 
 /// The first pages, from 1.
@@ -174,6 +189,7 @@ fn how_many_pages_an_operation_holds() {
         let siblings = [20, 21, 22, 23, 24, 25, 26, 27, 28];
         let mut more = with(&[(0, slot(op, 50, &pages(10), &siblings))]);
         more.slots[0].beside = 10;
+        more.slots[0].sibling_locks[9] = own(op);
         assert!(bad(&more), "{op:?}");
     }
 }
@@ -188,26 +204,73 @@ fn a_closed_slot_holds_nothing() {
     let (mut state, _) = idle();
     state.slots[9].want = 9999;
     state.slots[9].lock = Lock::Xi;
+    state.slots[9].path_locks = [Lock::Alpha; 10];
     assert!(
         !bad(&state),
         "a closed slot names no page, and no lock for one"
     );
 }
 
+/// Every operation by every way that it has.
+fn operations() -> Vec<Op> {
+    let read = [Op::Search(5), Op::Next(5)];
+    let first = SECOND.map(|op| op.by(First));
+    [&read[..], &first, &SECOND].concat()
+}
+
 #[test]
 fn a_lock_is_one_that_the_operation_can_want_at_all() {
-    let wants = |op, lock| !bad(&with(&[(0, slot(op, 4, &[1], &[]).wanting(lock))]));
-    for op in [Op::Search(5), Op::Next(5)] {
-        assert!(wants(op, Lock::Rho) && !wants(op, Lock::Xi) && !wants(op, Lock::None));
-    }
-    for op in SECOND {
-        let first = op.by(First);
-        assert!(wants(first, Lock::Xi) && !wants(first, Lock::Rho) && !wants(first, Lock::None));
-        // which of the two is due goes by the pages
-        assert!(wants(op, Lock::Rho) && wants(op, Lock::Xi) && !wants(op, Lock::None));
+    for op in operations() {
+        for lock in LOCKS {
+            let wants = |path: &[u32]| !bad(&with(&[(0, slot(op, 4, path, &[]).wanting(lock))]));
+            // which of two is due goes by the pages
+            let can = lock == own(op) || (SECOND.contains(&op) && lock == Lock::Xi);
+            assert_eq!((wants(&[1]), wants(&[])), (can, can), "{op:?} {lock:?}");
+        }
     }
 }
 
+/// "Each held page now carries its kind": it is the one with which the operation goes down, of every page that is held.
+#[test]
+fn a_page_is_held_under_a_kind_that_the_operation_can_hold() {
+    for op in operations() {
+        for lock in LOCKS {
+            let right = lock == own(op);
+            let mut one = slot(op, 40, &[1], &[]);
+            one.path_locks[0] = lock;
+            assert_eq!(bad(&with(&[(3, one)])), !right, "{op:?} {lock:?}");
+            // a cell behind the path, and one beside it, hold nothing
+            let mut behind = slot(op, 40, &[1], &[]);
+            (behind.path_locks[1], behind.sibling_locks[0]) = (lock, lock);
+            assert!(!bad(&with(&[(3, behind)])), "{op:?} {lock:?}");
+            // the same before the first page is granted
+            let mut begun = slot(op, 0, &[], &[]);
+            (begun.path_locks[0], begun.sibling_locks[0]) = (lock, lock);
+            assert!(!bad(&with(&[(3, begun)])), "{op:?} {lock:?}");
+        }
+    }
+}
+
+#[test]
+fn the_kind_of_each_of_many_is_looked_at() {
+    for op in [Op::Delete(5, First), Op::Next(5)] {
+        let siblings = [20, 21, 22, 23, 24, 25, 26, 27, 28];
+        let many = slot(op, 40, &pages(10), &siblings);
+        assert!(!bad(&with(&[(3, many)])));
+        for lock in LOCKS.into_iter().filter(|&lock| lock != own(op)) {
+            for at in 0..19 {
+                let mut wrong = many;
+                match at {
+                    ..10 => wrong.path_locks[at] = lock,
+                    _ => wrong.sibling_locks[at - 10] = lock,
+                }
+                assert!(bad(&with(&[(3, wrong)])), "{op:?} {lock:?} {at}");
+            }
+        }
+    }
+}
+
+/// "a sound state has no clashing kinds on a page"
 #[test]
 fn no_updated_page_is_held_by_another_slot() {
     let (search, insert, delete) = (Op::Search(5), Op::Insert(5, 1, First), Op::Delete(5, First));
@@ -230,7 +293,7 @@ fn no_updated_page_is_held_by_another_slot() {
     for op in [search, next, insert, delete, regrade] {
         assert!(both(regrade, op) && both(op, regrade), "{op:?}");
     }
-    // by the second way a page is held with ρ, whatever is wanted next
+    // by the second way a page is held with updater's ρ, whatever is wanted next
     for op in SECOND {
         assert!(!both(op, search) && !both(search, op) && !both(op, next) && !both(next, op));
         assert!(SECOND.iter().all(|&other| !both(op, other)));

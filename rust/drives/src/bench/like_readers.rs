@@ -1,7 +1,7 @@
-//! Updates that go down like readers, as 02 (v) has them.
+//! Updates that go down like readers, as 02 (v) has them, and the kind of lock with which they do, as 02 (vi) has it.
 
-use twin::Way::Second;
-use twin::{Answer, Op};
+use twin::Way::{First, Second};
+use twin::{at, row, Answer, Op, HALF};
 
 use super::{
     three_levels, waits, Case, ALREADY_THERE, DELETED, E, FOUND, INFORMATION, INSERT, REGRADED,
@@ -11,13 +11,16 @@ use super::{
 /// An insertion by the second way, of a key for cases of who waits.
 const SECOND: Op = Op::Insert(5, INFORMATION, Second);
 
-/// What a report says of a page: nobody holds it, or one slot does with ρ, or with ξ.
+/// What a report says of a page: nobody holds it; slot 0 does alone, with ρ, with ξ, or with updater's ρ; or two slots do, and one of them
+/// with updater's ρ.
 const NOBODY: Answer = Answer::Reported(0, 0, 16);
 const RHO: Answer = Answer::Reported(1, 1, 0);
 const XI: Answer = Answer::Reported(2, 1, 0);
+const UPDATER: Answer = Answer::Reported(3, 1, 0);
+const WITH_UPDATER: Answer = Answer::Reported(3, 2, 0);
 
 pub(super) fn cases() -> Vec<Case> {
-    [at_once(), changed(), again(), together()]
+    [at_once(), changed(), again(), together(), kinds()]
         .into_iter()
         .flatten()
         .collect()
@@ -67,20 +70,20 @@ fn changed() -> Vec<Case> {
     vec![room, spare, regraded, holds_one()]
 }
 
-/// "ρ-locks down, a ξ-lock wanted on the leaf"
+/// "ρ-locks down, a ξ-lock wanted on the leaf"; and "The ρ of (v) becomes a kind of its own, updater's ρ."
 fn holds_one() -> Case {
     let mut case = three_levels("by the second way one page is held, with others");
     case.begin(0, Op::Insert(15, 7, Second), Answer::Begun);
     case.call("t 0", Answer::Moved);
-    case.call("r 0", RHO);
+    case.call("r 0", UPDATER);
     case.call("t 0", Answer::Moved);
     case.call("r 0", NOBODY);
-    case.call("r 5", RHO);
+    case.call("r 5", UPDATER);
     case.call("r 1", NOBODY);
     case.begin(1, Op::Search(20), Answer::Begun);
     case.call("t 1", Answer::Moved);
     case.call("t 1", Answer::Moved);
-    case.call("r 5", Answer::Reported(1, 2, 0));
+    case.call("r 5", WITH_UPDATER);
     case.call("t 0", Answer::Inserted);
     case.call("t 1", FOUND);
     case
@@ -90,7 +93,7 @@ fn holds_one() -> Case {
 fn again() -> Vec<Case> {
     let mut full = from_e_with_room("a full leaf begins again");
     full.begin(0, Op::Insert(25, 7, Second), Answer::Begun);
-    for report in [RHO, NOBODY, XI] {
+    for report in [UPDATER, NOBODY, XI] {
         full.call("t 0", Answer::Moved);
         full.call("r 0", report);
         full.call("r 2", NOBODY);
@@ -108,7 +111,7 @@ fn again() -> Vec<Case> {
     held.begin(0, Op::Delete(20, Second), Answer::Begun);
     held.call("t 0", Answer::Moved);
     held.call("t 0", Answer::Moved);
-    held.call("r 5", RHO);
+    held.call("r 5", UPDATER);
     held.call("t 0", Answer::Moved);
     held.call("r 5", NOBODY);
     held.call("t 0", Answer::Moved);
@@ -165,7 +168,7 @@ fn together() -> Vec<Case> {
     j.call("t 0", Answer::Moved);
     j.begin(1, Op::Delete(20, Second), Answer::Begun);
     j.call("t 1", Answer::Moved);
-    j.call("r 0", Answer::Reported(1, 2, 0));
+    j.call("r 0", WITH_UPDATER);
     j.call("t 1", DELETED);
     j.call("t 0", FOUND);
 
@@ -232,7 +235,7 @@ fn on_one_leaf() -> Case {
     case.begin(1, Op::Insert(6, 7, Second), Answer::Begun);
     case.call("t 0", Answer::Moved);
     case.call("t 1", Answer::Moved);
-    case.call("r 0", Answer::Reported(1, 2, 0));
+    case.call("r 0", WITH_UPDATER);
     case.call("t 1", Answer::Waiting);
     case.call("t 0", Answer::Inserted);
     case.call("t 1", Answer::Moved);
@@ -259,5 +262,44 @@ fn together_in_a_leaf() -> Case {
     case.call("t 1", Answer::Waiting);
     case.call("t 0", Answer::Inserted);
     case.call("t 1", FOUND);
+    case
+}
+
+/// The kinds of lock on a page.
+fn kinds() -> Vec<Case> {
+    // "a lock report gives the first that is there of ξ, α, updater's ρ, ρ": the lowest holder is told beside it
+    let mut strongest = Case::from_e("a report tells the strongest kind");
+    strongest.begin(0, Op::Search(10), Answer::Begun);
+    strongest.call("t 0", Answer::Moved);
+    strongest.call("r 0", RHO);
+    strongest.begin(1, SECOND, Answer::Begun);
+    strongest.call("t 1", Answer::Moved);
+    strongest.call("r 0", WITH_UPDATER);
+    strongest.call("t 0", FOUND);
+    strongest.call("r 0", Answer::Reported(3, 1, 1));
+
+    vec![
+        strongest,
+        carried("a page held by a search", Op::Search(10), 1),
+        carried("a page held by the first way", Op::Delete(10, First), 2),
+        carried("a page held by the second way", SECOND, 3),
+    ]
+}
+
+/// "Each held page now carries its kind": page 0 is held with the operation's own kind; with every other number there the state is not sound.
+fn carried(name: &'static str, op: Op, own: u32) -> Case {
+    let mut case = Case::from_e(name);
+    case.begin(0, op, Answer::Begun);
+    case.call("t 0", Answer::Moved);
+    for number in [0, 1, 2, 3, 4, 5, 7, own] {
+        let word = HALF * number;
+        case.lines.push(format!("s {} {word}", at(row::PATH, 0)));
+        let answer = if number == own {
+            Answer::Reported(own, 1, 0)
+        } else {
+            Answer::BadState
+        };
+        case.call("r 0", answer);
+    }
     case
 }

@@ -3,8 +3,8 @@
 use drive_twin::Calls;
 use twin::row::{COUNT, DEPTH, INFORMATION, KEY, KIND, LOCK, PATH};
 use twin::{
-    at, begin_lent, kind, report_lent, step_lent, words_of, Answer, Lock, Op, State, Way, SLOTS,
-    STATE,
+    at, begin_lent, held_in, held_word, kind, report_lent, step_lent, words_of, Answer, Lock, Op,
+    State, Way, SLOTS, STATE,
 };
 
 use crate::{alone, is_second};
@@ -12,7 +12,7 @@ use crate::{alone, is_second};
 /// A call that something is wrong with.
 #[derive(Clone, Copy, Debug)]
 pub enum SecondBug {
-    /// The leaf is wanted with ρ, and so changed under it.
+    /// The leaf is wanted with updater's ρ, and so changed under it.
     LeafUnderRho,
     /// ξ is wanted above the leaf too.
     XiAbove,
@@ -95,7 +95,7 @@ impl Calls for SecondBug {
     fn report(&self, state: &[u32; STATE], page: u32) -> Answer {
         let answer = self.spoiled(&mut state.clone(), |state| report_lent(state, page));
         match (self, answer) {
-            (SecondBug::ReportedXi, Answer::Reported(1, holders, lowest))
+            (SecondBug::ReportedXi, Answer::Reported(3, holders, lowest))
                 if is_second(state, lowest as usize) =>
             {
                 Answer::Reported(2, holders, lowest)
@@ -111,7 +111,7 @@ impl SecondBug {
         let before = *state;
         if let SecondBug::LeafWantOverlooked = self {
             for other in (0..SLOTS).filter(|&other| other != slot && is_second(&before, other)) {
-                state[at(LOCK, other)] = Lock::Rho.number();
+                state[at(LOCK, other)] = Lock::UpdaterRho.number();
             }
         }
         let answer = step_lent(state, words, slot);
@@ -124,8 +124,8 @@ impl SecondBug {
         if !is_meant {
             return answer;
         }
-        // the lock that is not wanted is 1 or 2, and the two make 3
-        state[at(LOCK, slot)] = 3 - before[at(LOCK, slot)];
+        // the lock that is not wanted is 2 or 3, and the two make 5
+        state[at(LOCK, slot)] = 5 - before[at(LOCK, slot)];
         let answer = step_alone(state, words, slot);
         if answer == Answer::Damaged {
             *state = before;
@@ -143,15 +143,15 @@ impl SecondBug {
     ) -> Answer {
         let holds = before[at(DEPTH, slot)] > 0;
         match self {
-            SecondBug::AgainKeepsLock => {
-                for row in [DEPTH, PATH] {
-                    state[at(row, slot)] = before[at(row, slot)];
-                }
+            SecondBug::AgainKeepsLock if holds => {
+                let (page, _) = held_in(before[at(PATH, slot)]);
+                state[at(PATH, slot)] = held_word(page, Lock::Xi);
+                state[at(DEPTH, slot)] = 1;
             }
             SecondBug::AgainKeepsPlace => state[3..19].copy_from_slice(&before[3..19]),
             SecondBug::AgainBySecond => {
                 state[at(KIND, slot)] = before[at(KIND, slot)];
-                state[at(LOCK, slot)] = Lock::Rho.number();
+                state[at(LOCK, slot)] = Lock::UpdaterRho.number();
             }
             SecondBug::RootLeafAtOnce if !holds => return step_alone(state, words, slot),
             SecondBug::UnsafeLeafChanged if holds => {
@@ -197,7 +197,7 @@ impl SecondBug {
     /// Another lock than the due one is wanted.
     fn want_otherwise(&self, state: &mut [u32; STATE], slot: usize) {
         let lock = match self {
-            SecondBug::LeafUnderRho => Lock::Rho,
+            SecondBug::LeafUnderRho => Lock::UpdaterRho,
             SecondBug::XiAbove => Lock::Xi,
             _ => return,
         };
@@ -228,10 +228,9 @@ impl SecondBug {
             SecondBug::HoldsTwo if is_second(state, slot) && state[at(DEPTH, slot)] == 2 => {
                 state[at(DEPTH, slot)] = 1;
             }
-            SecondBug::LockNotLookedAt if Op::of(kind, 0, 0).is_some() => {
-                let is_right = |op: &Op| Lock::of(lock).is_some_and(|lock| op.may_want(lock));
-                if !Op::of(kind, 0, 0).is_some_and(|op| is_right(&op)) {
-                    let op = asked(state, slot);
+            SecondBug::LockNotLookedAt => {
+                let op = Op::of(kind, 0, 0).filter(|op| !op.may_want(Lock::of(lock)));
+                if let Some(op) = op {
                     state[at(LOCK, slot)] = op.holds().number();
                 }
             }

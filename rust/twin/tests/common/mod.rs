@@ -39,6 +39,8 @@ pub struct Run {
     pub at_once: u64,
     /// How many steps wanted an upper page where nobody updated by the first way.
     pub unbarred: u64,
+    /// How many steps left a page that one slot reads and another one holds with updater's ρ.
+    pub mixed: u64,
 }
 
 impl Run {
@@ -62,6 +64,7 @@ impl Run {
             again: 0,
             at_once: 0,
             unbarred: 0,
+            mixed: 0,
         }
     }
 
@@ -108,6 +111,7 @@ impl Run {
         }
         self.state = next;
         self.tallest = self.tallest.max(self.words[0]);
+        self.mixed += u64::from(self.is_mixed(slot));
         self.check_slot(slot);
         if let (Op::Next(_), Answer::Moved) = (op, answer) {
             self.beside[self.state.slots[slot].beside] += 1;
@@ -116,7 +120,7 @@ impl Run {
     }
 
     /// Whether another slot is in a slot's way, as demand 2 has it: it holds the wanted page, or wants it too and has waited longer;
-    /// and one of the two locks is for one slot alone.
+    /// and one of the two locks is for one slot alone. The others, ρ and updater's ρ, go together.
     fn is_in_the_way(&self, slot: usize) -> bool {
         let state = &self.state;
         let waits_since = |slot| state.order().iter().position(|&own| own == slot);
@@ -341,17 +345,16 @@ impl Run {
                 holders.entry(page).or_default().push(number);
             }
         }
-        let shares = |slot: &usize| way(&self.state, *slot) != Some(First);
         for page in 0..self.n {
             let by = holders.get(&page).cloned().unwrap_or_default();
-            let all_share = by.iter().all(shares);
-            assert!(by.len() < 2 || all_share);
-            let kind = if by.is_empty() {
-                0
-            } else if all_share {
-                1
-            } else {
+            let goes = |its| by.iter().any(|&slot| way(&self.state, slot) == its);
+            assert!(by.len() < 2 || !goes(Some(First)));
+            let kind = if goes(Some(First)) {
                 2
+            } else if goes(Some(Second)) {
+                3
+            } else {
+                u32::from(goes(None))
             };
             let lowest = by.first().map_or(16, |&slot| slot as u32);
             assert_eq!(

@@ -46,14 +46,34 @@ impl Run {
         }
     }
 
+    /// Whether a slot holds a page that another slot holds too, one of them with ρ and one with updater's ρ.
+    pub fn is_mixed(&self, slot: usize) -> bool {
+        let mut held = self.state.slots[slot].held_with();
+        held.any(|(page, lock)| {
+            let other = match lock {
+                Lock::Rho => Lock::UpdaterRho,
+                Lock::UpdaterRho => Lock::Rho,
+                _ => return false,
+            };
+            let mut slots = self.state.slots.iter();
+            slots.any(|its| its.lock_on(page) == Some(other))
+        })
+    }
+
     /// All that is known of where an open slot stands.
     pub fn check_slot(&self, slot: usize) {
         let its = &self.state.slots[slot];
         if its.op.is_none() {
             return;
         }
+        let own = match way(&self.state, slot) {
+            None => Lock::Rho,
+            Some(First) => Lock::Xi,
+            Some(Second) => Lock::UpdaterRho,
+        };
         let alone = self.wants_alone(slot);
-        assert_eq!(its.lock, if alone { Lock::Xi } else { Lock::Rho });
+        assert_eq!(its.lock, if alone { Lock::Xi } else { own });
+        assert!(its.held_with().all(|(_, lock)| lock == own));
         self.check_way(slot);
         self.check_one(slot);
     }

@@ -16,7 +16,7 @@ use Rattle.change.proofs.HeldLaws.{Known, held-front}
 use Rattle.slots.specs.declared.Op.{Op}
 use Rattle.slots.specs.declared.Op.the-variants.{Search, Insert, Delete, Next, Regrade}
 use Rattle.slots.specs.declared.Way.the-variants.{First, Second}
-use Rattle.slots.specs.Parts.{isNext, pathOf, besideOf, standOf}
+use Rattle.slots.specs.Parts.{isNext, pathOf, besideOf, locksOf, sidelocksOf, standOf}
 use Rattle.slots.proofs.Op as op
 use Rattle.footing.proofs.KeepLaws.{cell-known, leaf-some, beside-added, beside-held}
 use Rattle.footing.proofs.AcrossLaws.{held-top-with, across-idle, isNothing, across-found, across-ends, across-turns}
@@ -99,7 +99,7 @@ unfolding pathOf besideOf
 returns-2 c =
     let start = c .before .before .before .before .before .before .before .before .before in
     let was = start .args in
-    across-found (was .k) (pageAt (was .k) (was .words .now)) (was .slot .path) (was .slot .depth) (besideOf (was .slot)) (was .slot .want) (was .slot .lock) (long start) (some start)
+    across-found (was .k) (pageAt (was .k) (was .words .now)) (was .slot .path) (was .slot .depth) (locksOf (was .slot)) (besideOf (was .slot)) (sidelocksOf (was .slot)) (was .slot .want) (was .slot .lock) (long start) (some start)
     (c .before .before .before .before .before .before .op .given .1) (c .before .before .at-or-above-of .ensures) (ap isNothing (c .enum-told2 .given .1))
 
 array-read-top : tie.Need-array-read-top
@@ -115,7 +115,7 @@ unfolding pathOf besideOf
 returns-3 c =
     let start = c .before .before .before .before .before .before .before .before .before .before .before in
     let was = start .args in
-    across-ends (was .k) (pageAt (was .k) (was .words .now)) (was .slot .path) (was .slot .depth) (besideOf (was .slot)) (was .slot .want) (was .slot .lock) (long start) (some start)
+    across-ends (was .k) (pageAt (was .k) (was .words .now)) (was .slot .path) (was .slot .depth) (locksOf (was .slot)) (besideOf (was .slot)) (sidelocksOf (was .slot)) (was .slot .want) (was .slot .lock) (long start) (some start)
     (c .before .before .before .before .before .before .before .before .op .given .1) (c .before .before .before .before .at-or-above-of .ensures) (c .before .has-child-right .ensures) (c .if1 .taken)
 
 with-page-requires : tie.Need-with-page-requires
@@ -141,7 +141,7 @@ unfolding pathOf besideOf
 returns-4 c =
     let start = c .before .before .before .before .before .before .before .before .before .before .before .before .before .before in
     let was = start .args in
-    across-turns (was .k) (pageAt (was .k) (was .words .now)) (was .slot .path) (was .slot .depth) (besideOf (was .slot)) (was .slot .want) (was .slot .lock) (long start) (some start)
+    across-turns (was .k) (pageAt (was .k) (was .words .now)) (was .slot .path) (was .slot .depth) (locksOf (was .slot)) (besideOf (was .slot)) (sidelocksOf (was .slot)) (was .slot .want) (was .slot .lock) (long start) (some start)
     (c .before .before .before .before .before .before .before .before .before .before .before .op .given .1) (c .before .before .before .before .before .before .before .at-or-above-of .ensures) (c .before .before .before .before .has-child-right .ensures) (ap isNothing (c .before .before .before .before .before .enum-told .given .1)) (c .before .before .before .if1 .left)
     (c .turns-right .ensures) (added start (c .before .with-page .ensures))
 

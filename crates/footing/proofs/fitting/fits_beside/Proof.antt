@@ -22,7 +22,7 @@ use Rattle.slots.specs.declared.Op.{Op}
 use Rattle.slots.specs.declared.Op.the-variants.{Search, Insert, Delete, Next, Regrade}
 use Rattle.slots.specs.declared.Way.{Way}
 use Rattle.slots.specs.declared.Way.the-variants.{First, Second}
-use Rattle.slots.specs.Parts.{keyOf, isDelete, pathOf, besideOf, standOf}
+use Rattle.slots.specs.Parts.{keyOf, isDelete, pathOf, besideOf, locksOf, sidelocksOf, standOf}
 use Rattle.slots.proofs.Op as op
 use Rattle.footing.specs.Fitting.{isSibling}
 use Rattle.footing.proofs.KeepLaws.{beside-needing, beside-added, beside-held, beside-idle, isThere, beside-missing, beside-other, beside-levels}
@@ -118,7 +118,7 @@ unfolding pathOf besideOf
 returns-3 c =
     let start = c .before .before .before .before .before .before .before .before .before .before in
     let slot = start .args .slot in
-    beside-missing (stands start) (slot .want) (slot .lock) (c .before .before .before .before .before .before .before .op .given .1) (c .before .before .before .before .enum-told .given .1) (c .before .before .look-of .ensures)
+    beside-missing (stands start) (locksOf slot) (sidelocksOf slot) (slot .want) (slot .lock) (c .before .before .before .before .before .before .before .op .given .1) (c .before .before .before .before .enum-told .given .1) (c .before .before .look-of .ensures)
     (ap isThere (c .enum-told4 .given .1))
 
 needs-requires : tie.Need-needs-requires
@@ -132,14 +132,14 @@ unfolding pathOf besideOf
 returns-4 c =
     let start = c .before .before .before .before .before .before .before .before .before .before .before .before .before .before .before in
     let slot = start .args .slot in
-    beside-other (stands start) (slot .want) (slot .lock) (c .before .before .before .before .before .before .before .before .before .before .before .before .op .given .1) (c .before .before .before .before .before .before .before .before .before .enum-told .given .1) (c .before .needs .ensures) (no-sibling (c .before .needs .result) (slot .want) (c .match4 .keys2))
+    beside-other (stands start) (locksOf slot) (sidelocksOf slot) (slot .want) (slot .lock) (c .before .before .before .before .before .before .before .before .before .before .before .before .op .given .1) (c .before .before .before .before .before .before .before .before .before .enum-told .given .1) (c .before .needs .ensures) (no-sibling (c .before .needs .result) (slot .want) (c .match4 .keys2))
 
 returns-5 : tie.Need-returns-5
 unfolding pathOf besideOf
 returns-5 c =
     let start = c .before .before .before .before .before .before .before .before .before .before .before .before .before .before .before .before .before .before in
     let slot = start .args .slot in
-    beside-other (stands start) (slot .want) (slot .lock) (c .before .before .before .before .before .before .before .before .before .before .before .before .before .before .before .op .given .1) (c .before .before .before .before .before .before .before .before .before .before .before .before .enum-told .given .1) (c .before .before .before .before .needs .ensures)
+    beside-other (stands start) (locksOf slot) (sidelocksOf slot) (slot .want) (slot .lock) (c .before .before .before .before .before .before .before .before .before .before .before .before .before .before .before .op .given .1) (c .before .before .before .before .before .before .before .before .before .before .before .before .enum-told .given .1) (c .before .before .before .before .needs .ensures)
     (ap (λ (r : Need). isSibling (needOf r) (slot .want)) (c .before .before .next .given .1) ∙ ne-eqb _ _ (c .if1 .taken))
 
 with-page-requires : tie.Need-with-page-requires
@@ -162,7 +162,7 @@ unfolding pathOf besideOf
 returns-6 c =
     let start = c .before .before .before .before .before .before .before .before .before .before .before .before .before .before .before .before .before .before .before .before in
     let slot = start .args .slot in
-    beside-levels (stands start) (slot .want) (slot .lock) (c .before .before .before .before .before .before .before .before .before .before .before .before .before .before .before .before .before .op .given .1) (c .before .before .before .before .before .before .before .before .before .before .before .before .before .before .enum-told .given .1) (c .before .before .before .before .before .before .needs .ensures) (c .before .before .before .before .before .before .before .before .before .before .before .before .look-of .ensures)
+    beside-levels (stands start) (locksOf slot) (sidelocksOf slot) (slot .want) (slot .lock) (c .before .before .before .before .before .before .before .before .before .before .before .before .before .before .before .before .before .op .given .1) (c .before .before .before .before .before .before .before .before .before .before .before .before .before .before .enum-told .given .1) (c .before .before .before .before .before .before .needs .ensures) (c .before .before .before .before .before .before .before .before .before .before .before .before .look-of .ensures)
     (ap isThere (c .before .before .before .before .before .before .before .before .before .before .enum-told3 .given .1))
     (ap (λ (r : Need). isSibling (needOf r) (slot .want)) (c .before .before .before .before .next .given .1) ∙ eq-eqb _ _ (c .before .before .if1 .left))
     (c .same-levels .ensures)

@@ -1,7 +1,7 @@
 -- Each course is carried out as the rule's word for it.
 use Rattle.ground.specs.Limits.{largestK, largestN}
 use Rattle.course.proofs.JudgeLaws.{standing-holding}
-use Rattle.index.proofs.ActLaws.{stand-short, acts-broken, acts-goes, acts-ends, acts-inserts, acts-deletes, acts-regrades, acts-again, inserts-stands, deletes-stands}
+use Rattle.index.proofs.ActLaws.{stand-short, stand-in-halves, acts-broken, acts-goes, acts-ends, acts-inserts, acts-deletes, acts-regrades, acts-again, inserts-stands, deletes-stands}
 use Rattle.ground.specs.Limits.{slotCount}
 use native.Mathlib.Omega.{arith}
 use borrow.Author.Needs.{needs}
@@ -35,7 +35,7 @@ go-on-requires : tie.Need-go-on-requires
 go-on-requires c κs =
     let a = c .before .before .before .before .before .before .before .before .before .before .pre .0 .1 in
     let short = stand-short (a .stands) in
-    (a .waits, short .0, short .1)
+    (a .waits, short .0, short .1, stand-in-halves (a .stands))
 
 enum-known-course-2 : tie.Need-enum-known-course-2
 enum-known-course-2 c = search needs

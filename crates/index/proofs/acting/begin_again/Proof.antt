@@ -1,5 +1,5 @@
 -- The fresh slot of the operation by the first way is put where the old one was, and stands last in the waiting order.
-use mathlib.Core.Path.{_≡_, ap, _∙_}
+use mathlib.Core.Path.{_≡_, sym, ap, _∙_, subst}
 use borrow.Author.Needs.{needs}
 use native.Mathlib.Omega.{arith}
 use Rattle.ground.specs.Limits.{slotCount}
@@ -8,6 +8,8 @@ use Rattle.slots.specs.declared.Slot.{Slot}
 use Rattle.slots.specs.Parts.{freshStand, slotOf}
 use Rattle.slots.specs.Book.{requeued, goesOn}
 use Rattle.lent.specs.Words.{asRead, laidInto}
+use Rattle.lent.specs.Holds.{InHalves}
+use Rattle.lent.proofs.StateLaws.{fresh-halves}
 use Rattle.index.proofs.acting.begin_again.Statement.{statement}
 use Rattle.index.proofs.acting.begin_again.Tie as tie
 
@@ -23,7 +25,7 @@ requeues-requires c κs =
     let w = c .before .before .before .pre in
     let depth : c .fresh-slot .result .depth ≡ 0 = ap (λ (slot : Slot). slot .depth) (c .fresh-slot .ensures) in
     let breadth : c .fresh-slot .result .breadth ≡ 0 = ap (λ (slot : Slot). slot .breadth) (c .fresh-slot .ensures) in
-    (w .inside, w .few, w .named, omega arith, omega arith)
+    (w .inside, w .few, w .named, omega arith, omega arith, subst InHalves (sym (c .fresh-slot .ensures)) (fresh-halves (c .before .before .first-way .result)))
 
 returns : tie.Need-returns
 unfolding goesOn

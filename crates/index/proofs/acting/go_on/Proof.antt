@@ -7,8 +7,9 @@ use Rattle.index.proofs.acting.go_on.Tie as tie
 requeues-requires : tie.Need-requeues-requires
 unfolding slotCount
 requeues-requires c κs =
-    let w = c .before .before .before .pre .0 in
-    (w .inside, w .few, w .named, c .before .before .before .pre .1, c .before .before .before .pre .2)
+    let pre = c .before .before .before .before .before .pre in
+    let w = pre .0 in
+    (w .inside, w .few, w .named, pre .1, pre .2, record { path = pre .3 .path; beside = pre .3 .beside })
 
 returns : tie.Need-returns
 returns c = search needs

@@ -1,6 +1,13 @@
 -- The pages fit, or the step is answered Damaged. Where they fit, the operation stands as the rule has it, and the course that is found there is the rule's.
 use Rattle.ground.specs.Limits.{largestK, largestN}
 use Rattle.index.proofs.StepLaws.{granted-damaged, granted-fits, granted-stands, granted-acts, granted-leaves}
+use Rattle.course.proofs.StandLaws.{slot-paired}
+use Rattle.slots.proofs.Keeping.{Paired}
+use Rattle.slots.specs.Parts.{standOf}
+use lib.ListN.{length, length-map}
+use mathlib.Core.List.{List, map}
+use Prim.Native.Nat.{ℕ}
+use mathlib.Core.Path.{_≡_, sym, _∙_}
 use borrow.Author.Tests.{not-true, not-false}
 use native.Mathlib.Omega.{arith}
 use borrow.Author.Needs.{needs}
@@ -39,17 +46,30 @@ stands-requires c κs =
     let told = c .before .before .fits2 in
     (was .pre .1, granted-fits (was .args .state .now) (was .pre .0 .0) (was .pre .0 .1) (was .pre .1) (told .ensures) (not-false (told .result) (c .before .if1 .left)))
 
+-- of an array of structs the length is told by way of its elements' values
+length-mapped : (X Y : Type 0) (f : X → Y) (l : List X) (n : ℕ) → length (map f l) ≡ n → length l ≡ n
+length-mapped X Y f l n e = sym (length-map l f) ∙ e
+
+-- the slot's arrays have as many cells for kinds of lock as for pages
+paired : (c : tie.Start) → Paired (standOf (c .args .op) (c .args .slot))
+paired c =
+    let path : length (c .args .slot .path) ≡ 10 = search needs in
+    let locks : length (c .args .slot .locks) ≡ 10 = search (needs, length-mapped) in
+    let beside : length (c .args .slot .beside) ≡ 10 = search needs in
+    let sidelocks : length (c .args .slot .sidelocks) ≡ 10 = search (needs, length-mapped) in
+    slot-paired (c .args .op) (c .args .slot) (locks ∙ sym path) (sidelocks ∙ sym beside)
+
 judge-requires : tie.Need-judge-requires
 judge-requires c κs =
     let was = c .before .before .before .before .before .before .before .before .before in
     let told = c .before .before .before .before .fits2 in
-    granted-stands (was .args .state .now) (was .pre .0 .0) (was .pre .0 .1) (was .pre .1) (told .ensures) (not-false (told .result) (c .before .before .before .if1 .left)) (c .before .stands .ensures)
+    granted-stands (was .args .state .now) (was .pre .0 .0) (was .pre .0 .1) (was .pre .1) (told .ensures) (not-false (told .result) (c .before .before .before .if1 .left)) (c .before .stands .ensures) (paired was)
 
 act-requires : tie.Need-act-requires
 act-requires c κs =
     let was = c .before .before .before .before .before .before .before .before .before .before .before .before in
     let told = c .before .before .before .before .before .before .before .fits2 in
-    ((was .pre .0 .0, granted-acts (was .args .state .now) (was .pre .0 .0) (was .pre .0 .1) (was .pre .1) (told .ensures) (not-false (told .result) (c .before .before .before .before .before .before .if1 .left)) (c .before .before .before .before .stands .ensures)), c .before .before .judge .ensures .1)
+    ((was .pre .0 .0, granted-acts (was .args .state .now) (was .pre .0 .0) (was .pre .0 .1) (was .pre .1) (told .ensures) (not-false (told .result) (c .before .before .before .before .before .before .if1 .left)) (c .before .before .before .before .stands .ensures) (paired was)), c .before .before .judge .ensures .1)
 
 same-length-2 : tie.Need-same-length-2
 same-length-2 c = search needs
@@ -59,7 +79,7 @@ returns-2 c =
     let was = c .before .before .before .before .before .before .before .before .before .before .before .before .before .before .before in
     let told = c .before .before .before .before .before .before .before .before .before .before .fits2 in
     let found = c .before .before .before .before .before .judge in
-    granted-leaves (was .args .state .now) (was .pre .0 .0) (was .pre .0 .1) (was .pre .1) (told .ensures) (not-false (told .result) (c .before .before .before .before .before .before .before .before .before .if1 .left)) (c .before .before .before .before .before .before .before .stands .ensures)
+    granted-leaves (was .args .state .now) (was .pre .0 .0) (was .pre .0 .1) (was .pre .1) (told .ensures) (not-false (told .result) (c .before .before .before .before .before .before .before .before .before .if1 .left)) (c .before .before .before .before .before .before .before .stands .ensures) (paired was)
     (found .result) (found .ensures .0) (c .before .before .act .ensures)
 
 pub granted-step-spec : {M : Type 1} → statement M

@@ -4,11 +4,10 @@ use Rattle.index.proofs.StepLaws.{Passed, says-unsound, says-pool, says
 use Rattle.soundness.proofs.CheckingLawsSound.{SoundWords, sound-words}
 use Rattle.lent.proofs.StateLaws.{slot-read}
 use Rattle.lent.specs.Words.{asRead}
-use Rattle.slots.specs.declared.Slot.{Slot}
-use Rattle.slots.specs.Parts.{isOpen, slotAt}
+use Rattle.slots.specs.Parts.{slotAt}
 use borrow.Author.Tests.{not-true, not-false}
 use native.Mathlib.Omega.{arith}
-use mathlib.Core.Path.{_≡_, sym, ap, _∙_}
+use mathlib.Core.Path.{_≡_, sym, _∙_}
 use borrow.Author.Needs.{needs}
 use Rattle.index.proofs.calls.step.Statement.{statement}
 use Rattle.index.proofs.calls.step.Tie as tie
@@ -94,36 +93,37 @@ returns-4 c =
     let was = c .before .before .before .before .before .before .before .before .before .before .before .before .before .before .args in
     says-idle (was .state .now) (was .words .now) (was .s) (kept (c .before .before .before .before .before .before .before .before .before .before)) (passed (c .before .before .before .before)) (slot-is (c .before .before)) (c .enum-told .given .1)
 
+lock-table-requires : tie.Need-lock-table-requires
+lock-table-requires c κs = search needs
+
 grants-requires : tie.Need-grants-requires
 unfolding slotCount
 grants-requires c κs =
-    let w = kept (c .before .before .before .before .before .before .before .before .before .before .before .before) in
-    let inside = c .before .before .before .before .before .before .if3 .left in
-    let opened = ap (λ (x : Slot). isOpen (x .task)) (sym (slot-is (c .before .before .before .before))) ∙ ap isOpen (c .before .before .task .given .1) in
-    (inside, w .exist, w .short, w .wants _ inside opened, w .order)
+    let w = kept (c .before .before .before .before .before .before .before .before .before .before .before .before .before) in
+    (c .before .before .before .before .before .before .before .if3 .left, w .short, w .order, c .lock-table .ensures)
 
 same-length-4 : tie.Need-same-length-4
 same-length-4 c = search needs
 
 returns-5 : tie.Need-returns-5
 returns-5 c =
-    let was = c .before .before .before .before .before .before .before .before .before .before .before .before .before .before .before .before .before .before .args in
+    let was = c .before .before .before .before .before .before .before .before .before .before .before .before .before .before .before .before .before .before .before .args in
     let told = c .before .grants in
-    says-waiting (was .state .now) (was .words .now) (was .s) (kept (c .before .before .before .before .before .before .before .before .before .before .before .before .before .before)) (passed (c .before .before .before .before .before .before .before .before)) (slot-is (c .before .before .before .before .before .before)) (c .before .before .before .before .task .given .1) (told .ensures) (not-true (told .result) (c .if4 .taken))
+    says-waiting (was .state .now) (was .words .now) (was .s) (kept (c .before .before .before .before .before .before .before .before .before .before .before .before .before .before .before)) (passed (c .before .before .before .before .before .before .before .before .before)) (slot-is (c .before .before .before .before .before .before .before)) (c .before .before .before .before .before .task .given .1) (told .ensures) (not-true (told .result) (c .if4 .taken))
 
 granted-step-requires : tie.Need-granted-step-requires
 granted-step-requires c κs =
-    let w = kept (c .before .before .before .before .before .before .before .before .before .before .before .before .before .before .before .before) in
-    ((w .exist, open-waits (passed (c .before .before .before .before .before .before .before .before .before .before)) (slot-is (c .before .before .before .before .before .before .before .before)) (c .before .before .before .before .before .before .task .given .1)), open-asks (passed (c .before .before .before .before .before .before .before .before .before .before)) (slot-is (c .before .before .before .before .before .before .before .before)) (c .before .before .before .before .before .before .task .given .1))
+    let w = kept (c .before .before .before .before .before .before .before .before .before .before .before .before .before .before .before .before .before) in
+    ((w .exist, open-waits (passed (c .before .before .before .before .before .before .before .before .before .before .before)) (slot-is (c .before .before .before .before .before .before .before .before .before)) (c .before .before .before .before .before .before .before .task .given .1)), open-asks (passed (c .before .before .before .before .before .before .before .before .before .before .before)) (slot-is (c .before .before .before .before .before .before .before .before .before)) (c .before .before .before .before .before .before .before .task .given .1))
 
 same-length-5 : tie.Need-same-length-5
 same-length-5 c = search needs
 
 returns-6 : tie.Need-returns-6
 returns-6 c =
-    let was = c .before .before .before .before .before .before .before .before .before .before .before .before .before .before .before .before .before .before .before .before .before .before .before .args in
+    let was = c .before .before .before .before .before .before .before .before .before .before .before .before .before .before .before .before .before .before .before .before .before .before .before .before .args in
     let told = c .before .before .before .before .before .before .grants in
-    says-granted (was .state .now) (was .words .now) (was .s) (kept (c .before .before .before .before .before .before .before .before .before .before .before .before .before .before .before .before .before .before .before)) (passed (c .before .before .before .before .before .before .before .before .before .before .before .before .before)) (slot-is (c .before .before .before .before .before .before .before .before .before .before .before)) (c .before .before .before .before .before .before .before .before .before .task .given .1) (told .ensures) (not-false (told .result) (c .before .before .before .before .before .if4 .left)) (c .before .before .granted-step .ensures)
+    says-granted (was .state .now) (was .words .now) (was .s) (kept (c .before .before .before .before .before .before .before .before .before .before .before .before .before .before .before .before .before .before .before .before)) (passed (c .before .before .before .before .before .before .before .before .before .before .before .before .before .before)) (slot-is (c .before .before .before .before .before .before .before .before .before .before .before .before)) (c .before .before .before .before .before .before .before .before .before .before .task .given .1) (told .ensures) (not-false (told .result) (c .before .before .before .before .before .if4 .left)) (c .before .before .granted-step .ensures)
 
 pub step-spec : {M : Type 1} → statement M
 step-spec =
@@ -145,6 +145,7 @@ step-spec =
     enum-told
     same-length-3
     returns-4
+    lock-table-requires
     grants-requires
     same-length-4
     returns-5

@@ -1,21 +1,17 @@
 -- Each way out is a case of the rule; the mask has as many ones as there are holders, and below its lowest one as many zeros as slots that do not hold the page.
-use Rattle.index.proofs.ReportLaws.{kind-of-lowest}
 use Rattle.soundness.proofs.CheckingLawsSound.{sound-words}
 use Rattle.index.proofs.CallLaws.{report-unsound, report-nowhere, report-done}
 use Rattle.soundness.proofs.MaskLaws.{mask-ones, mask-lowest}
 use Rattle.lent.specs.Words.{asRead, stateOf}
-use Rattle.slots.specs.Report.{holders, lowestHolder, lockKind}
+use Rattle.slots.specs.Report.{holders, lowestHolder}
 use Rattle.slots.specs.Sound.{sound}
-use Rattle.slots.specs.Locks.{lockHeldAt}
 use Rattle.slots.specs.Parts.{holdsAt}
 use Rattle.slots.specs.declared.Answer.the-variants.{Reported}
-use Rattle.slots.specs.declared.Lock.the-variants.{None}
 use Rattle.ground.specs.Limits.{slotCount}
 use borrow.Author.Tests.{not-true, not-false}
-use lib.Dec.{ltb}
 use lib.Count.{ones, trailingZeros}
 use mathlib.Core.Path.{_≡_, sym, ap, _∙_, subst}
-use mathlib.Core.Bool.{Bool, true, cond}
+use mathlib.Core.Bool.{Bool, true}
 use Prim.Native.Nat.{ℕ, _≤_, _<_}
 use borrow.Author.Needs.{needs}
 use Rattle.index.proofs.reporting.report.Statement.{statement}
@@ -46,8 +42,8 @@ returns-2 c =
 holders-requires : tie.Need-holders-requires
 holders-requires c κs = sound-words (c .before .before .before .before .args .state .now) (kept (c .before .before)) .short
 
-lock-at-requires : tie.Need-lock-at-requires
-lock-at-requires c κs = search needs
+lock-kind-requires : tie.Need-lock-kind-requires
+lock-kind-requires c κs = sound-words (c .before .before .before .before .before .args .state .now) (kept (c .before .before .before)) .short
 
 returns-3 : tie.Need-returns-3
 unfolding slotCount
@@ -60,9 +56,7 @@ returns-3 c =
     let test : ℕ → Bool = λ (s : ℕ). holdsAt st s p in
     let many : ones (c .before .holders .result) ≡ holders st p = ap ones mask ∙ mask-ones test slotCount in
     let lowest : trailingZeros slotCount (c .before .holders .result) ≡ lowestHolder st p = ap (trailingZeros slotCount) mask ∙ mask-lowest test slotCount in
-    let kind : c .lock-at .result ≡ lockKind st p =
-    c .lock-at .ensures ∙ ap (λ (s : ℕ). cond (ltb s slotCount) (lockHeldAt st s p) None) lowest ∙ kind-of-lowest st (known .facts) p in
-    report-done ws p (kept (c .before .before .before .before)) (known .exist) (subst (λ (n : ℕ). p < n) (c .before .before .before .n-of .ensures) (c .before .before .if2 .left)) (λ i. Reported (kind i) (many i) (lowest i))
+    report-done ws p (kept (c .before .before .before .before)) (known .exist) (subst (λ (n : ℕ). p < n) (c .before .before .before .n-of .ensures) (c .before .before .if2 .left)) (λ i. Reported (c .lock-kind .ensures i) (many i) (lowest i))
 
 pub report-spec : {M : Type 1} → statement M
 report-spec =
@@ -73,5 +67,5 @@ report-spec =
     n-of-requires
     returns-2
     holders-requires
-    lock-at-requires
+    lock-kind-requires
     returns-3)

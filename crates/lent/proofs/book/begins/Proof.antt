@@ -1,11 +1,13 @@
 -- One more waits, and the slot is the fresh one.
+use Rattle.lent.proofs.StateLaws.{fresh-halves}
 use Rattle.lent.proofs.WritingLaws.{begins-writes}
 use Rattle.lent.specs.Words.{orderIn, orderLaid, slotLaid}
+use Rattle.lent.specs.Holds.{InHalves}
 use Rattle.slots.specs.declared.Slot.{Slot}
 use lib.ListN.{set}
 use native.Mathlib.Omega.{arith}
 use mathlib.Core.List.{List}
-use mathlib.Core.Path.{ap, ap₂, _∙_}
+use mathlib.Core.Path.{sym, ap, ap₂, _∙_, subst}
 use Prim.Native.Nat.{ℕ, _+_}
 use borrow.Author.Needs.{needs}
 use Rattle.lent.proofs.book.begins.Statement.{statement}
@@ -28,7 +30,7 @@ lay-requires c κs =
     let was = c .before .before .before .before .before .before .before .before .before in
     let depth = ap (λ (x : Slot). x .depth) (c .fresh-slot .ensures) in
     let beside = ap (λ (x : Slot). x .breadth) (c .fresh-slot .ensures) in
-    (was .pre .0, omega arith, omega arith)
+    (was .pre .0, omega arith, omega arith, subst InHalves (sym (c .fresh-slot .ensures)) (fresh-halves (was .args .op)))
 
 returns : tie.Need-returns
 returns c =

@@ -1,7 +1,9 @@
 -- The order that slot s leaves, one fewer that wait, and the slot closed.
+use Rattle.lent.proofs.StateLaws.{closed-halves}
 use Rattle.lent.proofs.WritingLaws.{fewer-laid, closes-writes}
 use Rattle.lent.specs.Layout.{waitingAt, rowLength}
 use Rattle.lent.specs.Words.{orderIn, orderLaid, slotLaid}
+use Rattle.lent.specs.Holds.{InHalves}
 use Rattle.slots.proofs.MakingLaws.{member-some}
 use Rattle.slots.specs.Book.{leaving}
 use Rattle.slots.specs.Parts.{waitingOrder}
@@ -57,7 +59,7 @@ lay-requires c κs =
     let was = c .before .before .before .before .before .before .before .before .before in
     let depth = ap (λ (x : Slot). x .depth) (c .closed-slot .ensures) in
     let beside = ap (λ (x : Slot). x .breadth) (c .closed-slot .ensures) in
-    (was .pre .0, omega arith, omega arith)
+    (was .pre .0, omega arith, omega arith, subst InHalves (sym (c .closed-slot .ensures)) closed-halves)
 
 returns : tie.Need-returns
 returns c =

@@ -1,11 +1,11 @@
 -- Of the rows passed none is page p.
 use Rattle.lent.proofs.StateLaws.{column-cell, length-column}
-use Rattle.lent.specs.Words.{column}
+use Rattle.lent.specs.Words.{pageIn, column}
 use Rattle.slots.proofs.HoldingLaws.{among-more}
 use Rattle.ground.proofs.Tests.{member-none, member-among}
 use Rattle.ground.specs.Tests.{member}
 use denote.Ref.{now}
-use lib.ListN.{take}
+use lib.ListN.{getD, take}
 use native.Mathlib.Omega.{arith}
 use mathlib.Core.Bool.{false}
 use mathlib.Core.Path.{_≡_, sym, ap, _∙_}
@@ -29,13 +29,22 @@ add-word-at c = search needs
 word-at-requires : tie.Need-word-at-requires Inv-loop μ-loop
 word-at-requires c κs = search needs
 
+page-in-requires : tie.Need-page-in-requires Inv-loop μ-loop
+page-in-requires c κs = search needs
+
+-- the page read is that of the column
+page-read : (c : tie.After-page-in Inv-loop μ-loop) → getD (column (c .before .before .before .before .args .cells .now) (c .before .before .before .before .args .row) (c .before .before .before .before .args .s)) (c .before .before .before .loop .j) 0 ≡ c .page-in .result
+page-read c =
+    let was = c .before .before .before .before .args in
+    column-cell (was .cells .now) (was .row) (was .s) (c .before .before .before .loop .j) (omega arith)
+    ∙ sym (c .page-in .ensures ∙ ap pageIn (c .before .word-at .ensures))
+
 returns : tie.Need-returns Inv-loop μ-loop
 returns c =
-    let was = c .before .before .before .before .args in
-    let j = c .before .before .before .loop .j in
+    let was = c .before .before .before .before .before .args in
+    let j = c .before .before .before .before .loop .j in
     let col = column (was .cells .now) (was .row) (was .s) in
-    sym (member-among (was .p) col (was .count) j 0 (omega (arith, length-column (was .cells .now) (was .row) (was .s))) (omega arith)
-    (column-cell (was .cells .now) (was .row) (was .s) j (omega arith) ∙ sym (c .before .word-at .ensures) ∙ c .if1 .taken))
+    sym (member-among (was .p) col (was .count) j 0 (omega (arith, length-column (was .cells .now) (was .row) (was .s))) (omega arith) (page-read (c .before) ∙ c .if1 .taken))
 
 add-j : tie.Need-add-j Inv-loop μ-loop
 add-j c = search needs
@@ -45,12 +54,12 @@ loop-less c = search needs
 
 loop-again : tie.Need-loop-again Inv-loop μ-loop
 loop-again c =
-    let was = c .before .before .before .before .args in
-    let j = c .before .before .before .loop .j in
+    let was = c .before .before .before .before .before .args in
+    let j = c .before .before .before .before .loop .j in
     let col = column (was .cells .now) (was .row) (was .s) in (
       omega arith,
-      among-more (was .p) col j (omega (arith, length-column (was .cells .now) (was .row) (was .s))) (c .before .before .before .loop .inv .1)
-          (λ e. c .if1 .left (c .before .word-at .ensures ∙ sym (column-cell (was .cells .now) (was .row) (was .s) j (omega arith)) ∙ e)),
+      among-more (was .p) col j (omega (arith, length-column (was .cells .now) (was .row) (was .s))) (c .before .before .before .before .loop .inv .1)
+          (λ e. c .if1 .left (sym (page-read (c .before)) ∙ e)),
     )
 
 returns-2 : tie.Need-returns-2 Inv-loop μ-loop
@@ -68,6 +77,7 @@ column-has-spec =
     loop-holds
     add-word-at
     word-at-requires
+    page-in-requires
     returns
     add-j
     loop-less

@@ -1,11 +1,8 @@
--- Which locks clash is told by the slot's own.
+-- Which locks clash is told by the row of the slot's own want.
 use Rattle.lent.proofs.HoldLaws.{no-clash-words}
 use borrow.Author.Needs.{needs}
 use Rattle.lent.proofs.granting.no_clash.Statement.{statement}
 use Rattle.lent.proofs.granting.no_clash.Tie as tie
-
-wanted-lock-at-requires : tie.Need-wanted-lock-at-requires
-wanted-lock-at-requires c κs = search needs
 
 want-at-requires : tie.Need-want-at-requires
 want-at-requires c κs = search needs
@@ -15,11 +12,8 @@ others-hold-requires c κs = search needs
 
 returns : tie.Need-returns
 returns c =
-    let was = c .before .before .before in
-    no-clash-words (was .args .cells .now) (was .args .s) (was .pre .1) (was .pre .0) (was .pre .2) (was .pre .3)
-    (c .before .before .wanted-lock-at .ensures) (c .before .want-at .ensures) (c .others-hold .ensures)
+    let was = c .before .before in
+    no-clash-words (was .args .cells .now) (was .args .s) (was .pre .0) (was .args .row) (was .pre .2) (c .before .want-at .ensures) (c .others-hold .ensures)
 
 pub no-clash-spec : {M : Type 1} → statement M
-no-clash-spec =
-    tie.close
-    (tie.spec wanted-lock-at-requires want-at-requires others-hold-requires returns)
+no-clash-spec = tie.close (tie.spec want-at-requires others-hold-requires returns)

@@ -14,16 +14,13 @@ use Rattle.lent.proofs.granting.no_older.Statement.{statement}
 use Rattle.lent.proofs.granting.no_older.Tie as tie
 
 abbrev Inv-loop : tie.InvT-loop
-Inv-loop cells s lock want waiting i₀ i = (i ≤ waiting) × (noOlder (asRead cells) s ≡ noOlderFrom (asRead cells) s i)
+Inv-loop cells s row want waiting i₀ i = (i ≤ waiting) × (noOlder (asRead cells) s ≡ noOlderFrom (asRead cells) s i)
 
 abbrev μ-loop : tie.MeasureT-loop
-μ-loop cells s lock want waiting i₀ i = waiting - i
+μ-loop cells s row want waiting i₀ i = waiting - i
 
 sized-requires : tie.Need-sized-requires Inv-loop μ-loop
 sized-requires c κs = search needs
-
-wanted-lock-at-requires : tie.Need-wanted-lock-at-requires Inv-loop μ-loop
-wanted-lock-at-requires c κs = search needs
 
 want-at-requires : tie.Need-want-at-requires Inv-loop μ-loop
 want-at-requires c κs = search needs
@@ -32,16 +29,16 @@ waiting-of-requires : tie.Need-waiting-of-requires Inv-loop μ-loop
 waiting-of-requires c κs = search needs
 
 loop-holds : tie.Need-loop-holds Inv-loop μ-loop
-loop-holds c = (omega arith, older-none (asRead (c .before .before .before .before .before .args .cells .now)) (c .before .before .before .before .before .args .s))
+loop-holds c = (omega arith, older-none (asRead (c .before .before .before .before .args .cells .now)) (c .before .before .before .before .args .s))
 
 order-at-requires : tie.Need-order-at-requires Inv-loop μ-loop
 order-at-requires c κs = search needs
 
 also-wants-requires : tie.Need-also-wants-requires Inv-loop μ-loop
 also-wants-requires c κs =
-    let was = c .before .before .before .before .before .before .before .before .before in
+    let was = c .before .before .before .before .before .before .before .before in
     let w : c .before .before .before .before .waiting-of .result ≡ getD (was .args .cells .now) waitingAt 0 = c .before .before .before .before .waiting-of .ensures in
-    walk-slot (was .args .cells .now) (was .args .s) (c .before .before .before .before .before .before .before .sized .ensures) (was .pre .0) (was .pre .1) (was .pre .2) (c .before .before .before .loop .inv .1) (omega arith) (c .before .order-at .ensures)
+    walk-slot (was .args .cells .now) (was .args .s) (c .before .before .before .before .before .before .sized .ensures) (was .pre .0) (was .pre .1) (c .before .before .before .loop .inv .1) (omega arith) (c .before .order-at .ensures)
 
 add-i : tie.Need-add-i Inv-loop μ-loop
 add-i c = search needs
@@ -51,31 +48,31 @@ loop-less c = search needs
 
 loop-again : tie.Need-loop-again Inv-loop μ-loop
 loop-again c =
-    let was = c .before .before .before .before .before .before .before .before .before .before .before in
+    let was = c .before .before .before .before .before .before .before .before .before .before in
     let w : c .before .before .before .before .before .before .waiting-of .result ≡ getD (was .args .cells .now) waitingAt 0 = c .before .before .before .before .before .before .waiting-of .ensures in (
       omega arith,
-      walk-on (was .args .cells .now) (was .args .s) (c .before .before .before .before .before .before .before .before .before .sized .ensures) (was .pre .0) (was .pre .1) (was .pre .2) (c .before .before .before .before .before .loop .inv .1) (omega arith) (c .before .before .before .order-at .ensures)
-          (c .before .before .if2 .left) (c .before .before .before .before .before .before .before .before .wanted-lock-at .ensures) (c .before .before .before .before .before .before .before .want-at .ensures) (c .before .also-wants .ensures) (c .if3 .left),
+      walk-on (was .args .cells .now) (was .args .s) (c .before .before .before .before .before .before .before .before .sized .ensures) (was .pre .0) (was .pre .1) (c .before .before .before .before .before .loop .inv .1) (omega arith) (c .before .before .before .order-at .ensures)
+          (c .before .before .if2 .left) (was .args .row) (was .pre .2) (c .before .before .before .before .before .before .before .want-at .ensures) (c .before .also-wants .ensures) (c .if3 .left),
     )
 
 returns : tie.Need-returns Inv-loop μ-loop
 returns c =
-    let was = c .before .before .before .before .before .before .before in
+    let was = c .before .before .before .before .before .before in
     let w : c .before .before .waiting-of .result ≡ getD (was .args .cells .now) waitingAt 0 = c .before .before .waiting-of .ensures in
-    walk-end (was .args .cells .now) (was .args .s) (c .before .before .before .before .before .sized .ensures) (was .pre .0) (was .pre .1) (was .pre .2) (c .before .loop .inv .1) (omega arith)
+    walk-end (was .args .cells .now) (was .args .s) (c .before .before .before .before .sized .ensures) (was .pre .0) (was .pre .1) (c .before .loop .inv .1) (omega arith)
 
 returns-2 : tie.Need-returns-2 Inv-loop μ-loop
 returns-2 c =
-    let was = c .before .before .before .before .before .before .before .before .before in
+    let was = c .before .before .before .before .before .before .before .before in
     let w : c .before .before .before .before .waiting-of .result ≡ getD (was .args .cells .now) waitingAt 0 = c .before .before .before .before .waiting-of .ensures in
-    walk-own (was .args .cells .now) (was .args .s) (c .before .before .before .before .before .before .before .sized .ensures) (was .pre .0) (was .pre .1) (was .pre .2) (c .before .before .before .loop .inv .1) (omega arith) (c .before .order-at .ensures) (c .if2 .taken)
+    walk-own (was .args .cells .now) (was .args .s) (c .before .before .before .before .before .before .sized .ensures) (was .pre .0) (was .pre .1) (c .before .before .before .loop .inv .1) (omega arith) (c .before .order-at .ensures) (c .if2 .taken)
 
 returns-3 : tie.Need-returns-3 Inv-loop μ-loop
 returns-3 c =
-    let was = c .before .before .before .before .before .before .before .before .before .before .before in
+    let was = c .before .before .before .before .before .before .before .before .before .before in
     let w : c .before .before .before .before .before .before .waiting-of .result ≡ getD (was .args .cells .now) waitingAt 0 = c .before .before .before .before .before .before .waiting-of .ensures in
-    walk-older (was .args .cells .now) (was .args .s) (c .before .before .before .before .before .before .before .before .before .sized .ensures) (was .pre .0) (was .pre .1) (was .pre .2) (c .before .before .before .before .before .loop .inv .1) (omega arith) (c .before .before .before .order-at .ensures)
-    (c .before .before .if2 .left) (c .before .before .before .before .before .before .before .before .wanted-lock-at .ensures) (c .before .before .before .before .before .before .before .want-at .ensures) (c .before .also-wants .ensures) (c .if3 .taken)
+    walk-older (was .args .cells .now) (was .args .s) (c .before .before .before .before .before .before .before .before .sized .ensures) (was .pre .0) (was .pre .1) (c .before .before .before .before .before .loop .inv .1) (omega arith) (c .before .before .before .order-at .ensures)
+    (c .before .before .if2 .left) (was .args .row) (was .pre .2) (c .before .before .before .before .before .before .before .want-at .ensures) (c .before .also-wants .ensures) (c .if3 .taken)
 
 pub no-older-spec : {M : Type 1} → statement M
 no-older-spec =
@@ -84,7 +81,6 @@ no-older-spec =
     Inv-loop
     μ-loop
     sized-requires
-    wanted-lock-at-requires
     want-at-requires
     waiting-of-requires
     loop-holds

@@ -15,13 +15,13 @@ use Rattle.lent.proofs.granting.some_deep_holds.Statement.{statement}
 use Rattle.lent.proofs.granting.some_deep_holds.Tie as tie
 
 abbrev Inv-loop : tie.InvT-loop
-Inv-loop cells s lock p t₀ t = (t ≤ rowLength) × (anyBelow t (deepHolds cells s lock p) ≡ false)
+Inv-loop cells s row p t₀ t = (t ≤ rowLength) × (anyBelow t (deepHolds cells s row p) ≡ false)
 
 abbrev μ-loop : tie.MeasureT-loop
-μ-loop cells s lock p t₀ t = rowLength - t
+μ-loop cells s row p t₀ t = rowLength - t
 
 loop-holds : tie.Need-loop-holds Inv-loop μ-loop
-loop-holds c = (omega arith, anyBelow-none (deepHolds (c .args .cells .now) (c .args .s) (c .args .lock) (c .args .p)))
+loop-holds c = (omega arith, anyBelow-none (deepHolds (c .args .cells .now) (c .args .s) (c .args .row) (c .args .p)))
 
 deep-holds-requires : tie.Need-deep-holds-requires Inv-loop μ-loop
 deep-holds-requires c κs = search needs
@@ -30,7 +30,7 @@ returns : tie.Need-returns Inv-loop μ-loop
 returns c =
     let was = c .before .before .before .before .args in
     let t : ℕ = c .before .before .before .loop .t in
-    sym (anyBelow-from (deepHolds (was .cells .now) (was .s) (was .lock) (was .p)) rowLength t (omega arith) (sym (c .before .deep-holds .ensures) ∙ c .if1 .taken))
+    sym (anyBelow-from (deepHolds (was .cells .now) (was .s) (was .row) (was .p)) rowLength t (omega arith) (sym (c .before .deep-holds .ensures) ∙ c .if1 .taken))
 
 add-t : tie.Need-add-t Inv-loop μ-loop
 add-t c = search needs
@@ -43,7 +43,7 @@ loop-again c =
     let was = c .before .before .before .before .args in
     let t : ℕ = c .before .before .before .loop .t in (
       omega arith,
-      any-on (deepHolds (was .cells .now) (was .s) (was .lock) (was .p)) t
+      any-on (deepHolds (was .cells .now) (was .s) (was .row) (was .p)) t
           ∙ or-none (c .before .before .before .loop .inv .1) (sym (c .before .deep-holds .ensures) ∙ c .if1 .left),
     )
 
@@ -51,7 +51,7 @@ returns-2 : tie.Need-returns-2 Inv-loop μ-loop
 returns-2 c =
     let was = c .before .before .args in
     let end : c .before .loop .t ≡ rowLength = omega arith in
-    sym (ap (λ (n : ℕ). anyBelow n (deepHolds (was .cells .now) (was .s) (was .lock) (was .p))) (sym end) ∙ c .before .loop .inv .1)
+    sym (ap (λ (n : ℕ). anyBelow n (deepHolds (was .cells .now) (was .s) (was .row) (was .p))) (sym end) ∙ c .before .loop .inv .1)
 
 pub some-deep-holds-spec : {M : Type 1} → statement M
 some-deep-holds-spec =

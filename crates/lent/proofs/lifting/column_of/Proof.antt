@@ -1,11 +1,11 @@
 -- The rows passed stand in the array, and 0 behind them.
-use Rattle.lent.proofs.StateLaws.{length-column, column-cell, padded-whole}
+use Rattle.lent.proofs.StateLaws.{length-column, column-cell, filled-whole}
 use lib.ListN.{getD, length}
 use mathlib.Core.Path.{sym}
 use Rattle.lent.specs.Layout.{columnLength}
-use Rattle.lent.specs.Words.{column}
+use Rattle.lent.specs.Words.{pageIn, column}
 use Rattle.slots.proofs.MakingLaws.{padded-more}
-use Rattle.ground.specs.Tests.{padded}
+use Rattle.ground.specs.Tests.{padded, filled}
 use lib.ListN.{take, set}
 use native.Mathlib.Omega.{arith}
 use mathlib.Core.List.{List}
@@ -22,7 +22,7 @@ abbrev μ-loop : tie.MeasureT-loop
 μ-loop cells row s pages₀ j₀ pages j = columnLength - j
 
 loop-holds : tie.Need-loop-holds Inv-loop μ-loop
-unfolding padded
+unfolding filled
 loop-holds c = search needs
 
 add-word-at : tie.Need-add-word-at Inv-loop μ-loop
@@ -30,6 +30,9 @@ add-word-at c = search needs
 
 word-at-requires : tie.Need-word-at-requires Inv-loop μ-loop
 word-at-requires c κs = search needs
+
+page-in-requires : tie.Need-page-in-requires Inv-loop μ-loop
+page-in-requires c κs = search needs
 
 mul-pages : tie.Need-mul-pages Inv-loop μ-loop
 mul-pages c = search needs
@@ -45,13 +48,13 @@ loop-less c = search needs
 
 loop-again : tie.Need-loop-again Inv-loop μ-loop
 loop-again c =
-    let was = c .before .before .before .args in
-    let j : ℕ = c .before .before .loop .j in
+    let was = c .before .before .before .before .args in
+    let j : ℕ = c .before .before .before .loop .j in
     let col : List ℕ = column (was .cells .now) (was .row) (was .s) in
     let long : length col ≡ columnLength = length-column (was .cells .now) (was .row) (was .s) in (
       omega arith,
-      ap (λ (x : ℕ). set (c .before .before .loop .pages) j x) (c .word-at .ensures ∙ sym (column-cell (was .cells .now) (was .row) (was .s) j (omega arith)))
-          ∙ ap (λ (l : List ℕ). set l j (getD col j 0)) (c .before .before .loop .inv .1)
+      ap (λ (x : ℕ). set (c .before .before .before .loop .pages) j x) (c .page-in .ensures ∙ ap pageIn (c .before .word-at .ensures) ∙ sym (column-cell (was .cells .now) (was .row) (was .s) j (omega arith)))
+          ∙ ap (λ (l : List ℕ). set l j (getD col j 0)) (c .before .before .before .loop .inv .1)
           ∙ padded-more columnLength col j (omega arith) (omega arith),
     )
 
@@ -60,7 +63,7 @@ returns c =
     let was = c .before .before .args in
     let col : List ℕ = column (was .cells .now) (was .row) (was .s) in
     let long : length col ≡ columnLength = length-column (was .cells .now) (was .row) (was .s) in
-    c .before .loop .inv .1 ∙ padded-whole col (c .before .loop .j) long (omega arith)
+    c .before .loop .inv .1 ∙ filled-whole 0 col (c .before .loop .j) long (omega arith)
 
 pub column-of-spec : {M : Type 1} → statement M
 column-of-spec =
@@ -71,6 +74,7 @@ column-of-spec =
     loop-holds
     add-word-at
     word-at-requires
+    page-in-requires
     mul-pages
     array-write-pages
     add-j

@@ -1,11 +1,9 @@
 -- The numbers of the slot, row by row.
 use Rattle.lent.proofs.WritingLaws.{laid-by}
-use lib.ListN.{length}
-use mathlib.Core.Path.{_≡_}
+use native.Mathlib.Omega.{arith}
 use borrow.Author.Needs.{needs}
 use Rattle.lent.proofs.lifting.lay.Statement.{statement}
 use Rattle.lent.proofs.lifting.lay.Tie as tie
-use Rattle.lent.specs.Layout.{columnLength}
 
 lay-task-requires : tie.Need-lay-task-requires
 lay-task-requires c κs = search needs
@@ -32,18 +30,19 @@ put-requires-4 : tie.Need-put-requires-4
 put-requires-4 c κs = search needs
 
 lay-column-requires : tie.Need-lay-column-requires
-lay-column-requires c κs = search needs
+lay-column-requires c κs =
+    let was = c .before .before .before .before .before .before .before .before .before .before .before .before .before .before .before .before in
+    (omega arith, was .pre .0, was .pre .3 .path)
 
 lay-column-requires-2 : tie.Need-lay-column-requires-2
-lay-column-requires-2 c κs = search needs
-
-path-long : (c : tie.Start) → length (c .args .slot .path) ≡ columnLength
-path-long c = search needs
+lay-column-requires-2 c κs =
+    let was = c .before .before .before .before .before .before .before .before .before .before .before .before .before .before .before .before .before .before .before .before in
+    (omega arith, was .pre .0, was .pre .3 .beside)
 
 returns : tie.Need-returns
 returns c =
-    let was = c .before .before .before .before .before .before .before .before .before .before .before .before .before .before .before .before .before .before .before .args in
-    laid-by (was .cells .now) (was .s) (was .slot) (path-long (c .before .before .before .before .before .before .before .before .before .before .before .before .before .before .before .before .before .before .before)) (c .before .before .before .before .before .before .before .before .before .before .before .before .before .before .before .before .before .lay-task .ensures) (c .before .before .before .before .before .before .before .before .before .before .before .before .before .before .before .put .ensures) (c .before .before .before .before .before .before .before .before .before .before .before .before .before .lock-number .ensures) (c .before .before .before .before .before .before .before .before .before .before .before .before .put2 .ensures) (c .before .before .before .before .before .before .before .before .before .put3 .ensures) (c .before .before .before .before .before .before .put4 .ensures) (c .before .before .before .lay-column .ensures) (c .lay-column2 .ensures)
+    let was = c .before .before .before .before .before .before .before .before .before .before .before .before .before .before .before .before .before .before .before .before .before .args in
+    laid-by (was .cells .now) (was .s) (was .slot) (c .before .before .before .before .before .before .before .before .before .before .before .before .before .before .before .before .before .before .before .lay-task .ensures) (c .before .before .before .before .before .before .before .before .before .before .before .before .before .before .before .before .before .put .ensures) (c .before .before .before .before .before .before .before .before .before .before .before .before .before .before .before .lock-number .ensures) (c .before .before .before .before .before .before .before .before .before .before .before .before .before .before .put2 .ensures) (c .before .before .before .before .before .before .before .before .before .before .before .put3 .ensures) (c .before .before .before .before .before .before .before .before .put4 .ensures) (c .before .before .before .before .lay-column .ensures) (c .lay-column2 .ensures)
 
 pub lay-spec : {M : Type 1} → statement M
 lay-spec =

@@ -4,7 +4,7 @@ use mathlib.Core.Path.{sym, _∙_}
 use native.Mathlib.Omega.{arith}
 use borrow.Author.Needs.{needs}
 use Rattle.ground.specs.Limits.{largestN, mostNew}
-use Rattle.ground.specs.Tests.{padded}
+use Rattle.ground.specs.Tests.{filled}
 use Rattle.ground.proofs.Tests.{firstBelow-most}
 use Rattle.pool.specs.Pool.{freeFrom}
 use Rattle.pool.proofs.LyingLaws.{Taking, taking-starts, taking-on, taking-done, taking-stops}
@@ -18,7 +18,7 @@ abbrev μ-loop : tie.MeasureT-loop
 μ-loop words k n need pages₀ from₀ i₀ pages from i = need - i
 
 loop-holds : tie.Need-loop-holds Inv-loop μ-loop
-unfolding mostNew padded
+unfolding mostNew filled
 loop-holds c =
     let outset = c .before in
     taking-starts (outset .args .k) (outset .args .n) (outset .args .need) (outset .args .words .now) (outset .pre .1)

@@ -6,7 +6,7 @@ use native.Mathlib.Omega.{arith}
 use lib.ListN.{length, getD, take, set}
 use borrow.Author.Needs.{needs}
 use Rattle.ground.specs.Limits.{pathHolds}
-use Rattle.ground.specs.Tests.{padded}
+use Rattle.ground.specs.Tests.{padded, filled}
 use Rattle.slots.proofs.MakingLaws.{padded-more}
 use Rattle.slots.proofs.making.tidy.Statement.{statement}
 use Rattle.slots.proofs.making.tidy.Tie as tie
@@ -18,7 +18,7 @@ abbrev μ-loop : tie.MeasureT-loop
 μ-loop count cells next₀ i₀ next i = count - i
 
 loop-holds : tie.Need-loop-holds Inv-loop μ-loop
-unfolding padded pathHolds
+unfolding filled pathHolds
 loop-holds c = search needs
 
 mul-next : tie.Need-mul-next Inv-loop μ-loop

@@ -1,7 +1,5 @@
 -- The path, then the siblings.
 use Rattle.soundness.proofs.CheckingLawsAlone.{alone-parts}
-use Rattle.slots.specs.declared.Lock.the-variants.{Xi}
-use Rattle.slots.specs.Heard.{lockNumber}
 use Rattle.lent.specs.Layout.{breadthRow, pathRow, besideRow}
 use Rattle.lent.specs.Holds.{othersHold}
 use Rattle.lent.specs.Words.{column, cell}
@@ -33,10 +31,11 @@ returns c =
     let was = c .before .before .before .before .args in
     let ws = was .cells .now in
     let s = was .s in
+    let row = was .row in
     sym
-    (alone-parts ws s
-    ∙ and-first-fails (all (λ (p : ℕ). not (othersHold ws s (lockNumber Xi) p)) (take (cell ws breadthRow s) (column ws besideRow s)))
-    (ap (λ (m : ℕ). all (λ (p : ℕ). not (othersHold ws s (lockNumber Xi) p)) (take m (column ws pathRow s))) (sym (c .before .before .wide .ensures ∙ c .before .before .before .depth-at .ensures))
+    (alone-parts ws s row
+    ∙ and-first-fails (all (λ (p : ℕ). not (othersHold ws s row p)) (take (cell ws breadthRow s) (column ws besideRow s)))
+    (ap (λ (m : ℕ). all (λ (p : ℕ). not (othersHold ws s row p)) (take m (column ws pathRow s))) (sym (c .before .before .wide .ensures ∙ c .before .before .before .depth-at .ensures))
     ∙ sym (c .before .column-alone .ensures)
     ∙ not-true (c .before .column-alone .result) (c .if1 .taken)))
 
@@ -56,12 +55,13 @@ returns-2 c =
     let was = c .before .before .before .before .before .before .before .args in
     let ws = was .cells .now in
     let s = was .s in
+    let row = was .row in
     c .column-alone2 .ensures
-    ∙ ap (λ (m : ℕ). all (λ (p : ℕ). not (othersHold ws s (lockNumber Xi) p)) (take m (column ws besideRow s))) (c .before .wide2 .ensures ∙ c .before .before .breadth-at .ensures)
+    ∙ ap (λ (m : ℕ). all (λ (p : ℕ). not (othersHold ws s row p)) (take m (column ws besideRow s))) (c .before .wide2 .ensures ∙ c .before .before .breadth-at .ensures)
     ∙ sym
-    (alone-parts ws s
-    ∙ ap (λ (b : Bool). b && all (λ (p : ℕ). not (othersHold ws s (lockNumber Xi) p)) (take (cell ws breadthRow s) (column ws besideRow s)))
-    (ap (λ (m : ℕ). all (λ (p : ℕ). not (othersHold ws s (lockNumber Xi) p)) (take m (column ws pathRow s))) (sym (c .before .before .before .before .before .wide .ensures ∙ c .before .before .before .before .before .before .depth-at .ensures))
+    (alone-parts ws s row
+    ∙ ap (λ (b : Bool). b && all (λ (p : ℕ). not (othersHold ws s row p)) (take (cell ws breadthRow s) (column ws besideRow s)))
+    (ap (λ (m : ℕ). all (λ (p : ℕ). not (othersHold ws s row p)) (take m (column ws pathRow s))) (sym (c .before .before .before .before .before .wide .ensures ∙ c .before .before .before .before .before .before .depth-at .ensures))
     ∙ sym (c .before .before .before .before .column-alone .ensures)
     ∙ not-false (c .before .before .before .before .column-alone .result) (c .before .before .before .if1 .left)))
 

@@ -4,7 +4,7 @@ use Rattle.soundness.proofs.CheckingLaws.{may-none, may-on, may-stop-hi
 use Rattle.soundness.specs.Checking.{mayEnter}
 use Rattle.lent.proofs.StateLaws.{length-column, column-cell}
 use Rattle.lent.specs.Layout.{columnLength, wantRow, pathRow}
-use Rattle.lent.specs.Words.{cell, column}
+use Rattle.lent.specs.Words.{cell, pageIn, column}
 use Rattle.ground.proofs.Tests.{member-append}
 use Rattle.ground.proofs.Bools.{or-first, or-second, or-none}
 use Rattle.ground.specs.Tests.{member}
@@ -38,65 +38,70 @@ add-word-at c = search needs
 word-at-requires : tie.Need-word-at-requires Inv-loop μ-loop
 word-at-requires c κs = search needs
 
+page-in-requires : tie.Need-page-in-requires Inv-loop μ-loop
+page-in-requires c κs = search needs
+
 -- the page read is the next of the column
-next : (c : tie.After-word-at Inv-loop μ-loop) → getD (column (c .before .before .before .before .args .cells .now) (c .before .before .before .before .args .row) (c .before .before .before .before .args .s)) (c .before .before .loop .i) 0 ≡ c .word-at .result
+next : (c : tie.After-page-in Inv-loop μ-loop) → getD (column (c .before .before .before .before .before .args .cells .now) (c .before .before .before .before .before .args .row) (c .before .before .before .before .before .args .s)) (c .before .before .before .loop .i) 0 ≡ c .page-in .result
 next c =
-    let was = c .before .before .before .before .args in
-    column-cell (was .cells .now) (was .row) (was .s) (c .before .before .loop .i) (omega arith) ∙ sym (c .word-at .ensures)
+    let was = c .before .before .before .before .before .args in
+    column-cell (was .cells .now) (was .row) (was .s) (c .before .before .before .loop .i) (omega arith) ∙ sym (c .page-in .ensures ∙ ap pageIn (c .before .word-at .ensures))
 
 returns : tie.Need-returns Inv-loop μ-loop
 returns c =
-    let was = c .before .before .before .before .before .args in
-    let ws = was .cells .now in
-    let col : List ℕ = column ws (was .row) (was .s) in
-    let long : length col ≡ columnLength = length-column ws (was .row) (was .s) in
-    sym
-    (may-stop-high (was .n) (cell ws wantRow (was .s)) (take (was .own) (column ws pathRow (was .s))) col (c .before .before .before .loop .i) (was .count) (omega arith) (omega arith)
-    (subst (λ (p : ℕ). was .n ≤ p) (sym (next (c .before))) (c .if1 .taken)))
-
-returns-2 : tie.Need-returns-2 Inv-loop μ-loop
-returns-2 c =
     let was = c .before .before .before .before .before .before .args in
     let ws = was .cells .now in
     let col : List ℕ = column ws (was .row) (was .s) in
     let long : length col ≡ columnLength = length-column ws (was .row) (was .s) in
     sym
-    (may-stop-want (was .n) (cell ws wantRow (was .s)) (take (was .own) (column ws pathRow (was .s))) col (c .before .before .before .before .loop .i) (was .count) (omega arith) (omega arith)
-    (next (c .before .before) ∙ c .if2 .taken ∙ c .before .before .before .before .before .want-at .ensures))
+    (may-stop-high (was .n) (cell ws wantRow (was .s)) (take (was .own) (column ws pathRow (was .s))) col (c .before .before .before .before .loop .i) (was .count) (omega arith) (omega arith)
+    (subst (λ (p : ℕ). was .n ≤ p) (sym (next (c .before))) (c .if1 .taken)))
+
+returns-2 : tie.Need-returns-2 Inv-loop μ-loop
+returns-2 c =
+    let was = c .before .before .before .before .before .before .before .args in
+    let ws = was .cells .now in
+    let col : List ℕ = column ws (was .row) (was .s) in
+    let long : length col ≡ columnLength = length-column ws (was .row) (was .s) in
+    sym
+    (may-stop-want (was .n) (cell ws wantRow (was .s)) (take (was .own) (column ws pathRow (was .s))) col (c .before .before .before .before .before .loop .i) (was .count) (omega arith) (omega arith)
+    (next (c .before .before) ∙ c .if2 .taken ∙ c .before .before .before .before .before .before .want-at .ensures))
 
 column-has-requires : tie.Need-column-has-requires Inv-loop μ-loop
 column-has-requires c κs = search needs
 
 returns-3 : tie.Need-returns-3 Inv-loop μ-loop
 returns-3 c =
-    let was = c .before .before .before .before .before .before .before .before .args in
+    let was = c .before .before .before .before .before .before .before .before .before .args in
     let ws = was .cells .now in
     let col : List ℕ = column ws (was .row) (was .s) in
     let own : List ℕ = take (was .own) (column ws pathRow (was .s)) in
-    let i : ℕ = c .before .before .before .before .before .before .loop .i in
+    let i : ℕ = c .before .before .before .before .before .before .before .loop .i in
+    let p : ℕ = c .before .before .before .before .page-in .result in
     let long : length col ≡ columnLength = length-column ws (was .row) (was .s) in
     sym
     (may-stop-twice (was .n) (cell ws wantRow (was .s)) own col i (was .count) (omega arith) (omega arith)
-    (ap (λ (p : ℕ). member p (own ++ take i col)) (next (c .before .before .before .before))
-    ∙ member-append (c .before .before .before .before .word-at .result) own (take i col)
-    ∙ or-first (member (c .before .before .before .before .word-at .result) (take i col)) (sym (c .before .column-has .ensures) ∙ c .if3 .taken)))
+    (ap (λ (q : ℕ). member q (own ++ take i col)) (next (c .before .before .before .before))
+    ∙ member-append p own (take i col)
+    ∙ or-first (member p (take i col)) (sym (c .before .column-has .ensures) ∙ c .if3 .taken)))
 
 column-has-requires-2 : tie.Need-column-has-requires-2 Inv-loop μ-loop
 column-has-requires-2 c κs = search needs
 
 returns-4 : tie.Need-returns-4 Inv-loop μ-loop
 returns-4 c =
-    let was = c .before .before .before .before .before .before .before .before .before .before .args in
+    let was = c .before .before .before .before .before .before .before .before .before .before .before .args in
     let ws = was .cells .now in
     let col : List ℕ = column ws (was .row) (was .s) in
     let own : List ℕ = take (was .own) (column ws pathRow (was .s)) in
-    let i : ℕ = c .before .before .before .before .before .before .before .before .loop .i in
+    let i : ℕ = c .before .before .before .before .before .before .before .before .before .loop .i in
+    let p : ℕ = c .before .before .before .before .before .before .page-in .result in
     let long : length col ≡ columnLength = length-column ws (was .row) (was .s) in
     sym
     (may-stop-twice (was .n) (cell ws wantRow (was .s)) own col i (was .count) (omega arith) (omega arith)
-    (ap (λ (p : ℕ). member p (own ++ take i col)) (next (c .before .before .before .before .before .before))
-    ∙ member-append (c .before .before .before .before .before .before .word-at .result) own (take i col)
-    ∙ or-second (member (c .before .before .before .before .before .before .word-at .result) own) (sym (c .before .column-has2 .ensures) ∙ c .if4 .taken)))
+    (ap (λ (q : ℕ). member q (own ++ take i col)) (next (c .before .before .before .before .before .before))
+    ∙ member-append p own (take i col)
+    ∙ or-second (member p own) (sym (c .before .column-has2 .ensures) ∙ c .if4 .taken)))
 
 add-i : tie.Need-add-i Inv-loop μ-loop
 add-i c = search needs
@@ -106,19 +111,20 @@ loop-less c = search needs
 
 loop-again : tie.Need-loop-again Inv-loop μ-loop
 loop-again c =
-    let was = c .before .before .before .before .before .before .before .before .before .before .args in
+    let was = c .before .before .before .before .before .before .before .before .before .before .before .args in
     let ws = was .cells .now in
     let col : List ℕ = column ws (was .row) (was .s) in
     let own : List ℕ = take (was .own) (column ws pathRow (was .s)) in
-    let i : ℕ = c .before .before .before .before .before .before .before .before .loop .i in
+    let i : ℕ = c .before .before .before .before .before .before .before .before .before .loop .i in
+    let p : ℕ = c .before .before .before .before .before .before .page-in .result in
     let long : length col ≡ columnLength = length-column ws (was .row) (was .s) in
     let read = next (c .before .before .before .before .before .before) in (
       omega arith,
-      may-on (was .n) (cell ws wantRow (was .s)) own col i (omega arith) (c .before .before .before .before .before .before .before .before .loop .inv .1)
-          (subst (λ (p : ℕ). p < was .n) (sym read) (c .before .before .before .before .before .if1 .left))
-          (λ e. c .before .before .before .before .if2 .left (sym read ∙ e ∙ sym (c .before .before .before .before .before .before .before .before .before .want-at .ensures)))
-          (ap (λ (p : ℕ). member p (own ++ take i col)) read
-          ∙ member-append (c .before .before .before .before .before .before .word-at .result) own (take i col)
+      may-on (was .n) (cell ws wantRow (was .s)) own col i (omega arith) (c .before .before .before .before .before .before .before .before .before .loop .inv .1)
+          (subst (λ (q : ℕ). q < was .n) (sym read) (c .before .before .before .before .before .if1 .left))
+          (λ e. c .before .before .before .before .if2 .left (sym read ∙ e ∙ sym (c .before .before .before .before .before .before .before .before .before .before .want-at .ensures)))
+          (ap (λ (q : ℕ). member q (own ++ take i col)) read
+          ∙ member-append p own (take i col)
           ∙ or-none (sym (c .before .before .before .column-has .ensures) ∙ c .before .before .if3 .left) (sym (c .before .column-has2 .ensures) ∙ c .if4 .left)),
     )
 
@@ -139,6 +145,7 @@ may-enter-spec =
     loop-holds
     add-word-at
     word-at-requires
+    page-in-requires
     returns
     returns-2
     column-has-requires

@@ -1,10 +1,9 @@
 -- The mask has a bit for each of the slots passed that updates.
 use Rattle.soundness.proofs.MaskLaws.{mask-none, mask-sets, mask-keeps}
-use Rattle.soundness.specs.Checking.{updates}
+use Rattle.soundness.specs.Checking.{updatesKind, updates}
 use Rattle.slots.specs.Report.{maskBelow}
 use lib.Bits.{bitOr}
 use Rattle.lent.specs.Layout.{rowLength}
-use Rattle.lent.specs.Holds.{updatesKind}
 use native.Mathlib.Omega.{arith}
 use mathlib.Core.Logic.{⊎-elim}
 use mathlib.Core.Path.{_≡_, sym, ap, _∙_}

@@ -6,11 +6,11 @@ use native.Mathlib.Omega.{arith}
 use borrow.Author.Tests.{leb-true, leb-false, ne-eqb}
 use lib.Dec.{leb, eqb}
 use Rattle.ground.proofs.Choice.{by-test}
 use Rattle.lent.specs.Words.{highestKind}
-use Rattle.lent.specs.Holds.{updatesKind}
+use Rattle.soundness.specs.Checking.{updatesKind}
 use Rattle.lent.proofs.HoldLaws.{by-kind}
-use Rattle.lent.proofs.granting.is_update.Statement.{statement}
-use Rattle.lent.proofs.granting.is_update.Tie as tie
+use Rattle.soundness.proofs.checking.is_update.Statement.{statement}
+use Rattle.soundness.proofs.checking.is_update.Tie as tie
 
 -- what the code tells
 abbrev told : ℕ → Bool
