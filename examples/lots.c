@@ -1,6 +1,6 @@
 /* Two buyers on one list: the house enters a lot while a buyer looks for it, and then downgrades it while one does. Then all lots are listed,
- * each by a question of its own. At the end the house enters a lot by the second way, and a buyer is on the top page with it. Writes each
- * answer by its number. */
+ * each by a question of its own. At the end the house enters a lot by the second way, and a buyer is on the top page with it; then one by
+ * the third, and waits only to change what a buyer still reads. Writes each answer by its number. */
 #include <stdio.h>
 
 #include "ghazfulit.h"
@@ -34,6 +34,7 @@ static const char *asked(uint32_t kind) {
     switch (kind) {
     case GHAZFULIT_INSERT: return "the house enters a lot";
     case GHAZFULIT_INSERT_SECOND: return "the house enters a lot by the second way";
+    case GHAZFULIT_INSERT_THIRD: return "the house enters a lot by the third way";
     case GHAZFULIT_REGRADE: return "the house downgrades a lot";
     default: return "a buyer looks for a lot";
     }
@@ -101,7 +102,7 @@ int main(void) {
     ghazfulit_report(state, 0, answer);
     say("page 0", answer);
     step(1);
-    begin(2, 9, 12, 0);
+    begin(2, 12, 12, 0);
     for (uint32_t i = 1; i <= 6; i++) {
         ghazfulit_begin(state, 0, GHAZFULIT_INSERT, 10 * i, i, answer);
         finish(0, answer);
@@ -115,5 +116,19 @@ int main(void) {
     say("page 0", answer);
     step(0);
     step(1);
+    /* the leaf of 45 is full then, so that page 0 has to change with it */
+    ghazfulit_begin(state, 0, GHAZFULIT_INSERT, 55, 5, answer);
+    finish(0, answer);
+    begin(0, GHAZFULIT_INSERT_THIRD, 45, 5);
+    begin(1, GHAZFULIT_SEARCH, 12, 0);
+    step(0);
+    step(1);
+    ghazfulit_report(state, 0, answer);
+    say("page 0", answer);
+    step(0);
+    step(0);
+    step(1);
+    step(0);
+    step(0);
     return 0;
 }

@@ -21,9 +21,10 @@ extern "C" {
 
 /* Raised with every change of a number, of an answer's values or of what the words of the state mean. 2: AlreadyThere has a value,
  * and Next never tells a key below the one asked for. 3: updates by the second way, and for them a row more of the state. 4: four kinds
- * of lock; updates by the second way hold with updater's rho, and a page that is held has the kind of its lock in its word.
+ * of lock; updates by the second way hold with updater's rho, and a page that is held has the kind of its lock in its word. 5: updates
+ * by the third way, which hold with alpha and want a page that they hold once more, with xi.
  * ghazfulit_version() gives the archive's own. */
-#define GHAZFULIT_VERSION 4
+#define GHAZFULIT_VERSION 5
 
 /* Words of a state, words of an answer, slots, and the largest k and n. A state's words are the library's own; docs/DECISIONS.md has
  * how they lie ("Layout"). The word of a page that a slot holds is the page and 65,536 times the number of the kind of its lock, as the
@@ -37,10 +38,12 @@ extern "C" {
 /* Words of a pool of n pages of width k. */
 #define GHAZFULIT_WORDS(k, n) ((size_t)(n) * (4 * (size_t)(k) + 3))
 
-/* Kinds of operation. An update has two ways, and does the same by both. By the first it takes xi-locks from page 0 on: what it holds
+/* Kinds of operation. An update has three ways, and does the same by each. By the first it takes xi-locks from page 0 on: what it holds
  * nobody else can read. By the second it goes down with updater's rho, beside all who read, and wants xi on its leaf alone. Where the
  * change would reach beyond the leaf, and where page 0 is a leaf, it gives up what it holds and begins again by the first way; that is
- * answered Moved. */
+ * answered Moved. By the third it holds what it would hold by the first, but with alpha, beside those who read. When it knows its change,
+ * it wants each page that it holds once more, with xi, from the top down, one a step; each is answered Moved, and the last with the change.
+ * Such a want waits for those who hold the page, and comes before every other want of it. */
 enum {
     GHAZFULIT_SEARCH = 1,
     GHAZFULIT_INSERT = 2,
@@ -49,7 +52,10 @@ enum {
     GHAZFULIT_REGRADE = 5,        /* new information under a key that is there */
     GHAZFULIT_INSERT_SECOND = 6,  /* the same three updates by the second way */
     GHAZFULIT_DELETE_SECOND = 7,
-    GHAZFULIT_REGRADE_SECOND = 8
+    GHAZFULIT_REGRADE_SECOND = 8,
+    GHAZFULIT_INSERT_THIRD = 9,   /* and by the third */
+    GHAZFULIT_DELETE_THIRD = 10,
+    GHAZFULIT_REGRADE_THIRD = 11
 };
 
 /* Answers. Below 32 are refusals. */
@@ -63,7 +69,7 @@ enum {
     GHAZFULIT_BAD_PAGE = 7,       /* a report for a page n or above */
     GHAZFULIT_BAD_KIND = 31,      /* a kind of operation that does not exist */
     GHAZFULIT_WAITING = 32,       /* the lock is not to be had yet */
-    GHAZFULIT_MOVED = 33,         /* one lock more; or all given up, and the update begins again */
+    GHAZFULIT_MOVED = 33,         /* one lock more, or a stronger one; or all given up, and the update begins again */
     GHAZFULIT_FOUND = 34,         /* with the information */
     GHAZFULIT_NOT_FOUND = 35,
     GHAZFULIT_INSERTED = 36,
@@ -92,9 +98,9 @@ enum {
 enum {
     GHAZFULIT_LOCK_NONE = 0,
     GHAZFULIT_LOCK_RHO = 1,         /* of a search or a Next */
-    GHAZFULIT_LOCK_XI = 2,          /* of an update by the first way */
+    GHAZFULIT_LOCK_XI = 2,          /* of an update by the first way, and by the third where the page was converted */
     GHAZFULIT_LOCK_UPDATER_RHO = 3, /* of an update by the second way */
-    GHAZFULIT_LOCK_ALPHA = 4        /* of no operation yet */
+    GHAZFULIT_LOCK_ALPHA = 4        /* of an update by the third way */
 };
 
 /* Makes a fresh pool of n pages of width k, and writes every word of the state: Made or BadPool. */

@@ -1,7 +1,7 @@
 -- An update by the second way at its leaf: each law is one way through the test whether it begins again; and what an insertion that stays
 -- may count on.
 use Prim.Native.Nat.{ℕ, _-_}
-use mathlib.Core.Bool.{Bool, true, false, cond, not, _&&_, _||_, or-false}
+use mathlib.Core.Bool.{Bool, true, false, not, _&&_, _||_, or-false}
 use mathlib.Core.List.{List}
 use mathlib.Core.Logic.{_≢_, inr, ⊎-elim}
 use mathlib.Core.Path.{_≡_, refl, sym, ap, _∙_, subst}
@@ -11,41 +11,24 @@ use lib.Dec.{eqb}
 use lib.ListN.{getD}
 use lib.Seq.{getD-take}
 use Rattle.ground.proofs.Bools.{not-both, and-second, and-both, and-first-fails, or-second, or-cases, not-of-true, not-of-false}
-use Rattle.page.specs.Words.{Entry, Page}
-use Rattle.page.specs.Place.{has, information}
+use Rattle.page.specs.Words.{Page}
+use Rattle.page.specs.Place.{has}
 use Rattle.page.specs.Reading.{looked}
 use Rattle.page.specs.declared.reading.Lot.{Lot}
-use Rattle.page.specs.declared.reading.Lot.the-variants.{There, Missing}
 use Rattle.pool.specs.Pool.{pageAt}
 use Rattle.slots.specs.declared.Op.{Op}
-use Rattle.slots.specs.declared.Op.the-variants.{Search, Insert, Delete, Next, Regrade}
+use Rattle.slots.specs.declared.Op.the-variants.{Insert}
 use Rattle.slots.specs.declared.Way.{Way}
-use Rattle.slots.specs.declared.Way.the-variants.{First, Second}
+use Rattle.slots.specs.declared.Way.the-variants.{First, Second, Third}
 use Rattle.slots.specs.declared.Slot.{Slot}
 use Rattle.slots.specs.Parts.{keyOf, isSecond, firstWay, pathOf}
 use Rattle.footing.specs.Granted.{isSafe, answeredAtOnce, staysSecond}
-use Rattle.footing.specs.Standing.{SlotStanding}
+use Rattle.footing.specs.Standing.{SlotStanding, atOnce}
 use Rattle.footing.proofs.LookLaws.{told-true, told-false}
-use Rattle.course.specs.Judged.{isThere, atOnce, beginsAgain}
+use Rattle.footing.proofs.ConvertLaws.{read-at-once}
+use Rattle.course.specs.Judged.{beginsAgain}
 use Rattle.course.proofs.StandLaws.{Topped}
 use Rattle.course.proofs.JudgeLaws.{path-long, lowest}
-
--- ---- what was read under the key
-
-looked-there : (x : ℕ) (es : List Entry) → isThere (looked x es) ≡ has x es
-looked-there x es = by-test (has x es) (information x es)
-  where
-    by-test : (b : Bool) (v : ℕ) → isThere (cond b (There v) Missing) ≡ b
-    by-test true v = refl
-    by-test false v = refl
-
--- it is answered at once just where the rule says so of the entries
-looked-at-once : (op : Op) (es : List Entry) → atOnce op (looked (keyOf op) es) ≡ answeredAtOnce op es
-looked-at-once (Search x) es = refl
-looked-at-once (Insert x v way) es = looked-there x es
-looked-at-once (Delete x way) es = ap not (looked-there x es)
-looked-at-once (Next x) es = refl
-looked-at-once (Regrade x v way) es = ap not (looked-there x es)
 
 -- ---- whether it begins again
 
@@ -79,10 +62,8 @@ module _ (op : Op) (k : ℕ) (memory : ℕ → Page) (leaf : ℕ) {second : Bool
       -- on another the key tells
       pub again-by-key : {key : ℕ} {lot : Lot} {once : Bool} → spare ≡ false → key ≡ keyOf op → lot ≡ looked key (memory leaf .entries) → once ≡ atOnce op lot
           → not once ≡ beginsAgain op k memory leaf
-      again-by-key {once = once} f asked read told =
-          let same : once ≡ answers =
-          told ∙ ap (atOnce op) (read ∙ ap (λ (x : ℕ). looked x (memory leaf .entries)) asked) ∙ looked-at-once op (memory leaf .entries) in
-          ap not same
+      again-by-key f asked read told =
+          ap not (read-at-once op (memory leaf .entries) asked read told)
           ∙ begins
           (ap (λ (t : Bool). t && (answers || safe)) (not-of-false (ne-eqb leaf 0 other)) ∙ ap (λ (t : Bool). answers || t) (sym room ∙ f) ∙ or-false answers)
 
@@ -98,10 +79,11 @@ module _ {x v k n : ℕ} {ws : List ℕ} {stand : Slot} where
       let last : 0 ≡ stand .depth - 1 = omega arith in
       getD-take (stand .depth) (stand .path) 0 0 (omega arith) ∙ ap (λ (i : ℕ). getD (stand .path) i 0) last
 
-  -- by the first way the top page is as it was; by the second the leaf is safe, if the key is missing
+  -- by the first and the third way the top page is as it was; by the second the leaf is safe, if the key is missing
   by-way : (way : Way) → SlotStanding (Insert x v way) k n ws stand → beginsAgain (Insert x v way) k (pageAt k ws) (lowest stand) ≡ false
       → has x (pageAt k ws (lowest stand) .entries) ≡ false → Topped (Insert x v First) k (pageAt k ws) (pathOf stand)
   by-way First h stays missing = h .standing .top
+  by-way Third h stays missing = h .standing .top
   by-way Second h stays missing =
       let leaf : ℕ = lowest stand in
       let there : Bool = has x (pageAt k ws leaf .entries) in

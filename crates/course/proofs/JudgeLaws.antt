@@ -11,8 +11,8 @@ use lib.ListN.{length, take}
 use lib.Seq.{getD-take}
 use Rattle.ground.specs.Limits.{pathHolds}
 use Rattle.ground.specs.Tests.{member}
-use Rattle.ground.proofs.Bools.{not-both, and-first, and-second, or-cases}
-use Rattle.ground.proofs.Choice.{cond-true, cond-false}
+use Rattle.ground.proofs.Bools.{not-both, and-first, and-second, and-both, and-first-fails, or-second, or-cases}
+use Rattle.ground.proofs.Choice.{by-test, cond-true, cond-false}
 use Rattle.ground.proofs.Padded.{length-padded}
 use Rattle.page.specs.Words.{Page, Entry, isLeaf}
 use Rattle.page.specs.Place.{route, has, information}
@@ -28,21 +28,27 @@ use Rattle.change.proofs.HeldLaws.{Known, held-front, upward-reverse, upward-fa
 use Rattle.slots.specs.declared.Op.{Op}
 use Rattle.slots.specs.declared.Op.the-variants.{Search, Insert, Delete, Next, Regrade}
 use Rattle.slots.specs.declared.Way.{Way}
-use Rattle.slots.specs.declared.Way.the-variants.{First, Second}
+use Rattle.slots.specs.declared.Way.the-variants.{First, Second, Third}
 use Rattle.slots.specs.declared.Lock.{Lock}
+use Rattle.slots.specs.declared.Lock.the-variants.{Xi}
 use Rattle.slots.specs.declared.Under.{Under}
 use Rattle.slots.specs.declared.Answer.{Answer}
 use Rattle.slots.specs.declared.Answer.the-variants.{Found, NotFound, Inserted, AlreadyThere, Deleted, NoSuchKey, NoRoom, Regraded}
 use Rattle.slots.specs.declared.Slot.{Slot}
 use Rattle.slots.specs.Locks.{sameLock}
-use Rattle.slots.specs.Parts.{keyOf, isNext, heldLock, pathOf, besideOf, held, under, Stand, onPages, wantBeside, wantsNext, withOp, standOf}
+use Rattle.slots.specs.Parts.{keyOf, isDelete, isNext, isThird, heldLock, pathOf, besideOf, held, under, Stand, onPages, wantBeside, wantConverted, converting, wantsNext, withOp, standOf}
+use Rattle.slots.proofs.LockLaws.{third-not-second, third-not-xi}
 use Rattle.course.specs.declared.judging.Course.{Course}
 use Rattle.course.specs.declared.judging.Course.the-variants.{Broken, Goes, Regrades, Again}
-use Rattle.footing.specs.Granted.{Verdict, broken, goes, ends, isSafe, lockBelow, deletes, byNeed, again, atLeaf, fromLeaf, byWayAtLeaf, comesDown, goesLeft, besides, atItsLeaf, granted}
-use Rattle.footing.specs.Fitting.{descends, rightlyKept, rightlyBeside, sameLevels, isSibling, isNone, rightlyAcross, lockDue, fitting}
-use Rattle.footing.specs.Standing.{SlotStanding, stood}
+use Rattle.footing.specs.declared.converting.Turn.{Turn}
+use Rattle.footing.specs.declared.converting.Turn.the-variants.{Page as TurnPage, Done}
+use Rattle.footing.specs.Granted.{Verdict, broken, goes, ends, isSafe, lockBelow, deletes, byNeed, again, staysSecond, isNone, changeKnown, toConvert, byTurn, convertedFirst, atLeaf, fromLeaf, byWayAtLeaf, comesDown, goesLeft, besides, converts, atItsLeaf, granted}
+use Rattle.footing.specs.Fitting.{descends, rightlyKept, rightlyBeside, sameLevels, isSibling, rightlyAcross, lockDue, holdsDue, fittingNew, rightlyConverting, fitting, nextIsNew}
+use Rattle.footing.specs.Standing.{SlotStanding, stood, turnOf}
+use Rattle.footing.proofs.LookLaws.{below-first}
 use Rattle.footing.proofs.AcrossLaws.{across-idle}
-use Rattle.course.specs.Judged.{onSecond, judgedAt, beginsAgain, judged, ifNew, courseOf, ready, nextCourse, searchCourse, insertCourse, needCourse, deleteCourse, standsLast}
+use Rattle.footing.proofs.ConvertLaws.{converts-facts}
+use Rattle.course.specs.Judged.{onSecond, judgedAt, beginsAgain, turnCourse, judged, ifNew, courseOf, ready, nextCourse, searchCourse, insertCourse, needCourse, deleteCourse, standsLast}
 use Rattle.course.proofs.StandLaws.{Topped, cond-both, stood-ind}
 
 -- ---- the rule of a granted step
@@ -54,36 +60,52 @@ onward memory z p = goes (wantsNext z (route (keyOf (z .op)) (memory p)) (lockBe
 module _ (k : ℕ) (memory : ℕ → Page) (free : List ℕ) where
   -- what an operation does that stands at this leaf below these fathers, or at a page above the leaves
   leafAct : Stand → ℕ → List ℕ → Verdict
-  leafAct z leaf fathers = cond (beginsAgain (z .op) k memory leaf) (again (z .op)) (judgedAt (z .op) k memory free z leaf fathers)
+  leafAct z leaf fathers =
+      cond (beginsAgain (z .op) k memory leaf) (again (z .op)) (convertedFirst k memory z leaf fathers (judgedAt (z .op) k memory free z leaf fathers))
 
   act : Stand → ℕ → List ℕ → Verdict
   act z leaf fathers = cond (isLeaf (memory leaf)) (leafAct z leaf fathers) (onward memory z leaf)
+
+  -- a deletion that stands rightly at its leaf has found its key
+  deletion-finds : (op : Op) (z : Stand) (p : ℕ) (up : List ℕ)
+      → rightlyBeside k memory (withOp op z) (p ∷ up) || rightlyAcross k memory (withOp op z) (z .path) ≡ true → isNext op ≡ false
+      → has (keyOf op) (memory p .entries) ≡ true
+  deletion-finds op z p up right other =
+      let deletion : Bool = isDelete op in
+      let found : Bool = has (keyOf op) (memory p .entries) in
+      let next : Bool = isSibling (needs k memory (keyOf op) p up (z .beside)) (z .want) in
+      let levels : Bool = sameLevels memory (p ∷ up) (z .beside ++ z .want ∷ []) in
+      ⊎-elim
+      (λ beside. and-second deletion found (and-first (deletion && found) next (and-first (deletion && found && next) levels beside)))
+      (λ across. not-both across (sym (across-idle k memory (withOp op z) (z .path) other)))
+      (or-cases (deletion && found && next && levels) (rightlyAcross k memory (withOp op z) (z .path)) right)
 
   -- a deletion that stands rightly at its leaf goes on with its siblings, a Next with its second way
   beside-acts : (op : Op) (z : Stand) (up : List ℕ) → atItsLeaf memory up ≡ true
       → rightlyBeside k memory (withOp op z) up || rightlyAcross k memory (withOp op z) (z .path) ≡ true
       → cond (isNext op)
       (goesLeft memory (withOp op z))
-      (fromLeaf (λ (leaf : ℕ) (fathers : List ℕ). deletes k memory (keyOf op) (wantBeside (withOp op z)) leaf fathers) up)
+      (fromLeaf
+      (λ (leaf : ℕ) (fathers : List ℕ). convertedFirst k memory (wantBeside (withOp op z)) leaf fathers (deletes k memory (keyOf op) (wantBeside (withOp op z)) leaf fathers))
+      up)
       ≡ fromLeaf (act (wantBeside (withOp op z))) up
   unfolding act leafAct judgedAt atLeaf goesLeft
   beside-acts op z [] leaf right = absurd (false≢true leaf)
   beside-acts (Search x) z (p ∷ up) leaf right = not-both right (sym (across-idle k memory (withOp (Search x) z) (z .path) refl))
   beside-acts (Insert x v First) z (p ∷ up) leaf right = not-both right (sym (across-idle k memory (withOp (Insert x v First) z) (z .path) refl))
   beside-acts (Insert x v Second) z (p ∷ up) leaf right = not-both right (sym (across-idle k memory (withOp (Insert x v Second) z) (z .path) refl))
+  beside-acts (Insert x v Third) z (p ∷ up) leaf right = not-both right (sym (across-idle k memory (withOp (Insert x v Third) z) (z .path) refl))
   beside-acts (Delete x Second) z (p ∷ up) leaf right = not-both right (sym (across-idle k memory (withOp (Delete x Second) z) (z .path) refl))
   beside-acts (Delete x First) z (p ∷ up) leaf right =
       let more : Stand = wantBeside (withOp (Delete x First) z) in
-      let found : Bool = has x (memory p .entries) in
-      let next : Bool = isSibling (needs k memory x p up (z .beside)) (z .want) in
-      let levels : Bool = sameLevels memory (p ∷ up) (more .beside) in
-      let there : found ≡ true =
-      ⊎-elim (λ beside. and-first found next (and-first (found && next) levels beside))
-      (λ across. not-both across (sym (across-idle k memory (withOp (Delete x First) z) (z .path) refl)))
-      (or-cases (found && next && levels) (rightlyAcross k memory (withOp (Delete x First) z) (z .path)) right) in
       sym
       (cond-true (judgedAt (Delete x First) k memory free more p up) (onward memory more p) leaf
-      ∙ cond-true (deletes k memory x more p up) (ends NoSuchKey []) there)
+      ∙ cond-true (deletes k memory x more p up) (ends NoSuchKey []) (deletion-finds (Delete x First) z p up right refl))
+  beside-acts (Delete x Third) z (p ∷ up) leaf right =
+      let more : Stand = wantBeside (withOp (Delete x Third) z) in
+      sym
+      (cond-true (convertedFirst k memory more p up (judgedAt (Delete x Third) k memory free more p up)) (onward memory more p) leaf
+      ∙ ap (convertedFirst k memory more p up) (cond-true (deletes k memory x more p up) (ends NoSuchKey []) (deletion-finds (Delete x Third) z p up right refl)))
   beside-acts (Next x) z (p ∷ up) leaf right =
       let more : Stand = wantBeside (withOp (Next x) z) in
       sym
@@ -91,6 +113,7 @@ module _ (k : ℕ) (memory : ℕ → Page) (free : List ℕ) where
       ∙ ap (onSecond (atLeaf (Next x) k memory free more p up) memory more) (reverse-append (z .beside) (z .want ∷ [])))
   beside-acts (Regrade x v First) z (p ∷ up) leaf right = not-both right (sym (across-idle k memory (withOp (Regrade x v First) z) (z .path) refl))
   beside-acts (Regrade x v Second) z (p ∷ up) leaf right = not-both right (sym (across-idle k memory (withOp (Regrade x v Second) z) (z .path) refl))
+  beside-acts (Regrade x v Third) z (p ∷ up) leaf right = not-both right (sym (across-idle k memory (withOp (Regrade x v Third) z) (z .path) refl))
 
   -- without siblings the rule at a leaf is the one for an operation that comes down
   alone-acts : (op : Op) (z : Stand) (path : List ℕ) (locks : List Under) (leaf : ℕ) (fathers : List ℕ)
@@ -114,24 +137,62 @@ module _ (k : ℕ) (memory : ℕ → Page) (free : List ℕ) where
       subst
       (λ (ups : List ℕ). cond (isLeaf (memory p)) (fromLeaf (byWayAtLeaf k memory free down) ups) (onward memory down p) ≡ fromLeaf (act down) ups)
       (sym e)
-      (ap (λ (v : Verdict). cond (isLeaf (memory p)) (cond (beginsAgain (z .op) k memory p) (again (z .op)) v) (onward memory down p)) (alone-acts (z .op) z path locks p fathers))
+      (ap
+      (λ (v : Verdict). cond (isLeaf (memory p)) (cond (beginsAgain (z .op) k memory p) (again (z .op)) (convertedFirst k memory down p fathers v)) (onward memory down p))
+      (alone-acts (z .op) z path locks p fathers))
+
+  -- by the third way the rule at a leaf is the same, whatever is held beside the path
+  third-acts : (op : Op) (z : Stand) (leaf : ℕ) (fathers : List ℕ) → isThird op ≡ true → atLeaf op k memory free z leaf fathers ≡ judgedAt op k memory free z leaf fathers
+  unfolding judgedAt
+  third-acts (Search x) z leaf fathers third = refl
+  third-acts (Insert x v way) z leaf fathers third = refl
+  third-acts (Delete x way) z leaf fathers third = refl
+  third-acts (Next x) z leaf fathers third = not-both third refl
+  third-acts (Regrade x v way) z leaf fathers third = refl
+
+  -- an update that rightly converts a page stands at its leaf, and does there what it does by the third way
+  turn-acts : (z : Stand) (up : List ℕ) → rightlyConverting k memory z up ≡ true
+      → fromLeaf
+      (λ (leaf : ℕ) (fathers : List ℕ). convertedFirst k memory (wantConverted z) leaf fathers (atLeaf (z .op) k memory free (wantConverted z) leaf fathers))
+      up
+      ≡ fromLeaf (act (wantConverted z)) up
+  unfolding act leafAct
+  turn-acts z [] right = absurd (false≢true right)
+  turn-acts z (leaf ∷ fathers) right =
+      let told = converts-facts k memory z leaf fathers right in
+      let now : Stand = wantConverted z in
+      let stays : beginsAgain (z .op) k memory leaf ≡ false = and-first-fails (not (staysSecond (z .op) k memory leaf)) (third-not-second (z .op) (told .third)) in
+      ap (convertedFirst k memory now leaf fathers) (third-acts (z .op) now leaf fathers (told .third))
+      ∙ sym
+      (cond-true (leafAct now leaf fathers) (onward memory now leaf) (told .low)
+      ∙ cond-false (again (z .op)) (convertedFirst k memory now leaf fathers (judgedAt (z .op) k memory free now leaf fathers)) stays)
 
 -- What a step comes to that is granted to an operation with the right pages is what the operation does from where it then stands.
 pub granted-judged : (k : ℕ) (memory : ℕ → Page) (free : List ℕ) (z : Stand) → fitting k memory z ≡ true
     → granted k memory free z ≡ judged k memory free (stood k memory z)
-unfolding granted judged fitting besides comesDown act leafAct
+unfolding granted judged fitting fittingNew converts besides comesDown act leafAct
 granted-judged k memory free z h =
+    let kept : Bool = rightlyKept (z .op) k memory (z .path) (z .want) in
+    let turns : Bool = rightlyConverting k memory z (reverse (z .path)) in
+    let due : Bool = sameLock (z .lock) (lockDue (z .op) memory (reverse (z .path))) && holdsDue z in
     let way : Bool = descends memory (keyOf (z .op)) (z .path) in
     let rightly : Bool = rightlyBeside k memory z (reverse (z .path)) || rightlyAcross k memory z (z .path) in
     let below : Bool = descends memory (keyOf (z .op)) (z .path ++ z .want ∷ []) && isNone (z .beside) in
-    let fit : Bool = rightlyKept (z .op) k memory (z .path) (z .want) && sameLock (z .lock) (lockDue (z .op) memory (reverse (z .path))) in
-    let right = and-second fit (cond (atItsLeaf memory (reverse (z .path))) (way && rightly) below) h in
+    let goes-down : Bool = cond (atItsLeaf memory (reverse (z .path))) (way && rightly) below in
+    let fit : cond (converting z) turns (due && goes-down) ≡ true = and-second kept (cond (converting z) turns (due && goes-down)) h in
+    let further : Verdict = cond (atItsLeaf memory (reverse (z .path))) (besides k memory z) (comesDown k memory free z) in
     stood-ind (λ (now : Stand). granted k memory free z ≡ judged k memory free now) k memory z
-    (λ leaf.
-    cond-true (besides k memory z) (comesDown k memory free z) leaf
-    ∙ beside-acts k memory free (z .op) z (reverse (z .path)) leaf (and-second way rightly (sym (cond-true (way && rightly) below leaf) ∙ right)))
-    (λ above.
-    cond-false (besides k memory z) (comesDown k memory free z) above
+    (λ there.
+    cond-true (converts k memory free z) further there
+    ∙ turn-acts k memory free z (reverse (z .path)) (sym (cond-true turns (due && goes-down) there) ∙ fit))
+    (λ new leaf.
+    cond-false (converts k memory free z) further new
+    ∙ cond-true (besides k memory z) (comesDown k memory free z) leaf
+    ∙ beside-acts k memory free (z .op) z (reverse (z .path)) leaf
+    (and-second way rightly (sym (cond-true (way && rightly) below leaf) ∙ and-second due goes-down (sym (cond-false turns (due && goes-down) new) ∙ fit))))
+    (λ new above.
+    cond-false (converts k memory free z) further new
+    ∙ cond-false (besides k memory z) (comesDown k memory free z) above
     ∙ cond-both
     (λ (path : List ℕ) (locks : List Under).
     cond (isLeaf (memory (z .want)))
@@ -222,10 +283,30 @@ again-new : (op : Op) → again op ≡ ifNew (again op)
 unfolding member
 again-new op = refl
 
--- by either way a deletion is no Next
+-- by whichever way a deletion is no Next
 delete-no-next : (x : ℕ) (way : Way) → isNext (Delete x way) ≡ false
 delete-no-next x First = refl
 delete-no-next x Second = refl
+delete-no-next x Third = refl
+
+-- a page and none are two turns
+abbrev pageOf : Turn → ℕ
+pageOf (TurnPage p) = p
+pageOf Done = 0
+
+abbrev isDone : Turn → Bool
+isDone (TurnPage p) = false
+isDone Done = true
+
+page-not-done : {p : ℕ} → TurnPage p ≡ Done → ⊥
+page-not-done e = false≢true (ap isDone e)
+
+-- a page below another is wanted with no conversion
+below-new : (op : Op) (P : Page) → isThird op && sameLock (lockBelow op P) Xi ≡ false
+below-new op P =
+    by-test (isThird op)
+    (λ third. ap (λ (l : Lock). isThird op && sameLock l Xi) (below-first op P (third-not-second op third)) ∙ third-not-xi op)
+    (λ other. and-first-fails (sameLock (lockBelow op P) Xi) other)
 
 module _ (k : ℕ) (memory : ℕ → Page) (free : List ℕ) (stand : Slot) where
   -- the rule's word for a course
@@ -236,15 +317,42 @@ module _ (k : ℕ) (memory : ℕ → Page) (free : List ℕ) (stand : Slot) wher
   abbrev toldAt : Op → Verdict
   toldAt op = judgedAt op k memory free (standOf op stand) (lowest stand) (above stand)
 
-  -- on to a page that is none of those held
-  pub next-judges : (op : Op) (next : ℕ) (lock : Lock)
+  -- on to a page that is none of those held, and no conversion
+  pub next-judges : (op : Op) (next : ℕ) (lock : Lock) → isThird op && sameLock lock Xi ≡ false
       → (said op (nextCourse stand next lock) ≡ ifNew (goes (wantsNext (standOf op stand) next lock))) × ready op k memory (pathOf stand) (nextCourse stand next lock)
-  next-judges op next lock = split (member next (held stand))
+  next-judges op next lock new = split (member next (held stand)) (isThird op && sameLock lock Xi) new
     where
-      split : (b : Bool) → (said op (cond b Broken (Goes next lock)) ≡ cond (not b) (goes (wantsNext (standOf op stand) next lock)) broken)
+      split : (b turn : Bool) → turn ≡ false
+          → (said op (cond b Broken (Goes next lock)) ≡ cond (not b || turn) (goes (wantsNext (standOf op stand) next lock)) broken)
           × ready op k memory (pathOf stand) (cond b Broken (Goes next lock))
-      split true = (refl, tt)
-      split false = (refl, tt)
+      split true true f = not-both refl f
+      split true false f = (refl, tt)
+      split false turn f = (refl, tt)
+
+  -- what is due to who converts first, by whose turn it is: the change, or the next conversion
+  module _ (op : Op) (change : Verdict) where
+    abbrev turning : Bool
+    turning = isThird op && changeKnown k memory (standOf op stand) (lowest stand) (above stand)
+
+    turn-done : turnCourse op k memory stand ≡ Done → convertedFirst k memory (standOf op stand) (lowest stand) (above stand) change ≡ change
+    turn-done e = split turning (toConvert (standOf op stand)) e
+      where
+        split : (b : Bool) (pages : List ℕ) → cond b (turnOf pages) Done ≡ Done → cond b (byTurn (standOf op stand) change pages) change ≡ change
+        split true [] e = refl
+        split true (p ∷ pages) e = absurd (page-not-done e)
+        split false pages e = refl
+
+    turn-next : {p : ℕ} → turnCourse op k memory stand ≡ TurnPage p
+        → (isThird op ≡ true) × (convertedFirst k memory (standOf op stand) (lowest stand) (above stand) change ≡ goes (wantsNext (standOf op stand) p Xi))
+    turn-next {p} e =
+        let told = split turning (toConvert (standOf op stand)) e in
+        (and-first (isThird op) (changeKnown k memory (standOf op stand) (lowest stand) (above stand)) (told .0), told .1)
+      where
+        split : (b : Bool) (pages : List ℕ) → cond b (turnOf pages) Done ≡ TurnPage p
+            → (b ≡ true) × (cond b (byTurn (standOf op stand) change pages) change ≡ goes (wantsNext (standOf op stand) p Xi))
+        split true [] e = absurd (page-not-done (sym e))
+        split true (q ∷ pages) e = (refl, ap (λ (t : Turn). goes (wantsNext (standOf op stand) (pageOf t) Xi)) e)
+        split false pages e = absurd (page-not-done (sym e))
 
   module _ (up : reverse (pathOf stand) ≡ lowest stand ∷ above stand) where
     -- what the rule says above the leaves, and at a leaf
@@ -255,7 +363,8 @@ module _ (k : ℕ) (memory : ℕ → Page) (free : List ℕ) (stand : Slot) wher
         ∙ cond-false (leafAct k memory free (standOf op stand) (lowest stand) (above stand)) (onward memory (standOf op stand) (lowest stand)) high
 
     judged-leaf : (op : Op) → isLeaf (memory (lowest stand)) ≡ true
-        → judged k memory free (standOf op stand) ≡ cond (beginsAgain op k memory (lowest stand)) (again op) (toldAt op)
+        → judged k memory free (standOf op stand)
+        ≡ cond (beginsAgain op k memory (lowest stand)) (again op) (convertedFirst k memory (standOf op stand) (lowest stand) (above stand) (toldAt op))
     unfolding judged act leafAct
     judged-leaf op low =
         ap (fromLeaf (act k memory free (standOf op stand))) up
@@ -266,7 +375,7 @@ module _ (k : ℕ) (memory : ℕ → Page) (free : List ℕ) (stand : Slot) wher
         → next ≡ route key (memory (lowest stand)) → lock ≡ lockBelow op (memory (lowest stand)) → course ≡ nextCourse stand next lock
         → Judges op k memory free stand course
     goes-judges op key next lock course high asked read due r =
-        let wants = next-judges op next lock in
+        let wants = next-judges op next lock (ap (λ (l : Lock). isThird op && sameLock l Xi) due ∙ below-new op (memory (lowest stand))) in
         let leads : next ≡ route (keyOf op) (memory (lowest stand)) = read ∙ ap (λ (y : ℕ). route y (memory (lowest stand))) asked in
         subst (Judges op k memory free stand) (sym r)
         (wants .0 ∙ ap₂ (λ (p : ℕ) (l : Lock). ifNew (goes (wantsNext (standOf op stand) p l))) leads due ∙ sym (ap ifNew (judged-above op high)), wants .1)
@@ -276,24 +385,40 @@ module _ (k : ℕ) (memory : ℕ → Page) (free : List ℕ) (stand : Slot) wher
       pub again-judges : (op : Op) (course : Course) → beginsAgain op k memory (lowest stand) ≡ true → course ≡ Again → Judges op k memory free stand course
       again-judges op course leaves r =
           subst (Judges op k memory free stand) (sym r)
-          (again-new op ∙ sym (ap ifNew (judged-leaf op low ∙ cond-true (again op) (toldAt op) leaves)), tt)
+          (again-new op ∙ sym (ap ifNew (judged-leaf op low ∙ cond-true (again op) (convertedFirst k memory (standOf op stand) (lowest stand) (above stand) (toldAt op)) leaves)), tt)
 
-      -- where it stays, it does this
-      pub leaf-judges : (op o : Op) (course done : Course) → beginsAgain op k memory (lowest stand) ≡ false → op ≡ o → course ≡ done
+      -- where it stays, the rule goes by whose turn it is
+      judged-stays : (op : Op) → beginsAgain op k memory (lowest stand) ≡ false
+          → judged k memory free (standOf op stand) ≡ convertedFirst k memory (standOf op stand) (lowest stand) (above stand) (toldAt op)
+      judged-stays op stays = judged-leaf op low ∙ cond-false (again op) (convertedFirst k memory (standOf op stand) (lowest stand) (above stand) (toldAt op)) stays
+
+      -- it is a page's
+      pub turn-judges : (op : Op) {p : ℕ} {turn : Turn} → beginsAgain op k memory (lowest stand) ≡ false → turn ≡ turnCourse op k memory stand → turn ≡ TurnPage p
+          → Judges op k memory free stand (Goes p Xi)
+      turn-judges op {p} stays read page =
+          let told = turn-next op (toldAt op) (sym read ∙ page) in
+          let next : Stand = wantsNext (standOf op stand) p Xi in
+          let new : nextIsNew (goes next) ≡ true = or-second (not (member p (held stand))) (and-both (told .0) refl) in
+          (sym (ap ifNew (judged-stays op stays ∙ told .1) ∙ cond-true (goes next) broken new), tt)
+
+      -- it is none's: the operation does this
+      pub leaf-judges : (op o : Op) (course done : Course) → beginsAgain op k memory (lowest stand) ≡ false → turnCourse op k memory stand ≡ Done → op ≡ o → course ≡ done
           → (said o done ≡ ifNew (toldAt o)) × ready o k memory (pathOf stand) done
           → Judges op k memory free stand course
-      leaf-judges op o course done stays told r h =
+      leaf-judges op o course done stays none told r h =
           let here : beginsAgain o k memory (lowest stand) ≡ false = subst (λ (q : Op). beginsAgain q k memory (lowest stand) ≡ false) told stays in
+          let now : turnCourse o k memory stand ≡ Done = subst (λ (q : Op). turnCourse q k memory stand ≡ Done) told none in
           subst (λ (q : Op). Judges q k memory free stand course) (sym told)
-          (subst (Judges o k memory free stand) (sym r) (h .0 ∙ sym (ap ifNew (judged-leaf o low ∙ cond-false (again o) (toldAt o) here)), h .1))
+          (subst (Judges o k memory free stand) (sym r) (h .0 ∙ sym (ap ifNew (judged-stays o here ∙ turn-done o (toldAt o) now)), h .1))
 
       -- a regrading makes its change there, or finds its key missing
-      pub regrade-judges : (op : Op) (x v : ℕ) (way : Way) (course : Course) → beginsAgain op k memory (lowest stand) ≡ false → op ≡ Regrade x v way → course ≡ Regrades x v
+      pub regrade-judges : (op : Op) (x v : ℕ) (way : Way) (course : Course) → beginsAgain op k memory (lowest stand) ≡ false → turnCourse op k memory stand ≡ Done
+          → op ≡ Regrade x v way → course ≡ Regrades x v
           → Judges op k memory free stand course
       unfolding judgedAt atLeaf
-      regrade-judges op x v way course stays told r =
+      regrade-judges op x v way course stays none told r =
           let es : List Entry = memory (lowest stand) .entries in
-          leaf-judges op (Regrade x v way) course (Regrades x v) stays told r (
+          leaf-judges op (Regrade x v way) course (Regrades x v) stays none told r (
             ap (fromLeaf (atLeaf (Regrade x v First) k memory free (standOf (Regrade x v way) stand))) up
                 ∙ ends-new (has x es) (Regraded (information x es)) NoSuchKey (regrading memory x v (lowest stand)) [],
             tt,
@@ -301,13 +426,13 @@ module _ (k : ℕ) (memory : ℕ → Page) (free : List ℕ) (stand : Slot) wher
 
       -- ---- at a leaf, by what stands there under the key
 
-      module _ (op : Op) (lot : Lot) (course : Course) (stays : beginsAgain op k memory (lowest stand) ≡ false) where
+      module _ (op : Op) (lot : Lot) (course : Course) (stays : beginsAgain op k memory (lowest stand) ≡ false) (none : turnCourse op k memory stand ≡ Done) where
         judges-at : (o : Op) (known : Lot → Course) → lot ≡ looked (keyOf o) (memory (lowest stand) .entries) → op ≡ o → course ≡ known lot
             → (said o (known (looked (keyOf o) (memory (lowest stand) .entries))) ≡ ifNew (toldAt o))
             × ready o k memory (pathOf stand) (known (looked (keyOf o) (memory (lowest stand) .entries)))
             → Judges op k memory free stand course
         judges-at o known read told r h =
-            leaf-judges op o course (known (looked (keyOf o) (memory (lowest stand) .entries))) stays told (r ∙ ap known read) h
+            leaf-judges op o course (known (looked (keyOf o) (memory (lowest stand) .entries))) stays none told (r ∙ ap known read) h
 
         pub search-judges : (x : ℕ) → lot ≡ looked x (memory (lowest stand) .entries) → op ≡ Search x → course ≡ searchCourse lot → Judges op k memory free stand course
         unfolding judgedAt atLeaf
@@ -360,7 +485,7 @@ module _ (k : ℕ) (memory : ℕ → Page) (free : List ℕ) (stand : Slot) wher
               ap (fromLeaf (λ (leaf : ℕ) (fathers : List ℕ). ends (Deleted found) (deletion k memory x leaf fathers (besideOf stand)))) up,
               (delete-no-next x way, subst (standsLast memory x) (sym up) there),
             )
-            byNeeds (sibling s) there = next-judges (Delete x way) s (heldLock (Delete x way))
+            byNeeds (sibling s) there = next-judges (Delete x way) s (heldLock (Delete x way)) (third-not-xi (Delete x way))
             byNeeds astray there = (refl, tt)
 
             split : (b : Bool) → has x (memory (lowest stand) .entries) ≡ b

@@ -23,9 +23,10 @@ use Rattle.slots.specs.declared.Slot.{Slot}
 use Rattle.slots.specs.Parts.{pathOf, besideOf, Stand, wantsNext, standOf}
 use Rattle.course.specs.declared.judging.Course.{Course}
 use Rattle.course.specs.declared.judging.Course.the-variants.{Ends}
+use Rattle.footing.specs.declared.converting.Turn.the-variants.{Done}
 use Rattle.footing.specs.Granted.{Verdict, goes, ends, isSafe, nextAnswer, crosses, byNearest, atLeaf}
 use Rattle.footing.specs.Standing.{SlotStanding}
-use Rattle.course.specs.Judged.{onSecond, judgedAt, beginsAgain, ifNew, courseOf, ready, nextCourse, nearCourse, crossCourse, firstCourse, leftCourse, nextsCourse}
+use Rattle.course.specs.Judged.{onSecond, judgedAt, beginsAgain, turnCourse, ifNew, courseOf, ready, nextCourse, nearCourse, crossCourse, firstCourse, leftCourse, nextsCourse}
 use Rattle.course.proofs.JudgeLaws.{standing-needing, standing-holding, stand-upward, lowest, above, Judges, next-judges, leaf-judges}
 
 -- ---- what is known where it stands
@@ -83,7 +84,7 @@ module _ (k : ℕ) (memory : ℕ → Page) (free : List ℕ) (x : ℕ) (stand : 
         next = neighbour x (memory (getD (stand .path) 0 0))
 
         split : (b : Bool) → Says (cond b (goes (wantsNext z next Rho)) (ends NoLot [])) (cond b (nextCourse stand next Rho) (Ends NoLot))
-        split true = next-judges k memory free stand (Next x) next Rho
+        split true = next-judges k memory free stand (Next x) next Rho refl
         split false = (refl, tt)
 
     -- by the leaf's entries at or above the key
@@ -110,16 +111,16 @@ module _ (k : ℕ) (memory : ℕ → Page) (free : List ℕ) (x : ℕ) (stand : 
           → Says (cond b (ends (nextAnswer (atOrAbove x (memory p .entries))) []) (goes (wantsNext z (pointer 0 (memory p)) Rho)))
           (cond b (nearCourse (Ends NoLot) (nearest (atOrAbove x (memory p .entries)))) (nextCourse stand (pointer 0 (memory p)) Rho))
       split true = first (atOrAbove x (memory p .entries))
-      split false = next-judges k memory free stand (Next x) (pointer 0 (memory p)) Rho
+      split false = next-judges k memory free stand (Next x) (pointer 0 (memory p)) Rho refl
 
 -- A Next at its leaf does what the rule says.
 pub next-does : {k n : ℕ} {ws : List ℕ} {stand : Slot} (op : Op) (x : ℕ) (memory : ℕ → Page) (free : List ℕ) (course : Course)
-    → SlotStanding op k n ws stand → isLeaf (memory (lowest stand)) ≡ true → beginsAgain op k memory (lowest stand) ≡ false → op ≡ Next x
+    → SlotStanding op k n ws stand → isLeaf (memory (lowest stand)) ≡ true → beginsAgain op k memory (lowest stand) ≡ false → turnCourse op k memory stand ≡ Done → op ≡ Next x
     → course ≡ nextsCourse k memory x stand
     → Judges op k memory free stand course
 unfolding judgedAt
-next-does {k} {stand = stand} op x memory free course h low stays told r =
-    leaf-judges k memory free stand (stand-upward h) low op (Next x) course (nextsCourse k memory x stand) stays told r (split (eqb (stand .breadth) 0) refl)
+next-does {k} {stand = stand} op x memory free course h low stays none told r =
+    leaf-judges k memory free stand (stand-upward h) low op (Next x) course (nextsCourse k memory x stand) stays none told r (split (eqb (stand .breadth) 0) refl)
   where
     whole : Verdict
     whole = atLeaf (Next x) k memory free (standOf (Next x) stand) (lowest stand) (above stand)

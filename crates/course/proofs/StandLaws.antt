@@ -1,5 +1,5 @@
 -- Where an operation stands once its want is granted: what the test of its pages tells of those that it then holds.
-use Prim.Native.Nat.{ℕ, zero, suc, _+_, _-_, _≤_, _<_, min, zero-le}
+use Prim.Native.Nat.{ℕ, zero, suc, _+_, _-_, _≤_, _<_, zero-le}
 use mathlib.Core.Bool.{Bool, true, false, cond, not, _&&_, _||_, false≢true}
 use mathlib.Core.List.{List, [], _∷_, _++_, reverse, append-nil, append-assoc}
 use mathlib.Core.Logic.{_⊎_, inl, inr, ⊎-elim, _≢_}
@@ -13,7 +13,7 @@ use lib.ListN.{length, getD, take, length-append, length-take, length-reverse}
 use lib.Seq.{take-length}
 use Rattle.ground.specs.Limits.{pathHolds}
 use Rattle.ground.specs.Tests.{all, member, distinct}
-use Rattle.ground.proofs.Bools.{not-both, not-of-true, and-first, and-second, and-both, or-cases}
+use Rattle.ground.proofs.Bools.{not-both, not-of-true, not-of-false, and-first, and-second, and-both, or-cases}
 use Rattle.ground.proofs.Choice.{cond-ind, cond-true, cond-false}
 use Rattle.ground.proofs.Limits.{path-is-way}
 use Rattle.ground.proofs.Tests.{member-from, distinct-back, distinct-snoc}
@@ -27,17 +27,20 @@ use Rattle.change.specs.Deletion.{Need, satisfied, needs}
 use Rattle.change.specs.Held.{Held, upward}
 use Rattle.change.proofs.HeldLaws.{Known, held-known, held-front, held-back, held-upper, upward-reverse, upward-father}
 use Rattle.slots.specs.declared.Op.{Op}
+use Rattle.slots.specs.declared.Op.the-variants.{Search, Insert, Delete, Next, Regrade}
 use Rattle.slots.specs.declared.Slot.{Slot}
 use Rattle.slots.specs.declared.Under.{Under}
 use Rattle.slots.specs.Locks.{sameLock}
-use Rattle.slots.specs.Parts.{keyOf, isDelete, isNext, isSecond, isOpen, pathOf, besideOf, held, locksOf, sidelocksOf, under, Stand, holding, onPages, wantBeside, standOf, slotOf}
+use Rattle.slots.specs.Parts.{keyOf, isDelete, isNext, isSecond, isOpen, pathOf, besideOf, held, locksOf, under, Stand, holding, onPages, wantBeside, wantConverted, converting, standOf, slotOf}
 use Rattle.slots.proofs.SoundFacts.{sound-slot}
+use Rattle.slots.proofs.LockLaws.{length-xi}
 use Rattle.slots.proofs.Keeping.{Paired, stand-new}
-use Rattle.footing.specs.Granted.{isSafe, kept, keptLocks, atItsLeaf}
-use Rattle.footing.specs.Fitting.{descends, pagesSound, rightlyKept, sameLevels, isSibling, rightlyBeside, isNone, leftmost, turnsRight, rightlyAcross, lockDue, fitting}
+use Rattle.footing.specs.Granted.{isSafe, kept, keptLocks, answeredAtOnce, isNothing, isNone, needsNoMore, atItsLeaf}
+use Rattle.footing.specs.Fitting.{descends, pagesSound, rightlyKept, sameLevels, isSibling, rightlyBeside, leftmost, turnsRight, rightlyAcross, lockDue, holdsDue, fittingNew, rightlyConverting, fitting}
 use Rattle.footing.specs.Standing.{Asks, fits, stood, Standing, SlotStanding}
 use Rattle.footing.proofs.LookLaws.{descends-levels, leftmost-levels, pagesOf, asks-held}
 use Rattle.footing.proofs.KeepLaws.{second-safe}
+use Rattle.footing.proofs.ConvertLaws.{Converts, converts-facts}
 
 -- what holds of both branches of two choices by one test holds of the choices
 pub cond-both : {A B : Type 0} (P : A → B → Type 0) (b : Bool) {x y : A} {u v : B} → (b ≡ true → P x u) → (b ≡ false → P y v)
@@ -236,6 +239,49 @@ needed-others k memory x p (father ∷ up) (s ∷ siblings) want other t =
     (λ strange. λ e. absurd (false≢true e)))
     t
 
+-- and so are those of a deletion that needs no more
+satisfied-others : (siblings : List ℕ) → isNothing (satisfied siblings) ≡ true → Others siblings
+satisfied-others [] t j h = absurd (not-suc-le-zero h)
+satisfied-others (s ∷ siblings) t j h = absurd (false≢true t)
+
+all-others : (k : ℕ) (memory : ℕ → Page) (x p : ℕ) (fathers siblings : List ℕ)
+    → ((i : ℕ) → i < length fathers → neighbour x (memory (getD fathers i 0)) ≢ 0)
+    → isNothing (needs k memory x p fathers siblings) ≡ true → Others siblings
+unfolding needs
+all-others k memory x p [] siblings other t =
+    cond-ind (λ (need : Need). isNothing need ≡ true → Others siblings) (eqb p 0 || ltb k (μ (memory p)))
+    (λ spare. λ e. satisfied-others siblings e)
+    (λ short. λ e. absurd (false≢true e))
+    t
+all-others k memory x p (father ∷ up) [] other t = λ j h. absurd (not-suc-le-zero h)
+all-others k memory x p (father ∷ up) (s ∷ siblings) other t =
+    let beside = neighbour x (memory father) in
+    let All : Need → Type 0 = λ (need : Need). isNothing need ≡ true → Others (s ∷ siblings) in
+    cond-ind All (eqb p 0 || ltb k (μ (memory p)))
+    (λ spare. λ e. absurd (false≢true e))
+    (λ short. cond-ind All (eqb s beside)
+    (λ same.
+    let first : s ≢ 0 = subst (λ (q : ℕ). q ≢ 0) (sym (eqb-true s beside same)) (other 0 (omega arith)) in
+    cond-ind All (ltb k (μ (memory s)))
+    (λ shares. λ e. others-more s siblings first (satisfied-others siblings e))
+    (λ joins. λ e. others-more s siblings first (all-others k memory x father up siblings (λ i h. other (suc i) (omega arith)) e)))
+    (λ strange. λ e. absurd (false≢true e)))
+    t
+
+-- no other operation has any
+none-others : (siblings : List ℕ) → isNone siblings ≡ true → Others siblings
+none-others [] t j h = absurd (not-suc-le-zero h)
+none-others (s ∷ siblings) t j h = absurd (false≢true t)
+
+no-more-others : (op : Op) (k : ℕ) (memory : ℕ → Page) (leaf : ℕ) (fathers siblings : List ℕ)
+    → ((i : ℕ) → i < length fathers → neighbour (keyOf op) (memory (getD fathers i 0)) ≢ 0)
+    → needsNoMore op k memory siblings leaf fathers ≡ true → Others siblings
+no-more-others (Search x) k memory leaf fathers siblings other t = none-others siblings t
+no-more-others (Insert x v way) k memory leaf fathers siblings other t = none-others siblings t
+no-more-others (Delete x way) k memory leaf fathers siblings other t = all-others k memory x leaf fathers siblings other t
+no-more-others (Next x) k memory leaf fathers siblings other t = none-others siblings t
+no-more-others (Regrade x v way) k memory leaf fathers siblings other t = none-others siblings t
+
 -- what a deletion at its leaf tells, by the leaf and its fathers
 beside-needs : (k : ℕ) (memory : ℕ → Page) (z : Stand) (leaf : ℕ) (fathers : List ℕ) → rightlyBeside k memory z (leaf ∷ fathers) ≡ true
     → isSibling (needs k memory (keyOf (z .op)) leaf fathers (z .beside)) (z .want) ≡ true
@@ -293,21 +339,37 @@ father-names {k} {ws = ws} {path = path} x held falls i h =
     let upper = ne-eqb (pageAt k ws (getD path i 0) .level) 1 (λ one. omega arith) in
     neighbour-other x (father .facts) upper (held-upper (held .least) father upper)
 
+-- those above the leaf of a path, upward, name no page 0
+fathers-name : {k n : ℕ} {ws path : List ℕ} (x : ℕ) → Held k n ws path → Falls (pageAt k ws) path
+    → (i : ℕ) → i < length (upward (length path - 1) path) → neighbour x (pageAt k ws (getD (upward (length path - 1) path) i 0)) ≢ 0
+fathers-name {k} {ws = ws} {path = path} x held falls i h =
+    let d = length path - 1 in
+    let long = length-upward d path in
+    subst (λ (p : ℕ). neighbour x (pageAt k ws p) ≢ 0) (sym (upward-at d i (d - 1 - i) path (omega arith)))
+    (father-names x held falls (d - 1 - i) (omega arith))
+
+-- a path upward: its last page, and those above it
+up-from : (path : List ℕ) → 1 ≤ length path → reverse path ≡ getD path (length path - 1) 0 ∷ upward (length path - 1) path
+up-from path some = reverse-upward path ∙ upward-father (length path) path some
+
+-- siblings that have the levels of the pages beside them, by index from the top
+level-beside : (memory : ℕ → Page) (path beside : List ℕ) → sameLevels memory (reverse path) beside ≡ true
+    → (i j : ℕ) → j < length beside → i + j + 1 ≡ length path → memory (getD path i 0) .level ≡ memory (getD beside j 0) .level
+level-beside memory path beside levels i j h e =
+    subst (λ (p : ℕ). memory p .level ≡ memory (getD beside j 0) .level)
+    (ap (λ (up : List ℕ). getD up j 0) (reverse-upward path) ∙ upward-at (length path) j i path e)
+    (levels-at memory (reverse path) beside levels j h)
+
 module _ {k n : ℕ} {ws : List ℕ} (z : Stand) (some : 1 ≤ length (z .path)) (falls : Falls (pageAt k ws) (z .path))
     (right : rightlyBeside k (pageAt k ws) z (reverse (z .path)) ≡ true) where
   -- neither a sibling nor the want is page 0
   beside-others : Held k n ws (z .path) → Others (z .beside ++ z .want ∷ [])
   beside-others held =
       let path = z .path in
-      let x = keyOf (z .op) in
       let d = length path - 1 in
-      needed-others k (pageAt k ws) x (getD path d 0) (upward d path) (z .beside) (z .want)
-      (λ i h. let long = length-upward d path in
-      subst (λ (p : ℕ). neighbour x (pageAt k ws p) ≢ 0) (sym (upward-at d i (d - 1 - i) path (omega arith)))
-      (father-names x held falls (d - 1 - i) (omega arith)))
+      needed-others k (pageAt k ws) (keyOf (z .op)) (getD path d 0) (upward d path) (z .beside) (z .want) (fathers-name (keyOf (z .op)) held falls)
       (beside-needs k (pageAt k ws) z (getD path d 0) (upward d path)
-      (subst (λ (up : List ℕ). rightlyBeside k (pageAt k ws) z up ≡ true)
-      (reverse-upward path ∙ upward-father (length path) path some) right))
+      (subst (λ (up : List ℕ). rightlyBeside k (pageAt k ws) z up ≡ true) (up-from path some) right))
 
   -- the want behind the siblings
   stands-beside : Held k n ws (holding z ++ z .want ∷ []) → distinct (z .want ∷ holding z) ≡ true
@@ -318,11 +380,44 @@ module _ {k n : ℕ} {ws : List ℕ} (z : Stand) (some : 1 ≤ length (z .path))
       let levels = beside-levels k (pageAt k ws) z (reverse path) right in
       stands-with z some falls held different above
       (omega (arith, levels-few (pageAt k ws) (reverse path) beside levels, length-reverse path))
-      (λ _ i j h e.
-      subst (λ (p : ℕ). pageAt k ws p .level ≡ pageAt k ws (getD beside j 0) .level)
-      (ap (λ (up : List ℕ). getD up j 0) (reverse-upward path) ∙ upward-at (length path) j i path e)
-      (levels-at (pageAt k ws) (reverse path) beside levels j h))
+      (λ _. level-beside (pageAt k ws) path beside levels)
       (λ _. beside-others (held-front path (z .beside) (held-front (holding z) (z .want ∷ []) held)))
+
+-- ---- converting
+
+-- where it converts, the path has a page
+converting-some : (k : ℕ) (memory : ℕ → Page) (z : Stand) (path : List ℕ) → rightlyConverting k memory z (reverse path) ≡ true → 1 ≤ length path
+converting-some k memory z [] t = absurd (false≢true t)
+converting-some k memory z (p ∷ path) t = omega arith
+
+-- the pages are those that it held, whatever their kinds of lock
+stands-converted : {k n : ℕ} {ws : List ℕ} (z : Stand) → rightlyConverting k (pageAt k ws) z (reverse (z .path)) ≡ true → Held k n ws (holding z)
+    → distinct (holding z) ≡ true → rightlyKept (z .op) k (pageAt k ws) (z .path) (z .want) ≡ true → Standing k n ws (wantConverted z)
+stands-converted {k} {n} {ws} z right held different above =
+    let memory : ℕ → Page = pageAt k ws in
+    let path : List ℕ = z .path in
+    let some : 1 ≤ length path = converting-some k memory z path right in
+    let up = up-from path some in
+    let told : Converts k memory z (getD path (length path - 1) 0) (upward (length path - 1) path) =
+    converts-facts k memory z (getD path (length path - 1) 0) (upward (length path - 1) path) (subst (λ (l : List ℕ). rightlyConverting k memory z l ≡ true) up right) in
+    let falls : Falls memory path = descends-levels memory (keyOf (z .op)) path (told .way) in
+    let levels : sameLevels memory (reverse path) (z .beside) ≡ true = subst (λ (l : List ℕ). sameLevels memory l (z .beside) ≡ true) (sym up) (told .levels) in
+    let below : Held k n ws path = held-front path (z .beside) held in
+    let more = needsNoMore (z .op) k memory (z .beside) (getD path (length path - 1) 0) (upward (length path - 1) path) in
+    record {
+      some = some;
+      deep = way-short below falls;
+      few = omega (arith, levels-few memory (reverse path) (z .beside) levels, length-reverse path);
+      held = held;
+      descends = falls;
+      different = different;
+      top = kept-top (z .op) k memory path (z .want) some above;
+      alone = kept-alone (z .op) k memory path (z .want) some above;
+      levels = λ _. level-beside memory path (z .beside) levels;
+      others = λ _.
+          no-more-others (z .op) k memory (getD path (length path - 1) 0) (upward (length path - 1) path) (z .beside) (fathers-name (keyOf (z .op)) below falls)
+          (and-second (not (answeredAtOnce (z .op) (memory (getD path (length path - 1) 0) .entries))) more (told .known));
+    }
 
 -- ---- on a second way
 
@@ -416,11 +511,11 @@ module _ {op : Op} {k n : ℕ} {ws : List ℕ} {slot : Slot} (asks : Asks k n ws
   pub want-known : Known k n ws (slot .want)
   want-known = held-at (held-back (held slot) (slot .want ∷ []) fits-held) 0 (omega arith)
 
-  -- no two of them are the same
-  all-different : distinct (slot .want ∷ held slot) ≡ true
-  all-different = sound-slot n slot (asks .sound) .different (ap isOpen (asks .task))
+  -- no two that it holds are the same
+  held-different : distinct (held slot) ≡ true
+  held-different = sound-slot n slot (asks .sound) .different (ap isOpen (asks .task))
 
-  -- they are those that the rules would have it hold and want: by the two ways of the rule
+  -- they are those that the rules would have it hold and want: by the ways of the rule
   abbrev besideTest : Bool
   besideTest = rightlyBeside k (pageAt k ws) z (reverse (pathOf slot))
 
@@ -442,73 +537,97 @@ module _ {op : Op} {k n : ℕ} {ws : List ℕ} {slot : Slot} (asks : Asks k n ws
   abbrev wayTest : Bool
   wayTest = cond (atItsLeaf (pageAt k ws) (reverse (pathOf slot))) atLeafTest belowTest
 
-  fits-fitting : keptTest && lockTest && wayTest ≡ true
+  abbrev convertsTest : Bool
+  convertsTest = rightlyConverting k (pageAt k ws) z (reverse (pathOf slot))
+
+  abbrev restTest : Bool
+  restTest = cond (converting z) convertsTest (fittingNew k (pageAt k ws) z)
+
+  fits-fitting : keptTest && restTest ≡ true
   unfolding fits fitting
   fits-fitting =
       and-second (pagesSound k n ws (pagesOf slot)) (fitting k (pageAt k ws) z) fit
 
   fits-kept : keptTest ≡ true
-  fits-kept = and-first keptTest lockTest (and-first (keptTest && lockTest) wayTest fits-fitting)
+  fits-kept = and-first keptTest restTest fits-fitting
 
-  fits-way : wayTest ≡ true
-  fits-way = and-second (keptTest && lockTest) wayTest fits-fitting
+  -- it converts
+  stood-converted : converting z ≡ true → Standing k n ws (wantConverted z)
+  stood-converted there =
+      stands-converted z (sym (cond-true convertsTest (fittingNew k (pageAt k ws) z) there) ∙ and-second keptTest restTest fits-fitting)
+      (held-front (held slot) (slot .want ∷ []) fits-held) held-different fits-kept
 
-  module _ (leaf : atItsLeaf (pageAt k ws) (reverse (pathOf slot)) ≡ true) where
-    leaf-told : atLeafTest ≡ true
-    leaf-told = sym (cond-true atLeafTest belowTest leaf) ∙ fits-way
+  -- or it wants a new page
+  module _ (new : converting z ≡ false) where
+    fits-way : wayTest ≡ true
+    unfolding fittingNew
+    fits-way =
+        and-second (lockTest && holdsDue z) wayTest
+        (sym (cond-false convertsTest (fittingNew k (pageAt k ws) z) new) ∙ and-second keptTest restTest fits-fitting)
 
-    stood-beside : Standing k n ws (wantBeside z)
-    stood-beside =
-        let way = descends (pageAt k ws) (keyOf op) (pathOf slot) in
-        let some = leaf-some (pageAt k ws) (pathOf slot) leaf in
-        let falls = descends-levels (pageAt k ws) (keyOf op) (pathOf slot) (and-first way (besideTest || acrossTest) leaf-told) in
-        ⊎-elim
-        (λ beside. stands-beside z some falls beside fits-held all-different fits-kept)
-        (λ across. stands-across z some falls across leaf fits-held all-different fits-kept)
-        (or-cases besideTest acrossTest (and-second way (besideTest || acrossTest) leaf-told))
+    -- no two that it holds and wants are the same
+    all-different : distinct (slot .want ∷ held slot) ≡ true
+    unfolding distinct
+    all-different = and-both (not-of-false new) held-different
 
-  module _ (coming : atItsLeaf (pageAt k ws) (reverse (pathOf slot)) ≡ false) where
-    below-told : belowTest ≡ true
-    below-told = sym (cond-false atLeafTest belowTest coming) ∙ fits-way
+    module _ (leaf : atItsLeaf (pageAt k ws) (reverse (pathOf slot)) ≡ true) where
+      leaf-told : atLeafTest ≡ true
+      leaf-told = sym (cond-true atLeafTest belowTest leaf) ∙ fits-way
 
-    no-siblings : pathOf slot ++ besideOf slot ≡ pathOf slot
-    no-siblings =
-        none-beside (pathOf slot) (besideOf slot)
-        (and-second (descends (pageAt k ws) (keyOf op) (pathOf slot ++ slot .want ∷ [])) (isNone (besideOf slot)) below-told)
+      stood-beside : Standing k n ws (wantBeside z)
+      stood-beside =
+          let way = descends (pageAt k ws) (keyOf op) (pathOf slot) in
+          let some = leaf-some (pageAt k ws) (pathOf slot) leaf in
+          let falls = descends-levels (pageAt k ws) (keyOf op) (pathOf slot) (and-first way (besideTest || acrossTest) leaf-told) in
+          ⊎-elim
+          (λ beside. stands-beside z some falls beside fits-held all-different fits-kept)
+          (λ across. stands-across z some falls across leaf fits-held all-different fits-kept)
+          (or-cases besideTest acrossTest (and-second way (besideTest || acrossTest) leaf-told))
 
-    longer-held : Held k n ws (pathOf slot ++ slot .want ∷ [])
-    longer-held = subst (λ (pages : List ℕ). Held k n ws (pages ++ slot .want ∷ [])) no-siblings fits-held
+    module _ (coming : atItsLeaf (pageAt k ws) (reverse (pathOf slot)) ≡ false) where
+      below-told : belowTest ≡ true
+      below-told = sym (cond-false atLeafTest belowTest coming) ∙ fits-way
 
-    longer-falls : Falls (pageAt k ws) (pathOf slot ++ slot .want ∷ [])
-    longer-falls =
-        descends-levels (pageAt k ws) (keyOf op) (pathOf slot ++ slot .want ∷ [])
-        (and-first (descends (pageAt k ws) (keyOf op) (pathOf slot ++ slot .want ∷ [])) (isNone (besideOf slot)) below-told)
+      no-siblings : pathOf slot ++ besideOf slot ≡ pathOf slot
+      no-siblings =
+          none-beside (pathOf slot) (besideOf slot)
+          (and-second (descends (pageAt k ws) (keyOf op) (pathOf slot ++ slot .want ∷ [])) (isNone (besideOf slot)) below-told)
 
-    stood-below : Standing k n ws (comeDown k (pageAt k ws) z)
-    stood-below =
-        stands-below z longer-held
-        (subst (λ (pages : List ℕ). distinct (slot .want ∷ pages) ≡ true) no-siblings all-different)
-        longer-falls
-        fits-kept
+      longer-held : Held k n ws (pathOf slot ++ slot .want ∷ [])
+      longer-held = subst (λ (pages : List ℕ). Held k n ws (pages ++ slot .want ∷ [])) no-siblings fits-held
 
-  -- coming down there is room for one more page on the path; `leaf` is what the test of the last page answered
-  pub deep-enough : {leaf : Bool} → leaf ≡ atItsLeaf (pageAt k ws) (reverse (pathOf slot)) → leaf ≡ false
-      → length (slot .path) ≡ pathHolds → slot .depth < pathHolds
-  unfolding pathOf
-  deep-enough told f cells =
-      let coming = sym told ∙ f in
-      let short = way-short (longer-held coming) (longer-falls coming) in
-      omega (arith, length-append (take (slot .depth) (slot .path)) (slot .want ∷ []), length-take (slot .depth) (slot .path))
+      longer-falls : Falls (pageAt k ws) (pathOf slot ++ slot .want ∷ [])
+      longer-falls =
+          descends-levels (pageAt k ws) (keyOf op) (pathOf slot ++ slot .want ∷ [])
+          (and-first (descends (pageAt k ws) (keyOf op) (pathOf slot ++ slot .want ∷ [])) (isNone (besideOf slot)) below-told)
 
--- ---- where it stands, by the test of its leaf
+      stood-below : Standing k n ws (comeDown k (pageAt k ws) z)
+      stood-below =
+          stands-below z longer-held
+          (subst (λ (pages : List ℕ). distinct (slot .want ∷ pages) ≡ true) no-siblings all-different)
+          longer-falls
+          fits-kept
 
--- with the want beside its path, or come down to it
+    -- coming down there is room for one more page on the path; `leaf` is what the test of the last page answered
+    pub deep-enough : {leaf : Bool} → leaf ≡ atItsLeaf (pageAt k ws) (reverse (pathOf slot)) → leaf ≡ false
+        → length (slot .path) ≡ pathHolds → slot .depth < pathHolds
+    unfolding pathOf
+    deep-enough told f cells =
+        let coming = sym told ∙ f in
+        let short = way-short (longer-held coming) (longer-falls coming) in
+        omega (arith, length-append (take (slot .depth) (slot .path)) (slot .want ∷ []), length-take (slot .depth) (slot .path))
+
+-- ---- where it stands, by whether it converts and by the test of its leaf
+
+-- with the want converted, with the want beside its path, or come down to it
 pub stood-ind : (P : Stand → Type 0) (k : ℕ) (memory : ℕ → Page) (z : Stand)
-    → (atItsLeaf memory (reverse (z .path)) ≡ true → P (wantBeside z))
-    → (atItsLeaf memory (reverse (z .path)) ≡ false → P (comeDown k memory z))
+    → (converting z ≡ true → P (wantConverted z))
+    → (converting z ≡ false → atItsLeaf memory (reverse (z .path)) ≡ true → P (wantBeside z))
+    → (converting z ≡ false → atItsLeaf memory (reverse (z .path)) ≡ false → P (comeDown k memory z))
     → P (stood k memory z)
 unfolding stood
-stood-ind P k memory z = split (atItsLeaf memory (reverse (z .path)))
+stood-ind P k memory z turned beside down =
+    cond-ind P (converting z) turned (λ new. split (atItsLeaf memory (reverse (z .path))) (beside new) (down new))
   where
     split : (b : Bool) → (b ≡ true → P (wantBeside z)) → (b ≡ false → P (comeDown k memory z))
         → P
@@ -523,24 +642,13 @@ stood-ind P k memory z = split (atItsLeaf memory (reverse (z .path)))
 one-more : (locks : List Under) (pages : List ℕ) (u : Under) (p : ℕ) → length locks ≡ length pages → length (locks ++ u ∷ []) ≡ length (pages ++ p ∷ [])
 one-more locks pages u p e = length-append locks (u ∷ []) ∙ ap (λ (m : ℕ). m + 1) e ∙ sym (length-append pages (p ∷ []))
 
--- a slot has as many cells for kinds as for pages
-pub slot-paired : (op : Op) (slot : Slot) → length (slot .locks) ≡ length (slot .path) → length (slot .sidelocks) ≡ length (slot .beside)
-    → Paired (standOf op slot)
-unfolding pathOf besideOf locksOf sidelocksOf
-slot-paired op slot path beside = record {
-  path = first (slot .depth) (slot .locks) (slot .path) path;
-  beside = first (slot .breadth) (slot .sidelocks) (slot .beside) beside;
-}
-  where
-    first : (i : ℕ) (locks : List Under) (pages : List ℕ) → length locks ≡ length pages → length (take i locks) ≡ length (take i pages)
-    first i locks pages e = length-take i locks ∙ ap (min i) e ∙ sym (length-take i pages)
-
 -- the granted page has the one with which it was wanted
 pub stood-paired : (k : ℕ) (memory : ℕ → Page) (z : Stand) → Paired z → Paired (stood k memory z)
 stood-paired k memory z paired =
     stood-ind Paired k memory z
-    (λ _. record { path = paired .path; beside = one-more (z .sidelocks) (z .beside) (under (z .lock)) (z .want) (paired .beside) })
-    (λ _. record {
+    (λ _. record { path = length-xi (z .want) (z .path) (z .locks) (paired .path); beside = length-xi (z .want) (z .beside) (z .sidelocks) (paired .beside) })
+    (λ _ _. record { path = paired .path; beside = one-more (z .sidelocks) (z .beside) (under (z .lock)) (z .want) (paired .beside) })
+    (λ _ _. record {
       path = cond-both (λ (pages : List ℕ) (locks : List Under). length locks ≡ length pages) (isSafe (z .op) k (memory (z .want)))
           (λ _. refl)
           (λ _. one-more (z .locks) (z .path) (under (z .lock)) (z .want) (paired .path));
@@ -550,43 +658,51 @@ stood-paired k memory z paired =
 -- Once its want is granted, an operation stands where the rules would have it.
 pub stood-stands : (op : Op) (k n : ℕ) (ws : List ℕ) (slot : Slot) → Asks k n ws op slot → fits k n ws (standOf op slot) ≡ true → Paired (standOf op slot)
     → SlotStanding op k n ws (slotOf (stood k (pageAt k ws) (standOf op slot)))
-unfolding stood
 stood-stands op k n ws slot asks fit paired =
     let here : Stand = standOf op slot in
-    stands-new (stood k (pageAt k ws) here) (stood-paired k (pageAt k ws) here paired)
-    (stood-ind (Standing k n ws) k (pageAt k ws) here (stood-beside asks fit) (stood-below asks fit))
+    let memory : ℕ → Page = pageAt k ws in
+    stood-ind (λ (now : Stand). Paired now → SlotStanding op k n ws (slotOf now)) k memory here
+    (λ turned p. stands-new (wantConverted here) p (stood-converted asks fit turned))
+    (λ new leaf p. stands-new (wantBeside here) p (stood-beside asks fit new leaf))
+    (λ new above p. stands-new (comeDown k memory here) p (stood-below asks fit new above))
+    (stood-paired k memory here paired)
 
 -- ---- the slot by the answers of the tests
 
-module _ (op : Op) (k : ℕ) (memory : ℕ → Page) (slot : Slot) {leaf : Bool}
-    (told : leaf ≡ atItsLeaf memory (reverse (pathOf slot))) where
+module _ (op : Op) (k : ℕ) (memory : ℕ → Page) (slot : Slot) {converts : Bool} (wants : converts ≡ converting (standOf op slot)) where
   abbrev here : Stand
   here = standOf op slot
 
-  -- the last page of the path is a leaf
-  pub stood-at-leaf : {r : Slot} → leaf ≡ true → r ≡ slotOf (wantBeside here) → r ≡ slotOf (stood k memory here)
-  stood-at-leaf {r} t e =
-      stood-ind (λ (z : Stand). r ≡ slotOf z) k memory here (λ _. e) (λ coming. not-both (sym told ∙ t) coming)
+  -- it wants to convert a page
+  pub stood-on-turn : {r : Slot} → converts ≡ true → r ≡ slotOf (wantConverted here) → r ≡ slotOf (stood k memory here)
+  stood-on-turn {r} t e =
+      stood-ind (λ (z : Stand). r ≡ slotOf z) k memory here (λ _. e) (λ new _. not-both (sym wants ∙ t) new) (λ new _. not-both (sym wants ∙ t) new)
 
-  -- it is not
-  stood-coming : {r : Slot} → leaf ≡ false → r ≡ slotOf (comeDown k memory here) → r ≡ slotOf (stood k memory here)
-  stood-coming {r} f e =
-      stood-ind (λ (z : Stand). r ≡ slotOf z) k memory here (λ there. not-both there (sym told ∙ f)) (λ _. e)
+  module _ {leaf : Bool} (told : leaf ≡ atItsLeaf memory (reverse (pathOf slot))) (no : converts ≡ false) where
+    -- the last page of the path is a leaf
+    pub stood-at-leaf : {r : Slot} → leaf ≡ true → r ≡ slotOf (wantBeside here) → r ≡ slotOf (stood k memory here)
+    stood-at-leaf {r} t e =
+        stood-ind (λ (z : Stand). r ≡ slotOf z) k memory here (λ turned. not-both turned (sym wants ∙ no)) (λ _ _. e) (λ _ coming. not-both (sym told ∙ t) coming)
 
-  abbrev onPath : List ℕ → List Under → Slot
-  onPath path locks = slotOf (onPages here path locks [] [])
+    -- it is not
+    stood-coming : {r : Slot} → leaf ≡ false → r ≡ slotOf (comeDown k memory here) → r ≡ slotOf (stood k memory here)
+    stood-coming {r} f e =
+        stood-ind (λ (z : Stand). r ≡ slotOf z) k memory here (λ turned. not-both turned (sym wants ∙ no)) (λ _ there. not-both there (sym told ∙ f)) (λ _ _. e)
 
-  module _ {safe : Bool} (tested : safe ≡ isSafe op k (memory (slot .want))) where
-    -- coming down to a safe page
-    pub stood-on-safe : {r : Slot} → leaf ≡ false → safe ≡ true → r ≡ onPath (slot .want ∷ []) (under (slot .lock) ∷ [])
-        → r ≡ slotOf (stood k memory here)
-    stood-on-safe {r} f t e =
-        stood-coming f
-        (cond-both (λ (ps : List ℕ) (ls : List Under). r ≡ onPath ps ls) (isSafe op k (memory (slot .want))) (λ _. e) (λ u. not-both (sym tested ∙ t) u))
+    abbrev onPath : List ℕ → List Under → Slot
+    onPath path locks = slotOf (onPages here path locks [] [])
 
-    -- and to another
-    pub stood-on-other : {r : Slot} → leaf ≡ false → safe ≡ false → r ≡ onPath (pathOf slot ++ slot .want ∷ []) (locksOf slot ++ under (slot .lock) ∷ [])
-        → r ≡ slotOf (stood k memory here)
-    stood-on-other {r} f u e =
-        stood-coming f
-        (cond-both (λ (ps : List ℕ) (ls : List Under). r ≡ onPath ps ls) (isSafe op k (memory (slot .want))) (λ s. not-both s (sym tested ∙ u)) (λ _. e))
+    module _ {safe : Bool} (tested : safe ≡ isSafe op k (memory (slot .want))) where
+      -- coming down to a safe page
+      pub stood-on-safe : {r : Slot} → leaf ≡ false → safe ≡ true → r ≡ onPath (slot .want ∷ []) (under (slot .lock) ∷ [])
+          → r ≡ slotOf (stood k memory here)
+      stood-on-safe {r} f t e =
+          stood-coming f
+          (cond-both (λ (ps : List ℕ) (ls : List Under). r ≡ onPath ps ls) (isSafe op k (memory (slot .want))) (λ _. e) (λ u. not-both (sym tested ∙ t) u))
+
+      -- and to another
+      pub stood-on-other : {r : Slot} → leaf ≡ false → safe ≡ false → r ≡ onPath (pathOf slot ++ slot .want ∷ []) (locksOf slot ++ under (slot .lock) ∷ [])
+          → r ≡ slotOf (stood k memory here)
+      stood-on-other {r} f u e =
+          stood-coming f
+          (cond-both (λ (ps : List ℕ) (ls : List Under). r ≡ onPath ps ls) (isSafe op k (memory (slot .want))) (λ s. not-both s (sym tested ∙ u)) (λ _. e))

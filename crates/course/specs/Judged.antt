@@ -27,10 +27,13 @@ use Rattle.slots.specs.declared.Lock.{Lock}
 use Rattle.slots.specs.declared.Lock.the-variants.{Rho}
 use Rattle.slots.specs.declared.Answer.the-variants.{Found, NotFound, Inserted, AlreadyThere, Deleted, NoSuchKey, NoRoom, Next as NextLot, None as NoLot}
 use Rattle.slots.specs.declared.Slot.{Slot}
-use Rattle.slots.specs.Parts.{keyOf, isNext, isSecond, heldLock, besideOf, held, Stand, wantsNext}
+use Rattle.slots.specs.Parts.{keyOf, isNext, isSecond, isThird, heldLock, besideOf, held, Stand, wantsNext, standOf}
 use Rattle.course.specs.declared.judging.Course.{Course}
 use Rattle.course.specs.declared.judging.Course.the-variants.{Broken, Goes, Ends, Inserts, Deletes, Regrades, Again}
-use Rattle.footing.specs.Granted.{Verdict, broken, goes, ends, isSafe, lockBelow, nextAnswer, again, staysSecond, atLeaf, fromLeaf}
+use Rattle.footing.specs.declared.converting.Turn.{Turn}
+use Rattle.footing.specs.declared.converting.Turn.the-variants.{Done}
+use Rattle.footing.specs.Granted.{Verdict, broken, goes, ends, isSafe, lockBelow, nextAnswer, again, staysSecond, changeKnown, toConvert, convertedFirst, atLeaf, fromLeaf}
+use Rattle.footing.specs.Standing.{turnOf}
 use Rattle.footing.specs.Fitting.{nextIsNew}
 
 -- A Next at its first leaf, or on its second way, given upward: there the last page of it tells.
@@ -60,7 +63,9 @@ judged k memory free z =
     fromLeaf
     (λ (leaf : ℕ) (fathers : List ℕ).
     cond (isLeaf (memory leaf))
-    (cond (beginsAgain (z .op) k memory leaf) (again (z .op)) (judgedAt (z .op) k memory free z leaf fathers))
+    (cond (beginsAgain (z .op) k memory leaf)
+    (again (z .op))
+    (convertedFirst k memory z leaf fathers (judgedAt (z .op) k memory free z leaf fathers)))
     (goes (wantsNext z (route (keyOf (z .op)) (memory leaf)) (lockBelow (z .op) (memory leaf)))))
     (reverse (z .path))
 
@@ -103,17 +108,12 @@ ready op k memory path (Deletes x v) = (isNext op ≡ false) × standsLast memor
 ready op k memory path (Regrades x v) = Unit {0}
 ready op k memory path Again = Unit {0}
 
--- what was read under a key tells whether it is there, and whether that is answered at once
-abbrev pub isThere : Lot → Bool
-isThere (There v) = true
-isThere Missing = false
-
-abbrev pub atOnce : Op → Lot → Bool
-atOnce (Search x) lot = true
-atOnce (Insert x v way) lot = isThere lot
-atOnce (Delete x way) lot = not (isThere lot)
-atOnce (Next x) lot = true
-atOnce (Regrade x v way) lot = not (isThere lot)
+-- which page is converted next, of an update by the third way whose change is known
+abbrev pub turnCourse : Op → ℕ → (ℕ → Page) → Slot → Turn
+turnCourse op k memory stand =
+    cond (isThird op && changeKnown k memory (standOf op stand) (leafOf (stand .depth) (stand .path)) (fathersOf (stand .depth) (stand .path)))
+    (turnOf (toConvert (standOf op stand)))
+    Done
 
 -- The courses by what was read: on to this page with this lock, if it is not held; and, at the leaf, by what stands there under the key.
 abbrev pub nextCourse : Slot → ℕ → Lock → Course

@@ -1,6 +1,10 @@
 // What an operation does from where it stands.
 use change::needing::Need;
 use change::needing::needs;
+use footing::converting::Turn;
+use footing::converting::at_once;
+use footing::converting::change_known;
+use footing::converting::next_turn;
 use footing::looking::has_child_right;
 use footing::looking::is_safe;
 use footing::looking::lock_below;
@@ -21,6 +25,7 @@ use slots::holding::holds;
 use slots::operations::first_way;
 use slots::operations::held_lock;
 use slots::operations::is_second;
+use slots::operations::is_third;
 use slots::operations::key_asked;
 ghost use mathlib.Core.Path.{_≡_};
 ghost use mathlib.Core.Bool.{true};
@@ -31,7 +36,7 @@ ghost use Rattle.pool.specs.Wrapped.{InPool};
 ghost use Rattle.slots.specs.declared.Op.the-variants.{Delete, Next};
 ghost use Rattle.slots.specs.Parts.{pathOf, standOf};
 ghost use Rattle.footing.specs.Standing.{SlotStanding};
-ghost use Rattle.course.specs.Judged.{isThere, atOnce, beginsAgain, judged, ifNew, courseOf, ready, nextCourse, searchCourse, insertCourse, deleteCourse, crossCourse, firstCourse, leftCourse, nextsCourse};
+ghost use Rattle.course.specs.Judged.{beginsAgain, turnCourse, judged, ifNew, courseOf, ready, nextCourse, searchCourse, insertCourse, deleteCourse, crossCourse, firstCourse, leftCourse, nextsCourse};
 
 // The pages are not sound for the step; the slot goes on and wants this page with this lock; the operation ends, and no page is written; or
 // it makes the whole change of an insertion (key, information) or of a deletion (key, information that it answers). A regrading (key, new
@@ -147,28 +152,6 @@ fn nexts(words: &[u32], k: usize, n: usize, x: u32, stand: Slot) -> Course
     nexts_left(words, k, n, x, second[breadth - 1], stand)
 }
 
-fn is_there(lot: Lot) -> bool
-    ensures { λ r. ⌜ r ≡ isThere lot ⌝ }
-{
-    match lot {
-        Lot::There(_) => true,
-        Lot::Missing => false,
-    }
-}
-
-// What stands under the key of an update is answered at once: an insertion's key is there, another one's is missing.
-fn at_once(op: Op, lot: Lot) -> bool
-    ensures { λ r. ⌜ r ≡ atOnce op lot ⌝ }
-{
-    match op {
-        Op::Search(_) => true,
-        Op::Insert(_, _, _) => is_there(lot),
-        Op::Delete(_, _) => !is_there(lot),
-        Op::Next(_) => true,
-        Op::Regrade(_, _, _) => !is_there(lot),
-    }
-}
-
 // An update by the second way begins again at this leaf: it is page 0, or it is not safe and the key has to be changed. The count of a
 // leaf tells most of it; the key is looked up last.
 fn begins_again(words: &[u32], k: usize, n: usize, op: Op, leaf: u32) -> bool
@@ -190,6 +173,20 @@ fn begins_again(words: &[u32], k: usize, n: usize, op: Op, leaf: u32) -> bool
     !at_once(op, look_of(words, k, n, leaf, key_asked(op)))
 }
 
+// The page that an update by the third way converts next, before it makes its change.
+fn turn(words: &[u32], k: usize, n: usize, op: Op, stand: Slot) -> Turn
+    requires { ⌜ SlotStanding op k n (now words) stand ⌝ }
+    ensures { λ r. ⌜ r ≡ turnCourse op k (pageAt k (now (words .entry))) stand ⌝ }
+{
+    if !is_third(op) {
+        return Turn::Done;
+    }
+    if !change_known(words, k, n, op, stand) {
+        return Turn::Done;
+    }
+    next_turn(op, stand)
+}
+
 // What the operation does from where it stands.
 pub fn judge(words: &[u32], k: usize, n: usize, op: Op, stand: Slot) -> Course
     requires { ⌜ SlotStanding op k n (now words) stand ⌝ }
@@ -204,6 +201,9 @@ pub fn judge(words: &[u32], k: usize, n: usize, op: Op, stand: Slot) -> Course
     }
     if begins_again(words, k, n, op, leaf) {
         return Course::Again;
+    }
+    if let Turn::Page(p) = turn(words, k, n, op, stand) {
+        return Course::Goes(p, Lock::Xi);
     }
     match op {
         Op::Search(x) => found(look_of(words, k, n, leaf, x)),

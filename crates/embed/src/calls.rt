@@ -13,7 +13,7 @@ ghost use Rattle.embed.specs.Statements.{MakeTells, BeginTells, StepTell
 ghost use Rattle.embed.specs.Version.{libraryVersion};
 
 // The version of these calls.
-const VERSION: u32 = 4;
+const VERSION: u32 = 5;
 
 // Makes a fresh pool of n pages of width k in the lent words, and an idle state beside it.
 #[no_mangle]

@@ -28,13 +28,14 @@ use Rattle.change.proofs.HeldLaws.{Known, held-known, held-front, upward-father
 use Rattle.slots.specs.declared.Op.{Op}
 use Rattle.slots.specs.declared.Op.the-variants.{Search, Insert, Delete, Next, Regrade}
 use Rattle.slots.specs.declared.Way.{Way}
-use Rattle.slots.specs.declared.Way.the-variants.{First, Second}
+use Rattle.slots.specs.declared.Way.the-variants.{First, Second, Third}
 use Rattle.slots.specs.declared.Lock.{Lock}
 use Rattle.slots.specs.declared.Under.{Under}
 use Rattle.slots.specs.Parts.{keyOf, isDelete, isSecond, Stand, stand, withOp}
 use Rattle.slots.proofs.MakingLaws.{length-add}
 use Rattle.footing.specs.Granted.{isSafe, atItsLeaf}
 use Rattle.footing.specs.Fitting.{descends, rightlyKept, sameLevels, isSibling, rightlyBeside}
+use Rattle.footing.specs.Standing.{isThere}
 use Rattle.footing.proofs.LookLaws.{descends-levels}
 
 -- ---- cells
@@ -64,11 +65,14 @@ pub second-safe : (op : Op) (k : ℕ) (P : Page) → isSecond op ≡ true → is
 second-safe (Search x) k P e = refl
 second-safe (Insert x v First) k P e = not-both e refl
 second-safe (Insert x v Second) k P e = refl
+second-safe (Insert x v Third) k P e = not-both e refl
 second-safe (Delete x First) k P e = not-both e refl
 second-safe (Delete x Second) k P e = refl
+second-safe (Delete x Third) k P e = not-both e refl
 second-safe (Next x) k P e = not-both e refl
 second-safe (Regrade x v First) k P e = refl
 second-safe (Regrade x v Second) k P e = refl
+second-safe (Regrade x v Third) k P e = refl
 
 -- and for a regrading
 pub regrade-safe : (k : ℕ) (P : Page) {op : Op} {x v : ℕ} {way : Way} → op ≡ Regrade x v way → isSafe op k P ≡ true
@@ -77,6 +81,7 @@ regrade-safe k P {x = x} {v} {way} e = ap (λ (o : Op). isSafe o k P) e ∙ by-w
     by-way : (w : Way) → isSafe (Regrade x v w) k P ≡ true
     by-way First = refl
     by-way Second = refl
+    by-way Third = refl
 
 -- ---- the pages below the top
 
@@ -251,20 +256,22 @@ beside-idle k memory z (leaf ∷ fathers) f =
     f)
 
 -- what was read under a key tells whether it is there
-abbrev pub isThere : Lot → Bool
-isThere (There v) = true
-isThere Missing = false
-
-looked-has : (x : ℕ) (es : List Entry) {lot : Lot} → lot ≡ looked x es → isThere lot ≡ has x es
+pub looked-has : (x : ℕ) (es : List Entry) {lot : Lot} → lot ≡ looked x es → isThere lot ≡ has x es
 looked-has x es e = ap isThere e ∙ by-test (has x es) (information x es)
   where
     by-test : (b : Bool) (v : ℕ) → isThere (cond b (There v) Missing) ≡ b
     by-test true v = refl
     by-test false v = refl
 
--- The rule for a deletion of x by the first way that stands at its leaf, a test at a time.
+-- a deletion that does not go by the second way takes siblings
+pub takes-siblings : (x : ℕ) (way : Way) → isSecond (Delete x way) ≡ false → isDelete (Delete x way) ≡ true
+takes-siblings x First f = refl
+takes-siblings x Second f = not-both refl f
+takes-siblings x Third f = refl
+
+-- The rule for a deletion of x that takes siblings and stands at its leaf, a test at a time.
 module _ {k n : ℕ} {ws path : List ℕ} {depth : ℕ} {siblings : List ℕ} {beside : ℕ} (needing : Needing k n ws path depth siblings beside)
-    (locks sidelocks : List Under) (want : ℕ) (lock : Lock) {op : Op} {x : ℕ} {way : Way} (deletes : op ≡ Delete x way) (first : way ≡ First) where
+    (locks sidelocks : List Under) (want : ℕ) (lock : Lock) {op : Op} {x : ℕ} {way : Way} (deletes : op ≡ Delete x way) (takes : isSecond (Delete x way) ≡ false) where
   abbrev memory : ℕ → Page
   memory = pageAt k ws
 
@@ -286,7 +293,9 @@ module _ {k n : ℕ} {ws path : List ℕ} {depth : ℕ} {siblings : List ℕ} {b
   by-leaf : answer ≡ there && isSibling next want && levelled
   by-leaf =
       let turned = last-first path depth (omega (arith, needing .deep, needing .pathCells)) (needing .some) in
-      ap₂ (λ (o : Op) (up : List ℕ). rightlyBeside k memory (withOp o z) up) (deletes ∙ ap (Delete x) first) turned
+      ap₂ (λ (o : Op) (up : List ℕ). rightlyBeside k memory (withOp o z) up) deletes turned
+      ∙ ap (λ (b : Bool). b && there && isSibling next want && sameLevels memory (leafOf depth path ∷ fathersOf depth path) (take beside siblings ++ want ∷ []))
+      (takes-siblings x way takes)
       ∙ ap (λ (up : List ℕ). there && isSibling next want && sameLevels memory up (take beside siblings ++ want ∷ [])) (sym turned)
 
   -- the key is not there

@@ -25,18 +25,17 @@ use Rattle.change.specs.Held.{Held}
 use Rattle.change.proofs.HeldLaws.{Known, held-known, held-some, held-front, on-path, among-siblings, upward-father, upward-reverse}
 use Rattle.slots.specs.declared.Op.{Op}
 use Rattle.slots.specs.declared.Op.the-variants.{Search, Insert, Delete, Next, Regrade}
-use Rattle.slots.specs.declared.Way.the-variants.{First, Second}
+use Rattle.slots.specs.declared.Way.the-variants.{First, Second, Third}
 use Rattle.slots.specs.declared.Task.{Task}
 use Rattle.slots.specs.declared.Task.the-variants.{Open}
 use Rattle.slots.specs.declared.Slot.{Slot}
 use Rattle.slots.specs.declared.Lock.the-variants.{Xi}
-use Rattle.slots.specs.Parts.{keyOf, heldLock, isSecond, isOpen, pathOf, besideOf, held, Stand, standOf}
+use Rattle.slots.specs.Parts.{keyOf, heldLock, isSecond, isOpen, pathOf, besideOf, held, Stand, converting, standOf}
 use Rattle.slots.specs.Locks.{sameLock}
-use Rattle.slots.specs.Sound.{limitsOf, withinLimits, wantsRightly}
+use Rattle.slots.specs.Sound.{limitsOf, withinLimits, slotSound}
 use Rattle.slots.proofs.SoundFacts.{SoundSlot, sound-slot}
-use Rattle.slots.proofs.LockLaws.{lock-same, wants-held}
 use Rattle.footing.specs.Granted.{lockBelow, atItsLeaf}
-use Rattle.footing.specs.Fitting.{namesBelow, pagesSound, leads, descends, rightlyKept, rightlyBeside, isNone, leftmost, rightlyAcross, lockDue, fitting}
+use Rattle.footing.specs.Fitting.{namesBelow, pagesSound, leads, descends, rightlyKept, rightlyBeside, isNone, leftmost, rightlyAcross, lockDue, holdsDue, fittingNew, rightlyConverting, fitting}
 use Rattle.footing.specs.Standing.{Asks, fits, lastLeads}
 
 -- what a branch on a test's opposite tells of the test
@@ -277,11 +276,14 @@ unfolding searchHolds regradeHolds secondHolds pathHolds siblingHolds
 within-table (Search x) = (omega arith, omega arith)
 within-table (Insert x v First) = (omega arith, omega arith)
 within-table (Insert x v Second) = (omega arith, omega arith)
+within-table (Insert x v Third) = (omega arith, omega arith)
 within-table (Delete x First) = (omega arith, omega arith)
 within-table (Delete x Second) = (omega arith, omega arith)
+within-table (Delete x Third) = (omega arith, omega arith)
 within-table (Next x) = (omega arith, omega arith)
 within-table (Regrade x v First) = (omega arith, omega arith)
 within-table (Regrade x v Second) = (omega arith, omega arith)
+within-table (Regrade x v Third) = (omega arith, omega arith)
 
 limits : (op : Op) (depth beside : ℕ) → withinLimits (Open op) depth beside ≡ true → (depth ≤ pathHolds) × (beside < pathHolds)
 limits op depth beside t =
@@ -292,6 +294,11 @@ limits op depth beside t =
     let d = leb-true depth (limitsOf (Open op) .onPath) (and-first onPath few both) in
     let b = leb-true beside (limitsOf (Open op) .beside) (and-second onPath few both) in
     (omega (arith, table .0), omega (arith, table .1))
+
+pub sound-within : (n : ℕ) {op : Op} (slot : Slot) → slot .task ≡ Open op → slotSound n slot ≡ true → (slot .depth ≤ pathHolds) × (slot .breadth < pathHolds)
+sound-within n {op} slot task sound =
+    limits op (slot .depth) (slot .breadth)
+    (subst (λ (t : Task). withinLimits t (slot .depth) (slot .breadth) ≡ true) task (sound-slot n slot sound .limits))
 
 -- all that it holds and wants
 abbrev pub pagesOf : Slot → List ℕ
@@ -324,8 +331,7 @@ module _ {k n : ℕ} {ws : List ℕ} {op : Op} {slot : Slot} (h : Asks k n ws op
   facts = sound-slot n slot (h .sound)
 
   within : (slot .depth ≤ pathHolds) × (slot .breadth < pathHolds)
-  within = limits op (slot .depth) (slot .breadth)
-      (subst (λ (task : Task). withinLimits task (slot .depth) (slot .breadth) ≡ true) (h .task) (facts .limits))
+  within = sound-within n slot (h .task) (h .sound)
 
   pub asks-deep : slot .depth ≤ pathHolds
   asks-deep = within .0
@@ -381,18 +387,10 @@ below-higher op P read other = cond-false Xi (heldLock op) (and-second-fails (is
 pub below-first : (op : Op) (P : Page) → isSecond op ≡ false → lockBelow op P ≡ heldLock op
 below-first op P f = cond-false Xi (heldLock op) (and-first-fails (eqb (P .level) 2) f)
 
--- who does not go by the second way is due that kind everywhere, and a sound slot wants it
-first-due : (op : Op) (memory : ℕ → Page) (up : List ℕ) → isSecond op ≡ false → lockDue op memory up ≡ heldLock op
+-- who does not go by the second way is due that kind everywhere
+pub first-due : (op : Op) (memory : ℕ → Page) (up : List ℕ) → isSecond op ≡ false → lockDue op memory up ≡ heldLock op
 first-due op memory [] f = refl
 first-due op memory (p ∷ up) f = below-first op (memory p) f
-
-pub first-wants : {k n : ℕ} {ws : List ℕ} {op : Op} {slot : Slot} {second : Bool} (h : Asks k n ws op slot) (memory : ℕ → Page) (up : List ℕ)
-    → second ≡ isSecond op → not second ≡ true → true ≡ sameLock (slot .lock) (lockDue op memory up)
-first-wants {op = op} {slot} h memory up said f =
-    let first : isSecond op ≡ false = told-false said f in
-    let wanted : slot .lock ≡ heldLock op =
-    wants-held op (slot .lock) first (subst (λ (task : Task). wantsRightly task (slot .lock) ≡ true) (h .task) (facts h .rightly)) in
-    sym (ap₂ sameLock wanted (first-due op memory up first) ∙ lock-same (heldLock op))
 
 -- ---- coming down
 
@@ -433,21 +431,11 @@ module _ (memory : ℕ → Page) (x : ℕ) (slot : Slot) where
         ∙ ap (λ (up : List ℕ). lastLeads memory x up (slot .want))
         (sym (upward-reverse (slot .depth) (slot .path) long) ∙ upward-father (slot .depth) (slot .path) some)
 
--- ---- all of it together
+-- ---- going down, or at the leaf with one more page to want
 
--- what is left where three tests hold
-all-hold : {a b c : Bool} (d : Bool) → a ≡ true → b ≡ true → c ≡ true → a && (b && c && d) ≡ d
-all-hold {b = b} {c} d p q r = ap (λ (t : Bool). t && (b && c && d)) p ∙ ap (λ (t : Bool). t && d) (and-both q r)
-
-module _ (op : Op) (k n : ℕ) (ws : List ℕ) (slot : Slot) where
-  abbrev memory : ℕ → Page
-  memory = pageAt k ws
-
+module _ (op : Op) (k : ℕ) (memory : ℕ → Page) (slot : Slot) where
   abbrev z : Stand
   z = standOf op slot
-
-  abbrev keptTest : Bool
-  keptTest = rightlyKept op k memory (pathOf slot) (slot .want)
 
   abbrev lockTest : Bool
   lockTest = sameLock (slot .lock) (lockDue op memory (reverse (pathOf slot)))
@@ -471,55 +459,53 @@ module _ (op : Op) (k n : ℕ) (ws : List ℕ) (slot : Slot) where
   abbrev comingTest : Bool
   comingTest = descends memory (keyOf op) (pathOf slot ++ slot .want ∷ []) && isNone (besideOf slot)
 
+  abbrev leafTest : Bool
+  leafTest = cond (atItsLeaf memory (reverse (pathOf slot))) atLeafTest comingTest
+
   -- one test that fails
-  pub fits-unsound : {answer : Bool} → answer ≡ pagesSound k n ws (pagesOf slot) → not answer ≡ true → fits k n ws z ≡ false
-  unfolding fits
-  fits-unsound said f = and-first-fails (fitting k memory z) (told-false said f)
+  pub new-not-due : {answer : Bool} → answer ≡ lockTest → not answer ≡ true → fittingNew k memory z ≡ false
+  unfolding fittingNew
+  new-not-due said f = and-first-fails leafTest (and-first-fails (holdsDue z) (told-false said f))
 
-  pub fits-not-kept : {answer : Bool} → answer ≡ keptTest → not answer ≡ true → fits k n ws z ≡ false
-  unfolding fits fitting
-  fits-not-kept said f = and-second-fails (pagesSound k n ws (pagesOf slot)) (and-first-fails _ (and-first-fails lockTest (told-false said f)))
-
-  pub fits-not-due : {answer : Bool} → answer ≡ lockTest → not answer ≡ true → fits k n ws z ≡ false
-  unfolding fits fitting
-  fits-not-due said f = and-second-fails (pagesSound k n ws (pagesOf slot)) (and-first-fails _ (and-second-fails keptTest (told-false said f)))
+  pub new-not-held : {answer : Bool} → answer ≡ holdsDue z → not answer ≡ true → fittingNew k memory z ≡ false
+  unfolding fittingNew
+  new-not-held said f = and-first-fails leafTest (and-second-fails lockTest (told-false said f))
 
   module _ {x : ℕ} {down : Bool} (key : x ≡ keyOf op) (way : down ≡ wayTest x) where
-    pub fits-no-way : not down ≡ true → fits k n ws z ≡ false
-    unfolding fits fitting
-    fits-no-way f =
+    pub new-no-way : not down ≡ true → fittingNew k memory z ≡ false
+    unfolding fittingNew
+    new-no-way f =
         let none : wayTest (keyOf op) ≡ false = sym (ap wayTest key) ∙ told-false way f in
-        and-second-fails (pagesSound k n ws (pagesOf slot))
-        (and-second-fails (keptTest && lockTest)
+        and-second-fails (lockTest && holdsDue z)
         (cond-ind (λ (b : Bool). b ≡ false) (atItsLeaf memory (reverse (pathOf slot))) (λ leaf. and-first-fails (besideTest || acrossTest) none)
         (λ upper. and-first-fails (isNone (besideOf slot))
-        (descends-snoc memory (keyOf op) (pathOf slot) (slot .want) ∙ and-first-fails (lastTest (keyOf op)) none))))
+        (descends-snoc memory (keyOf op) (pathOf slot) (slot .want) ∙ and-first-fails (lastTest (keyOf op)) none)))
 
     -- the way down is one for the operation's key
     pub way-down : not down ≡ false → wayTest (keyOf op) ≡ true
     way-down t = sym (ap wayTest key) ∙ told-true way t
 
-    module _ {sound kept due : Bool} (pages : sound ≡ pagesSound k n ws (pagesOf slot)) (p : not sound ≡ false) (rightly : kept ≡ keptTest)
-        (q : not kept ≡ false) (lock : due ≡ lockTest) (l : not due ≡ false) (d : not down ≡ false) {leaf : Bool} (at : leaf ≡ atItsLeaf memory (reverse (pathOf slot))) where
-      whichever : fits k n ws z ≡ cond (atItsLeaf memory (reverse (pathOf slot))) atLeafTest comingTest
-      unfolding fits fitting
-      whichever = all-hold (cond (atItsLeaf memory (reverse (pathOf slot))) atLeafTest comingTest) (told-true pages p) (told-true rightly q) (told-true lock l)
+    module _ {due kinds : Bool} (lock : due ≡ lockTest) (l : not due ≡ false) (held : kinds ≡ holdsDue z) (m : not kinds ≡ false)
+        (d : not down ≡ false) {leaf : Bool} (at : leaf ≡ atItsLeaf memory (reverse (pathOf slot))) where
+      whichever : fittingNew k memory z ≡ leafTest
+      unfolding fittingNew
+      whichever = ap (λ (t : Bool). t && leafTest) (and-both (told-true lock l) (told-true held m))
 
       -- where they hold, it is the pages beside the path that count at the leaf: a deletion's siblings, or a second way
-      at-the-leaf : leaf ≡ true → fits k n ws z ≡ besideTest || acrossTest
+      at-the-leaf : leaf ≡ true → fittingNew k memory z ≡ besideTest || acrossTest
       at-the-leaf there =
           whichever ∙ cond-true atLeafTest comingTest (sym at ∙ there) ∙ ap (λ (t : Bool). t && (besideTest || acrossTest)) (way-down d)
 
       module _ {beside : Bool} (sibling : beside ≡ besideTest) where
-        pub fits-beside : leaf ≡ true → beside ≡ true → true ≡ fits k n ws z
-        fits-beside there t = sym (at-the-leaf there ∙ or-first acrossTest (sym sibling ∙ t))
+        pub new-beside : leaf ≡ true → beside ≡ true → true ≡ fittingNew k memory z
+        new-beside there t = sym (at-the-leaf there ∙ or-first acrossTest (sym sibling ∙ t))
 
-        pub fits-across : {answer : Bool} → leaf ≡ true → beside ≡ false → answer ≡ acrossTest → answer ≡ fits k n ws z
-        fits-across there f said = said ∙ sym (at-the-leaf there ∙ ap (λ (t : Bool). t || acrossTest) (sym sibling ∙ f))
+        pub new-across : {answer : Bool} → leaf ≡ true → beside ≡ false → answer ≡ acrossTest → answer ≡ fittingNew k memory z
+        new-across there f said = said ∙ sym (at-the-leaf there ∙ ap (λ (t : Bool). t || acrossTest) (sym sibling ∙ f))
 
       -- and the last page of the path above it
-      pub fits-coming : {answer : Bool} {y : ℕ} → leaf ≡ false → y ≡ keyOf op → answer ≡ lastTest y && isNone (besideOf slot) → answer ≡ fits k n ws z
-      fits-coming above key′ said =
+      pub new-coming : {answer : Bool} {y : ℕ} → leaf ≡ false → y ≡ keyOf op → answer ≡ lastTest y && isNone (besideOf slot) → answer ≡ fittingNew k memory z
+      new-coming above key′ said =
           said
           ∙ ap (λ (u : ℕ). lastTest u && isNone (besideOf slot)) key′
           ∙ sym
@@ -527,3 +513,43 @@ module _ (op : Op) (k n : ℕ) (ws : List ℕ) (slot : Slot) where
           ∙ cond-false atLeafTest comingTest (sym at ∙ above)
           ∙ ap (λ (t : Bool). t && isNone (besideOf slot))
           (descends-snoc memory (keyOf op) (pathOf slot) (slot .want) ∙ ap (λ (t : Bool). t && lastTest (keyOf op)) (way-down d)))
+
+-- ---- all of it together
+
+module _ (op : Op) (k n : ℕ) (ws : List ℕ) (slot : Slot) where
+  abbrev stands : Stand
+  stands = standOf op slot
+
+  abbrev keptTest : Bool
+  keptTest = rightlyKept op k (pageAt k ws) (pathOf slot) (slot .want)
+
+  abbrev convertsTest : Bool
+  convertsTest = rightlyConverting k (pageAt k ws) stands (reverse (pathOf slot))
+
+  abbrev newTest : Bool
+  newTest = fittingNew k (pageAt k ws) stands
+
+  -- one test that fails
+  pub fits-unsound : {answer : Bool} → answer ≡ pagesSound k n ws (pagesOf slot) → not answer ≡ true → fits k n ws stands ≡ false
+  unfolding fits
+  fits-unsound said f = and-first-fails (fitting k (pageAt k ws) stands) (told-false said f)
+
+  pub fits-not-kept : {answer : Bool} → answer ≡ keptTest → not answer ≡ true → fits k n ws stands ≡ false
+  unfolding fits fitting
+  fits-not-kept said f =
+      and-second-fails (pagesSound k n ws (pagesOf slot)) (and-first-fails (cond (converting stands) convertsTest newTest) (told-false said f))
+
+  module _ {sound kept : Bool} (pages : sound ≡ pagesSound k n ws (pagesOf slot)) (p : not sound ≡ false) (rightly : kept ≡ keptTest)
+      (q : not kept ≡ false) {converts : Bool} (wants : converts ≡ converting stands) where
+    whole : fits k n ws stands ≡ cond (converting stands) convertsTest newTest
+    unfolding fits fitting
+    whole =
+        let rest : Bool = cond (converting stands) convertsTest newTest in
+        ap (λ (t : Bool). t && (keptTest && rest)) (told-true pages p) ∙ ap (λ (t : Bool). t && rest) (told-true rightly q)
+
+    -- where they hold, it is the rule for who converts that counts, or the one for who wants a new page
+    pub fits-converting : {answer : Bool} → converts ≡ true → answer ≡ convertsTest → answer ≡ fits k n ws stands
+    fits-converting t said = said ∙ sym (whole ∙ cond-true convertsTest newTest (sym wants ∙ t))
+
+    pub fits-new : {answer : Bool} → converts ≡ false → answer ≡ newTest → answer ≡ fits k n ws stands
+    fits-new f said = said ∙ sym (whole ∙ cond-false convertsTest newTest (sym wants ∙ f))

@@ -3,17 +3,18 @@ use Prim.Native.Nat.{ℕ}
 use mathlib.Core.Path.{_≡_, refl}
 use mathlib.Core.List.{[], _∷_}
 use lib.ListN.{getD}
-use Rattle.ground.specs.Tests.{count}
+use Rattle.ground.specs.Tests.{count, member}
 use Rattle.page.specs.Words.{Page, entry, page, freePage}
 use Rattle.page.specs.Place.{place, has, information, atOrAbove}
 use Rattle.page.specs.Short.{neighbour}
+use Rattle.change.specs.Insertion.{room}
 use Rattle.change.specs.Deletion.{needs}
 use Rattle.slots.specs.declared.Op.the-variants.{Search, Insert, Delete, Next, Regrade}
-use Rattle.slots.specs.declared.Way.the-variants.{First, Second}
-use Rattle.slots.specs.declared.Lock.the-variants.{Rho, Xi, UpdaterRho}
-use Rattle.slots.specs.declared.Answer.the-variants.{AlreadyThere, Next as NextLot, None as NoLot}
-use Rattle.slots.specs.Parts.{under, stand, freshStand}
-use Rattle.footing.specs.Granted.{goes, ends, deletes, atLeaf, comesDown, goesLeft, besides, granted}
+use Rattle.slots.specs.declared.Way.the-variants.{First, Second, Third}
+use Rattle.slots.specs.declared.Lock.the-variants.{Rho, Xi, UpdaterRho, Alpha}
+use Rattle.slots.specs.declared.Answer.the-variants.{AlreadyThere, NoRoom, Next as NextLot, None as NoLot}
+use Rattle.slots.specs.Parts.{under, withXi, stand, freshStand}
+use Rattle.footing.specs.Granted.{goes, ends, deletes, inTurn, unconverted, atLeaf, comesDown, goesLeft, besides, converts, granted}
 
 -- case E, k = 1
 caseE : ℕ → Page
@@ -44,7 +45,7 @@ next-crosses = refl
 
 -- it answers the first entry at or above its key in the second leaf
 next-answers : granted 1 caseE [] (stand (Next 15) (0 ∷ 1 ∷ []) (under Rho ∷ under Rho ∷ []) [] [] 2 Rho) ≡ ends (NextLot 20 7) []
-unfolding caseE atOrAbove goesLeft besides granted
+unfolding caseE member atOrAbove goesLeft besides granted
 next-answers = refl
 
 -- a key that is there is at or above itself
@@ -91,3 +92,44 @@ low p = getD (page 1 0 (entry 20 7 ∷ []) ∷ []) p freePage
 second-low : comesDown 1 low [] (stand (Regrade 30 8 Second) [] [] [] [] 0 UpdaterRho) ≡ goes (stand (Regrade 30 8 First) [] [] [] [] 0 Xi)
 unfolding low comesDown
 second-low = refl
+
+-- ---- by the third way
+
+-- an insertion that is granted its leaf under α first wants to convert it
+third-converts : comesDown 1 caseE [] (stand (Insert 15 7 Third) (0 ∷ []) (under Alpha ∷ []) [] [] 1 Alpha)
+    ≡ goes (stand (Insert 15 7 Third) (1 ∷ []) (under Alpha ∷ []) [] [] 1 Xi)
+unfolding caseE has inTurn unconverted comesDown
+third-converts = refl
+
+-- a key that is there is answered at once, under α
+third-there : comesDown 1 caseE [] (stand (Insert 10 8 Third) (0 ∷ []) (under Alpha ∷ []) [] [] 1 Alpha) ≡ ends (AlreadyThere 7) []
+unfolding caseE has information atLeaf comesDown
+third-there = refl
+
+-- a deletion takes its sibling under α,
+third-sibling : comesDown 1 caseE [] (stand (Delete 10 Third) (0 ∷ []) (under Alpha ∷ []) [] [] 1 Alpha)
+    ≡ goes (stand (Delete 10 Third) (0 ∷ 1 ∷ []) (under Alpha ∷ under Alpha ∷ []) [] [] 2 Alpha)
+unfolding caseE place count has neighbour needs deletes atLeaf comesDown
+third-sibling = refl
+
+-- and once it needs no more it converts from the top down,
+third-top : granted 1 caseE [] (stand (Delete 10 Third) (0 ∷ 1 ∷ []) (under Alpha ∷ under Alpha ∷ []) [] [] 2 Alpha)
+    ≡ goes (stand (Delete 10 Third) (0 ∷ 1 ∷ []) (under Alpha ∷ under Alpha ∷ []) (2 ∷ []) (under Alpha ∷ []) 0 Xi)
+unfolding caseE member place count has neighbour needs inTurn unconverted besides granted
+third-top = refl
+
+-- the page of its path before the sibling beside it
+third-next : granted 1 caseE [] (stand (Delete 10 Third) (0 ∷ 1 ∷ []) (under Alpha ∷ under Alpha ∷ []) (2 ∷ []) (under Alpha ∷ []) 0 Xi)
+    ≡ goes (stand (Delete 10 Third) (0 ∷ 1 ∷ []) (under Xi ∷ under Alpha ∷ []) (2 ∷ []) (under Alpha ∷ []) 1 Xi)
+unfolding caseE member place count has neighbour needs withXi inTurn unconverted converts granted
+third-next = refl
+
+third-last : granted 1 caseE [] (stand (Delete 10 Third) (0 ∷ 1 ∷ []) (under Xi ∷ under Alpha ∷ []) (2 ∷ []) (under Alpha ∷ []) 1 Xi)
+    ≡ goes (stand (Delete 10 Third) (0 ∷ 1 ∷ []) (under Xi ∷ under Xi ∷ []) (2 ∷ []) (under Alpha ∷ []) 2 Xi)
+unfolding caseE member place count has neighbour needs withXi inTurn unconverted converts granted
+third-last = refl
+
+-- its change is made with ξ on all that it holds: room is counted then
+third-changes : granted 1 caseE [] (stand (Insert 25 7 Third) (0 ∷ 2 ∷ []) (under Xi ∷ under Alpha ∷ []) [] [] 2 Xi) ≡ ends NoRoom []
+unfolding caseE member count has withXi inTurn unconverted room atLeaf converts granted
+third-changes = refl

@@ -5,7 +5,7 @@ use mathlib.Core.List.{List, [], _∷_, _++_, reverse}
 use lib.Dec.{eqb}
 use lib.ListN.{getD}
 use Rattle.ground.specs.Tests.{all, member}
-use Rattle.page.specs.Words.{Page}
+use Rattle.page.specs.Words.{Page, isLeaf}
 use Rattle.page.specs.Place.{pointer, route, has, atOrAbove}
 use Rattle.page.specs.Short.{neighbour}
 use Rattle.page.specs.Sound.{soundByItself}
@@ -13,9 +13,12 @@ use Rattle.pool.specs.Pool.{wordsOf, pageAt, freePages}
 use Rattle.change.specs.Deletion.{Need, nothing, sibling, astray, needs}
 use Rattle.slots.specs.declared.Op.{Op}
 use Rattle.slots.specs.declared.Lock.{Lock}
-use Rattle.slots.specs.Parts.{keyOf, isDelete, isNext, heldLock, Stand, holding}
+use Rattle.slots.specs.declared.Lock.the-variants.{Xi, Alpha}
+use Rattle.slots.specs.declared.Under.{Under}
+use Rattle.slots.specs.Parts.{keyOf, isDelete, isNext, isThird, heldLock, Stand, holding, holdingLocks, converting}
 use Rattle.slots.specs.Locks.{sameLock}
-use Rattle.footing.specs.Granted.{Verdict, broken, goes, ends, isSafe, lockBelow, granted, atItsLeaf}
+pub use Rattle.footing.specs.Granted.{isNone}
+use Rattle.footing.specs.Granted.{Verdict, broken, goes, ends, isSafe, lockBelow, changeKnown, locksInTurn, toConvert, granted, atItsLeaf}
 
 -- "each held page and the wanted one has level 1 to 10 .., μ in range, rising keys, pointers all different and from 1 to
 -- N-1, unused words 0"
@@ -65,10 +68,6 @@ rightlyBeside k memory z (leaf ∷ fathers) =
     && isSibling (needs k memory (keyOf (z .op)) leaf fathers (z .beside)) (z .want)
     && sameLevels memory (leaf ∷ fathers) (z .beside ++ z .want ∷ [])
 
-abbrev pub isNone : {A : Type 0} → List A → Bool
-isNone [] = true
-isNone (p ∷ ps) = false
-
 -- a leftmost way: p0 of each page is the one behind it, a level lower
 unfoldable pub leftmost : (ℕ → Page) → List ℕ → Bool
 leftmost memory [] = true
@@ -97,19 +96,57 @@ abbrev pub lockDue : Op → (ℕ → Page) → List ℕ → Lock
 lockDue op memory [] = heldLock op
 lockDue op memory (p ∷ up) = lockBelow op (memory p)
 
--- "and if these pages, read again, are the ones the rules would have this operation hold and want at this point"
-unfoldable pub fitting : ℕ → (ℕ → Page) → Stand → Bool
-fitting k memory z =
-    rightlyKept (z .op) k memory (z .path) (z .want)
-    && sameLock (z .lock) (lockDue (z .op) memory (reverse (z .path)))
+-- it holds every page with the kind with which it goes down
+abbrev pub holdsDue : Stand → Bool
+holdsDue z = all (λ (u : Under). sameLock (u .lock) (heldLock (z .op))) (holdingLocks z)
+
+-- It goes down, or stands at its leaf and wants one more page.
+unfoldable pub fittingNew : ℕ → (ℕ → Page) → Stand → Bool
+fittingNew k memory z =
+    sameLock (z .lock) (lockDue (z .op) memory (reverse (z .path)))
+    && holdsDue z
     && cond (atItsLeaf memory (reverse (z .path)))
     (descends memory (keyOf (z .op)) (z .path) && (rightlyBeside k memory z (reverse (z .path)) || rightlyAcross k memory z (z .path)))
     (descends memory (keyOf (z .op)) (z .path ++ z .want ∷ []) && isNone (z .beside))
 
--- "and the page it would want next is none that it would then hold"
+-- ξ on some, then α on all that follow
+unfoldable pub xiThenAlpha : List Under → Bool
+xiThenAlpha [] = true
+xiThenAlpha (u ∷ locks) = cond (sameLock (u .lock) Xi) (xiThenAlpha locks) (all (λ (v : Under). sameLock (v .lock) Alpha) (u ∷ locks))
+
+-- the first of these pages is this one
+abbrev pub isFirst : ℕ → List ℕ → Bool
+isFirst want [] = false
+isFirst want (p ∷ pages) = eqb p want
+
+-- 02 (vi), at its leaf, given upward: it converts. The change is known, the siblings held are those that the rules took, what was converted has ξ and
+-- the rest α, and the want is the next conversion.
+abbrev pub rightlyConverting : ℕ → (ℕ → Page) → Stand → List ℕ → Bool
+rightlyConverting k memory z [] = false
+rightlyConverting k memory z (leaf ∷ fathers) =
+    isThird (z .op)
+    && isLeaf (memory leaf)
+    && descends memory (keyOf (z .op)) (z .path)
+    && changeKnown k memory z leaf fathers
+    && sameLevels memory (leaf ∷ fathers) (z .beside)
+    && sameLock (z .lock) Xi
+    && xiThenAlpha (locksInTurn z)
+    && isFirst (z .want) (toConvert z)
+
+-- "and if these pages, read again, are the ones the rules would have this operation hold and want at this point"
+unfoldable pub fitting : ℕ → (ℕ → Page) → Stand → Bool
+fitting k memory z =
+    rightlyKept (z .op) k memory (z .path) (z .want)
+    && cond (converting z) (rightlyConverting k memory z (reverse (z .path))) (fittingNew k memory z)
+
+-- it wants to convert a page
+abbrev pub wantsConversion : Stand → Bool
+wantsConversion z = isThird (z .op) && sameLock (z .lock) Xi
+
+-- "and the page it would want next is none that it would then hold"; 02 (vi): "01's rule on the page wanted next exempts conversions"
 abbrev pub nextIsNew : Verdict → Bool
 nextIsNew broken = false
-nextIsNew (goes z) = not (member (z .want) (holding z))
+nextIsNew (goes z) = not (member (z .want) (holding z)) || wantsConversion z
 nextIsNew (ends answer writes) = true
 
 -- "Pages are sound for a step if": all of these together

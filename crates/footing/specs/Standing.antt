@@ -1,7 +1,7 @@
 -- What a granted step asks of its arguments, where the operation stands once its want is granted, and what is then known of
 -- the pages that it holds.
 use Prim.Native.Nat.{ℕ, suc, _+_, _≤_, _<_}
-use mathlib.Core.Bool.{Bool, true, false, cond, _&&_}
+use mathlib.Core.Bool.{Bool, true, false, cond, not, _&&_, _||_}
 use mathlib.Core.List.{List, [], _∷_, _++_, reverse}
 use mathlib.Core.Logic.{_⊎_, _≢_}
 use mathlib.Core.Path.{_≡_}
@@ -11,11 +11,19 @@ use Rattle.ground.specs.Tests.{distinct}
 use Rattle.page.specs.Words.{Page}
 use Rattle.pool.specs.Pool.{poolLength, pageAt}
 use Rattle.change.specs.Held.{Held}
+use Rattle.page.specs.declared.reading.Lot.{Lot}
+use Rattle.page.specs.declared.reading.Lot.the-variants.{There, Missing}
 use Rattle.slots.specs.declared.Op.{Op}
+use Rattle.slots.specs.declared.Op.the-variants.{Search, Insert, Delete, Next, Regrade}
+use Rattle.slots.specs.declared.Lock.{Lock}
+use Rattle.slots.specs.declared.Lock.the-variants.{Xi, Alpha}
+use Rattle.slots.specs.Locks.{sameLock}
+use Rattle.footing.specs.declared.converting.Turn.{Turn}
+use Rattle.footing.specs.declared.converting.Turn.the-variants.{Page as TurnPage, Done}
 use Rattle.slots.specs.declared.Task.the-variants.{Open}
 use Rattle.slots.specs.declared.Slot.{Slot}
 use Rattle.slots.specs.declared.Under.{Under}
-use Rattle.slots.specs.Parts.{isNext, isSecond, under, Stand, holding, onPages, standOf, slotOf}
+use Rattle.slots.specs.Parts.{isNext, isSecond, under, Stand, holding, onPages, wantConverted, converting, standOf, slotOf}
 use Rattle.slots.specs.Sound.{slotSound}
 use Rattle.footing.specs.Granted.{isSafe, kept, keptLocks, atItsLeaf}
 use Rattle.footing.specs.Fitting.{leads, pagesSound, fitting}
@@ -52,9 +60,12 @@ standLocks k memory z = cond (atItsLeaf memory (reverse (z .path))) (z .locks) (
 abbrev pub standSidelocks : (ℕ → Page) → Stand → List Under
 standSidelocks memory z = cond (atItsLeaf memory (reverse (z .path))) (z .sidelocks ++ under (z .lock) ∷ []) []
 
--- where the slot stands then; it has no new want yet
+-- where the slot stands then; it has no new want yet. A conversion takes no page more.
 unfoldable pub stood : ℕ → (ℕ → Page) → Stand → Stand
-stood k memory z = onPages z (standPath k memory z) (standLocks k memory z) (standBeside memory z) (standSidelocks memory z)
+stood k memory z =
+    cond (converting z)
+    (wantConverted z)
+    (onPages z (standPath k memory z) (standLocks k memory z) (standBeside memory z) (standSidelocks memory z))
 
 -- What is known of the pages held once a want is granted: they are sound by themselves and all different; each page of the
 -- path lies a level above the next one, and the top one is page 0 or safe; by the second way there is one page on the path; where no Next
@@ -76,3 +87,27 @@ pub record Standing (k n : ℕ) (ws : List ℕ) (z : Stand) : Type 0 where
 pub record SlotStanding (op : Op) (k n : ℕ) (ws : List ℕ) (stand : Slot) : Type 0 where
   pub exact : stand ≡ slotOf (standOf op stand)
   pub standing : Standing k n ws (standOf op stand)
+
+-- ---- the third way
+
+-- a lot is there
+abbrev pub isThere : Lot → Bool
+isThere (There v) = true
+isThere Missing = false
+
+-- what is answered at once, by what was looked up under the key
+abbrev pub atOnce : Op → Lot → Bool
+atOnce (Search x) lot = true
+atOnce (Insert x v way) lot = isThere lot
+atOnce (Delete x way) lot = not (isThere lot)
+atOnce (Next x) lot = true
+atOnce (Regrade x v way) lot = not (isThere lot)
+
+-- the page whose turn it is
+abbrev pub turnOf : List ℕ → Turn
+turnOf [] = Done
+turnOf (p ∷ pages) = TurnPage p
+
+-- behind ξ comes ξ or α, behind α only α
+abbrev pub mayFollow : Lock → Bool → Bool
+mayFollow lock alpha = sameLock lock Alpha || (not alpha && sameLock lock Xi)

@@ -58,10 +58,12 @@ pub fn is_safe(words: &[u32], k: usize, n: usize, op: Op, p: u32) -> bool
         Op::Insert(_, _, way) => match way {
             Way::First => count_of(words, k, n, p) < 2 * k,
             Way::Second => true,
+            Way::Third => count_of(words, k, n, p) < 2 * k,
         },
         Op::Delete(_, way) => match way {
             Way::First => k < count_of(words, k, n, p),
             Way::Second => true,
+            Way::Third => k < count_of(words, k, n, p),
         },
         Op::Next(x) => has_child_right(words, k, n, x, p),
         Op::Regrade(_, _, _) => true,

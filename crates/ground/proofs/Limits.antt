@@ -1,9 +1,10 @@
 -- The facts about document 01's fixed numbers on which the theory of trees and runs rests, each once. Proofs of code open the names
 -- too: the length of an array, and what a sum may come to, are numbers there.
-use Prim.Native.Nat.{_+_, _-_, _*_, _^_, _<_}
+use Prim.Native.Nat.{_+_, _-_, _*_, _^_, _<_, _≤_}
 use mathlib.Core.Path.{_≡_, refl}
+use native.Mathlib.Omega.{arith}
 use lib.Dec.{lit<}
-use Rattle.ground.specs.Limits.{largestN, tallest, slotCount, pathHolds, siblingHolds, wordRange, wayGrants, slotGrants, roundsEnough}
+use Rattle.ground.specs.Limits.{largestN, tallest, slotCount, pathHolds, siblingHolds, wordRange, wayGrants, secondGrants, slotGrants, roundsEnough}
 
 -- there are words
 pub range-rises : 0 < wordRange
@@ -30,11 +31,21 @@ unfolding wayGrants tallest
 grants-of-height = refl
 
 -- "At most 10 + 19 grants"
-pub grants-of-ways : slotGrants ≡ tallest + wayGrants
-unfolding slotGrants tallest wayGrants
+pub grants-of-ways : secondGrants ≡ tallest + wayGrants
+unfolding secondGrants tallest wayGrants
 grants-of-ways = refl
 
--- "16 × 29 = 464"
+-- "at most 19 grants and 19 conversions"
+pub grants-of-third : slotGrants ≡ 2 * wayGrants
+unfolding slotGrants wayGrants
+grants-of-third = refl
+
+-- so a slot takes no more by another way
+pub grants-enough : secondGrants ≤ slotGrants
+unfolding secondGrants slotGrants
+grants-enough = omega arith
+
+-- "16 × 38 = 608"
 pub rounds-of-slots : roundsEnough ≡ slotCount * slotGrants
 unfolding roundsEnough slotCount slotGrants
 rounds-of-slots = refl

@@ -57,9 +57,13 @@ wordRange = 4294967296
 unfoldable pub wayGrants : ℕ
 wayGrants = 19
 
--- 02 (v): "At most 10 + 19 grants, so the rounds in demand 3 become 16 × 29 = 464."
+-- 02 (v): "At most 10 + 19 grants": by the second way
+unfoldable pub secondGrants : ℕ
+secondGrants = 29
+
+-- 02 (vi): "A deletion takes at most 19 grants and 19 conversions: 16 × 38 = 608 rounds."
 unfoldable pub slotGrants : ℕ
-slotGrants = 29
+slotGrants = 38
 
 unfoldable pub roundsEnough : ℕ
-roundsEnough = 464
+roundsEnough = 608

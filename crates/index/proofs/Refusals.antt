@@ -28,11 +28,12 @@ use Rattle.slots.specs.declared.Answer.{Answer}
 use Rattle.slots.specs.declared.Answer.the-variants.{Waiting, Moved}
 use Rattle.slots.specs.Heard.{numberOf, refuses, changesNothing, ending}
 use Rattle.slots.specs.Begin.{begun}
-use Rattle.slots.specs.Parts.{keyOf, isNext, isSecond, slotAt, idleState, Stand, onPages, wantBeside, standOf}
+use Rattle.slots.specs.Parts.{keyOf, isNext, isSecond, slotAt, idleState, Stand, onPages, wantBeside, wantConverted, converting, standOf}
 use Rattle.slots.specs.Sound.{sound}
 use Rattle.slots.specs.Grant.{grants}
 use Rattle.lent.specs.Words.{stateOf, lentAfter}
-use Rattle.footing.specs.Granted.{Verdict, broken, goes, ends, isSafe, kept, keptLocks, byNeed, deletes, nextAnswer, crosses, byNearest, atLeaf, fromLeaf, comesDown, goesLeft, besides, atItsLeaf, staysSecond, granted}
+use Rattle.footing.specs.Granted.{Verdict, broken, goes, ends, isSafe, kept, keptLocks, byNeed, deletes, nextAnswer, crosses, byNearest, atLeaf, fromLeaf, comesDown, goesLeft, besides, converts, convertedFirst, atItsLeaf, staysSecond, granted}
+use Rattle.footing.proofs.OnTurn.{converted-by}
 use Rattle.footing.specs.Fitting.{soundForStep, verdict}
 use Rattle.index.specs.Step.{Left, left, ofGranted, acted, steppedTask, stepped}
 use Rattle.index.specs.Make.{made}
@@ -87,17 +88,29 @@ left-answers : (memory : ℕ → Page) (z : Stand) → Answers (goesLeft memory 
 unfolding goesLeft
 left-answers memory z = cond-ind Answers (isLeaf (memory (z .want))) (λ _. next-answers (atOrAbove (keyOf (z .op)) (memory (z .want) .entries))) (λ _. tt)
 
+-- by its way, and with conversions first
+first-answers : (k : ℕ) (memory : ℕ → Page) (z : Stand) (leaf : ℕ) (fathers : List ℕ) (act : Verdict) → Answers act → Answers (convertedFirst k memory z leaf fathers act)
+first-answers k memory z leaf fathers act h = converted-by Answers k memory z leaf fathers act h (λ _. tt)
+
 pub granted-answers : (k : ℕ) (memory : ℕ → Page) (free : List ℕ) (z : Stand) → Answers (granted k memory free z)
-unfolding granted comesDown besides
+unfolding granted comesDown besides converts
 granted-answers k memory free z =
     let down : Stand = onPages z (kept k memory z) (keptLocks k memory z) [] [] in
-    cond-ind Answers (atItsLeaf memory (reverse (z .path)))
+    let x : ℕ = keyOf (z .op) in
+    cond-ind Answers (converting z)
+    (λ _. from-leaf _
+    (λ leaf fathers. first-answers k memory (wantConverted z) leaf fathers _ (leaf-answers (z .op) k memory free (wantConverted z) leaf fathers))
+    (reverse (z .path)))
+    (λ _. cond-ind Answers (atItsLeaf memory (reverse (z .path)))
     (λ _. cond-ind Answers (isNext (z .op))
     (λ _. left-answers memory z)
-    (λ _. from-leaf _ (λ leaf fathers. deletes-answers k memory (keyOf (z .op)) (wantBeside z) leaf fathers) (reverse (z .path))))
+    (λ _. from-leaf _
+    (λ leaf fathers. first-answers k memory (wantBeside z) leaf fathers _ (deletes-answers k memory x (wantBeside z) leaf fathers))
+    (reverse (z .path))))
     (λ _. cond-ind Answers (isLeaf (memory (z .want))) (λ _. from-leaf _
-    (λ leaf fathers. cond-ind Answers (isSecond (z .op) && not (staysSecond (z .op) k memory leaf)) (λ _. tt) (λ _. leaf-answers (z .op) k memory free down leaf fathers))
-    (reverse (down .path))) (λ _. tt))
+    (λ leaf fathers. cond-ind Answers (isSecond (z .op) && not (staysSecond (z .op) k memory leaf)) (λ _. tt)
+    (λ _. first-answers k memory down leaf fathers _ (leaf-answers (z .op) k memory free down leaf fathers)))
+    (reverse (down .path))) (λ _. tt)))
 
 pub verdict-answers : (k n : ℕ) (ws : List ℕ) (z : Stand) → Answers (verdict k n ws z)
 unfolding verdict

@@ -9,7 +9,8 @@ use lib.ListN.{length, getD}
 use borrow.Author.Tests.{le-leb, lt-ltb, le-ltb, eqb-true}
 use Rattle.ground.specs.Limits.{largestK, largestN, slotCount}
 use Rattle.ground.proofs.Bools.{and-second, and-both, and-first-fails, not-of-true, not-of-false}
-use Rattle.ground.proofs.Choice.{cond-true, cond-false}
+use Rattle.ground.proofs.Choice.{cond-ind, cond-true, cond-false}
+use Rattle.page.specs.Words.{Page}
 use Rattle.pool.specs.Pool.{poolLength, pageAt, freePages}
 use Rattle.slots.specs.declared.Op.{Op}
 use Rattle.slots.specs.declared.Task.{Task}
@@ -20,7 +21,7 @@ use Rattle.slots.specs.declared.Answer.{Answer}
 use Rattle.slots.specs.declared.Answer.the-variants.{Waiting, BadState, BadPool, BadSlot, SlotIdle, Damaged}
 use Rattle.slots.specs.Grant.{grants}
 use Rattle.slots.specs.Heard.{heard, changesNothing}
-use Rattle.slots.specs.Parts.{slotAt, isOpen, Stand, holding, standOf, slotOf}
+use Rattle.slots.specs.Parts.{slotAt, isOpen, Stand, holding, converting, standOf, slotOf}
 use Rattle.slots.specs.Sound.{slotSound, sound}
 use Rattle.slots.proofs.Keeping.{Paired, stand-new}
 use Rattle.slots.proofs.SoundFacts.{SoundState, sound-facts, facts-sound, slot-sound}
@@ -41,6 +42,11 @@ use Rattle.index.proofs.MakeLaws.{isPool}
 use Rattle.index.proofs.Refusals.{Answers, verdict-answers, changes}
 
 -- ---- a granted step
+
+-- where it stands then, the operation is the same
+stood-op : (k : ℕ) (memory : ℕ → Page) (z : Stand) → stood k memory z .op ≡ z .op
+unfolding stood
+stood-op k memory z = cond-ind (λ (y : Stand). y .op ≡ z .op) (converting z) (λ _. refl) (λ _. refl)
 
 module _ (op : Op) (k n : ℕ) (ws : List ℕ) (slot : Slot) where
   abbrev z : Stand
@@ -63,12 +69,12 @@ module _ (op : Op) (k n : ℕ) (ws : List ℕ) (slot : Slot) where
   -- where they fit, the rule is the one for an operation that stands where this one then does
   rule-judged : (stand : Slot) → stand ≡ slotOf (stood k (pageAt k ws) z) → Paired z → fits k n ws z ≡ true
       → rule ≡ judged k (pageAt k ws) (freePages k n ws) (standOf op stand)
-  unfolding fits stood
+  unfolding fits
   rule-judged stand e paired t =
       let after : Stand = stood k (pageAt k ws) z in
       granted-judged k (pageAt k ws) (freePages k n ws) z
       (and-second (pagesSound k n ws (holding z ++ z .want ∷ [])) (fitting k (pageAt k ws) z) t)
-      ∙ sym (ap (judged k (pageAt k ws) (freePages k n ws)) (ap (standOf op) e ∙ stand-new after (stood-paired k (pageAt k ws) z paired)))
+      ∙ sym (ap (judged k (pageAt k ws) (freePages k n ws)) (ap (standOf op) e ∙ ap (λ (o : Op). standOf o (slotOf after)) (sym (stood-op k (pageAt k ws) z)) ∙ stand-new after (stood-paired k (pageAt k ws) z paired)))
 
   verdict-course : {stand : Slot} (course : Course) → stand ≡ slotOf (stood k (pageAt k ws) z) → Paired z → fits k n ws z ≡ true
       → courseOf k (pageAt k ws) (freePages k n ws) (standOf op stand) course

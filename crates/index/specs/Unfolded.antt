@@ -10,15 +10,15 @@ use Rattle.pool.specs.Pool.{poolLength, start, wordsOf, pageAt, written, applie
 use Rattle.change.specs.Insertion.{room, settled, insertion}
 use Rattle.change.specs.Deletion.{needs, shares, shrunk, deletion}
 use Rattle.change.specs.Regrading.{regrading}
-use Rattle.slots.specs.Parts.{pathOf, besideOf, locksOf, sidelocksOf, waitingOrder}
+use Rattle.slots.specs.Parts.{pathOf, besideOf, locksOf, sidelocksOf, withXi, waitingOrder}
 use Rattle.slots.specs.Locks.{lockAmong}
-use Rattle.slots.specs.Grant.{olderThan, noClash, noOlder}
+use Rattle.slots.specs.Grant.{olderThan, noClash, noOlder, noConversion}
 use Rattle.slots.specs.Book.{leaving, begins, goesOn, closes}
 use Rattle.slots.specs.Sound.{namesEach, slotSound, noClashingHolds, sound}
 use Rattle.slots.specs.Begin.{begun}
 use Rattle.slots.specs.Report.{reported}
-use Rattle.footing.specs.Granted.{deletes, atLeaf, comesDown, goesLeft, besides, granted}
-use Rattle.footing.specs.Fitting.{pagesSound, descends, sameLevels, leftmost, fitting, soundForStep, verdict}
+use Rattle.footing.specs.Granted.{deletes, inTurn, unconverted, atLeaf, comesDown, goesLeft, besides, converts, granted}
+use Rattle.footing.specs.Fitting.{pagesSound, descends, sameLevels, leftmost, fittingNew, xiThenAlpha, fitting, soundForStep, verdict}
 use Rattle.index.specs.Step.{stepped}
 use Rattle.index.specs.Make.{made}
 
@@ -34,10 +34,10 @@ pages = tt
 
 -- slots, locks and the waiting order
 slotted : Unit {0}
-unfolding pathOf besideOf locksOf sidelocksOf lockAmong waitingOrder olderThan noClash noOlder leaving begins goesOn closes namesEach slotSound noClashingHolds sound begun reported
+unfolding pathOf besideOf locksOf sidelocksOf withXi lockAmong waitingOrder olderThan noClash noOlder noConversion leaving begins goesOn closes namesEach slotSound noClashingHolds sound begun reported
 slotted = tt
 
 -- making, begin, step and report
 unfoldable pub everyCall : Unit {0}
-unfolding grounds pages slotted deletes atLeaf comesDown goesLeft besides granted pagesSound descends sameLevels leftmost fitting soundForStep verdict stepped made
+unfolding grounds pages slotted deletes inTurn unconverted atLeaf comesDown goesLeft besides converts granted pagesSound descends sameLevels leftmost fittingNew xiThenAlpha fitting soundForStep verdict stepped made
 everyCall = tt

@@ -14,7 +14,7 @@ use Rattle.ground.specs.Limits.{slotCount}
 use Rattle.ground.specs.Tests.{allBelow, anyBelow, member}
 use Rattle.ground.proofs.Bools.{not-both, and-second, and-first-fails, and-second-fails, or-first, or-first-fails, or-second-fails, not-of-true}
 use Rattle.ground.proofs.Choice.{by-test, cond-true}
-use Rattle.ground.proofs.Tests.{anyBelow-more, anyBelow-same, anyBelow-fails, anyBelow-false-at, allBelow-same, allBelow-more, allBelow-at}
+use Rattle.ground.proofs.Tests.{member-none, anyBelow-more, anyBelow-same, anyBelow-fails, anyBelow-false-at, allBelow-same, allBelow-more, allBelow-at}
 use Rattle.slots.specs.declared.Lock.{Lock}
 use Rattle.slots.specs.declared.Lock.the-variants.{None, Rho, Xi, UpdaterRho, Alpha}
 use Rattle.slots.specs.declared.Under.{Under}
@@ -22,12 +22,12 @@ use Rattle.slots.specs.declared.Slot.{Slot}
 use Rattle.slots.specs.Parts.{under, held, heldLocks, pathOf, besideOf, locksOf, sidelocksOf, holdsAt, waitingOrder}
 use Rattle.slots.specs.Heard.{lockNumber, lockNamed}
 use Rattle.slots.specs.Locks.{lockAmong, lockHeld, lockHeldAt, sameLock, lockTable, inRow, clash, noClashOn}
-use Rattle.slots.specs.Grant.{clashingWant, noClash, noOlder}
+use Rattle.slots.specs.Grant.{clashingWant, convertsAt, conversionOn, noClash, noOlder, noConversion}
 use Rattle.slots.proofs.LockLaws.{isLock, clash-swap, among-none, among-first, among-behind}
 use Rattle.slots.proofs.HoldingLaws.{noOlderFrom, older-end, older-here, older-stops, older-more, order-names}
 use Rattle.lent.specs.Layout.{waitingAt, orderFrom, rowLength, columnLength, kindRow, wantRow, lockRow, depthRow, breadthRow, pathRow, besideRow, stateLength}
 use Rattle.lent.specs.Words.{cell, pageIn, numberIn, column, lockColumn, highestKind, slotIn, orderIn, asRead, known}
-use Rattle.lent.specs.Holds.{OpenOrder, otherHolds, topHolds, isDeep, deepHolds, othersHold, alsoWants, RowOf}
+use Rattle.lent.specs.Holds.{OpenOrder, otherHolds, topHolds, isDeep, deepHolds, othersHold, alsoWants, otherConverts, mayConvert, RowOf}
 use Rattle.lent.proofs.StateLaws.{slot-read, length-column, column-cell, length-locks, lock-cell, length-order, order-cell}
 
 -- ---- some number below a bound
@@ -262,17 +262,20 @@ module _ (ws : List ℕ) (s : ℕ) (row : List Bool) (p t : ℕ) where
 
 -- ---- kinds of tasks
 
-pub by-kind : (P : ℕ → Type 0) → P 0 → P 1 → P 2 → P 3 → P 4 → P 5 → P 6 → P 7 → P 8 → (a : ℕ) → a ≤ highestKind → P a
-by-kind P a b c d e f g i j zero h = a
-by-kind P a b c d e f g i j (suc zero) h = b
-by-kind P a b c d e f g i j (suc (suc zero)) h = c
-by-kind P a b c d e f g i j (suc (suc (suc zero))) h = d
-by-kind P a b c d e f g i j (suc (suc (suc (suc zero)))) h = e
-by-kind P a b c d e f g i j (suc (suc (suc (suc (suc zero))))) h = f
-by-kind P a b c d e f g i j (suc (suc (suc (suc (suc (suc zero)))))) h = g
-by-kind P a b c d e f g i j (suc (suc (suc (suc (suc (suc (suc zero))))))) h = i
-by-kind P a b c d e f g i j (suc (suc (suc (suc (suc (suc (suc (suc zero)))))))) h = j
-by-kind P a b c d e f g i j (suc (suc (suc (suc (suc (suc (suc (suc (suc n))))))))) h = absurd (omega arith)
+pub by-kind : (P : ℕ → Type 0) → P 0 → P 1 → P 2 → P 3 → P 4 → P 5 → P 6 → P 7 → P 8 → P 9 → P 10 → P 11 → (n : ℕ) → n ≤ highestKind → P n
+by-kind P a b c d e f g i j k l m zero h = a
+by-kind P a b c d e f g i j k l m (suc zero) h = b
+by-kind P a b c d e f g i j k l m (suc (suc zero)) h = c
+by-kind P a b c d e f g i j k l m (suc (suc (suc zero))) h = d
+by-kind P a b c d e f g i j k l m (suc (suc (suc (suc zero)))) h = e
+by-kind P a b c d e f g i j k l m (suc (suc (suc (suc (suc zero))))) h = f
+by-kind P a b c d e f g i j k l m (suc (suc (suc (suc (suc (suc zero)))))) h = g
+by-kind P a b c d e f g i j k l m (suc (suc (suc (suc (suc (suc (suc zero))))))) h = i
+by-kind P a b c d e f g i j k l m (suc (suc (suc (suc (suc (suc (suc (suc zero)))))))) h = j
+by-kind P a b c d e f g i j k l m (suc (suc (suc (suc (suc (suc (suc (suc (suc zero))))))))) h = k
+by-kind P a b c d e f g i j k l m (suc (suc (suc (suc (suc (suc (suc (suc (suc (suc zero)))))))))) h = l
+by-kind P a b c d e f g i j k l m (suc (suc (suc (suc (suc (suc (suc (suc (suc (suc (suc zero))))))))))) h = m
+by-kind P a b c d e f g i j k l m (suc (suc (suc (suc (suc (suc (suc (suc (suc (suc (suc (suc n)))))))))))) h = absurd (omega arith)
 
 pub kind-known : (ws : List ℕ) → known ws ≡ true → (t : ℕ) → t < rowLength → cell ws kindRow t ≤ highestKind
 unfolding known slotCount
@@ -315,6 +318,78 @@ no-clash-words ws s h row says {want} w said =
     ∙ ap₂ (λ (p : ℕ) (l : Lock). noClashOn (asRead ws) s p l)
     (w ∙ sym (ap (λ (x : Slot). x .want) (slot-read ws s h)))
     (sym (ap (λ (x : Slot). x .lock) (slot-read ws s h)))
+
+-- ---- conversions
+
+-- slot t by its tests
+module _ (ws : List ℕ) (s p t : ℕ) where
+  pub converts-not : {want : ℕ} → want ≡ cell ws wantRow t → (want ≡ p → ⊥) → false ≡ otherConverts ws s p t
+  converts-not w n =
+      sym (and-second-fails (not (eqb t s)) (and-first-fails (member p (held (slotIn ws t))) (ne-eqb (cell ws wantRow t) p (λ e. n (w ∙ e)))))
+
+  pub converts-own : t ≡ s → false ≡ otherConverts ws s p t
+  converts-own e = sym (and-first-fails (eqb (cell ws wantRow t) p && member p (held (slotIn ws t))) (not-of-true (eq-eqb t s e)))
+
+  pub converts-is : {want : ℕ} {b : Bool} → want ≡ cell ws wantRow t → want ≡ p → (t ≡ s → ⊥) → b ≡ member p (held (slotIn ws t)) → b ≡ otherConverts ws s p t
+  converts-is w e n said =
+      said
+      ∙ sym
+      (ap₂ (λ (x y : Bool). not x && (y && member p (held (slotIn ws t)))) (ne-eqb t s n) (eq-eqb (cell ws wantRow t) p (sym w ∙ e)))
+
+-- who holds no page converts none
+only-holders : (o w k m : Bool) → (k ≡ false → m ≡ false) → o && w && k ≡ false → o && (w && m) ≡ false
+only-holders false w k m h e = refl
+only-holders true false k m h e = refl
+only-holders true true k m h e = h e
+
+none-held : (ws : List ℕ) (p t : ℕ) → ltb 0 (cell ws depthRow t) || ltb 0 (cell ws breadthRow t) ≡ false → member p (held (slotIn ws t)) ≡ false
+unfolding pathOf besideOf
+none-held ws p t e =
+    let path : cell ws depthRow t ≡ 0 = omega (arith, ltb-false 0 (cell ws depthRow t) (or-first-fails (ltb 0 (cell ws depthRow t)) (ltb 0 (cell ws breadthRow t)) e)) in
+    let beside : cell ws breadthRow t ≡ 0 = omega (arith, ltb-false 0 (cell ws breadthRow t) (or-second-fails (ltb 0 (cell ws depthRow t)) (ltb 0 (cell ws breadthRow t)) e)) in
+    ap₂ (λ (d b : ℕ). member p (take d (column ws pathRow t) ++ take b (column ws besideRow t))) path beside ∙ member-none p
+
+none-converts : (ws : List ℕ) (s p : ℕ) → anyBelow rowLength (mayConvert ws s p) ≡ false → anyBelow rowLength (otherConverts ws s p) ≡ false
+none-converts ws s p e =
+    anyBelow-fails (otherConverts ws s p) rowLength
+    (λ t b.
+    only-holders (not (eqb t s)) (eqb (cell ws wantRow t) p) (ltb 0 (cell ws depthRow t) || ltb 0 (cell ws breadthRow t)) (member p (held (slotIn ws t)))
+    (none-held ws p t) (anyBelow-false-at (mayConvert ws s p) rowLength e t b))
+
+-- that a slot converts the page that it wants, and that another one does
+module _ (ws : List ℕ) (s : ℕ) (h : s < rowLength) where
+  pub converts-words : {want : ℕ} {r : Bool} → want ≡ cell ws wantRow s → r ≡ member want (held (slotIn ws s)) → r ≡ convertsAt (asRead ws) s
+  converts-words w said =
+      said
+      ∙ ap (λ (p : ℕ). member p (held (slotIn ws s))) w
+      ∙ ap (λ (x : Slot). member (x .want) (held x)) (sym (slot-read ws s h))
+
+  same-page : (own : Bool) (a b : ℕ) (pages : List ℕ) → own || not (eqb a b && member a pages) ≡ not (not own && (eqb a b && member b pages))
+  same-page true a b pages = refl
+  same-page false a b pages =
+      by-test (eqb a b)
+      (λ y. ap (λ (p : ℕ). not (eqb a b && member p pages)) (eqb-true a b y))
+      (λ n. ap not (and-first-fails (member a pages) n ∙ sym (and-first-fails (member b pages) n)))
+
+  conversion-words : noConversion (asRead ws) s ≡ not (anyBelow rowLength (otherConverts ws s (cell ws wantRow s)))
+  unfolding noConversion slotCount
+  conversion-words =
+      allBelow-same (λ (t : ℕ). eqb t s || not (conversionOn (asRead ws) s t)) (λ (t : ℕ). not (otherConverts ws s (cell ws wantRow s) t)) rowLength
+      (λ t b.
+      ap₂ (λ (x y : Slot). eqb t s || not (eqb (x .want) (y .want) && member (x .want) (held x))) (slot-read ws t b) (slot-read ws s h)
+      ∙ same-page (eqb t s) (cell ws wantRow t) (cell ws wantRow s) (held (slotIn ws t)))
+      ∙ any-not (otherConverts ws s (cell ws wantRow s)) rowLength
+
+  -- by what was found
+  pub conversion-none : {want : ℕ} {r : Bool} → want ≡ cell ws wantRow s → r ≡ anyBelow rowLength (mayConvert ws s want) → r ≡ false → true ≡ noConversion (asRead ws) s
+  conversion-none {want} w said f =
+      sym
+      (conversion-words
+      ∙ ap (λ (p : ℕ). not (anyBelow rowLength (otherConverts ws s p))) (sym w)
+      ∙ ap not (none-converts ws s want (sym said ∙ f)))
+
+  pub conversion-some : {want : ℕ} {r : Bool} → want ≡ cell ws wantRow s → r ≡ anyBelow rowLength (otherConverts ws s want) → not r ≡ noConversion (asRead ws) s
+  conversion-some w said = ap not said ∙ ap (λ (p : ℕ). not (anyBelow rowLength (otherConverts ws s p))) w ∙ sym conversion-words
 
 -- ---- the walk over older wants, on the words
 

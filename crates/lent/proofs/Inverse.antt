@@ -105,7 +105,7 @@ idle-sized k n = record {
 
 -- the kinds that have information
 abbrev pub informs : ℕ → Bool
-informs kind = eqb kind 2 || eqb kind 5 || eqb kind 6 || eqb kind 8
+informs kind = eqb kind 2 || eqb kind 5 || eqb kind 6 || eqb kind 8 || eqb kind 9 || eqb kind 11
 
 -- Clean words: as many as a state has, every kind exists, and so does every lock, wanted or on a page, and no key or information stands
 -- where the task has none.
@@ -118,17 +118,17 @@ pub record Clean (ws : List ℕ) : Type 0 where
   pub locks : (s : ℕ) → s < rowLength → (j : ℕ) → j < columnLength + columnLength → numberIn (cell ws (pathRow + j) s) ≤ lockNumber Alpha
 
 kind-back : (key information kind : ℕ) → kind ≤ highestKind → kindOf (taskFrom kind key information) ≡ kind
-kind-back key information = by-kind (λ (k : ℕ). kindOf (taskFrom k key information) ≡ k) refl refl refl refl refl refl refl refl refl
+kind-back key information = by-kind (λ (k : ℕ). kindOf (taskFrom k key information) ≡ k) refl refl refl refl refl refl refl refl refl refl refl refl
 
 key-back : (key information kind : ℕ) → kind ≤ highestKind → (kind ≡ 0 → key ≡ 0) → keyIn (taskFrom kind key information) ≡ key
 key-back key information =
     by-kind (λ (k : ℕ). (k ≡ 0 → key ≡ 0) → keyIn (taskFrom k key information) ≡ key)
-    (λ e. sym (e refl)) (λ _. refl) (λ _. refl) (λ _. refl) (λ _. refl) (λ _. refl) (λ _. refl) (λ _. refl) (λ _. refl)
+    (λ e. sym (e refl)) (λ _. refl) (λ _. refl) (λ _. refl) (λ _. refl) (λ _. refl) (λ _. refl) (λ _. refl) (λ _. refl) (λ _. refl) (λ _. refl) (λ _. refl)
 
 information-back : (key information kind : ℕ) → kind ≤ highestKind → (informs kind ≡ false → information ≡ 0) → informationIn (taskFrom kind key information) ≡ information
 information-back key information =
     by-kind (λ (k : ℕ). (informs k ≡ false → information ≡ 0) → informationIn (taskFrom k key information) ≡ information)
-    (λ e. sym (e refl)) (λ e. sym (e refl)) (λ _. refl) (λ e. sym (e refl)) (λ e. sym (e refl)) (λ _. refl) (λ _. refl) (λ e. sym (e refl)) (λ _. refl)
+    (λ e. sym (e refl)) (λ e. sym (e refl)) (λ _. refl) (λ e. sym (e refl)) (λ e. sym (e refl)) (λ _. refl) (λ _. refl) (λ e. sym (e refl)) (λ _. refl) (λ _. refl) (λ e. sym (e refl)) (λ _. refl)
 
 number-back : (number : ℕ) → number ≤ lockNumber Alpha → lockNumber (lockNamed number) ≡ number
 number-back zero h = refl

@@ -9,7 +9,7 @@ use Rattle.ground.specs.Limits.{slotCount}
 use Rattle.ground.specs.Tests.{anyBelow, member}
 use Rattle.slots.specs.declared.Lock.{Lock}
 use Rattle.slots.specs.declared.Slot.{Slot}
-use Rattle.slots.specs.Parts.{waitingOrder}
+use Rattle.slots.specs.Parts.{held, waitingOrder}
 use Rattle.slots.specs.Locks.{lockHeld, inRow, clash}
 use Rattle.slots.specs.Heard.{lockNamed}
 use Rattle.lent.specs.Layout.{pageRange, waitingAt, rowLength, columnLength, wantRow, lockRow, depthRow, breadthRow, pathRow}
@@ -62,6 +62,14 @@ othersHold ws s row p = anyBelow rowLength (otherHolds ws s row p)
 -- slot t wants page p, with a kind that clashes
 abbrev pub alsoWants : List ℕ → List Bool → ℕ → ℕ → Bool
 alsoWants ws row p t = eqb (cell ws wantRow t) p && inRow row (lockNamed (cell ws lockRow t))
+
+-- slot t is another one than s, wants page p and holds it: it waits to convert it
+abbrev pub otherConverts : List ℕ → ℕ → ℕ → ℕ → Bool
+otherConverts ws s p t = not (eqb t s) && (eqb (cell ws wantRow t) p && member p (held (slotIn ws t)))
+
+-- it is another one, wants page p, and holds some page
+abbrev pub mayConvert : List ℕ → ℕ → ℕ → ℕ → Bool
+mayConvert ws s p t = not (eqb t s) && eqb (cell ws wantRow t) p && (ltb 0 (cell ws depthRow t) || ltb 0 (cell ws breadthRow t))
 
 -- the row of a kind, by its number: what it says of each kind
 abbrev pub RowOf : ℕ → List Bool → Type 0

@@ -17,7 +17,7 @@ use crate::cells::wide;
 use crate::cells::word_at;
 use ground::SLOTS;
 ghost use mathlib.Core.Path.{_≡_};
-ghost use mathlib.Core.Bool.{not, _&&_};
+ghost use mathlib.Core.Bool.{not, _&&_, _||_};
 ghost use Prim.Native.Nat.{_≤_, _<_};
 ghost use lib.Dec.{ltb, eqb};
 ghost use lib.ListN.{take};
@@ -28,7 +28,7 @@ ghost use Rattle.slots.specs.Heard.{lockNamed};
 ghost use Rattle.slots.specs.Grant as rule;
 ghost use Rattle.lent.specs.Layout.{rowLength, columnLength, lockRow, besideRow};
 ghost use Rattle.lent.specs.Words.{cell, pageIn, numberIn, column, lockColumn, slotIn, asRead};
-ghost use Rattle.lent.specs.Holds.{WithinRows, OpenOrder, topHolds, deepHolds, isDeep, othersHold, alsoWants, RowOf};
+ghost use Rattle.lent.specs.Holds.{WithinRows, OpenOrder, topHolds, deepHolds, isDeep, othersHold, alsoWants, otherConverts, mayConvert, RowOf};
 
 // The numbers of locks, as a report gives them.
 pub const RHO: u32 = 1;
@@ -253,13 +253,107 @@ fn no_older(cells: &[u32; STATE], s: usize, row: [bool; 4]) -> bool
     }
 }
 
+// Slot t is another one than s, and waits to convert page p: it wants it, and holds it. The want is asked first.
+fn also_converts(cells: &[u32; STATE], s: usize, p: u32, t: usize) -> bool
+    requires { ⌜ (t < rowLength) × WithinRows (now cells) ⌝ }
+    ensures { λ r. ⌜ r ≡ otherConverts (now (cells .entry)) s p t ⌝ }
+{
+    if want_at(cells, t) != p {
+        return false;
+    }
+    if t == s {
+        return false;
+    }
+    holds_at(cells, t, p)
+}
+
+// Such a slot is there.
+fn some_converts(cells: &[u32; STATE], s: usize, p: u32) -> bool
+    requires { ⌜ WithinRows (now cells) ⌝ }
+    ensures { λ r. ⌜ r ≡ anyBelow rowLength (otherConverts (now (cells .entry)) s p) ⌝ }
+{
+    let mut t = 0;
+    while t < SLOTS {
+        if also_converts(cells, s, p, t) {
+            return true;
+        }
+        t += 1;
+    }
+    false
+}
+
+// Slot t is another one than s, wants page p, and holds some page, so that it may be p. No way out in between: the rows ask this of several
+// slots in one go.
+fn can_convert(t: u32, s: u32, p: u32, want: u32, depth: u32, breadth: u32) -> bool
+    ensures { λ r. ⌜ r ≡ not (eqb t s) && eqb want p && (ltb 0 depth || ltb 0 breadth) ⌝ }
+{
+    (t != s) & (want == p) & ((0 < depth) | (0 < breadth))
+}
+
+// Such a slot is there. Most often there is none, and then no slot is looked at by itself.
+fn some_can_convert(cells: &[u32; STATE], s: usize, p: u32) -> bool
+    requires { ⌜ s < rowLength ⌝ }
+    ensures { λ r. ⌜ r ≡ anyBelow rowLength (mayConvert (now (cells .entry)) s p) ⌝ }
+{
+    let mut found = false;
+    let mut t = 0;
+    while t < SLOTS {
+        found = found
+            | can_convert(
+                t as u32,
+                s as u32,
+                p,
+                want_at(cells, t),
+                depth_at(cells, t),
+                breadth_at(cells, t),
+            );
+        t += 1;
+    }
+    found
+}
+
+// No other slot waits to convert the page that slot s wants.
+fn no_conversion(cells: &[u32; STATE], s: usize) -> bool
+    requires { ⌜ (s < rowLength) × WithinRows (now cells) ⌝ }
+    ensures { λ r. ⌜ r ≡ rule.noConversion (asRead (now (cells .entry))) s ⌝ }
+{
+    let want = want_at(cells, s);
+    if !some_can_convert(cells, s, want) {
+        return true;
+    }
+    !some_converts(cells, s, want)
+}
+
+// No other want comes before that of slot s, if that is no conversion.
+fn none_before(cells: &[u32; STATE], s: usize, row: [bool; 4]) -> bool
+    requires { ⌜ (s < rowLength) × WithinRows (now cells) × OpenOrder (now cells) × RowOf (cell (now cells) lockRow s) row ⌝ }
+    ensures { λ r. ⌜ r ≡ rule.noOlder (asRead (now (cells .entry))) s && rule.noConversion (asRead (now (cells .entry))) s ⌝ }
+{
+    if !no_older(cells, s, row) {
+        return false;
+    }
+    no_conversion(cells, s)
+}
+
+// The want of slot s waits for no other want: none comes before it, or it is a conversion, which waits for held locks alone. That it is one
+// is asked last: its pages are gone through for it.
+fn comes_first(cells: &[u32; STATE], s: usize, row: [bool; 4]) -> bool
+    requires { ⌜ (s < rowLength) × WithinRows (now cells) × OpenOrder (now cells) × RowOf (cell (now cells) lockRow s) row ⌝ }
+    ensures { λ r. ⌜ r ≡ rule.convertsAt (asRead (now (cells .entry))) s || (rule.noOlder (asRead (now (cells .entry))) s && rule.noConversion (asRead (now (cells .entry))) s) ⌝ }
+{
+    if none_before(cells, s, row) {
+        return true;
+    }
+    holds_at(cells, s, want_at(cells, s))
+}
+
 // A step grants the want of slot s, by the table of locks. The row of the kind that it wants is found once.
 pub fn grants(cells: &[u32; STATE], s: usize, table: [[bool; 4]; 4]) -> bool
     requires { ⌜ (s < rowLength) × WithinRows (now cells) × OpenOrder (now cells) × (table ≡ lockTable) ⌝ }
     ensures { λ r. ⌜ r ≡ rule.grants (asRead (now (cells .entry))) s ⌝ }
 {
     let row = row_of(table, wanted_lock_at(cells, s));
-    if !no_older(cells, s, row) {
+    if !comes_first(cells, s, row) {
         return false;
     }
     no_clash(cells, s, row)

@@ -5,12 +5,13 @@ use mathlib.Core.List.{List, [], _∷_, _++_, map, append-nil}
 use mathlib.Core.Logic.{⊎-elim}
 use mathlib.Core.Path.{_≡_, refl, sym, ap, subst, _∙_}
 use native.Mathlib.Omega.{arith}
-use lib.Dec.{eqb}
-use lib.ListN.{length, getD}
-use Rattle.ground.specs.Limits.{kInRange, nInRange, wordRange}
+use borrow.Author.Tests.{ltb-true, ltb-false}
+use lib.Dec.{eqb, ltb}
+use lib.ListN.{length, getD, List·getD-eq-default}
+use Rattle.ground.specs.Limits.{kInRange, nInRange, wordRange, slotCount}
 use Rattle.ground.specs.Tests.{all, member}
 use Rattle.ground.proofs.Bools.{and-first, and-both}
-use Rattle.ground.proofs.Choice.{cond-ind}
+use Rattle.ground.proofs.Choice.{cond-ind, by-test}
 use Rattle.ground.proofs.Tests.{all-member}
 use Rattle.pool.specs.Pool.{poolLength}
 use Rattle.slots.specs.declared.Op.{Op}
@@ -21,7 +22,12 @@ use Rattle.slots.specs.declared.operations.Asked.{Asked}
 use Rattle.slots.specs.declared.operations.Asked.the-variants.{Known, Unknown}
 use Rattle.slots.specs.Heard.{numberOf, isOneOf}
 use Rattle.slots.specs.Operations.{kindNumber, operations, ofKind, askedBy}
-use Rattle.lent.specs.Words.{stateOf}
+use Rattle.slots.specs.Parts.{slotAt, closedSlot}
+use Rattle.slots.proofs.Keeping.{same-everywhere}
+use Rattle.lent.specs.Layout.{rowLength, pathRow, besideRow}
+use Rattle.lent.specs.Words.{listOf, slotIn, known, stateOf}
+use Rattle.lent.proofs.ListLaws.{length-listOf}
+use Rattle.lent.proofs.StateLaws.{slot-read, length-column, length-locks, closed-layable}
 use Rattle.index.specs.Make.{made}
 use Rattle.embed.specs.Told.{told}
 use Rattle.embed.specs.Statements.{beginTold, beginNext}
@@ -29,16 +35,16 @@ use Rattle.runs.specs.Calls.{Call, begin, step, report, called, answersOf}
 use Rattle.runs.specs.Run.{run, Start, IsStart, freshPool, runFrom, InWords, Run}
 use Rattle.runs.proofs.Invariant.{Invariant}
 use Rattle.runs.proofs.Runs.{call-keeps, words-append, start-ready}
-use Rattle.promises.specs.Demand1.{MakingInRange}
+use Rattle.promises.specs.Demand1.{MakingInRange, Celled}
 use Rattle.promises.specs.Demand2.{AfterEveryCall}
 use Rattle.promises.specs.TopOpen.{TopOpen}
 use Rattle.promises.specs.Regrading.{IsThere, NotDeleted, NeverNowhere}
-use Rattle.promises.proofs.Demand1.{range-tested, make-demand}
+use Rattle.promises.proofs.Demand1.{range-tested, make-demand, step-demand}
 use Rattle.promises.proofs.Demand2.{call-heard, demand2}
 use Rattle.promises.proofs.Demand3.{demand3}
 use Rattle.promises.proofs.TopOpen.{top-open-holds}
 use Rattle.promises.proofs.Regrading.{regrading-holds}
-use Rattle.library.specs.Promises.{Went, begins, steps, reports, Follow, OpenedBy, making, beginsWith, callsIn, toldFirst, toldIn, quietNumber, quietFour, LibraryRuns, LibraryPromises, LibraryKeepsLots}
+use Rattle.library.specs.Promises.{Went, begins, steps, reports, Follow, OpenedBy, making, beginsWith, callsIn, toldFirst, toldIn, quietNumber, quietFour, LibraryRuns, LibrarySteps, LibraryPromises, LibraryKeepsLots}
 
 -- ---- what is left and told
 
@@ -99,7 +105,7 @@ asked-in-words : (s kind key information : ℕ) (cs : List Call) → key < wordR
 unfolding wordRange
 asked-in-words s kind key information cs hk hi h =
     let no : 0 < wordRange = omega arith in
-    each-in-words s kind cs h (operations key information) ((hk, no), ((hk, hi), ((hk, no), ((hk, no), ((hk, hi), ((hk, hi), ((hk, no), ((hk, hi), tt))))))))
+    each-in-words s kind cs h (operations key information) ((hk, no), ((hk, hi), ((hk, no), ((hk, no), ((hk, hi), ((hk, hi), ((hk, no), ((hk, hi), ((hk, hi), ((hk, no), ((hk, hi), tt)))))))))))
 
 follow-in-words : (calls : List Went) (cells ws last lastWs : List ℕ) → Follow cells ws calls last lastWs → InWords (callsIn calls)
 unfolding callsIn
@@ -179,6 +185,30 @@ library-promises start calls last lastWs h =
       top = subst (λ (st : State). TopOpen st lastWs) (sym (is .state))
           (subst (λ (after : List ℕ). TopOpen (runFrom start cs .state) after) (sym (is .words)) (top-open-holds start cs (is .run)));
     }
+
+-- ---- a step, of any words
+
+closed-celled : Celled closedSlot
+closed-celled = let l = closed-layable in record { path = l .locks ∙ sym (l .path); beside = l .sidelocks ∙ sym (l .beside) }
+
+read-celled : (cells : List ℕ) (s : ℕ) → Celled (slotIn cells s)
+read-celled cells s = record {
+  path = length-locks cells pathRow s ∙ sym (length-column cells pathRow s);
+  beside = length-locks cells besideRow s ∙ sym (length-column cells besideRow s);
+}
+
+-- A slot of words that are a state, and beyond the last slot; and a slot of the empty state.
+words-celled : (cells : List ℕ) (s : ℕ) → Celled (slotAt (stateOf cells) s)
+unfolding stateOf
+words-celled cells s =
+    cond-ind (λ (st : State). Celled (slotAt st s)) (known cells)
+    (λ _. by-test (ltb s rowLength)
+    (λ h. subst Celled (sym (slot-read cells s (ltb-true s rowLength h))) (read-celled cells s))
+    (λ h. subst Celled (sym (List·getD-eq-default (listOf rowLength (slotIn cells)) closedSlot (omega (arith, length-listOf rowLength (slotIn cells), ltb-false s rowLength h)))) closed-celled))
+    (λ _. subst Celled (sym (same-everywhere slotCount s closedSlot)) closed-celled)
+
+pub library-steps : LibrarySteps
+library-steps cells ws s = step-demand (stateOf cells) ws s (words-celled cells s)
 
 -- ---- a lot that is not deleted
 

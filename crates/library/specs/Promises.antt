@@ -16,6 +16,7 @@ use Rattle.lent.specs.Words.{stateOf}
 use Rattle.embed.specs.Told.{told}
 use Rattle.embed.specs.Statements.{MakeTells, BeginTells, StepTells, ReportTells}
 use Rattle.runs.specs.Run.{Call, begin, step, report, Start, freshStart, runFrom, Run}
+use Rattle.promises.specs.Demand1.{StepDemand}
 use Rattle.promises.specs.Demand2.{AfterEveryCall, Demand2}
 use Rattle.promises.specs.Demand3.{Demand3}
 use Rattle.promises.specs.TopOpen.{TopOpen}
@@ -86,6 +87,11 @@ abbrev pub LibraryRuns : Type 0
 LibraryRuns = (start : Start) (calls : List Went) (last lastWs : List ℕ) → Served start calls last lastWs → IsRun start calls last lastWs
 
 -- ---- the demands
+
+-- Demand 1 of a step, of any words at all that are lent as a state and as a pool: `StepTells` says what is told, this who is told what.
+-- A state that words read as has the cells for kinds that the demand asks.
+abbrev pub LibrarySteps : Type 0
+LibrarySteps = (cells ws : List ℕ) (s : ℕ) → StepDemand (stateOf cells) ws s
 
 -- none of 1, 2 and 6
 abbrev pub quietNumber : ℕ → Bool

@@ -5,13 +5,13 @@ use Prim.Native.String.{String}
 use mathlib.Core.List.{List, [], _∷_, map}
 use mathlib.Core.Path.{_≡_, refl}
 use Rattle.slots.specs.declared.Op.the-variants.{Search, Insert, Delete, Next, Regrade}
-use Rattle.slots.specs.declared.Way.the-variants.{First, Second}
+use Rattle.slots.specs.declared.Way.the-variants.{First, Second, Third}
 use Rattle.slots.specs.declared.Answer.{Answer}
 use Rattle.slots.specs.declared.Answer.the-variants.{Begun, Waiting, Inserted, Found, SlotIdle, AlreadyThere, Deleted, Next as NextLot, None as NoLot, Regraded}
 use Rattle.lines.specs.declared.Command.{Command}
 use Rattle.lines.specs.declared.Command.the-variants.{Begin, Step, Bad}
 use Rattle.lines.specs.Text.{bytes, startsWith}
-use Rattle.lines.specs.Meaning.{digits, value, front, stepping, searching, deleting, askingNext, informing, keying, inserting, askingRegrade, askingSecond, asking, beginning, meaning}
+use Rattle.lines.specs.Meaning.{digits, value, front, stepping, searching, deleting, askingNext, informing, keying, inserting, askingRegrade, askingThird, askingSecond, asking, beginning, meaning}
 use Rattle.lines.specs.Decimal.{digitsWithin, decimal}
 use Rattle.lines.specs.Names.{answerLine}
 
@@ -31,6 +31,9 @@ good-lines :
     ∷ "b 0 i2 12 3"
     ∷ "b 16 d2 0"
     ∷ "b 2 g2 0012 4294967295"
+    ∷ "b 0 i3 12 3"
+    ∷ "b 16 d3 0"
+    ∷ "b 2 g3 0012 4294967295"
     ∷ []
     )
     ≡ Begin 0 (Insert 12 3 First)
@@ -44,8 +47,11 @@ good-lines :
     ∷ Begin 0 (Insert 12 3 Second)
     ∷ Begin 16 (Delete 0 Second)
     ∷ Begin 2 (Regrade 12 4294967295 Second)
+    ∷ Begin 0 (Insert 12 3 Third)
+    ∷ Begin 16 (Delete 0 Third)
+    ∷ Begin 2 (Regrade 12 4294967295 Third)
     ∷ []
-unfolding meanings startsWith digits value front stepping searching deleting askingNext informing keying inserting askingRegrade askingSecond asking beginning meaning
+unfolding meanings startsWith digits value front stepping searching deleting askingNext informing keying inserting askingRegrade askingThird askingSecond asking beginning meaning
 good-lines = refl
 
 bad-lines :
@@ -76,16 +82,18 @@ bad-lines :
     ∷ "b 1 s2 2"
     ∷ "b 1 n2 2"
     ∷ "b 1 i2 2"
+    ∷ "b 1 i4 2 3"
+    ∷ "b 1 s3 2"
+    ∷ "b 1 d3 2 3"
     ∷ "b 1 i 2 2 3"
     ∷ "b 1 i22 2 3"
-    ∷ "b 1 i3 2 3"
     ∷ "b 1 d2 2 3"
     ∷ "b 1 d2  2"
     ∷ "b 1 g2 2 4294967296"
     ∷ []
     )
-    ≡ Bad ∷ Bad ∷ Bad ∷ Bad ∷ Bad ∷ Bad ∷ Bad ∷ Bad ∷ Bad ∷ Bad ∷ Bad ∷ Bad ∷ Bad ∷ Bad ∷ Bad ∷ Bad ∷ Bad ∷ Bad ∷ Bad ∷ Bad ∷ Bad ∷ Bad ∷ Bad ∷ Bad ∷ Bad ∷ Bad ∷ Bad ∷ Bad ∷ Bad ∷ Bad ∷ Bad ∷ Bad ∷ []
-unfolding meanings startsWith digits value front stepping searching deleting askingNext informing keying inserting askingRegrade askingSecond asking beginning meaning
+    ≡ Bad ∷ Bad ∷ Bad ∷ Bad ∷ Bad ∷ Bad ∷ Bad ∷ Bad ∷ Bad ∷ Bad ∷ Bad ∷ Bad ∷ Bad ∷ Bad ∷ Bad ∷ Bad ∷ Bad ∷ Bad ∷ Bad ∷ Bad ∷ Bad ∷ Bad ∷ Bad ∷ Bad ∷ Bad ∷ Bad ∷ Bad ∷ Bad ∷ Bad ∷ Bad ∷ Bad ∷ Bad ∷ Bad ∷ Bad ∷ []
+unfolding meanings startsWith digits value front stepping searching deleting askingNext informing keying inserting askingRegrade askingThird askingSecond asking beginning meaning
 bad-lines = refl
 
 -- ---- answers

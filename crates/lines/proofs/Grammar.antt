@@ -16,12 +16,12 @@ use Rattle.ground.proofs.Bools.{and-first, and-second, and-both}
 use Rattle.ground.proofs.Choice.{cond-ind, cond-true}
 use Rattle.slots.specs.declared.Op.the-variants.{Search, Insert, Delete, Next, Regrade}
 use Rattle.slots.specs.declared.Way.{Way}
-use Rattle.slots.specs.declared.Way.the-variants.{First, Second}
+use Rattle.slots.specs.declared.Way.the-variants.{First, Second, Third}
 use Rattle.slots.specs.Operations.{byWay}
 use Rattle.lines.specs.declared.Command.{Command}
 use Rattle.lines.specs.declared.Command.the-variants.{Begin, Step, Bad}
 use Rattle.lines.specs.Text.{bytes, startsWith}
-use Rattle.lines.specs.Meaning.{isDigit, digits, value, largest, Front, noNumber, number, counted, front, alone, numbered, after, stepping, searching, deleting, askingNext, informing, keying, inserting, askingRegrade, askingSecond, asking, beginning, meaning}
+use Rattle.lines.specs.Meaning.{isDigit, digits, value, largest, Front, noNumber, number, counted, front, alone, numbered, after, stepping, searching, deleting, askingNext, informing, keying, inserting, askingRegrade, askingThird, askingSecond, asking, beginning, meaning}
 use Rattle.lines.specs.Forms.{Numeral, Good, toSearch, toInsert, toDelete, toNext, toRegrade, toStep}
 
 -- ---- a number at the front
@@ -75,22 +75,25 @@ lot-means {key} means ks is hk hi =
 
 -- behind the slot, the letter of an update says what is asked, and by which way
 insert-asked : (way : Way) {slot : ℕ} (ss bs : List ℕ) → Numeral ss slot
-    → beginning (ss ++ (bytes (byWay way " i " " i2 ") ++ bs)) ≡ inserting way slot bs
-unfolding startsWith digits askingSecond asking beginning
+    → beginning (ss ++ (bytes (byWay way " i " " i2 " " i3 ") ++ bs)) ≡ inserting way slot bs
+unfolding startsWith digits askingThird askingSecond asking beginning
 insert-asked First ss bs hs = ap (λ (f : Front). numbered f asking) (front-numeral (bytes " i " ++ bs) hs refl)
 insert-asked Second ss bs hs = ap (λ (f : Front). numbered f asking) (front-numeral (bytes " i2 " ++ bs) hs refl)
+insert-asked Third ss bs hs = ap (λ (f : Front). numbered f asking) (front-numeral (bytes " i3 " ++ bs) hs refl)
 
 delete-asked : (way : Way) {slot : ℕ} (ss bs : List ℕ) → Numeral ss slot
-    → beginning (ss ++ (bytes (byWay way " d " " d2 ") ++ bs)) ≡ deleting way slot bs
-unfolding startsWith digits askingSecond asking beginning
+    → beginning (ss ++ (bytes (byWay way " d " " d2 " " d3 ") ++ bs)) ≡ deleting way slot bs
+unfolding startsWith digits askingThird askingSecond asking beginning
 delete-asked First ss bs hs = ap (λ (f : Front). numbered f asking) (front-numeral (bytes " d " ++ bs) hs refl)
 delete-asked Second ss bs hs = ap (λ (f : Front). numbered f asking) (front-numeral (bytes " d2 " ++ bs) hs refl)
+delete-asked Third ss bs hs = ap (λ (f : Front). numbered f asking) (front-numeral (bytes " d3 " ++ bs) hs refl)
 
 regrade-asked : (way : Way) {slot : ℕ} (ss bs : List ℕ) → Numeral ss slot
-    → beginning (ss ++ (bytes (byWay way " g " " g2 ") ++ bs)) ≡ askingRegrade way slot bs
-unfolding startsWith digits askingSecond asking beginning
+    → beginning (ss ++ (bytes (byWay way " g " " g2 " " g3 ") ++ bs)) ≡ askingRegrade way slot bs
+unfolding startsWith digits askingThird askingSecond asking beginning
 regrade-asked First ss bs hs = ap (λ (f : Front). numbered f asking) (front-numeral (bytes " g " ++ bs) hs refl)
 regrade-asked Second ss bs hs = ap (λ (f : Front). numbered f asking) (front-numeral (bytes " g2 " ++ bs) hs refl)
+regrade-asked Third ss bs hs = ap (λ (f : Front). numbered f asking) (front-numeral (bytes " g3 " ++ bs) hs refl)
 
 pub good-means : (line : List ℕ) {c : Command} → Good line c → meaning line ≡ c
 unfolding startsWith digits stepping searching deleting askingNext informing keying inserting askingRegrade asking beginning meaning
@@ -200,7 +203,7 @@ module _ (line : List ℕ) where
         numbered-ind (Meant line) (alone (front ks)) (λ key rest. Begin slot (Search key)) (inl refl)
         (λ key rest f. inr (toSearch ss ks hs (last-numeral ks f) e))
 
-    deleting-meant : (way : Way) (ks : List ℕ) → line ≡ bytes "b " ++ (ss ++ (bytes (byWay way " d " " d2 ") ++ ks)) → Meant line (deleting way slot ks)
+    deleting-meant : (way : Way) (ks : List ℕ) → line ≡ bytes "b " ++ (ss ++ (bytes (byWay way " d " " d2 " " d3 ") ++ ks)) → Meant line (deleting way slot ks)
     unfolding deleting
     deleting-meant way ks e =
         numbered-ind (Meant line) (alone (front ks)) (λ key rest. Begin slot (Delete key way)) (inl refl)
@@ -212,29 +215,36 @@ module _ (line : List ℕ) where
         numbered-ind (Meant line) (alone (front ks)) (λ key rest. Begin slot (Next key)) (inl refl)
         (λ key rest f. inr (toNext ss ks hs (last-numeral ks f) e))
 
-    inserting-meant : (way : Way) (bs : List ℕ) → line ≡ bytes "b " ++ (ss ++ (bytes (byWay way " i " " i2 ") ++ bs)) → Meant line (inserting way slot bs)
+    inserting-meant : (way : Way) (bs : List ℕ) → line ≡ bytes "b " ++ (ss ++ (bytes (byWay way " i " " i2 " " i3 ") ++ bs)) → Meant line (inserting way slot bs)
     unfolding inserting
     inserting-meant way bs e =
         lot-meant (λ key information. Begin slot (Insert key information way)) bs
-        (λ key information ks is hk hi f. toInsert way ss ks is hs hk hi (e ∙ ap (λ (l : List ℕ). bytes "b " ++ (ss ++ (bytes (byWay way " i " " i2 ") ++ l))) f))
+        (λ key information ks is hk hi f. toInsert way ss ks is hs hk hi (e ∙ ap (λ (l : List ℕ). bytes "b " ++ (ss ++ (bytes (byWay way " i " " i2 " " i3 ") ++ l))) f))
 
-    regrading-meant : (way : Way) (bs : List ℕ) → line ≡ bytes "b " ++ (ss ++ (bytes (byWay way " g " " g2 ") ++ bs)) → Meant line (askingRegrade way slot bs)
+    regrading-meant : (way : Way) (bs : List ℕ) → line ≡ bytes "b " ++ (ss ++ (bytes (byWay way " g " " g2 " " g3 ") ++ bs)) → Meant line (askingRegrade way slot bs)
     unfolding askingRegrade
     regrading-meant way bs e =
         lot-meant (λ key information. Begin slot (Regrade key information way)) bs
-        (λ key information ks is hk hi f. toRegrade way ss ks is hs hk hi (e ∙ ap (λ (l : List ℕ). bytes "b " ++ (ss ++ (bytes (byWay way " g " " g2 ") ++ l))) f))
+        (λ key information ks is hk hi f. toRegrade way ss ks is hs hk hi (e ∙ ap (λ (l : List ℕ). bytes "b " ++ (ss ++ (bytes (byWay way " g " " g2 " " g3 ") ++ l))) f))
 
     module _ (bs : List ℕ) (e : line ≡ bytes "b " ++ (ss ++ bs)) where
       -- a word that stands behind the slot
       behind-slot : (word : List ℕ) → startsWith word bs ≡ true → line ≡ bytes "b " ++ (ss ++ (word ++ drop (length word) bs))
       behind-slot word t = e ∙ ap (λ (l : List ℕ). bytes "b " ++ (ss ++ l)) (begins-split word bs t)
 
+      third-meant : Meant line (askingThird slot bs)
+      unfolding askingThird
+      third-meant =
+          cond-ind (Meant line) (startsWith (bytes " i3 ") bs) (λ t. inserting-meant Third (drop 4 bs) (behind-slot (bytes " i3 ") t))
+          (λ n. cond-ind (Meant line) (startsWith (bytes " d3 ") bs) (λ t. deleting-meant Third (drop 4 bs) (behind-slot (bytes " d3 ") t))
+          (λ m. cond-ind (Meant line) (startsWith (bytes " g3 ") bs) (λ t. regrading-meant Third (drop 4 bs) (behind-slot (bytes " g3 ") t)) (λ k. inl refl)))
+
       second-meant : Meant line (askingSecond slot bs)
       unfolding askingSecond
       second-meant =
           cond-ind (Meant line) (startsWith (bytes " i2 ") bs) (λ t. inserting-meant Second (drop 4 bs) (behind-slot (bytes " i2 ") t))
           (λ n. cond-ind (Meant line) (startsWith (bytes " d2 ") bs) (λ t. deleting-meant Second (drop 4 bs) (behind-slot (bytes " d2 ") t))
-          (λ m. cond-ind (Meant line) (startsWith (bytes " g2 ") bs) (λ t. regrading-meant Second (drop 4 bs) (behind-slot (bytes " g2 ") t)) (λ k. inl refl)))
+          (λ m. cond-ind (Meant line) (startsWith (bytes " g2 ") bs) (λ t. regrading-meant Second (drop 4 bs) (behind-slot (bytes " g2 ") t)) (λ k. third-meant)))
 
       asking-meant : Meant line (asking slot bs)
       unfolding asking

@@ -9,7 +9,7 @@ use Rattle.lines.specs.declared.Command.{Command}
 use Rattle.lines.specs.declared.Command.the-variants.{Begin, Step, Bad}
 use Rattle.slots.specs.declared.Op.the-variants.{Search, Insert, Delete, Next, Regrade}
 use Rattle.slots.specs.declared.Way.{Way}
-use Rattle.slots.specs.declared.Way.the-variants.{First, Second}
+use Rattle.slots.specs.declared.Way.the-variants.{First, Second, Third}
 use Rattle.lines.specs.Text.{bytes, startsWith}
 
 -- ---- "Numbers are decimal"
@@ -69,7 +69,7 @@ stepping bs = numbered (alone (front bs)) (λ slot rest. Step slot)
 unfoldable pub searching : ℕ → List ℕ → Command
 searching slot bs = numbered (alone (front bs)) (λ key rest. Begin slot (Search key))
 
--- `b SLOT d KEY`, `b SLOT d2 KEY`
+-- `b SLOT d KEY`, `b SLOT d2 KEY`, `b SLOT d3 KEY`
 unfoldable pub deleting : Way → ℕ → List ℕ → Command
 deleting way slot bs = numbered (alone (front bs)) (λ key rest. Begin slot (Delete key way))
 
@@ -84,20 +84,26 @@ informing means bs = numbered (alone (front bs)) (λ information rest. means inf
 unfoldable pub keying : (ℕ → ℕ → Command) → List ℕ → Command
 keying means bs = numbered (front bs) (λ key rest. after " " rest (informing (means key)) Bad)
 
--- `b SLOT i KEY INFO`, `b SLOT i2 KEY INFO`
+-- `b SLOT i KEY INFO`, `b SLOT i2 KEY INFO`, `b SLOT i3 KEY INFO`
 unfoldable pub inserting : Way → ℕ → List ℕ → Command
 inserting way slot = keying (λ key information. Begin slot (Insert key information way))
 
--- `b SLOT g KEY INFO`, `b SLOT g2 KEY INFO`
+-- `b SLOT g KEY INFO`, `b SLOT g2 KEY INFO`, `b SLOT g3 KEY INFO`
 unfoldable pub askingRegrade : Way → ℕ → List ℕ → Command
 askingRegrade way slot = keying (λ key information. Begin slot (Regrade key information way))
+
+-- 02 (vi): "chosen at begin". A 3 behind the letter of an update chooses the third way: `b SLOT i3 KEY INFO`, `b SLOT d3 KEY`, `b SLOT g3 KEY INFO`.
+unfoldable pub askingThird : ℕ → List ℕ → Command
+askingThird slot bs =
+    after " i3 " bs (inserting Third slot)
+    (after " d3 " bs (deleting Third slot) (after " g3 " bs (askingRegrade Third slot) Bad))
 
 -- 02 (v): "chosen per operation at begin". A 2 behind the letter of an update chooses the second way: `b SLOT i2 KEY INFO`, `b SLOT d2 KEY`,
 -- `b SLOT g2 KEY INFO`. Who only reads has no way, and so no such letter.
 unfoldable pub askingSecond : ℕ → List ℕ → Command
 askingSecond slot bs =
     after " i2 " bs (inserting Second slot)
-    (after " d2 " bs (deleting Second slot) (after " g2 " bs (askingRegrade Second slot) Bad))
+    (after " d2 " bs (deleting Second slot) (after " g2 " bs (askingRegrade Second slot) (askingThird slot bs)))
 
 -- `b SLOT s KEY`, `b SLOT i KEY INFO`, `b SLOT d KEY`, `b SLOT n KEY`, `b SLOT g KEY INFO`, or an update by the second way
 unfoldable pub asking : ℕ → List ℕ → Command

@@ -7,7 +7,7 @@ ghost use mathlib.Core.Path.{_≡_};
 ghost use Prim.Native.Nat.{_≤_, max};
 ghost use lib.ListN.{length, drop};
 ghost use Rattle.lines.specs.Text.{startsWith};
-ghost use Rattle.lines.specs.Meaning.{isDigit, front, alone, stepping, searching, deleting, askingNext, inserting, askingRegrade, askingSecond, asking, beginning, meaning};
+ghost use Rattle.lines.specs.Meaning.{isDigit, front, alone, stepping, searching, deleting, askingNext, inserting, askingRegrade, askingThird, askingSecond, asking, beginning, meaning};
 ghost use Rattle.lines.specs.Ends.{lineEnd};
 ghost use Rattle.lines.specs.Positions.{frontOf, behind, IsLot, Capped, Counted};
 
@@ -152,7 +152,7 @@ fn read_search(line: &[u8], at: usize, slot: u32) -> Command
     Command::Begin(slot, Op::Search(key))
 }
 
-// `b SLOT d KEY`, `b SLOT d2 KEY`
+// `b SLOT d KEY`, `b SLOT d2 KEY`, `b SLOT d3 KEY`
 fn read_delete(line: &[u8], at: usize, slot: u32, way: Way) -> Command
     requires { ⌜ at ≤ length (now line) ⌝ }
     ensures { λ r. ⌜ r ≡ deleting way slot (drop at (now (line .entry))) ⌝ }
@@ -191,7 +191,7 @@ fn read_lot(line: &[u8], at: usize) -> LotRead
     LotRead::Read(key, information)
 }
 
-// `b SLOT i KEY INFO`, `b SLOT i2 KEY INFO`
+// `b SLOT i KEY INFO`, `b SLOT i2 KEY INFO`, `b SLOT i3 KEY INFO`
 fn read_insert(line: &[u8], at: usize, slot: u32, way: Way) -> Command
     requires { ⌜ at ≤ length (now line) ⌝ }
     ensures { λ r. ⌜ r ≡ inserting way slot (drop at (now (line .entry))) ⌝ }
@@ -202,7 +202,7 @@ fn read_insert(line: &[u8], at: usize, slot: u32, way: Way) -> Command
     Command::Begin(slot, Op::Insert(key, information, way))
 }
 
-// `b SLOT g KEY INFO`, `b SLOT g2 KEY INFO`
+// `b SLOT g KEY INFO`, `b SLOT g2 KEY INFO`, `b SLOT g3 KEY INFO`
 fn read_regrade(line: &[u8], at: usize, slot: u32, way: Way) -> Command
     requires { ⌜ at ≤ length (now line) ⌝ }
     ensures { λ r. ⌜ r ≡ askingRegrade way slot (drop at (now (line .entry))) ⌝ }
@@ -213,7 +213,24 @@ fn read_regrade(line: &[u8], at: usize, slot: u32, way: Way) -> Command
     Command::Begin(slot, Op::Regrade(key, information, way))
 }
 
-// Behind the slot: an update by the second way.
+// Behind the slot: an update by the third way.
+fn read_third(line: &[u8], at: usize, slot: u32) -> Command
+    requires { ⌜ at ≤ length (now line) ⌝ }
+    ensures { λ r. ⌜ r ≡ askingThird slot (drop at (now (line .entry))) ⌝ }
+{
+    if goes_on(line, at, b" i3 ") {
+        return read_insert(line, at + 4, slot, Way::Third);
+    }
+    if goes_on(line, at, b" d3 ") {
+        return read_delete(line, at + 4, slot, Way::Third);
+    }
+    if goes_on(line, at, b" g3 ") {
+        return read_regrade(line, at + 4, slot, Way::Third);
+    }
+    Command::Bad
+}
+
+// Behind the slot: an update by the second way, or by the third.
 fn read_second(line: &[u8], at: usize, slot: u32) -> Command
     requires { ⌜ at ≤ length (now line) ⌝ }
     ensures { λ r. ⌜ r ≡ askingSecond slot (drop at (now (line .entry))) ⌝ }
@@ -227,7 +244,7 @@ fn read_second(line: &[u8], at: usize, slot: u32) -> Command
     if goes_on(line, at, b" g2 ") {
         return read_regrade(line, at + 4, slot, Way::Second);
     }
-    Command::Bad
+    read_third(line, at, slot)
 }
 
 // Behind the slot: what is asked.

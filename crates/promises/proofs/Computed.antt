@@ -15,6 +15,7 @@ use Rattle.promises.specs.RegradeRows.{regradeRows}
 use Rattle.promises.specs.WideRows.{wideRows}
 use Rattle.promises.specs.DamageRows.{damageRows}
 use Rattle.promises.specs.SecondRows.{secondRows}
+use Rattle.promises.specs.ThirdRows.{thirdRows}
 
 -- Everything that a run unfolds to: who unfolds this unfolds all of it.
 calls : Unit {0}
@@ -98,3 +99,7 @@ damage-holds = agree-holds damageRows refl
 pub second-holds : RowsHold secondRows
 unfolding calls same sames agree
 second-holds = agree-holds secondRows refl
+
+pub third-holds : RowsHold thirdRows
+unfolding calls same sames agree
+third-holds = agree-holds thirdRows refl

@@ -21,13 +21,14 @@ use Rattle.slots.specs.declared.Lock.{Lock}
 use Rattle.slots.specs.declared.Answer.{Answer}
 use Rattle.slots.specs.declared.Answer.the-variants.{Waiting, Begun, Made, Reported, BadState, BadPool, BadSlot, SlotBusy, SlotIdle, Damaged, BadPage}
 use Rattle.slots.specs.Heard.{numberOf, refuses, changesNothing}
-use Rattle.slots.specs.Parts.{isOpen, slotAt, openAt, pathOf, locksOf, sidelocksOf, besideOf, holding, standOf}
+use Rattle.slots.specs.Parts.{isOpen, slotAt, openAt, holding, standOf}
 use Rattle.slots.specs.Sound.{sound}
 use Rattle.slots.specs.Grant.{grants}
 use Rattle.slots.specs.Begin.{begun}
 use Rattle.slots.specs.Report.{holders, lowestHolder, lockKind, reported}
 use Rattle.slots.proofs.Refusals.{begin-refused}
 use Rattle.slots.proofs.SoundFacts.{sound-facts, empty-unsound}
+use Rattle.slots.proofs.Keeping.{slot-paired}
 use Rattle.footing.specs.Granted.{Verdict, broken, goes, ends, granted}
 use Rattle.footing.specs.Fitting.{pagesSound, fitting, nextIsNew, soundForStep, verdict}
 use Rattle.ground.proofs.Choice.{by-test}
@@ -36,9 +37,10 @@ use Rattle.index.specs.Make.{made}
 use Rattle.index.proofs.Refusals.{Answers, granted-answers, changes, step-refused, make-refused, step-length, make-length}
 use Rattle.promises.specs.Terms.{Exactly}
 use Rattle.promises.specs.Report.{Reports}
-use Rattle.promises.specs.Demand1.{BeginDemand, WordsFit, PagesSound, StepDemand, ReportDemand, MakingInRange, MakeDemand, Demand1}
+use Rattle.promises.specs.Demand1.{BeginDemand, WordsFit, PagesSound, PagesSoundAt, Celled, StepDemand, ReportDemand, MakingInRange, MakeDemand, Demand1}
 use Rattle.promises.proofs.SoundState.{numbers, sound-is}
 use Rattle.promises.proofs.Report.{reports-so, reports-once}
+use Rattle.promises.proofs.SoundPages.{Sized}
 use Rattle.promises.proofs.NextWant.{sound-for-step}
 
 -- A row of a table: an answer, and what it tells. By its number an answer tells what stands beside it; one with no row tells `other`.
@@ -116,12 +118,23 @@ abbrev soundForTask : State → List ℕ → Slot → Task → Bool
 soundForTask st ws slot Closed = true
 soundForTask st ws slot (Open op) = soundForStep (st .k) (st .n) ws (standOf op slot)
 
-pages-sound : (st : State) (ws : List ℕ) (slot : Slot) (task : Task) → Exactly (soundForTask st ws slot task ≡ true) (PagesSound st ws slot task)
-pages-sound st ws slot Closed = ((λ _. tt), (λ _. refl))
-pages-sound st ws slot (Open op) = sound-for-step (st .k) (st .n) ws op (pathOf slot) (besideOf slot) (slot .want) (slot .lock) (locksOf slot) (sidelocksOf slot)
+module _ (st : State) (ws : List ℕ) (s : ℕ) (cells : Celled (slotAt st s)) (whole : sound st ≡ true) (b : s < slotCount) where
+  -- an open slot of a sound state has no page twice
+  slot-sized : (op : Op) → slotAt st s .task ≡ Open op → Sized (standOf op (slotAt st s))
+  slot-sized op opened = record {
+    paired = slot-paired op (slotAt st s) (cells .path) (cells .beside);
+    different = sound-facts st whole .slot s b .different (ap isOpen opened);
+  }
 
-pages-unsound : (st : State) (ws : List ℕ) (slot : Slot) (task : Task) → (PagesSound st ws slot task → ⊥) → soundForTask st ws slot task ≡ false
-pages-unsound st ws slot task never = false-if-not-true (soundForTask st ws slot task) (λ t. never (pages-sound st ws slot task .0 t))
+  sound-task : (task : Task) → slotAt st s .task ≡ task → Exactly (soundForTask st ws (slotAt st s) task ≡ true) (PagesSound st ws (slotAt st s) task)
+  sound-task Closed e = ((λ _. tt), (λ _. refl))
+  sound-task (Open op) e = sound-for-step (st .k) (st .n) ws (standOf op (slotAt st s)) (slot-sized op e)
+
+  pages-sound : Exactly (soundForTask st ws (slotAt st s) (slotAt st s .task) ≡ true) (PagesSoundAt st ws s)
+  pages-sound = sound-task (slotAt st s .task) refl
+
+  pages-unsound : (PagesSoundAt st ws s → ⊥) → soundForTask st ws (slotAt st s) (slotAt st s .task) ≡ false
+  pages-unsound never = false-if-not-true (soundForTask st ws (slotAt st s) (slotAt st s .task)) (λ t. never (pages-sound .0 t))
 
 -- what step's answers tell, by the slot and its task
 abbrev stepRows : State → List ℕ → ℕ → Slot → Task → List Row
@@ -210,23 +223,23 @@ step-tells st ws s =
     (λ b. rw (a, b) (refl, eqb-false (length ws) (poolLength (st .k) (st .n)) b)))
     (λ a. rw a refl)
 
-pub step-demand : (st : State) (ws : List ℕ) (s : ℕ) → StepDemand st ws s
+pub step-demand : (st : State) (ws : List ℕ) (s : ℕ) → Celled (slotAt st s) → StepDemand st ws s
 unfolding stepped
-step-demand st ws s = record {
+step-demand st ws s cells = record {
   badState = (told, λ h. rw h);
   badPool = (told, λ h. rw (h .0, ne-eqb (length ws) (poolLength (st .k) (st .n)) (h .1)));
   badSlot = (told, λ h. rw (h .0, fits (h .1), le-ltb s slotCount (h .2)));
   slotIdle = (told, λ h. rw (h .0, fits (h .1), lt-ltb s slotCount (h .2)) (task-idle st ws s slot (slot .task) (h .3)));
   waiting = (told, λ h. rw (h .0, fits (h .1), lt-ltb s slotCount (h .2)) (task-waits st ws s slot (slot .task) (h .3) (h .4)));
   damaged = (
-    (λ e. let (a, b, c, d, g, p) = told e in (a, b, c, d, g, λ q. not-both (pages-sound st ws slot (slot .task) .1 q) p)),
-    λ h. rw (h .0, fits (h .1), lt-ltb s slotCount (h .2)) (task-damaged st ws s slot (slot .task) (h .3) (h .4) (pages-unsound st ws slot (slot .task) (h .5))),
+    (λ e. let (a, b, c, d, g, p) = told e in (a, b, c, d, g, λ q. not-both (pages-sound st ws s cells a c .1 q) p)),
+    λ h. rw (h .0, fits (h .1), lt-ltb s slotCount (h .2)) (task-damaged st ws s slot (slot .task) (h .3) (h .4) (pages-unsound st ws s cells (h .0) (h .2) (h .5))),
   );
   granted = (
     (λ h.
         let (a, b, c, d, g, p) = transport (no-row (stepRows st ws s slot (slot .task)) (Goes st ws s slot (slot .task)) (stepped st ws s .answer) refl h) (step-tells st ws s) in
-        (a, b, c, d, g, pages-sound st ws slot (slot .task) .0 p)),
-    λ h. rw (h .0, fits (h .1), lt-ltb s slotCount (h .2)) (task-goes st ws s slot (slot .task) (h .3) (h .4) (pages-sound st ws slot (slot .task) .1 (h .5))),
+        (a, b, c, d, g, pages-sound st ws s cells a c .0 p)),
+    λ h. rw (h .0, fits (h .1), lt-ltb s slotCount (h .2)) (task-goes st ws s slot (slot .task) (h .3) (h .4) (pages-sound st ws s cells (h .0) (h .2) .1 (h .5))),
   );
   noOther =
       by-test (sound st)

@@ -9,10 +9,10 @@ use lib.Dec.{leb, ltb, eqb}
 use lib.ListN.{length, take, length-append}
 use borrow.Author.Tests.{leb-true, eqb-true, eqb-false, ne-eqb, ltb-true, lt-ltb, le-ltb, not-true}
 use Rattle.ground.specs.Limits.{slotCount}
-use Rattle.ground.specs.Tests.{member, filled}
-use Rattle.ground.proofs.Bools.{true-or-false, not-both, false-if-not-true, and-first, and-second, and-both, not-of-false, or-first, or-second, or-cases}
+use Rattle.ground.specs.Tests.{member, distinct, filled}
+use Rattle.ground.proofs.Bools.{not-both, false-if-not-true, and-first, and-second, and-both, not-of-false, or-first, or-second, or-cases}
 use Rattle.ground.proofs.Choice.{cond-true, cond-false}
-use Rattle.ground.proofs.Tests.{member-here, member-none, member-append, member-inside}
+use Rattle.ground.proofs.Tests.{member-here, member-none, member-append, member-inside, member-at}
 use Rattle.page.specs.Words.{Page, μ, isLeaf, encode}
 use Rattle.page.specs.Place.{place, pointer}
 use Rattle.page.specs.Short.{hasRight, neighbour}
@@ -21,7 +21,7 @@ use Rattle.pool.specs.Pool.{Write, wordsOf, applied, pageAt}
 use Rattle.pool.proofs.WriteLaws.{wordsOf-applied-other}
 use Rattle.slots.specs.declared.Op.{Op}
 use Rattle.slots.specs.declared.Op.the-variants.{Search, Insert, Delete, Next, Regrade}
-use Rattle.slots.specs.declared.Way.the-variants.{First, Second}
+use Rattle.slots.specs.declared.Way.the-variants.{First, Second, Third}
 use Rattle.slots.specs.declared.Lock.{Lock}
 use Rattle.slots.specs.declared.Task.{Task}
 use Rattle.slots.specs.declared.Task.the-variants.{Closed, Open}
@@ -31,18 +31,19 @@ use Rattle.slots.specs.declared.Lock.the-variants.{Xi}
 use Rattle.slots.specs.declared.Outcome.{Outcome}
 use Rattle.slots.specs.declared.Answer.{Answer}
 use Rattle.slots.specs.declared.Answer.the-variants.{Waiting, Moved, NoRoom, BadSlot, SlotIdle}
-use Rattle.slots.specs.Parts.{isDelete, isNext, isSecond, firstWay, heldLock, goesBeside, isOpen, held, heldLocks, pathOf, besideOf, Stand, freshStand, holding, standOf, slotOf, slotAt, openAt, wantAt, holdsAt, waitingOrder, closedSlot, Opened}
+use Rattle.slots.specs.Parts.{isDelete, isNext, isSecond, isThird, firstWay, heldLock, converting, goesBeside, isOpen, held, heldLocks, pathOf, besideOf, Stand, freshStand, holding, standOf, slotOf, slotAt, openAt, wantAt, holdsAt, waitingOrder, closedSlot, Opened}
 use Rattle.slots.specs.Locks.{lockHeldAt, lockWantedAt, clash}
 use Rattle.slots.specs.Sound.{withinLimits}
 use Rattle.slots.specs.Heard.{numberOf, changesNothing, isOneOf, countedAnswers, ending}
 use Rattle.slots.specs.Report.{reported}
-use Rattle.slots.specs.Grant.{grants}
+use Rattle.slots.specs.Grant.{grants, olderThan}
 use Rattle.slots.specs.Book.{begins, goesOn, closes}
 use Rattle.slots.specs.Begin.{begun}
 use Rattle.slots.proofs.SoundFacts.{facts-sound}
+use Rattle.slots.proofs.LockLaws.{among-once, third-not-second}
 use Rattle.slots.proofs.OrderLaws.{order-has-room, leaving-between, waiting-begins, waiting-requeued, waiting-closes}
 use Rattle.slots.proofs.Keeping.{Paired, slot-here, slot-other, held-new, stand-new}
-use Rattle.footing.specs.Granted.{Verdict, broken, goes, ends, isSafe, answeredAtOnce, staysSecond, atItsLeaf}
+use Rattle.footing.specs.Granted.{Verdict, broken, goes, ends, isSafe, answeredAtOnce, staysSecond, inTurn, pagesInTurn, atItsLeaf}
 use Rattle.footing.specs.Fitting.{verdict}
 use Rattle.footing.proofs.KeepLaws.{second-safe, regrade-safe}
 use Rattle.index.specs.Step.{Left, left, acted, stepped}
@@ -51,12 +52,14 @@ use Rattle.tree.specs.Change.{writtenPages}
 use Rattle.tree.proofs.Words.{fit-writes}
 use Rattle.runs.specs.Calls.{Call, begin, step, report, called, answersOf}
 use Rattle.runs.specs.Run.{runFrom}
-use Rattle.runs.specs.Stance.{Safe, Stance, Takes}
+use Rattle.runs.specs.Stance.{Safe, Converting, Stance, Takes, heldDue}
 use Rattle.runs.specs.Waits.{Barred}
 use Rattle.runs.specs.Step.{Ended}
-use Rattle.runs.proofs.Invariant.{Invariant}
-use Rattle.runs.proofs.Placing.{one-held, next-beside}
-use Rattle.runs.proofs.Locking.{paired}
+use Rattle.runs.proofs.Invariant.{Invariant, scene}
+use Rattle.runs.proofs.Placing.{one-held, next-beside, deletes-beside, beside-first, gathers-new}
+use Rattle.runs.proofs.Locking.{paired, held-with}
+use Rattle.runs.proofs.Turning.{scene-ordered, turn-once, in-turn}
+use Rattle.runs.proofs.Stepping.{turned-all}
 use Rattle.runs.proofs.Calls.{StepOf, noSlot, idle, waits, onward, over, step-of, granted-does}
 use Rattle.runs.proofs.Runs.{call-keeps, call-numbers, BeginOf, noSuch, busy, begins-so, begin-of, ReportOf, noPage, tells, report-of, holds-after, numbers-after}
 use Rattle.runs.proofs.Barring.{coming-above}
@@ -64,12 +67,13 @@ use Rattle.runs.proofs.Progress.{barred, barred-waits, older-other, older-waits
 use Rattle.runs.proofs.Older.{older-before, before-older}
 use Rattle.runs.proofs.PlainLaws.{none-below, below-none}
 use Rattle.runs.proofs.Verdicts.{EndsIf, stillBy, coming-stays}
-use Rattle.runs.proofs.Measure.{Where, atStart, onTheWay, atTheLeaf, deletes-beside, beside-first}
+use Rattle.runs.proofs.Measure.{Where, atStart, onTheWay, atTheLeaf, inTurns}
 use Rattle.runs.proofs.MeasureLaws.{start-above, low-above, where-slot}
 use Rattle.runs.proofs.Agreement.{plain-counted}
-use Rattle.promises.specs.Terms.{Exactly, HoldsAs, BySecond}
+use Rattle.promises.specs.Terms.{Exactly, HoldsAs, GoesWith, BySecond, Converted, SiblingsDone}
 use Rattle.promises.specs.Demand2.{AfterEveryCall, Anew, HasXi, Seen, InTheWay, StepLocks, CallLocks, Words, Demand2Holds}
-use Rattle.promises.proofs.Terms.{together-told, clash-apart, apart-clash, kind-is, second-named, named-second, among-once, holds-as, as-held, sound-kind, wants-as}
+use Rattle.promises.proofs.Terms.{in-member, together-told, clash-apart, apart-clash, kind-is, second-named, named-second, third-named, named-third, converts-here, here-converts, holds-as, as-held, sound-kind, wants-as}
+use Rattle.promises.proofs.Known.{known-told, known-from, turn-alone, turn-both}
 use Rattle.promises.proofs.SoundState.{sound-is}
 use Rattle.promises.proofs.Seen.{step-seen}
 
@@ -82,15 +86,40 @@ ends-told test st ws s broken h e = absurd (false≢true e)
 ends-told test st ws s (goes z) h e = absurd (false≢true e)
 ends-told test st ws s (ends a writes) h e = h
 
+-- a step that is answered so has ended by the rule
+verdict-ends : (st : State) (ws : List ℕ) (s : ℕ) (v : Verdict) → isOneOf (acted st ws s v .answer) ending ≡ true
+    → (a : Answer) × (writes : List Write) × (v ≡ ends a writes)
+unfolding member
+verdict-ends st ws s broken e = absurd (false≢true e)
+verdict-ends st ws s (goes z) e = absurd (false≢true e)
+verdict-ends st ws s (ends a writes) e = (a, writes, refl)
+
+-- ---- an update by the third way ends
+
+-- it has ξ on all that it holds
+all-turned : (st : State) (ws : List ℕ) (inv : Invariant st ws) (s : ℕ) (op : Op) → s < slotCount → Opened st s op
+    → converting (standOf op (slotAt st s)) ≡ true → (a : Answer) (writes : List Write) → verdict (st .k) (st .n) ws (standOf op (slotAt st s)) ≡ ends a writes
+    → (q : ℕ) → holdsAt st s q ≡ true → HasXi st s q
+all-turned st ws inv s op b runs own a writes is q h =
+    let here = scene st ws inv s op b runs in
+    let z : Stand = standOf op (slotAt st s) in
+    ⊎-elim
+    (λ g. not-both own (gathers-new (st .k) (st .n) ws (inv .height) (inv .tree) z here g))
+    (λ c.
+    ⊎-elim inl (λ (m, x). inr (subst (HoldsAs st s q) x (holds-as st s q m)))
+    (turned-all (st .k) (st .n) ws (inv .height) (inv .tree) z here c a writes is q h))
+    (inv .stands s op b runs)
+
 -- in a run it stands above its leaf
 pub second-above : (st : State) (ws : List ℕ) (inv : Invariant st ws) (s : ℕ) (op : Op) → s < slotCount → Opened st s op → isSecond op ≡ true
     → atItsLeaf (pageAt (st .k) ws) (reverse (pathOf (slotAt st s))) ≡ false
 second-above st ws inv s op b runs second = above (where-slot st ws inv s op b runs)
   where
     above : Where (pageAt (st .k) ws) (inv .height) (inv .tree) (standOf op (slotAt st s)) → atItsLeaf (pageAt (st .k) ws) (reverse (pathOf (slotAt st s))) ≡ false
-    above (atStart none _ _) = start-above (pageAt (st .k) ws) (inv .height) (inv .tree) (pathOf (slotAt st s)) none
-    above (onTheWay low stands _ _) = low-above (pageAt (st .k) ws) (inv .height) (inv .tree) (pathOf (slotAt st s)) low stands
-    above (atTheLeaf _ _ beside) = not-both second (beside-first op beside)
+    above (atStart _ none _ _) = start-above (pageAt (st .k) ws) (inv .height) (inv .tree) (pathOf (slotAt st s)) none
+    above (onTheWay _ low stands _ _) = low-above (pageAt (st .k) ws) (inv .height) (inv .tree) (pathOf (slotAt st s)) low stands
+    above (atTheLeaf _ _ _ beside _) = not-both second (beside-first op beside)
+    above (inTurns _ turned) = not-both second (third-not-second op (turned .third))
 
 stays-second : (st : State) (ws : List ℕ) (inv : Invariant st ws) (s : ℕ) (op : Op) → s < slotCount → Opened st s op → grants st s ≡ true
     → isOneOf (stepped st ws s .answer) ending ≡ true → BySecond op
@@ -133,16 +162,41 @@ straight-stays op straight = (
 pub second-straight : (op : Op) → isSecond op ≡ true → goesBeside op ≡ false
 second-straight op second = false-if-not-true (goesBeside op) (λ b. not-both second (beside-first op b))
 
+-- who goes straight converts its path alone
+turns-alone : (k : ℕ) (memory : ℕ → Page) (l : ℕ) (t : Tr l) (z : Stand) → (c : Converting k memory l t z) → goesBeside (z .op) ≡ false → z .beside ≡ []
+turns-alone k memory l t z c straight = by-op (z .op) straight (c .third) (known-told k memory z (c .leaf) (c .fathers) (c .known) .1)
+  where
+    by-op : (op : Op) → goesBeside op ≡ false → isThird op ≡ true → SiblingsDone op k memory (c .leaf ∷ c .fathers) (z .beside) → z .beside ≡ []
+    by-op (Search x) straight third none = none
+    by-op (Insert x v way) straight third none = none
+    by-op (Delete x First) straight third none = not-both third refl
+    by-op (Delete x Second) straight third none = not-both third refl
+    by-op (Delete x Third) straight third none = not-both refl straight
+    by-op (Next x) straight third none = none
+    by-op (Regrade x v way) straight third none = none
+
 -- an operation for which every page is safe, and which takes nothing beside its path, holds one page
 holds-one : (k : ℕ) (memory : ℕ → Page) (l : ℕ) (t : Tr l) (z : Stand) → ((P : Page) → isSafe (z .op) k P ≡ true) → goesBeside (z .op) ≡ false
     → Stance k memory l t z → length (holding z) ≤ 1
-holds-one k memory l t z safe straight (inl s) =
+holds-one k memory l t z safe straight (inl (inl s)) =
     omega (arith, length-append (z .path) (z .beside), ap length (s .noPath), ap length (s .noSiblings))
-holds-one k memory l t z safe straight (inr (inl c)) =
+holds-one k memory l t z safe straight (inl (inr (inl c))) =
     let few = one-held (z .op) k memory (z .path) safe (c .rightly) in
     omega (arith, length-append (z .path) (z .beside), ap length (c .noSiblings))
-holds-one k memory l t z safe straight (inr (inr (inl b))) = not-both (deletes-beside (z .op) (b .deletes)) straight
-holds-one k memory l t z safe straight (inr (inr (inr c))) = not-both (next-beside (z .op) (c .asksNext)) straight
+holds-one k memory l t z safe straight (inl (inr (inr (inl b)))) = not-both (deletes-beside (z .op) (b .deletes)) straight
+holds-one k memory l t z safe straight (inl (inr (inr (inr c)))) = not-both (next-beside (z .op) (c .asksNext)) straight
+holds-one k memory l t z safe straight (inr c) =
+    let few = one-held (z .op) k memory (z .path) safe (c .rightly) in
+    omega (arith, length-append (z .path) (z .beside), ap length (turns-alone k memory l t z c straight))
+
+-- the order of conversion names every held page once
+ordered-held : (st : State) (ws : List ℕ) (inv : Invariant st ws) (s : ℕ) (op : Op) → s < slotCount → Opened st s op
+    → (distinct (pagesInTurn (standOf op (slotAt st s))) ≡ true)
+    × (converting (standOf op (slotAt st s)) ≡ true → member (wantAt st s) (pagesInTurn (standOf op (slotAt st s))) ≡ true)
+ordered-held st ws inv s op b runs =
+    let z : Stand = standOf op (slotAt st s) in
+    let o = scene-ordered (st .k) (st .n) ws (inv .height) (inv .tree) z (scene st ws inv s op b runs) in
+    (turn-once z o, λ own. in-turn z o (wantAt st s) ∙ own)
 
 after-call : (st : State) (ws : List ℕ) → Invariant st ws → AfterEveryCall (st .k) (st .n) st ws
 unfolding pathOf besideOf
@@ -157,8 +211,9 @@ after-call st ws inv = record {
   locks = λ s u p x y b c n h g. sound-is st .0 (facts-sound st (inv .sound)) .together s u p x y b c n h g;
   stands = inv .stands;
   closed = λ s b c. closed-empty (slotAt st s .task) (slotAt st s .depth) (slotAt st s .breadth) (slotAt st s .path) (slotAt st s .beside) (inv .sound .slot s b .limits) c;
-  heldAs = λ s p op lock b runs h. sound-is st .0 (facts-sound st (inv .sound)) .holds s p op lock b runs h;
-  wantsAs = λ s op b runs. wants-as (pageAt (st .k) ws) (standOf op (slotAt st s)) (inv .locked s op b runs .wants);
+  heldAs = held-as;
+  turns = λ s op b runs c. sound-is st .0 (facts-sound st (inv .sound)) .converts s op b runs c .third;
+  wantsAs = λ s op b runs. wants-as (pageAt (st .k) ws) (standOf op (slotAt st s)) (inv .locked s op b runs .converts) (inv .locked s op b runs .wants);
   oneHeld = λ s x v way b runs.
       holds-one (st .k) (pageAt (st .k) ws) (inv .height) (inv .tree) (standOf (Regrade x v way) (slotAt st s)) (λ P. regrade-safe (st .k) P {x = x} {v = v} {way = way} refl) refl
       (inv .stands s (Regrade x v way) b runs);
@@ -168,16 +223,32 @@ after-call st ws inv = record {
   secondAbove = λ s p op b runs second h. no-leaf s p op b runs second h (inv .stands s op b runs);
 }
   where
+    -- the kind that is due
+    held-as : (s p : ℕ) (op : Op) (lock : Lock) → s < slotCount → Opened st s op → HoldsAs st s p lock
+        → (Converted (standOf op (slotAt st s)) p → lock ≡ Xi) × ((Converted (standOf op (slotAt st s)) p → ⊥) → GoesWith op lock)
+    held-as s p op lock b runs h =
+        let z : Stand = standOf op (slotAt st s) in
+        let due : lock ≡ heldDue z p
+        = sym (sound-kind st (inv .sound) s p lock b h) ∙ held-with z (inv .locked s op b runs .holds) p (as-held st s p lock h) in
+        let ordered = ordered-held st ws inv s op b runs in (
+          λ c. due ∙ cond-true Xi (heldLock op) (and-both (here-converts z (c .0)) (before-older (z .want) p (pagesInTurn z) (ordered .0) (c .1))),
+          λ never. kind-is op lock .0 (due ∙ cond-false Xi (heldLock op)
+              (false-if-not-true (converting z && member p (olderThan (z .want) (pagesInTurn z))) (λ both.
+              let own = and-first (converting z) (member p (olderThan (z .want) (pagesInTurn z))) both in
+              never (converts-here z own, older-before (z .want) p (pagesInTurn z) (ordered .1 own) (and-second (converting z) (member p (olderThan (z .want) (pagesInTurn z))) both))))),
+        )
+
     no-leaf : (s p : ℕ) (op : Op) → s < slotCount → Opened st s op → BySecond op → holdsAt st s p ≡ true
         → Stance (st .k) (pageAt (st .k) ws) (inv .height) (inv .tree) (standOf op (slotAt st s)) → pageAt (st .k) ws p .level ≢ 1
-    no-leaf s p op b runs second h (inl e) =
+    no-leaf s p op b runs second h (inl (inl e)) =
         not-both h (ap₂ (λ (ps qs : List ℕ). member p (ps ++ qs)) (e .noPath) (e .noSiblings) ∙ member-none p)
-    no-leaf s p op b runs second h (inr (inl c)) =
+    no-leaf s p op b runs second h (inl (inr (inl c))) =
         coming-above (st .k) (st .n) (pageAt (st .k) ws) (inv .height) (inv .tree) (inv .sound .kLeast) (inv .forms .forms) (standOf op (slotAt st s)) (inv .keys s op b runs) c p h
-    no-leaf s p op b runs second h (inr (inr (inl e))) =
+    no-leaf s p op b runs second h (inl (inr (inr (inl e)))) =
         not-both (deletes-beside op (e .deletes)) (second-straight op (named-second op second))
-    no-leaf s p op b runs second h (inr (inr (inr c))) =
+    no-leaf s p op b runs second h (inl (inr (inr (inr c)))) =
         not-both (next-beside op (c .asksNext)) (second-straight op (named-second op second))
+    no-leaf s p op b runs second h (inr c) = not-both (named-second op second) (third-not-second op (c .third))
 
 -- ---- what one call takes and gives up
 
@@ -186,25 +257,26 @@ abbrev Goes : Stand → Stand → Type 0
 Goes z z′ = ((z′ .op ≡ z .op) × (member (z .want) (holding z′) ≡ true)) ⊎ ((isSecond (z .op) ≡ true) × (z′ ≡ freshStand (firstWay (z .op))))
 
 takes-wanted : (k : ℕ) (memory : ℕ → Page) (z z′ : Stand) → Takes k memory z z′ → Goes z z′
-takes-wanted k memory z z′ (inl g) =
+takes-wanted k memory z z′ (inl (inl g)) =
     inl (
       g .same,
       member-append (z .want) (z′ .path) (z′ .beside)
           ∙ or-first (member (z .want) (z′ .beside)) (ap (member (z .want)) (g .holds) ∙ member-here (z .want) []),
     )
-takes-wanted k memory z z′ (inr (inl g)) =
+takes-wanted k memory z z′ (inl (inr (inl g))) =
     inl (
       g .same,
       member-append (z .want) (z′ .path) (z′ .beside)
           ∙ or-first (member (z .want) (z′ .beside)) (ap (member (z .want)) (g .holds) ∙ member-inside (z .want) (z .path) []),
     )
-takes-wanted k memory z z′ (inr (inr (inl g))) =
+takes-wanted k memory z z′ (inl (inr (inr (inl g)))) =
     inl (
       g .same,
       member-append (z .want) (z′ .path) (z′ .beside)
           ∙ or-second (member (z .want) (z′ .path)) (ap (member (z .want)) (g .holds) ∙ member-inside (z .want) (z .beside) []),
     )
-takes-wanted k memory z z′ (inr (inr (inr g))) = inr (g .second, g .fresh)
+takes-wanted k memory z z′ (inl (inr (inr (inr g)))) = inr (g .second, g .fresh)
+takes-wanted k memory z z′ (inr g) = inl (g .same, ap₂ (λ (ps qs : List ℕ). member (z .want) (ps ++ qs)) (g .still) (g .beside) ∙ g .held)
 
 -- by the first way an update holds with ξ
 first-excludes : (op : Op) → isSecond op ≡ true → heldLock (firstWay op) ≡ Xi
@@ -234,16 +306,28 @@ module _ (st : State) (ws : List ℕ) (inv : Invariant st ws) where
       clash-apart (lockHeldAt st (h .slot) (wantAt st s)) (lockWantedAt st s) (h .clashes),
     );
   }
-  in-the-way s b o (inr e) =
+  in-the-way s b o (inr (new, inr c)) = record {
+    slot = c .slot;
+    inside = c .below;
+    other = c .other;
+    there = inr (
+      (λ own. not-both (in-member (wantAt st s) (held (slotAt st s)) own) new),
+      inr (c .same, member-at (wantAt st (c .slot)) (held (slotAt st (c .slot))) 0 (c .converts)),
+    );
+  }
+  in-the-way s b o (inr (new, inl e)) =
       let waits = older-waits s (e .slot) (waitingOrder st) (e .older) in
       record {
         slot = e .slot;
         inside = inv .sound .orderBelow (e .slot) waits;
         other = older-other s (e .slot) (waitingOrder st) (e .older);
         there = inr (
-          e .same,
-          older-before s (e .slot) (waitingOrder st) (inv .sound .orderNames s b o) (e .older),
-          clash-apart (lockWantedAt st (e .slot)) (lockWantedAt st s) (e .clashes),
+          (λ own. not-both (in-member (wantAt st s) (held (slotAt st s)) own) new),
+          inl (
+            e .same,
+            older-before s (e .slot) (waitingOrder st) (inv .sound .orderNames s b o) (e .older),
+            clash-apart (lockWantedAt st (e .slot)) (lockWantedAt st s) (e .clashes),
+          ),
         );
       }
 
@@ -259,13 +343,27 @@ module _ (st : State) (ws : List ℕ) (inv : Invariant st ws) where
         clashes = ap (λ (l : Lock). clash l (lockWantedAt st s)) (sound-kind st (inv .sound) (w .slot) (wantAt st s) lock (w .inside) holds)
             ∙ apart-clash lock (lockWantedAt st s) apart;
       }))
-      (λ (same, before, apart).
-      inr (record {
-        slot = w .slot;
-        older = before-older s (w .slot) (waitingOrder st) (inv .sound .orderOnce) before;
-        same = same;
-        clashes = apart-clash (lockWantedAt st (w .slot)) (lockWantedAt st s) apart;
-      }))
+      (λ (new, how).
+      inr (
+        false-if-not-true (holdsAt st s (wantAt st s)) (λ m. new (member-at (wantAt st s) (held (slotAt st s)) 0 m)),
+        ⊎-elim
+            (λ (same, before, apart).
+            inl (record {
+              slot = w .slot;
+              older = before-older s (w .slot) (waitingOrder st) (inv .sound .orderOnce) before;
+              same = same;
+              clashes = apart-clash (lockWantedAt st (w .slot)) (lockWantedAt st s) apart;
+            }))
+            (λ (same, own).
+            inr (record {
+              slot = w .slot;
+              below = w .inside;
+              other = w .other;
+              same = same;
+              converts = in-member (wantAt st (w .slot)) (held (slotAt st (w .slot))) own;
+            }))
+            how,
+      ))
       (w .there)
 
   waits-for : (s : ℕ) (r : Left) → Waits s r → Exactly (r .answer ≡ Waiting) ((s < slotCount) × (openAt st s ≡ true) × InTheWay st s)
@@ -372,6 +470,14 @@ module _ (st : State) (ws : List ℕ) (inv : Invariant st ws) where
       reads = λ other. ap (λ (W : List Write). applied (st .k) W ws) (e .writers other);
       regrades = λ old told-so q other. unwritten s op a writes e q (λ w. other (e .regrades old told-so q w));
       stays = λ second. stays-second st ws inv s op b runs g (subst (λ (r : Left). isOneOf (r .answer) ending ≡ true) (sym told) (ends-so op s a writes e)) second;
+      turned = λ third. (
+        (λ changes. converts-here (standOf op (slotAt st s)) (sym (e .turned (named-third op third)) ∙ changes)),
+        (λ own. e .turned (named-third op third) ∙ here-converts (standOf op (slotAt st s)) own),
+      );
+      allXi = λ third own q h.
+          let (a′, writes′, is) = verdict-ends st ws s (verdict (st .k) (st .n) ws (standOf op (slotAt st s)))
+          (subst (λ (r : Left). isOneOf (r .answer) ending ≡ true) (sym told ∙ granted-does st ws inv s op b runs g) (ends-so op s a writes e)) in
+          all-turned st ws inv s op b runs (here-converts (standOf op (slotAt st s)) own) a′ writes′ is q (in-member q (held (slotAt st s)) h);
       seen = subst (λ (r : Left). Seen (pageAt (st .k) ws (wantAt st s)) (r .answer)) told (step-seen st ws inv s op b runs g);
     }));
     others = λ u n. slot-other st (inv .shaped) s b closedSlot [] 0 u n;
@@ -456,8 +562,10 @@ pub safe-is : (k : ℕ) (op : Op) (P : Page) → Exactly (isSafe op k P ≡ true
 safe-is k (Search x) P = (λ _. tt, λ _. refl)
 safe-is k (Insert x v First) P = (ltb-true (μ P) (2 * k), lt-ltb (μ P) (2 * k))
 safe-is k (Insert x v Second) P = (λ _. tt, λ _. refl)
+safe-is k (Insert x v Third) P = (ltb-true (μ P) (2 * k), lt-ltb (μ P) (2 * k))
 safe-is k (Delete x First) P = (ltb-true k (μ P), lt-ltb k (μ P))
 safe-is k (Delete x Second) P = (λ _. tt, λ _. refl)
+safe-is k (Delete x Third) P = (ltb-true k (μ P), lt-ltb k (μ P))
 safe-is k (Next x) P = (
   λ h. (
     eqb-false (P .level) 1 (not-true (isLeaf P) (and-first (not (isLeaf P)) (hasRight x P) h)),
@@ -467,48 +575,63 @@ safe-is k (Next x) P = (
 )
 safe-is k (Regrade x v First) P = (λ _. tt, λ _. refl)
 safe-is k (Regrade x v Second) P = (λ _. tt, λ _. refl)
+safe-is k (Regrade x v Third) P = (λ _. tt, λ _. refl)
 
 -- a deletion, a Next, and what may hold pages beside its path, by name
-deletion-named : (op : Op) → isDelete op ≡ true → (x : ℕ) × (op ≡ Delete x First)
+deletion-named : (op : Op) → isDelete op ≡ true → (x : ℕ) × ((op ≡ Delete x First) ⊎ (op ≡ Delete x Third))
 deletion-named (Search x) e = absurd (false≢true e)
 deletion-named (Insert x v First) e = absurd (false≢true e)
 deletion-named (Insert x v Second) e = absurd (false≢true e)
-deletion-named (Delete x First) e = (x, refl)
+deletion-named (Insert x v Third) e = absurd (false≢true e)
+deletion-named (Delete x First) e = (x, inl refl)
 deletion-named (Delete x Second) e = absurd (false≢true e)
+deletion-named (Delete x Third) e = (x, inr refl)
 deletion-named (Next x) e = absurd (false≢true e)
 deletion-named (Regrade x v First) e = absurd (false≢true e)
 deletion-named (Regrade x v Second) e = absurd (false≢true e)
+deletion-named (Regrade x v Third) e = absurd (false≢true e)
 
 next-named : (op : Op) → isNext op ≡ true → (x : ℕ) × (op ≡ Next x)
 next-named (Search x) e = absurd (false≢true e)
 next-named (Insert x v First) e = absurd (false≢true e)
 next-named (Insert x v Second) e = absurd (false≢true e)
+next-named (Insert x v Third) e = absurd (false≢true e)
 next-named (Delete x First) e = absurd (false≢true e)
 next-named (Delete x Second) e = absurd (false≢true e)
+next-named (Delete x Third) e = absurd (false≢true e)
 next-named (Next x) e = (x, refl)
 next-named (Regrade x v First) e = absurd (false≢true e)
 next-named (Regrade x v Second) e = absurd (false≢true e)
+next-named (Regrade x v Third) e = absurd (false≢true e)
 
-beside-named : (op : Op) → goesBeside op ≡ true → (x : ℕ) × ((op ≡ Delete x First) ⊎ (op ≡ Next x))
+beside-named : (op : Op) → goesBeside op ≡ true → (x : ℕ) × ((op ≡ Delete x First) ⊎ ((op ≡ Delete x Third) ⊎ (op ≡ Next x)))
 beside-named (Search x) e = absurd (false≢true e)
 beside-named (Insert x v First) e = absurd (false≢true e)
 beside-named (Insert x v Second) e = absurd (false≢true e)
+beside-named (Insert x v Third) e = absurd (false≢true e)
 beside-named (Delete x First) e = (x, inl refl)
 beside-named (Delete x Second) e = absurd (false≢true e)
-beside-named (Next x) e = (x, inr refl)
+beside-named (Delete x Third) e = (x, inr (inl refl))
+beside-named (Next x) e = (x, inr (inr refl))
 beside-named (Regrade x v First) e = absurd (false≢true e)
 beside-named (Regrade x v Second) e = absurd (false≢true e)
+beside-named (Regrade x v Third) e = absurd (false≢true e)
 
 words-pinned : (k : ℕ) → Words k
-unfolding neighbour
+unfolding neighbour inTurn
 words-pinned k = record {
   key = λ x v way. (refl, refl, refl, refl, refl);
-  deletion = λ op. (deletion-named op, λ d. ap isDelete (d .1));
+  deletion = λ op. (deletion-named op, λ d. ⊎-elim (λ e. ap isDelete e) (λ e. ap isDelete e) (d .1));
   asksNext = λ op. (next-named op, λ n. ap isNext (n .1));
-  beside = λ op. (beside-named op, λ b. ⊎-elim (λ d. ap goesBeside d) (λ n. ap goesBeside n) (b .1));
+  beside = λ op. (beside-named op, λ b. ⊎-elim (λ d. ap goesBeside d) (⊎-elim (λ d. ap goesBeside d) (λ n. ap goesBeside n)) (b .1));
   second = λ op. (second-named op, named-second op);
+  third = λ op. (third-named op, named-third op);
   first = λ x v way. (refl, refl, refl);
   atOnce = λ x v way es. (refl, refl, refl);
+  known = λ z memory leaf fathers. (known-told k memory z leaf fathers, known-from k memory z leaf fathers);
+  turnsNone = λ z e. ap (λ (ps : List ℕ). inTurn 0 ps (z .beside)) e;
+  turnsAlone = λ z top below e few. ap (λ (ps : List ℕ). inTurn 0 ps (z .beside)) e ∙ turn-alone top below (z .beside) few;
+  turnsBoth = λ z top s below lower e f same. ap₂ (λ (ps ss : List ℕ). inTurn 0 ps ss) e f ∙ turn-both top s below lower same;
   nearest = λ x es. (none-below x es, below-none x es);
   safe = safe-is k;
   right = λ x F h. cond-true (pointer (suc (place x (F .entries))) F) (pointer (place x (F .entries) - 1) F) (lt-ltb (place x (F .entries)) (μ F) h);

@@ -1,9 +1,11 @@
 pub mod Computed
 pub mod Terms
 pub mod SoundState
+pub mod Known
 pub mod Report
 pub mod Seen
 pub mod Demand2
+pub mod Turned
 pub mod SoundPages
 pub mod NextWant
 pub mod Demand1

@@ -18,12 +18,13 @@ use Rattle.slots.specs.declared.Task.{Task}
 use Rattle.slots.specs.declared.State.{State}
 use Rattle.slots.specs.declared.Answer.{Answer}
 use Rattle.slots.specs.declared.Answer.the-variants.{Waiting, Moved, Found, NotFound, Inserted, AlreadyThere, Deleted, NoSuchKey, NoRoom, BadState, BadPool, BadSlot, Damaged, Next as NextLot, None as NoLot, Regraded}
-use Rattle.slots.specs.Parts.{keyOf, isNext, isSecond, Stand, onPages, wantBeside, standOf, slotAt}
+use Rattle.slots.specs.Parts.{keyOf, isNext, isSecond, Stand, onPages, wantBeside, wantConverted, converting, standOf, slotAt}
 use Rattle.slots.specs.Heard.{heard, numberOf}
 use Rattle.slots.specs.Grant.{grants}
 use Rattle.slots.specs.Sound.{sound}
-use Rattle.footing.specs.Granted.{Verdict, broken, goes, ends, isSafe, byNeed, deletes, nextAnswer, crosses, byNearest, staysSecond, atLeaf, fromLeaf, byWayAtLeaf, comesDown, goesLeft, besides, atItsLeaf, granted}
+use Rattle.footing.specs.Granted.{Verdict, broken, goes, ends, isSafe, byNeed, deletes, nextAnswer, crosses, byNearest, staysSecond, atLeaf, fromLeaf, byWayAtLeaf, comesDown, goesLeft, besides, converts, atItsLeaf, granted}
 use Rattle.footing.specs.Fitting.{soundForStep, verdict}
+use Rattle.footing.proofs.OnTurn.{converted-by}
 use Rattle.index.specs.Step.{Left, acted, steppedTask, stepped}
 use Rattle.runs.proofs.PlainLaws.{above-key}
 use Rattle.runs.proofs.Verdicts.{comes-down-by}
@@ -98,10 +99,11 @@ leaf-tells (Regrade x v way) k memory free z leaf fathers =
     (λ _. no-lot (Regrade x v way) (Regraded (information x (memory leaf .entries))) refl)
     (λ _. no-lot (Regrade x v way) NoSuchKey refl)
 
--- by its way: where it begins again it tells nothing
+-- by its way: where it begins again, or converts first, it tells nothing
 way-tells : (k : ℕ) (memory : ℕ → Page) (free : List ℕ) (z : Stand) (leaf : ℕ) (fathers : List ℕ) → TellsBy (z .op) (byWayAtLeaf k memory free z leaf fathers)
 way-tells k memory free z leaf fathers =
-    cond-ind (TellsBy (z .op)) (isSecond (z .op) && not (staysSecond (z .op) k memory leaf)) (λ _. tt) (λ _. leaf-tells (z .op) k memory free z leaf fathers)
+    cond-ind (TellsBy (z .op)) (isSecond (z .op) && not (staysSecond (z .op) k memory leaf)) (λ _. tt)
+    (λ _. converted-by (TellsBy (z .op)) k memory z leaf fathers _ (leaf-tells (z .op) k memory free z leaf fathers) (λ _. tt))
 
 -- ---- a granted step
 
@@ -122,11 +124,23 @@ module _ (k : ℕ) (memory : ℕ → Page) (free : List ℕ) (z : Stand) where
       cond-ind (TellsBy (z .op)) (isLeaf (memory (z .want)))
       (λ _. first-tells (z .op) asks (memory (z .want) .entries))
       (λ _. tt))
-      (λ _. from-leaf-tells (z .op) _ (λ leaf fathers. deletes-tells (z .op) k memory (keyOf (z .op)) (wantBeside z) leaf fathers) (reverse (z .path)))
+      (λ _. from-leaf-tells (z .op) _
+      (λ leaf fathers. converted-by (TellsBy (z .op)) k memory (wantBeside z) leaf fathers _ (deletes-tells (z .op) k memory (keyOf (z .op)) (wantBeside z) leaf fathers) (λ _. tt))
+      (reverse (z .path)))
+
+  converting-tells : TellsBy (z .op) (converts k memory free z)
+  unfolding converts
+  converting-tells =
+      from-leaf-tells (z .op) _
+      (λ leaf fathers. converted-by (TellsBy (z .op)) k memory (wantConverted z) leaf fathers _ (leaf-tells (z .op) k memory free (wantConverted z) leaf fathers) (λ _. tt))
+      (reverse (z .path))
 
   granted-tells : TellsBy (z .op) (granted k memory free z)
   unfolding granted
-  granted-tells = cond-ind (TellsBy (z .op)) (atItsLeaf memory (reverse (z .path))) (λ _. beside-tells) (λ _. coming-tells)
+  granted-tells =
+      cond-ind (TellsBy (z .op)) (converting z)
+      (λ _. converting-tells)
+      (λ _. cond-ind (TellsBy (z .op)) (atItsLeaf memory (reverse (z .path))) (λ _. beside-tells) (λ _. coming-tells))
 
 verdict-tells : (k n : ℕ) (ws : List ℕ) (z : Stand) → TellsBy (z .op) (verdict k n ws z)
 unfolding verdict

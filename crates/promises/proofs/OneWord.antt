@@ -12,10 +12,10 @@ use lib.ListN.{length, getD, set, take, drop, length-set}
 use lib.Seq.{sets, sets-eq, getD-take, getD-drop, drop-drop}
 use Rattle.ground.specs.Limits.{slotCount}
 use Rattle.ground.specs.Tests.{member}
-use Rattle.ground.proofs.Bools.{not-both, and-first, or-second}
+use Rattle.ground.proofs.Bools.{not-both, and-first, or-first, or-second}
 use Rattle.ground.proofs.Choice.{cond-ind}
-use Rattle.ground.proofs.Tests.{all-member, member-append, member-here}
-use Rattle.page.specs.Words.{Entry, Page, size, isLeaf, pairsFrom, view}
+use Rattle.ground.proofs.Tests.{all-member, member-append, member-here, member-first}
+use Rattle.page.specs.Words.{Entry, Page, size, pairsFrom, view}
 use Rattle.page.specs.Place.{place, has, information}
 use Rattle.page.specs.Sound.{soundByItself}
 use Rattle.page.proofs.PlaceLaws.{place-most, has-place, information-at}
@@ -34,18 +34,20 @@ use Rattle.slots.specs.declared.State.{State}
 use Rattle.slots.specs.declared.Answer.{Answer}
 use Rattle.slots.specs.declared.Answer.the-variants.{Waiting, Moved, Deleted, NoSuchKey, BadState, BadPool, BadSlot, Damaged, Regraded}
 use Rattle.slots.specs.declared.Under.{Under}
-use Rattle.slots.specs.Parts.{isOpen, isNext, isSecond, held, Stand, holding, onPages, wantBeside, withOp, standOf, slotAt}
+use Rattle.slots.specs.Parts.{isOpen, isNext, isSecond, held, Stand, holding, converting, onPages, wantBeside, wantConverted, withOp, standOf, slotAt}
 use Rattle.slots.specs.Heard.{heard, numberOf}
 use Rattle.slots.specs.Grant.{grants}
 use Rattle.slots.specs.Sound.{sound}
 use Rattle.slots.proofs.SoundFacts.{SoundState, sound-facts}
-use Rattle.footing.specs.Granted.{Verdict, broken, goes, ends, byNeed, deletes, staysSecond, atLeaf, fromLeaf, byWayAtLeaf, besides, atItsLeaf, granted}
+use Rattle.footing.specs.Granted.{Verdict, broken, goes, ends, byNeed, deletes, staysSecond, convertedFirst, atLeaf, fromLeaf, byWayAtLeaf, besides, converts, atItsLeaf, granted}
+use Rattle.footing.proofs.OnTurn.{converted-by}
 use Rattle.footing.specs.Fitting.{pagesSound, fitting, nextIsNew, soundForStep, verdict}
 use Rattle.index.specs.Step.{Left, acted, steppedTask, stepped}
+use Rattle.runs.proofs.Paths.{member-reverse}
+use Rattle.runs.proofs.Locking.{updates-not-next}
 use Rattle.runs.proofs.PlainLaws.{clashes}
 use Rattle.runs.proofs.Verdicts.{comes-down-by}
 use Rattle.promises.specs.Regrading.{OneWord, RegradingWrites}
-use Rattle.promises.proofs.Demand2.{straight-stays}
 
 -- ---- one word of a part is one word of the whole
 
@@ -130,50 +132,76 @@ module _ (k n : ℕ) (ws : List ℕ) (x new old : ℕ) (way : Way) (z₀ : Stand
   need-writes y whole h astray = tt
 
   beside-writes : (up : List ℕ)
-      → Wrote (fromLeaf (λ (leaf : ℕ) (fathers : List ℕ). deletes k memory x (wantBeside z) leaf fathers) up)
+      → Wrote (fromLeaf (λ (leaf : ℕ) (fathers : List ℕ). convertedFirst k memory (wantBeside z) leaf fathers (deletes k memory x (wantBeside z) leaf fathers)) up)
   unfolding deletes
   beside-writes [] = tt
   beside-writes (leaf ∷ fathers) =
-      need-writes (wantBeside z) _ (another (Deleted (information x (memory leaf .entries))) refl) (needs k memory x leaf fathers (z .beside ++ z .want ∷ []))
+      converted-by Wrote k memory (wantBeside z) leaf fathers (deletes k memory x (wantBeside z) leaf fathers)
+      (need-writes (wantBeside z) _ (another (Deleted (information x (memory leaf .entries))) refl) (needs k memory x leaf fathers (z .beside ++ z .want ∷ [])))
+      (λ _. tt)
 
-  leaf-writes : Known k n ws (z .want) → (path : List ℕ) (locks : List Under) (fathers : List ℕ)
-      → Wrote (atLeaf (Regrade x new way) k memory (freePages k n ws) (onPages z path locks [] []) (z .want) fathers)
+  leaf-writes : (y : Stand) (leaf : ℕ) (fathers : List ℕ) → Known k n ws leaf
+      → Wrote (atLeaf (Regrade x new way) k memory (freePages k n ws) y leaf fathers)
   unfolding atLeaf
-  leaf-writes known path locks fathers =
-      cond-ind Wrote (has x (memory (z .want) .entries))
+  leaf-writes y leaf fathers known =
+      cond-ind Wrote (has x (memory leaf .entries))
       (λ there e.
-      subst (λ (v : ℕ). OneWord ws (applied k (regrading memory x new (z .want)) ws) x v new) (ap (λ (a : Answer). getD (heard a) 1 0) e) (page-writes x new known there))
+      subst (λ (v : ℕ). OneWord ws (applied k (regrading memory x new leaf) ws) x v new) (ap (λ (a : Answer). getD (heard a) 1 0) e) (page-writes x new known there))
       (λ _. another NoSuchKey refl)
+
+  -- converting first, it writes what it writes then
+  turn-writes : (y : Stand) (leaf : ℕ) (fathers : List ℕ) → Known k n ws leaf
+      → Wrote (convertedFirst k memory y leaf fathers (atLeaf (Regrade x new way) k memory (freePages k n ws) y leaf fathers))
+  turn-writes y leaf fathers known =
+      converted-by Wrote k memory y leaf fathers (atLeaf (Regrade x new way) k memory (freePages k n ws) y leaf fathers) (leaf-writes y leaf fathers known) (λ _. tt)
 
   -- by its way: where it begins again it writes nothing
   way-writes : Known k n ws (z .want) → (path : List ℕ) (locks : List Under) (fathers : List ℕ)
       → Wrote (byWayAtLeaf k memory (freePages k n ws) (onPages z path locks [] []) (z .want) fathers)
   way-writes known path locks fathers =
-      cond-ind Wrote (isSecond (z .op) && not (staysSecond (z .op) k memory (z .want))) (λ _. tt) (λ _. leaf-writes known path locks fathers)
+      cond-ind Wrote (isSecond (z .op) && not (staysSecond (z .op) k memory (z .want))) (λ _. tt) (λ _. turn-writes (onPages z path locks [] []) (z .want) fathers known)
 
-  granted-writes : Known k n ws (z .want) → Wrote (granted k memory (freePages k n ws) z)
-  unfolding granted besides
+  -- each page that it holds or wants is one that the step has tested
+  abbrev Tested : Type 0
+  Tested = (p : ℕ) → member p (holding z ++ z .want ∷ []) ≡ true → Known k n ws p
+
+  converts-writes : Tested → (up : List ℕ) → reverse (z .path) ≡ up
+      → Wrote (fromLeaf (λ (leaf : ℕ) (fathers : List ℕ).
+      convertedFirst k memory (wantConverted z) leaf fathers (atLeaf (Regrade x new way) k memory (freePages k n ws) (wantConverted z) leaf fathers)) up)
+  converts-writes known [] e = tt
+  converts-writes known (leaf ∷ fathers) e =
+      turn-writes (wantConverted z) leaf fathers
+      (known leaf
+      (member-append leaf (holding z) (z .want ∷ [])
+      ∙ or-first (member leaf (z .want ∷ []))
+      (member-append leaf (z .path) (z .beside)
+      ∙ or-first (member leaf (z .beside)) (sym (member-reverse leaf (z .path)) ∙ ap (member leaf) e ∙ member-here leaf fathers))))
+
+  granted-writes : Tested → Wrote (granted k memory (freePages k n ws) z)
+  unfolding granted converts besides
   granted-writes known =
+      cond-ind Wrote (converting z)
+      (λ _. converts-writes known (reverse (z .path)) refl)
+      (λ _.
       cond-ind Wrote (atItsLeaf memory (reverse (z .path)))
-      (λ _. cond-ind Wrote (isNext (z .op)) (λ asks. not-both asks (straight-stays (Regrade x new way) refl .1)) (λ _. beside-writes (reverse (z .path))))
-      (λ _. comes-down-by Wrote k memory (freePages k n ws) z (λ _ path locks fathers. way-writes known path locks fathers) (λ _. tt))
+      (λ _. cond-ind Wrote (isNext (z .op)) (λ asks. not-both asks (updates-not-next (Regrade x new way) refl)) (λ _. beside-writes (reverse (z .path))))
+      (λ _. comes-down-by Wrote k memory (freePages k n ws) z (λ _ path locks fathers. way-writes (known (z .want) want-there) path locks fathers) (λ _. tt)))
+    where
+      want-there : member (z .want) (holding z ++ z .want ∷ []) ≡ true
+      want-there = member-append (z .want) (holding z) (z .want ∷ []) ∙ or-second (member (z .want) (holding z)) (member-here (z .want) [])
 
-  verdict-writes : (soundForStep k n ws z ≡ true → Known k n ws (z .want))
-      → Wrote (verdict k n ws z)
+  verdict-writes : (soundForStep k n ws z ≡ true → Tested) → Wrote (verdict k n ws z)
   unfolding verdict
   verdict-writes known = cond-ind Wrote (soundForStep k n ws z) (λ sure. granted-writes (known sure)) (λ _. tt)
 
-  -- the wanted page is among those that are tested
-  want-sound : soundForStep k n ws z ≡ true
-      → soundByItself k n (z .want) (wordsOf k (z .want) ws) ≡ true
+  -- each of them is sound by itself
+  page-sound : soundForStep k n ws z ≡ true → (p : ℕ) → member p (holding z ++ z .want ∷ []) ≡ true → soundByItself k n p (wordsOf k p ws) ≡ true
   unfolding soundForStep pagesSound
-  want-sound sure =
+  page-sound sure =
       let pages : Bool = pagesSound k n ws (holding z ++ z .want ∷ []) in
       let fits : Bool = fitting k memory z in
       all-member (λ (p : ℕ). soundByItself k n p (wordsOf k p ws)) (holding z ++ z .want ∷ [])
       (and-first pages fits (and-first (pages && fits) (nextIsNew (granted k memory (freePages k n ws) z)) sure))
-      (z .want)
-      (member-append (z .want) (holding z) (z .want ∷ []) ∙ or-second (member (z .want) (holding z)) (member-here (z .want) []))
 
 acted-writes : (st : State) (ws : List ℕ) (s x new old : ℕ) (v : Verdict) → Writes (st .k) ws x new old v
     → acted st ws s v .answer ≡ Regraded old → OneWord ws (acted st ws s v .words) x old new
@@ -203,9 +231,10 @@ regrading-writes st ws s x new old way opened =
 
     -- the step has tested the page that it is granted
     known : sound st ≡ true → length ws ≡ poolLength (st .k) (st .n) → s < slotCount
-        → soundForStep (st .k) (st .n) ws (standOf (Regrade x new way) slot) ≡ true → Known (st .k) (st .n) ws (slot .want)
-    known ok whole inside sure =
+        → soundForStep (st .k) (st .n) ws (standOf (Regrade x new way) slot) ≡ true
+        → (p : ℕ) → member p (held slot ++ slot .want ∷ []) ≡ true → Known (st .k) (st .n) ws p
+    known ok whole inside sure p m =
         let facts : SoundState st = sound-facts st ok in
-        let below : slot .want < st .n = facts .slot s inside .below (ap isOpen opened) (slot .want) (member-here (slot .want) (held slot)) in
+        let below : p < st .n = facts .slot s inside .below (ap isOpen opened) p (member-first p (slot .want) (held slot) m) in
         held-page (facts .kMost) (facts .nMost) whole
-        (record { inside = below; sound = want-sound (st .k) (st .n) ws x new old way (standOf (Regrade x new way) slot) sure })
+        (record { inside = below; sound = page-sound (st .k) (st .n) ws x new old way (standOf (Regrade x new way) slot) sure p m })

@@ -7,6 +7,7 @@ use borrow.Author.Tests.{eqb-true}
 use lib.Dec.{leb, ltb, eqb}
 use lib.ListN.{length, getD}
 use Rattle.ground.specs.Limits.{slotCount}
+use Rattle.ground.proofs.Bools.{not-both}
 use Rattle.ground.proofs.Choice.{by-test, cond-ind, cond-true, cond-false}
 use Rattle.page.specs.Words.{Entry, Page, isLeaf}
 use Rattle.page.specs.Place.{has, information, atOrAbove}
@@ -18,17 +19,19 @@ use Rattle.slots.specs.declared.Op.the-variants.{Search, Insert, Delete, Next, 
 use Rattle.slots.specs.declared.State.{State}
 use Rattle.slots.specs.declared.Answer.{Answer}
 use Rattle.slots.specs.declared.Answer.the-variants.{Moved, Found, NotFound, Inserted, AlreadyThere, Deleted, NoSuchKey, NoRoom, Damaged, None as NoLot, Regraded}
-use Rattle.slots.specs.Parts.{keyOf, isNext, isSecond, Stand, onPages, wantBeside, standOf, slotAt, wantAt, Opened}
+use Rattle.slots.specs.Parts.{keyOf, isNext, isSecond, Stand, converting, onPages, wantBeside, wantConverted, standOf, slotAt, wantAt, Opened}
 use Rattle.slots.specs.Heard.{heard, numberOf}
 use Rattle.slots.specs.Grant.{grants}
-use Rattle.footing.specs.Granted.{Verdict, broken, goes, ends, isSafe, byNeed, deletes, nextAnswer, crosses, byNearest, staysSecond, atLeaf, fromLeaf, byWayAtLeaf, comesDown, goesLeft, besides, atItsLeaf, granted}
+use Rattle.footing.specs.Granted.{Verdict, broken, goes, ends, isSafe, byNeed, deletes, nextAnswer, crosses, byNearest, staysSecond, convertedFirst, atLeaf, fromLeaf, byWayAtLeaf, comesDown, goesLeft, besides, converts, atItsLeaf, granted}
+use Rattle.footing.proofs.OnTurn.{converted-by}
 use Rattle.footing.specs.Fitting.{soundForStep, verdict}
 use Rattle.index.specs.Step.{Left, acted, stepped}
 use Rattle.runs.specs.PlainFacts.{Among}
 use Rattle.runs.proofs.Invariant.{Invariant}
 use Rattle.runs.proofs.PlainLaws.{among-later}
 use Rattle.runs.proofs.Calls.{granted-does}
-use Rattle.runs.proofs.Verdicts.{comes-down-by}
+use Rattle.runs.proofs.Locking.{updates-not-next, third-updates}
+use Rattle.runs.proofs.Verdicts.{comes-down-by, turn-parts, sound-turn}
 use Rattle.promises.specs.Demand2.{Seen}
 
 -- every answer but Next tells of no lot
@@ -82,37 +85,50 @@ unfolding deletes
 deletes-seen P k memory x z leaf fathers =
     need-seen P z _ (no-next P (Deleted (information x (memory leaf .entries))) refl) (needs k memory x leaf fathers (z .beside))
 
+-- who does not ask for the next lot tells none
+plain-seen : (P : Page) (op : Op) (k : ℕ) (memory : ℕ → Page) (free : List ℕ) (z : Stand) (leaf : ℕ) (fathers : List ℕ) → isNext op ≡ false
+    → SeenBy P (atLeaf op k memory free z leaf fathers)
+unfolding atLeaf
+plain-seen P (Search x) k memory free z leaf fathers n =
+    cond-ind (Seen P) (has x (memory leaf .entries))
+    (λ _. no-next P (Found (information x (memory leaf .entries))) refl)
+    (λ _. no-next P NotFound refl)
+plain-seen P (Insert x v way) k memory free z leaf fathers n =
+    cond-ind (SeenBy P) (has x (memory leaf .entries))
+    (λ _. no-next P (AlreadyThere (information x (memory leaf .entries))) refl)
+    (λ _.
+    cond-ind (SeenBy P) (ltb (length free) (room k memory leaf (z .path)))
+    (λ _. no-next P NoRoom refl)
+    (λ _. no-next P Inserted refl))
+plain-seen P (Delete x way) k memory free z leaf fathers n =
+    cond-ind (SeenBy P) (has x (memory leaf .entries))
+    (λ _. deletes-seen P k memory x z leaf fathers)
+    (λ _. no-next P NoSuchKey refl)
+plain-seen P (Next x) k memory free z leaf fathers n = not-both refl n
+plain-seen P (Regrade x v way) k memory free z leaf fathers n =
+    cond-ind (SeenBy P) (has x (memory leaf .entries))
+    (λ _. no-next P (Regraded (information x (memory leaf .entries))) refl)
+    (λ _. no-next P NoSuchKey refl)
+
 leaf-seen : (op : Op) (k : ℕ) (memory : ℕ → Page) (free : List ℕ) (z : Stand) (leaf : ℕ) (fathers : List ℕ) → isLeaf (memory leaf) ≡ true
     → SeenBy (memory leaf) (atLeaf op k memory free z leaf fathers)
 unfolding atLeaf
-leaf-seen (Search x) k memory free z leaf fathers h =
-    cond-ind (Seen (memory leaf)) (has x (memory leaf .entries))
-    (λ _. no-next (memory leaf) (Found (information x (memory leaf .entries))) refl)
-    (λ _. no-next (memory leaf) NotFound refl)
-leaf-seen (Insert x v way) k memory free z leaf fathers h =
-    cond-ind (SeenBy (memory leaf)) (has x (memory leaf .entries))
-    (λ _. no-next (memory leaf) (AlreadyThere (information x (memory leaf .entries))) refl)
-    (λ _.
-    cond-ind (SeenBy (memory leaf)) (ltb (length free) (room k memory leaf (z .path)))
-    (λ _. no-next (memory leaf) NoRoom refl)
-    (λ _. no-next (memory leaf) Inserted refl))
-leaf-seen (Delete x way) k memory free z leaf fathers h =
-    cond-ind (SeenBy (memory leaf)) (has x (memory leaf .entries))
-    (λ _. deletes-seen (memory leaf) k memory x z leaf fathers)
-    (λ _. no-next (memory leaf) NoSuchKey refl)
+leaf-seen (Search x) k memory free z leaf fathers h = plain-seen (memory leaf) (Search x) k memory free z leaf fathers refl
+leaf-seen (Insert x v way) k memory free z leaf fathers h = plain-seen (memory leaf) (Insert x v way) k memory free z leaf fathers (updates-not-next (Insert x v way) refl)
+leaf-seen (Delete x way) k memory free z leaf fathers h = plain-seen (memory leaf) (Delete x way) k memory free z leaf fathers (updates-not-next (Delete x way) refl)
 leaf-seen (Next x) k memory free z leaf fathers h =
     nearest-seen (memory leaf) h (crosses x k memory z (z .path)) (crosses-seen (memory leaf) x k memory z (z .path))
     (atOrAbove x (memory leaf .entries)) (above-among x (memory leaf .entries))
-leaf-seen (Regrade x v way) k memory free z leaf fathers h =
-    cond-ind (SeenBy (memory leaf)) (has x (memory leaf .entries))
-    (λ _. no-next (memory leaf) (Regraded (information x (memory leaf .entries))) refl)
-    (λ _. no-next (memory leaf) NoSuchKey refl)
+leaf-seen (Regrade x v way) k memory free z leaf fathers h = plain-seen (memory leaf) (Regrade x v way) k memory free z leaf fathers (updates-not-next (Regrade x v way) refl)
 
 -- by its way: where it begins again it tells nothing
 way-seen : (k : ℕ) (memory : ℕ → Page) (free : List ℕ) (z : Stand) (leaf : ℕ) (fathers : List ℕ) → isLeaf (memory leaf) ≡ true
     → SeenBy (memory leaf) (byWayAtLeaf k memory free z leaf fathers)
 way-seen k memory free z leaf fathers h =
-    cond-ind (SeenBy (memory leaf)) (isSecond (z .op) && not (staysSecond (z .op) k memory leaf)) (λ _. tt) (λ _. leaf-seen (z .op) k memory free z leaf fathers h)
+    cond-ind (SeenBy (memory leaf)) (isSecond (z .op) && not (staysSecond (z .op) k memory leaf)) (λ _. tt)
+    (λ _.
+    converted-by (SeenBy (memory leaf)) k memory z leaf fathers (atLeaf (z .op) k memory free z leaf fathers)
+    (leaf-seen (z .op) k memory free z leaf fathers h) (λ _. tt))
 
 -- ---- a granted step
 
@@ -128,23 +144,37 @@ module _ (k : ℕ) (memory : ℕ → Page) (free : List ℕ) (z : Stand) where
   unfolding goesLeft
   left-seen = cond-ind (SeenBy P) (isLeaf P) (λ leaf. first-seen P leaf (atOrAbove (keyOf (z .op)) (P .entries)) (above-among (keyOf (z .op)) (P .entries))) (λ _. tt)
 
-  deletion-seen : (up : List ℕ) → SeenBy P (fromLeaf (λ (leaf : ℕ) (fathers : List ℕ). deletes k memory (keyOf (z .op)) (wantBeside z) leaf fathers) up)
-  deletion-seen [] = tt
-  deletion-seen (leaf ∷ fathers) = deletes-seen P k memory (keyOf (z .op)) (wantBeside z) leaf fathers
+  -- a step that converts first tells nothing by that
+  first-converts : (y : Stand) (act : ℕ → List ℕ → Verdict) → ((leaf : ℕ) (fathers : List ℕ) → SeenBy P (act leaf fathers)) → (up : List ℕ)
+      → SeenBy P (fromLeaf (λ (leaf : ℕ) (fathers : List ℕ). convertedFirst k memory y leaf fathers (act leaf fathers)) up)
+  first-converts y act each [] = tt
+  first-converts y act each (leaf ∷ fathers) = converted-by (SeenBy P) k memory y leaf fathers (act leaf fathers) (each leaf fathers) (λ _. tt)
 
   beside-seen : SeenBy P (besides k memory z)
   unfolding besides
-  beside-seen = cond-ind (SeenBy P) (isNext (z .op)) (λ _. left-seen) (λ _. deletion-seen (reverse (z .path)))
+  beside-seen = cond-ind (SeenBy P) (isNext (z .op)) (λ _. left-seen)
+      (λ _. first-converts (wantBeside z) (deletes k memory (keyOf (z .op)) (wantBeside z)) (deletes-seen P k memory (keyOf (z .op)) (wantBeside z)) (reverse (z .path)))
 
-  granted-seen : SeenBy P (granted k memory free z)
+  turn-seen : isNext (z .op) ≡ false → SeenBy P (converts k memory free z)
+  unfolding converts
+  turn-seen other =
+      first-converts (wantConverted z) (atLeaf (z .op) k memory free (wantConverted z))
+      (λ leaf fathers. plain-seen P (z .op) k memory free (wantConverted z) leaf fathers other) (reverse (z .path))
+
+  granted-seen : (converting z ≡ true → isNext (z .op) ≡ false) → SeenBy P (granted k memory free z)
   unfolding granted
-  granted-seen = cond-ind (SeenBy P) (atItsLeaf memory (reverse (z .path))) (λ _. beside-seen) (λ _. coming-seen)
+  granted-seen other =
+      cond-ind (SeenBy P) (converting z)
+      (λ own. turn-seen (other own))
+      (λ _. cond-ind (SeenBy P) (atItsLeaf memory (reverse (z .path))) (λ _. beside-seen) (λ _. coming-seen))
 
 verdict-seen : (k n : ℕ) (ws : List ℕ) (z : Stand) → SeenBy (pageAt k ws (z .want)) (verdict k n ws z)
 unfolding verdict
 verdict-seen k n ws z =
     cond-ind (SeenBy (pageAt k ws (z .want))) (soundForStep k n ws z)
-    (λ _. granted-seen k (pageAt k ws) (freePages k n ws) z)
+    (λ fits.
+    granted-seen k (pageAt k ws) (freePages k n ws) z
+    (λ own. updates-not-next (z .op) (third-updates (z .op) (turn-parts k (pageAt k ws) z (reverse (z .path)) (sound-turn k n ws z fits own) .0))))
     (λ _. tt)
 
 acted-seen : (P : Page) (st : State) (ws : List ℕ) (s : ℕ) (v : Verdict) → SeenBy P v → Seen P (acted st ws s v .answer)

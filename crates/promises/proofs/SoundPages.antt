@@ -1,19 +1,19 @@
 -- The rule's test of the pages that a step meets passes exactly where they are sound in plain terms.
 use Prim.Native.Nat.{ℕ, zero, suc, _+_, _-_, _*_, _≤_, _<_}
 use mathlib.Core.Bool.{Bool, true, false, cond, not, _&&_, _||_, false≢true}
-use mathlib.Core.List.{List, [], _∷_, _++_, reverse}
+use mathlib.Core.List.{List, [], _∷_, _++_, map, reverse}
 use mathlib.Core.Logic.{_⊎_, inl, inr, ⊎-elim, _≢_}
-use mathlib.Core.Path.{_≡_, refl, sym, ap, subst, _∙_}
+use mathlib.Core.Path.{_≡_, refl, sym, ap, ap₂, subst, _∙_}
 use native.Mathlib.Omega.{arith}
 use lib.Dec.{leb, ltb, eqb}
-use lib.ListN.{length, getD, drop, length-append, length-drop}
+use lib.ListN.{length, getD, drop, length-append, length-drop, length-reverse}
 use lib.Seq.{getD-drop}
 use borrow.Author.Tests.{leb-true, le-leb, ltb-true, lt-ltb, eqb-true, eqb-false, eq-eqb, ne-eqb, not-true}
 use Rattle.ground.specs.Limits.{tallest}
-use Rattle.ground.specs.Tests.{all, distinct}
+use Rattle.ground.specs.Tests.{all, member, distinct}
 use Rattle.ground.proofs.Bools.{not-both, false-if-not-true, and-first, and-second, and-both, or-first, or-second, or-cases, not-of-false}
 use Rattle.ground.proofs.Choice.{by-test, cond-ind, cond-true, cond-false}
-use Rattle.ground.proofs.Tests.{all-at, all-from, all-member, all-from-members, member-at, distinct-at, distinct-from}
+use Rattle.ground.proofs.Tests.{all-at, all-from, all-member, all-from-members, member-here, member-append, member-at, distinct-at, distinct-from}
 use Rattle.page.specs.Words.{Entry, Page, isLeaf, pointers, pairsFrom, view}
 use Rattle.page.specs.Place.{place, pointer, route, has, atOrAbove}
 use Rattle.page.specs.Sound.{rises, least, goodPointers, soundByItself}
@@ -23,21 +23,28 @@ use Rattle.page.proofs.PlaceLaws.{place-most, place-is, place-before, place-beh
 use Rattle.pool.specs.Pool.{wordsOf, pageAt}
 use Rattle.change.specs.Deletion.{Need, nothing, sibling, astray, needs}
 use Rattle.slots.specs.declared.Op.{Op}
+use Rattle.slots.specs.declared.Op.the-variants.{Search, Insert, Delete, Next, Regrade}
 use Rattle.slots.specs.declared.Lock.{Lock}
+use Rattle.slots.specs.declared.Lock.the-variants.{None, Xi, Alpha}
 use Rattle.slots.specs.declared.Under.{Under}
-use Rattle.slots.specs.Parts.{keyOf, isDelete, isNext, Stand, stand}
+use Rattle.slots.specs.Parts.{keyOf, isDelete, isNext, isThird, heldLock, under, Stand, stand, holding, holdingLocks, converting}
 use Rattle.slots.specs.Locks.{sameLock}
+use Rattle.slots.proofs.Keeping.{Paired, kinds-long}
 use Rattle.slots.proofs.LockLaws.{same-lock, lock-same}
-use Rattle.footing.specs.Granted.{isSafe, atItsLeaf}
-use Rattle.footing.specs.Fitting.{pagesSound, leads, descends, rightlyKept, sameLevels, isSibling, rightlyBeside, isNone, leftmost, turnsRight, rightlyAcross, lockDue, fitting}
+use Rattle.footing.specs.Granted.{isSafe, changeKnown, pagesInTurn, locksInTurn, unconverted, toConvert, atItsLeaf}
+use Rattle.footing.specs.Fitting.{pagesSound, leads, descends, rightlyKept, sameLevels, isSibling, rightlyBeside, isNone, leftmost, turnsRight, rightlyAcross, lockDue, holdsDue, fittingNew, xiThenAlpha, isFirst, rightlyConverting, fitting}
 use Rattle.tree.proofs.DeletionRule.{needs-length}
 use Rattle.runs.specs.Stance.{StandsAtLeaf}
 use Rattle.runs.proofs.PlainLaws.{none-below, below-none}
+use Rattle.runs.proofs.Paths.{none-is}
 use Rattle.runs.proofs.Needing.{course-needs, needs-course}
 use Rattle.runs.proofs.Stepping.{at-leaf-test, test-at-leaf}
-use Rattle.promises.specs.Terms.{In, WantsAs}
-use Rattle.promises.specs.SoundPages.{PageSound, PlaceIs, RoutesTo, Way, KeptRightly, ComesDown, SiblingsSoFar, AsksSibling, LeftmostWay, GoesAcross}
-use Rattle.promises.proofs.Terms.{in-member, wants-as, wanted-due}
+use Rattle.runs.proofs.Turns.{held-turn, passed-turn, next-turn, turn-kinds}
+use Rattle.promises.specs.Terms.{In, GoesWith, HeldHere, WantsAs, SiblingsDone}
+use Rattle.promises.specs.SoundPages.{PageSound, PlaceIs, RoutesTo, Way, KeptRightly, ComesDown, SiblingsSoFar, AsksSibling, LeftmostWay, GoesAcross, GathersRightly, ConvertsRightly}
+use Rattle.promises.proofs.Terms.{in-member, kind-is, third-named, named-third, converts-here, here-converts, wants-as, wanted-due, wanted-xi}
+use Rattle.promises.proofs.Known.{known-told, known-from}
+use Rattle.promises.proofs.Turned.{kindIn, turn-kinds-by, held-here, here-held, here-kind, Parted, turn-parted}
 use Rattle.promises.proofs.Demand2.{safe-is}
 
 -- ---- a page by itself
@@ -329,10 +336,6 @@ turns-from memory x top (p ∷ rest) b t =
     and-both (and-both (eq-eqb (neighbour x (memory top)) p (t .turns)) (eq-eqb (memory top .level) (memory p .level + 1) (t .lower)))
     (leftmost-from memory (p ∷ rest) (t .leftmost))
 
-is-none : {A : Type 0} (xs : List A) → isNone xs ≡ true → xs ≡ []
-is-none [] h = refl
-is-none (x ∷ xs) h = absurd (false≢true h)
-
 across-told : (op : Op) (k : ℕ) (memory : ℕ → Page) (path second : List ℕ) (want : ℕ) (lock : Lock) (locks sidelocks : List Under) → StandsAtLeaf memory path → Way memory (keyOf op) path
     → rightlyAcross k memory (stand op path locks second sidelocks want lock) path ≡ true → GoesAcross k memory (stand op path locks second sidelocks want lock)
 across-told op k memory [] second want lock locks sidelocks l w h = absurd (false≢true h)
@@ -350,7 +353,7 @@ across-told op k memory (top ∷ below) second want lock locks sidelocks l w h =
       asksNext = and-first a b toB;
       atLeaf = l;
       way = w;
-      none = none-below x es (is-none (atOrAbove x es) (and-second a b toB));
+      none = none-below x es (none-is (atOrAbove x es) (and-second a b toB));
       right = safe-is k op (memory top) .0 (and-second (a && b) c toC);
       turns = t .turns;
       lower = t .lower;
@@ -367,63 +370,259 @@ across-from op k memory (top ∷ below) second want lock locks sidelocks g =
     (and-both (and-both (g .asksNext) (ap isNone (below-none x es (g .none)))) (safe-is k op (memory top) .1 (g .right)))
     (turns-from memory x top (second ++ want ∷ []) (omega (arith, length-append second (want ∷ []))) (record { turns = g .turns; lower = g .lower; leftmost = g .leftmost }))
 
--- ---- the pages that the rules would have it hold and want
+-- ---- the kinds of what it holds
+
+-- What a slot of a sound state has: a kind for every page that it holds, and no page twice.
+pub record Sized (z : Stand) : Type 0 where
+  pub paired : Paired z
+  pub different : distinct (holding z) ≡ true
+
+abbrev due : Stand → Under → Bool
+due z u = sameLock (u .lock) (heldLock (z .op))
+
+due-told : (z : Stand) → Paired z → holdsDue z ≡ true → (p : ℕ) (lock : Lock) → HeldHere z p lock → GoesWith (z .op) lock
+due-told z paired h p lock (i, b, _, kind) =
+    let within : i < length (holdingLocks z) = subst (λ (m : ℕ). i < m) (sym (kinds-long z paired)) b in
+    kind-is (z .op) lock .0
+    (sym kind ∙ same-lock (getD (holdingLocks z) i (under None) .lock) (heldLock (z .op)) (all-at (due z) (holdingLocks z) (under None) h i within))
+
+due-from : (z : Stand) → Paired z → ((p : ℕ) (lock : Lock) → HeldHere z p lock → GoesWith (z .op) lock) → holdsDue z ≡ true
+due-from z paired f =
+    all-from (due z) (holdingLocks z) (under None)
+    (λ i b.
+    let lock : Lock = getD (holdingLocks z) i (under None) .lock in
+    let within : i < length (holding z) = subst (λ (m : ℕ). i < m) (kinds-long z paired) b in
+    ap (λ (l : Lock). sameLock l (heldLock (z .op))) (kind-is (z .op) lock .1 (f (getD (holding z) i 0) lock (i, within, refl, refl)))
+    ∙ lock-same (heldLock (z .op)))
+
+-- ---- it gathers pages
 
 abbrev pub Stands : ℕ → (ℕ → Page) → Stand → Type 0
 Stands k memory z = ComesDown memory z ⊎ (AsksSibling k memory z ⊎ GoesAcross k memory z)
 
 module _ (op : Op) (k : ℕ) (memory : ℕ → Page) (path beside : List ℕ) (want : ℕ) (lock : Lock) (locks sidelocks : List Under) where
+  abbrev here : Stand
+  here = stand op path locks beside sidelocks want lock
+
+  abbrev helps : Bool
+  helps = rightlyBeside k memory here (reverse path) || rightlyAcross k memory here path
+
   abbrev atIt : Bool
-  atIt = descends memory (keyOf op) path && (rightlyBeside k memory (stand op path locks beside sidelocks want lock) (reverse path) || rightlyAcross k memory (stand op path locks beside sidelocks want lock) path)
+  atIt = descends memory (keyOf op) path && helps
 
   abbrev above : Bool
   above = descends memory (keyOf op) (path ++ want ∷ []) && isNone beside
 
-  pub fitting-told : Rising memory (path ++ want ∷ []) → Rising memory path → fitting k memory (stand op path locks beside sidelocks want lock) ≡ true
-      → KeptRightly k memory (stand op path locks beside sidelocks want lock) × WantsAs memory (stand op path locks beside sidelocks want lock) × Stands k memory (stand op path locks beside sidelocks want lock)
-  unfolding fitting
-  fitting-told r s h =
-      let keep = rightlyKept op k memory path want in
-      let due = sameLock lock (lockDue op memory (reverse path)) in
-      let rest = cond (atItsLeaf memory (reverse path)) atIt above in
-      let both = and-first (keep && due) rest h in (
-        kept-told op k memory path beside want lock locks sidelocks (and-first keep due both),
-        wants-as memory (stand op path locks beside sidelocks want lock) (same-lock lock (lockDue op memory (reverse path)) (and-second keep due both)),
-        by-test (atItsLeaf memory (reverse path))
-            (λ l. at-it (test-at-leaf memory path l) (sym (cond-true atIt above l) ∙ and-second (keep && due) rest h))
-            (λ l. inl (down (λ a. not-both (at-leaf-test memory path a) l) (sym (cond-false atIt above l) ∙ and-second (keep && due) rest h))),
-      )
-    where
-      at-it : StandsAtLeaf memory path → atIt ≡ true → Stands k memory (stand op path locks beside sidelocks want lock)
-      at-it l t =
-          let w = way-told memory (keyOf op) path s (and-first (descends memory (keyOf op) path) (rightlyBeside k memory (stand op path locks beside sidelocks want lock) (reverse path) || rightlyAcross k memory (stand op path locks beside sidelocks want lock) path) t) in
-          ⊎-elim
-          (λ b. let (d, f) = so-far-told op k memory path (reverse path) beside want lock locks sidelocks b in inr (inl (record { deletes = d; atLeaf = l; way = w; siblings = f })))
-          (λ b. inr (inr (across-told op k memory path beside want lock locks sidelocks l w b)))
-          (or-cases (rightlyBeside k memory (stand op path locks beside sidelocks want lock) (reverse path)) (rightlyAcross k memory (stand op path locks beside sidelocks want lock) path)
-          (and-second (descends memory (keyOf op) path) (rightlyBeside k memory (stand op path locks beside sidelocks want lock) (reverse path) || rightlyAcross k memory (stand op path locks beside sidelocks want lock) path) t))
+  at-it : Rising memory path → StandsAtLeaf memory path → atIt ≡ true → Stands k memory here
+  at-it s l t =
+      let w = way-told memory (keyOf op) path s (and-first (descends memory (keyOf op) path) helps t) in
+      ⊎-elim
+      (λ b. let (d, f) = so-far-told op k memory path (reverse path) beside want lock locks sidelocks b in inr (inl (record { deletes = d; atLeaf = l; way = w; siblings = f })))
+      (λ b. inr (inr (across-told op k memory path beside want lock locks sidelocks l w b)))
+      (or-cases (rightlyBeside k memory here (reverse path)) (rightlyAcross k memory here path) (and-second (descends memory (keyOf op) path) helps t))
 
-      down : (StandsAtLeaf memory path → ⊥) → above ≡ true → ComesDown memory (stand op path locks beside sidelocks want lock)
-      down l t = record {
-        aboveLeaf = l;
-        way = way-told memory (keyOf op) (path ++ want ∷ []) r (and-first (descends memory (keyOf op) (path ++ want ∷ [])) (isNone beside) t);
-        nothingBeside = is-none beside (and-second (descends memory (keyOf op) (path ++ want ∷ [])) (isNone beside) t);
-      }
+  down : Rising memory (path ++ want ∷ []) → (StandsAtLeaf memory path → ⊥) → above ≡ true → ComesDown memory here
+  down r l t = record {
+    aboveLeaf = l;
+    way = way-told memory (keyOf op) (path ++ want ∷ []) r (and-first (descends memory (keyOf op) (path ++ want ∷ [])) (isNone beside) t);
+    nothingBeside = none-is beside (and-second (descends memory (keyOf op) (path ++ want ∷ [])) (isNone beside) t);
+  }
 
-  pub fitting-from : KeptRightly k memory (stand op path locks beside sidelocks want lock) → WantsAs memory (stand op path locks beside sidelocks want lock) → Stands k memory (stand op path locks beside sidelocks want lock) → fitting k memory (stand op path locks beside sidelocks want lock) ≡ true
-  unfolding fitting
-  fitting-from f w s =
-      and-both
-      (and-both (kept-from op k memory path beside want lock locks sidelocks f)
-      (ap (λ (l : Lock). sameLock l (lockDue op memory (reverse path))) (wanted-due memory (stand op path locks beside sidelocks want lock) w) ∙ lock-same (lockDue op memory (reverse path))))
-      (⊎-elim
+  stands-told : Rising memory (path ++ want ∷ []) → Rising memory path → cond (atItsLeaf memory (reverse path)) atIt above ≡ true → Stands k memory here
+  stands-told r s h =
+      by-test (atItsLeaf memory (reverse path))
+      (λ l. at-it s (test-at-leaf memory path l) (sym (cond-true atIt above l) ∙ h))
+      (λ l. inl (down r (λ a. not-both (at-leaf-test memory path a) l) (sym (cond-false atIt above l) ∙ h)))
+
+  stands-from : Stands k memory here → cond (atItsLeaf memory (reverse path)) atIt above ≡ true
+  stands-from s =
+      ⊎-elim
       (λ c. cond-false atIt above (false-if-not-true (atItsLeaf memory (reverse path)) (λ l. c .aboveLeaf (test-at-leaf memory path l)))
       ∙ and-both (way-from memory (keyOf op) (path ++ want ∷ []) (c .way)) (ap isNone (c .nothingBeside)))
       (⊎-elim
       (λ a. cond-true atIt above (at-leaf-test memory path (a .atLeaf))
       ∙ and-both (way-from memory (keyOf op) path (a .way))
-      (or-first (rightlyAcross k memory (stand op path locks beside sidelocks want lock) path) (so-far-from op k memory path (reverse path) beside want lock locks sidelocks (a .deletes) (a .siblings))))
+      (or-first (rightlyAcross k memory here path) (so-far-from op k memory path (reverse path) beside want lock locks sidelocks (a .deletes) (a .siblings))))
       (λ a. cond-true atIt above (at-leaf-test memory path (a .atLeaf))
       ∙ and-both (way-from memory (keyOf op) path (a .way))
-      (or-second (rightlyBeside k memory (stand op path locks beside sidelocks want lock) (reverse path)) (across-from op k memory path beside want lock locks sidelocks a))))
+      (or-second (rightlyBeside k memory here (reverse path)) (across-from op k memory path beside want lock locks sidelocks a))))
+      s
+
+-- ---- it converts
+
+-- siblings that are all needed are no more than the pages of the path
+few-done : (op : Op) (k : ℕ) (memory : ℕ → Page) (up beside : List ℕ) → SiblingsDone op k memory up beside → length beside ≤ length up
+few-done (Search x) k memory up beside e = omega (arith, ap length e)
+few-done (Insert x v way) k memory up beside e = omega (arith, ap length e)
+few-done (Delete x way) k memory up beside e = let less = e .fewer in omega (arith, less)
+few-done (Next x) k memory up beside e = omega (arith, ap length e)
+few-done (Regrade x v way) k memory up beside e = omega (arith, ap length e)
+
+-- it wants a page that it holds
+pub converts-own : {k : ℕ} {memory : ℕ → Page} {z : Stand} → ConvertsRightly k memory z → converting z ≡ true
+converts-own {z = z} c = here-held z (z .want) Alpha (c .left (z .want) (0, omega arith, refl))
+
+module _ (k : ℕ) (memory : ℕ → Page) (z : Stand) (sized : Sized z) where
+  -- the kinds in the order of conversion
+  kinds : locksInTurn z ≡ map (kindIn z) (pagesInTurn z)
+  kinds = turn-kinds-by z (sized .paired) (sized .different)
+
+  parted-told : xiThenAlpha (locksInTurn z) ≡ true → isFirst (z .want) (toConvert z) ≡ true → Parted (kindIn z) (z .want) (pagesInTurn z)
+  parted-told order first =
+      turn-parted (kindIn z) (z .want) (pagesInTurn z) (sym (ap xiThenAlpha kinds) ∙ order)
+      (sym (ap (λ (ls : List Under). isFirst (z .want) (unconverted (pagesInTurn z) ls)) kinds) ∙ first)
+
+  converts-told : Rising memory (z .path) → (up : List ℕ) → reverse (z .path) ≡ up → rightlyConverting k memory z up ≡ true
+      → (z .lock ≡ Xi) × ConvertsRightly k memory z
+  converts-told r [] e h = absurd (false≢true h)
+  converts-told r (leaf ∷ fathers) e h =
+      let third = isThird (z .op) in
+      let bottom = isLeaf (memory leaf) in
+      let leading = descends memory (keyOf (z .op)) (z .path) in
+      let known = changeKnown k memory z leaf fathers in
+      let level = sameLevels memory (leaf ∷ fathers) (z .beside) in
+      let xi = sameLock (z .lock) Xi in
+      let order = xiThenAlpha (locksInTurn z) in
+      let first = isFirst (z .want) (toConvert z) in
+      let h7 = and-first (third && bottom && leading && known && level && xi && order) first h in
+      let h6 = and-first (third && bottom && leading && known && level && xi) order h7 in
+      let h5 = and-first (third && bottom && leading && known && level) xi h6 in
+      let h4 = and-first (third && bottom && leading && known) level h5 in
+      let h3 = and-first (third && bottom && leading) known h4 in
+      let h2 = and-first (third && bottom) leading h3 in
+      let (unanswered, more) = known-told k memory z leaf fathers (and-second (third && bottom && leading) known h4) in
+      let parted = parted-told (and-second (third && bottom && leading && known && level && xi) order h7)
+      (and-second (third && bottom && leading && known && level && xi && order) first h) in
+      let few : length (z .beside) ≤ length (z .path)
+      = omega (arith, few-done (z .op) k memory (leaf ∷ fathers) (z .beside) more, ap length e, length-reverse (z .path)) in
+      let held : (p : ℕ) → member p (parted .done ++ z .want ∷ parted .rest) ≡ true → member p (holding z) ≡ true
+      = λ p m. sym (held-turn (z .path) (z .beside) few p) ∙ ap (member p) (parted .turns) ∙ m in (
+        same-lock (z .lock) Xi (and-second (third && bottom && leading && known && level) xi h6),
+        record {
+          third = third-named (z .op) (and-first third bottom h2);
+          leaf = leaf;
+          fathers = fathers;
+          upward = e;
+          atLeaf = test-at-leaf memory (z .path) (ap (atItsLeaf memory) e ∙ and-second third bottom h2);
+          way = way-told memory (keyOf (z .op)) (z .path) r (and-second (third && bottom) leading h3);
+          unanswered = unanswered;
+          noMore = more;
+          levels = λ j b. ap (λ (up : List ℕ). memory (getD up j 0) .level) e
+              ∙ same-levels-told memory (leaf ∷ fathers) (z .beside) (and-second (third && bottom && leading && known) level h5) j b;
+          done = parted .done;
+          rest = parted .rest;
+          turns = parted .turns;
+          converted = λ p i.
+              let m = in-member p (parted .done) i in
+              subst (HeldHere z p) (parted .converted p m)
+              (held-here z p (held p (member-append p (parted .done) (z .want ∷ parted .rest) ∙ or-first (member p (z .want ∷ parted .rest)) m)));
+          left = λ p i.
+              let m = in-member p (z .want ∷ parted .rest) i in
+              subst (HeldHere z p) (parted .left p m)
+              (held-here z p (held p (member-append p (parted .done) (z .want ∷ parted .rest) ∙ or-second (member p (parted .done)) m)));
+        },
+      )
+
+  module _ (c : ConvertsRightly k memory z) where
+    is-xi : (p : ℕ) → member p (c .done) ≡ true → kindIn z p .lock ≡ Xi
+    is-xi p m = here-kind z p Xi (sized .different) (c .converted p (member-at p (c .done) 0 m))
+
+    is-alpha : (p : ℕ) → member p (z .want ∷ c .rest) ≡ true → kindIn z p .lock ≡ Alpha
+    is-alpha p m = here-kind z p Alpha (sized .different) (c .left p (member-at p (z .want ∷ c .rest) 0 m))
+
+    in-turn : locksInTurn z ≡ map (kindIn z) (c .done ++ z .want ∷ c .rest)
+    in-turn = kinds ∙ ap (map (kindIn z)) (c .turns)
+
+    -- the want is the first of what is left
+    want-first : toConvert z ≡ z .want ∷ c .rest
+    want-first =
+        ap₂ unconverted (c .turns) in-turn
+        ∙ passed-turn (kindIn z) (c .done) (z .want ∷ c .rest) is-xi
+        ∙ next-turn (kindIn z) (z .want) (c .rest) (is-alpha (z .want) (member-here (z .want) (c .rest)))
+
+    converts-from : z .lock ≡ Xi → rightlyConverting k memory z (reverse (z .path)) ≡ true
+    converts-from xi =
+        let few : length (z .beside) ≤ length (c .leaf ∷ c .fathers) = few-done (z .op) k memory (c .leaf ∷ c .fathers) (z .beside) (c .noMore) in
+        subst (λ (up : List ℕ). rightlyConverting k memory z up ≡ true) (sym (c .upward))
+        (and-both
+        (and-both
+        (and-both
+        (and-both
+        (and-both
+        (and-both
+        (and-both (named-third (z .op) (c .third)) (ap (atItsLeaf memory) (sym (c .upward)) ∙ at-leaf-test memory (z .path) (c .atLeaf)))
+        (way-from memory (keyOf (z .op)) (z .path) (c .way)))
+        (known-from k memory z (c .leaf) (c .fathers) (c .unanswered, c .noMore)))
+        (same-levels-from memory (c .leaf ∷ c .fathers) (z .beside) few
+        (λ j b. ap (λ (up : List ℕ). memory (getD up j 0) .level) (sym (c .upward)) ∙ c .levels j b)))
+        (ap (λ (l : Lock). sameLock l Xi) xi ∙ lock-same Xi))
+        (ap xiThenAlpha in-turn ∙ turn-kinds (kindIn z) (c .done) (z .want ∷ c .rest) is-xi is-alpha))
+        (ap (isFirst (z .want)) want-first ∙ eq-eqb (z .want) (z .want) refl))
+
+-- ---- the pages that the rules would have it hold and want
+
+abbrev pub StandsRightly : ℕ → (ℕ → Page) → Stand → Type 0
+StandsRightly k memory z = GathersRightly k memory z ⊎ ConvertsRightly k memory z
+
+module _ (k : ℕ) (memory : ℕ → Page) (z : Stand) (sized : Sized z) where
+  abbrev gathering : Bool
+  gathering =
+      cond (atItsLeaf memory (reverse (z .path)))
+      (atIt (z .op) k memory (z .path) (z .beside) (z .want) (z .lock) (z .locks) (z .sidelocks))
+      (above (z .op) k memory (z .path) (z .beside) (z .want) (z .lock) (z .locks) (z .sidelocks))
+
+  abbrev wanted : Bool
+  wanted = sameLock (z .lock) (lockDue (z .op) memory (reverse (z .path)))
+
+  gathers-told : Rising memory (z .path ++ z .want ∷ []) → Rising memory (z .path) → converting z ≡ false → fittingNew k memory z ≡ true
+      → WantsAs memory z × GathersRightly k memory z
+  unfolding fittingNew
+  gathers-told r s new h =
+      let both = and-first (wanted && holdsDue z) gathering h in (
+        wants-as memory z (λ own. not-both own new) (λ _. same-lock (z .lock) (lockDue (z .op) memory (reverse (z .path))) (and-first wanted (holdsDue z) both)),
+        record {
+          new = λ c. not-both (here-converts z c) new;
+          holds = due-told z (sized .paired) (and-second wanted (holdsDue z) both);
+          stands = stands-told (z .op) k memory (z .path) (z .beside) (z .want) (z .lock) (z .locks) (z .sidelocks) r s
+              (and-second (wanted && holdsDue z) gathering h);
+        },
+      )
+
+  gathers-from : WantsAs memory z → converting z ≡ false → GathersRightly k memory z → fittingNew k memory z ≡ true
+  unfolding fittingNew
+  gathers-from w new g =
+      and-both
+      (and-both
+      (ap (λ (l : Lock). sameLock l (lockDue (z .op) memory (reverse (z .path)))) (wanted-due memory z w new) ∙ lock-same (lockDue (z .op) memory (reverse (z .path))))
+      (due-from z (sized .paired) (g .holds)))
+      (stands-from (z .op) k memory (z .path) (z .beside) (z .want) (z .lock) (z .locks) (z .sidelocks) (g .stands))
+
+  pub fitting-told : Rising memory (z .path ++ z .want ∷ []) → Rising memory (z .path) → fitting k memory z ≡ true
+      → KeptRightly k memory z × WantsAs memory z × StandsRightly k memory z
+  unfolding fitting
+  fitting-told r s h =
+      let keep = rightlyKept (z .op) k memory (z .path) (z .want) in
+      let own = rightlyConverting k memory z (reverse (z .path)) in
+      let rest = cond (converting z) own (fittingNew k memory z) in
+      let kept = kept-told (z .op) k memory (z .path) (z .beside) (z .want) (z .lock) (z .locks) (z .sidelocks) (and-first keep rest h) in
+      by-test (converting z)
+      (λ y.
+      let (xi, c) = converts-told k memory z sized s (reverse (z .path)) refl (sym (cond-true own (fittingNew k memory z) y) ∙ and-second keep rest h) in
+      (kept, wants-as memory z (λ _. xi) (λ n. not-both y n), inr c))
+      (λ n.
+      let (w, g) = gathers-told r s n (sym (cond-false own (fittingNew k memory z) n) ∙ and-second keep rest h) in
+      (kept, w, inl g))
+
+  pub fitting-from : KeptRightly k memory z → WantsAs memory z → StandsRightly k memory z → fitting k memory z ≡ true
+  unfolding fitting
+  fitting-from f w s =
+      let own = rightlyConverting k memory z (reverse (z .path)) in
+      and-both (kept-from (z .op) k memory (z .path) (z .beside) (z .want) (z .lock) (z .locks) (z .sidelocks) f)
+      (⊎-elim
+      (λ g.
+      let new = false-if-not-true (converting z) (λ m. g .new (converts-here z m)) in
+      cond-false own (fittingNew k memory z) new ∙ gathers-from w new g)
+      (λ c.
+      let y = converts-own c in
+      cond-true own (fittingNew k memory z) y ∙ converts-from k memory z sized c (wanted-xi memory z w y))
       s)

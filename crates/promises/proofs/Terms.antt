@@ -1,12 +1,12 @@
 -- The plain terms and the tests of the rules: one gives the other.
-use Prim.Native.Nat.{ℕ, zero, suc, _<_}
-use mathlib.Core.Bool.{Bool, true, false, not, _&&_, _||_, false≢true}
+use Prim.Native.Nat.{ℕ, suc, _<_}
+use mathlib.Core.Bool.{Bool, true, false, _&&_, _||_, false≢true}
 use mathlib.Core.List.{List, [], _∷_, reverse}
 use mathlib.Core.Path.{_≡_, refl, sym, ap, subst, _∙_}
 use native.Mathlib.Omega.{arith}
 use lib.Dec.{eqb}
 use lib.ListN.{length, getD, length-reverse}
-use borrow.Author.Tests.{eqb-true, eq-eqb, ne-eqb, not-true}
+use borrow.Author.Tests.{eqb-true, eq-eqb}
 use Rattle.ground.specs.Limits.{slotCount}
 use Rattle.ground.specs.Tests.{member, distinct}
 use Rattle.ground.proofs.Bools.{not-both, false-if-not-true, and-first, and-second, and-both}
@@ -15,18 +15,18 @@ use Rattle.ground.proofs.Tests.{member-from, member-at}
 use Rattle.page.specs.Words.{Page}
 use Rattle.slots.specs.declared.Op.{Op}
 use Rattle.slots.specs.declared.Op.the-variants.{Search, Insert, Delete, Next, Regrade}
-use Rattle.slots.specs.declared.Way.the-variants.{First, Second}
+use Rattle.slots.specs.declared.Way.the-variants.{First, Second, Third}
 use Rattle.slots.specs.declared.Lock.{Lock}
 use Rattle.slots.specs.declared.Lock.the-variants.{None, Rho, Xi, UpdaterRho, Alpha}
 use Rattle.slots.specs.declared.Under.{Under}
 use Rattle.slots.specs.declared.State.{State}
-use Rattle.slots.specs.Parts.{isSecond, heldLock, held, heldLocks, under, Stand, stand, slotAt, holdsAt}
+use Rattle.slots.specs.Parts.{isSecond, isThird, heldLock, held, heldLocks, under, Stand, stand, holding, converting, slotAt, holdsAt}
 use Rattle.slots.specs.Locks.{lockAmong, lockHeldAt, clash}
 use Rattle.slots.proofs.SoundFacts.{SoundState}
 use Rattle.slots.proofs.GrantLaws.{holder-open}
-use Rattle.slots.proofs.LockLaws.{rho-not-xi, updater-not-xi}
+use Rattle.slots.proofs.LockLaws.{among-once, rho-not-xi, updater-not-xi, alpha-not-xi}
 use Rattle.footing.specs.Fitting.{lockDue}
-use Rattle.promises.specs.Terms.{Exactly, In, GoTogether, HoldsAs, GoesWith, ByFirst, BySecond, AboveItsLeaf, WantsAs}
+use Rattle.promises.specs.Terms.{Exactly, In, GoTogether, HoldsAs, GoesWith, ByFirst, BySecond, ByThird, ConvertsHere, AboveItsLeaf, WantsAs}
 
 -- what stands in a list is a member of it (`member-at` is the way back)
 pub in-member : (x : ℕ) (xs : List ℕ) → In x xs → member x xs ≡ true
@@ -73,21 +73,27 @@ pub goes-with : (op : Op) → GoesWith op (heldLock op)
 goes-with (Search x) = refl
 goes-with (Insert x v First) = refl
 goes-with (Insert x v Second) = refl
+goes-with (Insert x v Third) = refl
 goes-with (Delete x First) = refl
 goes-with (Delete x Second) = refl
+goes-with (Delete x Third) = refl
 goes-with (Next x) = refl
 goes-with (Regrade x v First) = refl
 goes-with (Regrade x v Second) = refl
+goes-with (Regrade x v Third) = refl
 
 pub with-goes : (op : Op) (lock : Lock) → GoesWith op lock → lock ≡ heldLock op
 with-goes (Search x) lock e = e
 with-goes (Insert x v First) lock e = e
 with-goes (Insert x v Second) lock e = e
+with-goes (Insert x v Third) lock e = e
 with-goes (Delete x First) lock e = e
 with-goes (Delete x Second) lock e = e
+with-goes (Delete x Third) lock e = e
 with-goes (Next x) lock e = e
 with-goes (Regrade x v First) lock e = e
 with-goes (Regrade x v Second) lock e = e
+with-goes (Regrade x v Third) lock e = e
 
 pub kind-is : (op : Op) (lock : Lock) → Exactly (lock ≡ heldLock op) (GoesWith op lock)
 kind-is op lock = ((λ e. subst (GoesWith op) (sym e) (goes-with op)), with-goes op lock)
@@ -97,11 +103,14 @@ pub xi-first : (op : Op) → heldLock op ≡ Xi → ByFirst op
 xi-first (Search x) e = absurd (rho-not-xi e)
 xi-first (Insert x v First) e = tt
 xi-first (Insert x v Second) e = absurd (updater-not-xi e)
+xi-first (Insert x v Third) e = absurd (alpha-not-xi e)
 xi-first (Delete x First) e = tt
 xi-first (Delete x Second) e = absurd (updater-not-xi e)
+xi-first (Delete x Third) e = absurd (alpha-not-xi e)
 xi-first (Next x) e = absurd (rho-not-xi e)
 xi-first (Regrade x v First) e = tt
 xi-first (Regrade x v Second) e = absurd (updater-not-xi e)
+xi-first (Regrade x v Third) e = absurd (alpha-not-xi e)
 
 -- the kind in the cell of a page: the first cell that has it,
 pub among-at : (p : ℕ) (pages : List ℕ) (locks : List Under) → member p pages ≡ true
@@ -116,21 +125,6 @@ among-at p (q ∷ pages) (u ∷ locks) m =
     let (i, b, at, kind) = among-at p pages locks (sym (ap (λ (h : Bool). h || member p pages) e) ∙ m) in
     (suc i, omega arith, at, kind ∙ sym (cond-false (u .lock) (lockAmong p pages locks) e)))
 
--- and every one, if none has it twice
-pub among-once : (pages : List ℕ) (locks : List Under) (i : ℕ) → distinct pages ≡ true → i < length pages
-    → lockAmong (getD pages i 0) pages locks ≡ getD locks i (under None) .lock
-unfolding distinct lockAmong
-among-once [] locks i d b = absurd (omega arith)
-among-once (q ∷ pages) [] zero d b = refl
-among-once (q ∷ pages) [] (suc i) d b = refl
-among-once (q ∷ pages) (u ∷ locks) zero d b = cond-true (u .lock) (lockAmong q pages locks) (eq-eqb q q refl)
-among-once (q ∷ pages) (u ∷ locks) (suc i) d b =
-    let inside : i < length pages = omega arith in
-    let apart = not-true (member q pages) (and-first (not (member q pages)) (distinct pages) d) in
-    cond-false (u .lock) (lockAmong (getD pages i 0) pages locks)
-    (ne-eqb (getD pages i 0) q (λ e. not-both (member-from q pages i 0 inside e) apart))
-    ∙ among-once pages locks i (and-second (not (member q pages)) (distinct pages) d) inside
-
 -- what a slot holds it holds with the kind that the rule reads
 pub holds-as : (st : State) (s p : ℕ) → holdsAt st s p ≡ true → HoldsAs st s p (lockHeldAt st s p)
 holds-as st s p h = among-at p (held (slotAt st s)) (heldLocks (slotAt st s)) h
@@ -144,10 +138,7 @@ as-kind st s p lock d (i, b, e, k) =
 
 -- in a sound state no slot holds a page twice
 pub held-once : (st : State) → SoundState st → (s : ℕ) → s < slotCount → (p : ℕ) → holdsAt st s p ≡ true → distinct (held (slotAt st s)) ≡ true
-unfolding distinct
-held-once st f s b p h =
-    let slot = slotAt st s in
-    and-second (not (member (slot .want) (held slot))) (distinct (held slot)) (f .slot s b .different (holder-open (st .n) slot p (f .slot s b) h))
+held-once st f s b p h = f .slot s b .different (holder-open (st .n) (slotAt st s) p (f .slot s b) h)
 
 pub sound-kind : (st : State) → SoundState st → (s p : ℕ) (lock : Lock) → s < slotCount → HoldsAs st s p lock → lockHeldAt st s p ≡ lock
 sound-kind st f s p lock b h = as-kind st s p lock (held-once st f s b p (as-held st s p lock h)) h
@@ -158,21 +149,62 @@ pub second-named : (op : Op) → isSecond op ≡ true → BySecond op
 second-named (Search x) e = absurd (false≢true e)
 second-named (Insert x v First) e = absurd (false≢true e)
 second-named (Insert x v Second) e = tt
+second-named (Insert x v Third) e = absurd (false≢true e)
 second-named (Delete x First) e = absurd (false≢true e)
 second-named (Delete x Second) e = tt
+second-named (Delete x Third) e = absurd (false≢true e)
 second-named (Next x) e = absurd (false≢true e)
 second-named (Regrade x v First) e = absurd (false≢true e)
 second-named (Regrade x v Second) e = tt
+second-named (Regrade x v Third) e = absurd (false≢true e)
 
 pub named-second : (op : Op) → BySecond op → isSecond op ≡ true
 named-second (Search x) b = absurd b
 named-second (Insert x v First) b = absurd b
 named-second (Insert x v Second) b = refl
+named-second (Insert x v Third) b = absurd b
 named-second (Delete x First) b = absurd b
 named-second (Delete x Second) b = refl
+named-second (Delete x Third) b = absurd b
 named-second (Next x) b = absurd b
 named-second (Regrade x v First) b = absurd b
 named-second (Regrade x v Second) b = refl
+named-second (Regrade x v Third) b = absurd b
+
+-- ---- the third way
+
+pub third-named : (op : Op) → isThird op ≡ true → ByThird op
+third-named (Search x) e = absurd (false≢true e)
+third-named (Insert x v First) e = absurd (false≢true e)
+third-named (Insert x v Second) e = absurd (false≢true e)
+third-named (Insert x v Third) e = tt
+third-named (Delete x First) e = absurd (false≢true e)
+third-named (Delete x Second) e = absurd (false≢true e)
+third-named (Delete x Third) e = tt
+third-named (Next x) e = absurd (false≢true e)
+third-named (Regrade x v First) e = absurd (false≢true e)
+third-named (Regrade x v Second) e = absurd (false≢true e)
+third-named (Regrade x v Third) e = tt
+
+pub named-third : (op : Op) → ByThird op → isThird op ≡ true
+named-third (Search x) b = absurd b
+named-third (Insert x v First) b = absurd b
+named-third (Insert x v Second) b = absurd b
+named-third (Insert x v Third) b = refl
+named-third (Delete x First) b = absurd b
+named-third (Delete x Second) b = absurd b
+named-third (Delete x Third) b = refl
+named-third (Next x) b = absurd b
+named-third (Regrade x v First) b = absurd b
+named-third (Regrade x v Second) b = absurd b
+named-third (Regrade x v Third) b = refl
+
+-- a conversion by the rule's test
+pub converts-here : (z : Stand) → converting z ≡ true → ConvertsHere z
+converts-here z m = member-at (z .want) (holding z) 0 m
+
+pub here-converts : (z : Stand) → ConvertsHere z → converting z ≡ true
+here-converts z i = in-member (z .want) (holding z) i
 
 -- ---- the kind that is wanted
 
@@ -196,25 +228,42 @@ module _ (op : Op) (memory : ℕ → Page) (path : List ℕ) (locks : List Under
   nothing-above : reverse path ≡ [] → AboveItsLeaf memory z → ⊥
   nothing-above turned a = absurd (omega (arith, a .1, sym (length-reverse path) ∙ ap length turned))
 
-  due-as : (up : List ℕ) → reverse path ≡ up → lock ≡ lockDue op memory up → WantsAs memory z
-  due-as [] turned e = record { leaf = λ a. absurd (nothing-above turned a); other = λ _. subst (GoesWith op) (sym e) (goes-with op) }
-  due-as (p ∷ up) turned e = record {
-    leaf = λ a. e ∙ cond-true Xi (heldLock op) (test-above p up turned a);
-    other = λ no. subst (GoesWith op)
-        (sym (e ∙ cond-false Xi (heldLock op) (false-if-not-true (isSecond op && eqb (memory p .level) 2) (λ both. no (above-test p up turned both)))))
-        (goes-with op);
-  }
+  -- the kind with which a new page is wanted
+  due-leaf : (up : List ℕ) → reverse path ≡ up → lock ≡ lockDue op memory up → AboveItsLeaf memory z → lock ≡ Xi
+  due-leaf [] turned e a = absurd (nothing-above turned a)
+  due-leaf (p ∷ up) turned e a = e ∙ cond-true Xi (heldLock op) (test-above p up turned a)
+
+  due-other : (up : List ℕ) → reverse path ≡ up → lock ≡ lockDue op memory up → (AboveItsLeaf memory z → ⊥) → GoesWith op lock
+  due-other [] turned e away = subst (GoesWith op) (sym e) (goes-with op)
+  due-other (p ∷ up) turned e away =
+      subst (GoesWith op)
+      (sym (e ∙ cond-false Xi (heldLock op) (false-if-not-true (isSecond op && eqb (memory p .level) 2) (λ both. away (above-test p up turned both)))))
+      (goes-with op)
 
   -- and the other way
-  as-due : (up : List ℕ) → reverse path ≡ up → WantsAs memory z → lock ≡ lockDue op memory up
-  as-due [] turned w = with-goes op lock (w .other (nothing-above turned))
-  as-due (p ∷ up) turned w =
+  as-due : (up : List ℕ) → reverse path ≡ up → (ConvertsHere z → ⊥) → WantsAs memory z → lock ≡ lockDue op memory up
+  as-due [] turned new w = with-goes op lock (w .other new (nothing-above turned))
+  as-due (p ∷ up) turned new w =
       by-test (isSecond op && eqb (memory p .level) 2)
       (λ both. w .leaf (above-test p up turned both) ∙ sym (cond-true Xi (heldLock op) both))
-      (λ no. with-goes op lock (w .other (λ a. not-both (test-above p up turned a) no)) ∙ sym (cond-false Xi (heldLock op) no))
+      (λ no. with-goes op lock (w .other new (λ a. not-both (test-above p up turned a) no)) ∙ sym (cond-false Xi (heldLock op) no))
 
-pub wants-as : (memory : ℕ → Page) (z : Stand) → z .lock ≡ lockDue (z .op) memory (reverse (z .path)) → WantsAs memory z
-wants-as memory z e = due-as (z .op) memory (z .path) (z .locks) (z .beside) (z .sidelocks) (z .want) (z .lock) (reverse (z .path)) refl e
+pub wants-as : (memory : ℕ → Page) (z : Stand) → (converting z ≡ true → z .lock ≡ Xi)
+    → (converting z ≡ false → z .lock ≡ lockDue (z .op) memory (reverse (z .path))) → WantsAs memory z
+wants-as memory z own new = record {
+  turn = λ c. own (here-converts z c);
+  leaf = λ a.
+      by-test (converting z) own
+      (λ f. due-leaf (z .op) memory (z .path) (z .locks) (z .beside) (z .sidelocks) (z .want) (z .lock) (reverse (z .path)) refl (new f) a);
+  other = λ c a.
+      due-other (z .op) memory (z .path) (z .locks) (z .beside) (z .sidelocks) (z .want) (z .lock) (reverse (z .path)) refl
+      (new (false-if-not-true (converting z) (λ m. c (converts-here z m)))) a;
+}
 
-pub wanted-due : (memory : ℕ → Page) (z : Stand) → WantsAs memory z → z .lock ≡ lockDue (z .op) memory (reverse (z .path))
-wanted-due memory z w = as-due (z .op) memory (z .path) (z .locks) (z .beside) (z .sidelocks) (z .want) (z .lock) (reverse (z .path)) refl w
+pub wanted-due : (memory : ℕ → Page) (z : Stand) → WantsAs memory z → converting z ≡ false → z .lock ≡ lockDue (z .op) memory (reverse (z .path))
+wanted-due memory z w new =
+    as-due (z .op) memory (z .path) (z .locks) (z .beside) (z .sidelocks) (z .want) (z .lock) (reverse (z .path)) refl
+    (λ c. not-both (here-converts z c) new) w
+
+pub wanted-xi : (memory : ℕ → Page) (z : Stand) → WantsAs memory z → converting z ≡ true → z .lock ≡ Xi
+wanted-xi memory z w own = w .turn (converts-here z own)

@@ -1,7 +1,8 @@
 -- Demand 1, call by call: which answer is heard, exactly when, and what is then left.
 -- "Whatever slots, keys, states and page words come in, every call ends, strays nowhere and refuses what it cannot use. Nothing
 -- is left for the caller to check first. A refused call leaves pages, locks and waiting order exactly as found."
--- State, words and numbers are any here: no record asks anything of them. That a call ends and strays nowhere, and that it
+-- State, words and numbers are any here: no record asks anything of them but, of a step, that the slot has the cells
+-- that its type says. That a call ends and strays nowhere, and that it
 -- answers and leaves what `begun`, `stepped`, `reported` and `made` say, is proved of the code, where no public call has a
 -- `requires`.
 -- Each record has 01's table for its call, row by row in 01's order. A row is heard exactly if it applies and none before it does.
@@ -58,6 +59,11 @@ PagesSound st ws slot (Open op) = SoundForStep (st .k) (st .n) ws (standOf op sl
 
 abbrev pub PagesSoundAt : State → List ℕ → ℕ → Type 0
 PagesSoundAt st ws s = PagesSound st ws (slotAt st s) (slotAt st s .task)
+
+-- Arrays are lists to the prover, so their lengths are said: a slot has as many cells for kinds of lock as for pages. By its type every slot has.
+pub record Celled (slot : Slot) : Type 0 where
+  pub path : length (slot .locks) ≡ length (slot .path)
+  pub beside : length (slot .sidelocks) ≡ length (slot .beside)
 
 -- "Step: 1, 2, 3, 5, Waiting, 6."
 pub record StepDemand (st : State) (ws : List ℕ) (s : ℕ) : Type 0 where
@@ -117,7 +123,7 @@ pub record MakeDemand (k n : ℕ) (ws : List ℕ) : Type 0 where
 
 pub record Demand1 : Type 0 where
   pub begin : (st : State) (s : ℕ) (op : Op) → BeginDemand st s op
-  pub step : (st : State) (ws : List ℕ) (s : ℕ) → StepDemand st ws s
+  pub step : (st : State) (ws : List ℕ) (s : ℕ) → Celled (slotAt st s) → StepDemand st ws s
   pub report : (st : State) (p : ℕ) → ReportDemand st p
   pub make : (k n : ℕ) (ws : List ℕ) → MakeDemand k n ws
   -- a sound state, of which they speak by the rule's test, in plain terms

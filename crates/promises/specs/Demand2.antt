@@ -3,7 +3,8 @@
 -- free, no two locks clash, and each step takes and gives up just the locks the rules name."
 -- Next of 02 (i) and the regrading of 02 (iv) are among the operations: whatever is said of every operation is said of them.
 -- 02 (iii): "Demands 2 and 3 stand, with Waiting given exactly by the new rule.": `StepLocks`, its fields waits and waitsFor.
--- 02 (vi), kinds of lock: `AfterEveryCall`, its fields locks and heldAs.
+-- 02 (vi), kinds of lock: `AfterEveryCall`, its fields locks and heldAs; the third way: `MovesOn`, its field takes; `Ends`, its fields turned and allXi;
+-- `InTheWay`, conversions.
 -- 02 (v), updates by the second way: `AfterEveryCall`, its fields wantsAs, secondHeld and secondAbove; `MovesOn`, its field taken; `Ends`, its
 -- fields writes and stays.
 use Prim.Native.Nat.{ℕ, suc, _-_, _≤_, _<_}
@@ -21,20 +22,20 @@ use Rattle.pool.specs.Pool.{wordsOf, pageAt}
 use Rattle.slots.specs.declared.Op.{Op}
 use Rattle.slots.specs.declared.Op.the-variants.{Search, Insert, Delete, Next, Regrade}
 use Rattle.slots.specs.declared.Way.{Way}
-use Rattle.slots.specs.declared.Way.the-variants.{First}
+use Rattle.slots.specs.declared.Way.the-variants.{First, Third}
 use Rattle.slots.specs.declared.Lock.{Lock}
 use Rattle.slots.specs.declared.Lock.the-variants.{None, Xi}
 use Rattle.slots.specs.declared.Slot.{Slot}
 use Rattle.slots.specs.declared.State.{State}
 use Rattle.slots.specs.declared.Answer.{Answer}
-use Rattle.slots.specs.declared.Answer.the-variants.{Waiting, Moved, Begun, Next as NextLot, Regraded}
-use Rattle.slots.specs.Parts.{keyOf, isDelete, isNext, isSecond, firstWay, heldLock, goesBeside, held, heldLocks, under, standOf, slotAt, openAt, wantAt, holdsAt, waitingOrder, Opened}
+use Rattle.slots.specs.declared.Answer.the-variants.{Waiting, Moved, Begun, NoRoom, Next as NextLot, Regraded}
+use Rattle.slots.specs.Parts.{keyOf, isDelete, isNext, isSecond, isThird, firstWay, heldLock, goesBeside, held, heldLocks, under, Stand, onPages, standOf, slotAt, openAt, wantAt, holdsAt, waitingOrder, Opened}
 use Rattle.slots.specs.Locks.{lockHeld, lockWanted, clash}
 use Rattle.slots.specs.Grant.{olderThan}
 use Rattle.slots.specs.Sound.{sound}
 use Rattle.slots.specs.Heard.{changesNothing, isOneOf, ending, writing}
 use Rattle.slots.specs.Book.{leaving}
-use Rattle.footing.specs.Granted.{isSafe, answeredAtOnce}
+use Rattle.footing.specs.Granted.{isSafe, answeredAtOnce, changeKnown, pagesInTurn}
 use Rattle.index.specs.Step.{Left}
 use Rattle.tree.specs.Tree.{Tr, occurs, PoolForms}
 use Rattle.runs.specs.Calls.{Call, begin, step, report, called, CallInWords, answersOf}
@@ -42,7 +43,7 @@ use Rattle.runs.specs.Run.{Start, runFrom, Run}
 use Rattle.runs.specs.Stance.{Safe, Stance, Takes}
 use Rattle.runs.specs.Waits.{Barred, Before}
 use Rattle.runs.specs.PlainFacts.{Among, AllBelow}
-use Rattle.promises.specs.Terms.{Exactly, GoTogether, HoldsAs, GoesWith, BySecond, WantsXi, WantsAs}
+use Rattle.promises.specs.Terms.{Exactly, Holds, GoTogether, HoldsAs, GoesWith, BySecond, ByThird, Converts, WantsXi, WantsAs, Converted, NoMore}
 
 -- ---- after every call
 
@@ -64,7 +65,10 @@ pub record AfterEveryCall (k n : ℕ) (st : State) (ws : List ℕ) : Type 0 wher
   pub stands : (s : ℕ) (op : Op) → s < slotCount → Opened st s op → Stance k (pageAt k ws) height tree (standOf op (slotAt st s))
   pub closed : (s : ℕ) → s < slotCount → openAt st s ≡ false → held (slotAt st s) ≡ []
   -- with which kind of lock it holds a page, and with which it wants one
-  pub heldAs : (s p : ℕ) (op : Op) (lock : Lock) → s < slotCount → Opened st s op → HoldsAs st s p lock → GoesWith op lock
+  pub heldAs : (s p : ℕ) (op : Op) (lock : Lock) → s < slotCount → Opened st s op → HoldsAs st s p lock
+      → (Converted (standOf op (slotAt st s)) p → lock ≡ Xi) × ((Converted (standOf op (slotAt st s)) p → ⊥) → GoesWith op lock)
+  -- only an update by the third way converts
+  pub turns : (s : ℕ) (op : Op) → s < slotCount → Opened st s op → Converts st s → ByThird op
   pub wantsAs : (s : ℕ) (op : Op) → s < slotCount → Opened st s op → WantsAs (pageAt k ws) (standOf op (slotAt st s))
   -- Regrading: "every page is safe for it, so it holds at most 1"
   pub oneHeld : (s x v : ℕ) (way : Way) → s < slotCount → Opened st s (Regrade x v way) → length (held (slotAt st s)) ≤ 1
@@ -131,17 +135,32 @@ pub record Ends (st : State) (ws : List ℕ) (s : ℕ) (after : Left) : Type 0 w
   -- way. If page 0 is a leaf, it begins again in any case." Where it begins again, `Takes` has why
   pub stays : BySecond op → (wantAt st s ≢ 0)
       × ((answeredAtOnce op (pageAt (st .k) ws (wantAt st s) .entries) ≡ true) ⊎ (isSafe (firstWay op) (st .k) (pageAt (st .k) ws (wantAt st s)) ≡ true))
+  -- 02 (vi): "Room is counted in the step that makes the change, after the last conversion.": by the third way a change is made, or found to lack room,
+  -- just where it converts, and then with ξ on all that it holds
+  pub turned : ByThird op → Exactly (isOneOf (after .answer) (NoRoom ∷ writing) ≡ true) (Converts st s)
+  pub allXi : ByThird op → Converts st s → (q : ℕ) → Holds st s q → HasXi st s q
   -- the lot that a Next answers it reads on the leaf that this step was granted, not on one without its lock
   pub seen : Seen (pageAt (st .k) ws (wantAt st s)) (after .answer)
 
--- Another slot is in slot s's way: it holds the page that s wants, or wants it too and stands before s in the waiting order; and the two locks do not
--- go together.
+-- Slot u holds the page that slot s wants, and the two locks do not go together.
+abbrev pub HoldsAgainst : State → ℕ → ℕ → Type 0
+HoldsAgainst st s u = (lock : Lock) × HoldsAs st u (wantAt st s) lock × (GoTogether lock (slotAt st s .lock) → ⊥)
+
+-- It wants the same page, and stands before s in the waiting order; and the two locks do not go together.
+abbrev pub WantedBefore : State → ℕ → ℕ → Type 0
+WantedBefore st s u =
+    (wantAt st u ≡ wantAt st s) × Before u s (waitingOrder st) × (GoTogether (slotAt st u .lock) (slotAt st s .lock) → ⊥)
+
+-- It waits to convert the same page, whatever the two locks, and whichever is older.
+abbrev pub ConvertsIt : State → ℕ → ℕ → Type 0
+ConvertsIt st s u = (wantAt st u ≡ wantAt st s) × Converts st u
+
+-- Another slot is in slot s's way. 02 (vi): "A conversion wants a held page and comes before every other want on it": so it waits for held locks alone.
 pub record InTheWay (st : State) (s : ℕ) : Type 0 where
   pub slot : ℕ
   pub inside : slot < slotCount
   pub other : slot ≢ s
-  pub there : ((lock : Lock) × HoldsAs st slot (wantAt st s) lock × (GoTogether lock (slotAt st s .lock) → ⊥))
-      ⊎ ((wantAt st slot ≡ wantAt st s) × Before slot s (waitingOrder st) × (GoTogether (slotAt st slot .lock) (slotAt st s .lock) → ⊥))
+  pub there : HoldsAgainst st s slot ⊎ ((Converts st s → ⊥) × (WantedBefore st s slot ⊎ ConvertsIt st s slot))
 
 -- "each step takes and gives up just the locks the rules name"
 pub record StepLocks (st : State) (ws : List ℕ) (s : ℕ) (after : Left) : Type 0 where
@@ -176,20 +195,30 @@ pub record Words (k : ℕ) : Type 0 where
   -- the key of an operation is the one that it names
   pub key : (x v : ℕ) (way : Way)
       → (keyOf (Search x) ≡ x) × (keyOf (Insert x v way) ≡ x) × (keyOf (Delete x way) ≡ x) × (keyOf (Next x) ≡ x) × (keyOf (Regrade x v way) ≡ x)
-  -- a deletion that takes siblings is a Delete of some key by the first way, and nothing else is,
-  pub deletion : (op : Op) → Exactly (isDelete op ≡ true) ((x : ℕ) × (op ≡ Delete x First))
+  -- a deletion that takes siblings is a Delete of some key by the first way or the third, and nothing else is,
+  pub deletion : (op : Op) → Exactly (isDelete op ≡ true) ((x : ℕ) × ((op ≡ Delete x First) ⊎ (op ≡ Delete x Third)))
   -- what asks for the next lot is a Next of some key,
   pub asksNext : (op : Op) → Exactly (isNext op ≡ true) ((x : ℕ) × (op ≡ Next x))
   -- and just these two may hold pages beside their path
-  pub beside : (op : Op) → Exactly (goesBeside op ≡ true) ((x : ℕ) × ((op ≡ Delete x First) ⊎ (op ≡ Next x)))
-  -- who goes by the second way; the same operation by the first; and what stands under the key of an update is answered at once just if an
+  pub beside : (op : Op) → Exactly (goesBeside op ≡ true) ((x : ℕ) × ((op ≡ Delete x First) ⊎ ((op ≡ Delete x Third) ⊎ (op ≡ Next x))))
+  -- who goes by the second way, and by the third; the same operation by the first; and what stands under the key of an update is answered at once just if an
   -- insertion's key is there, another one's is missing
   pub second : (op : Op) → Exactly (isSecond op ≡ true) (BySecond op)
+  pub third : (op : Op) → Exactly (isThird op ≡ true) (ByThird op)
   pub first : (x v : ℕ) (way : Way)
       → (firstWay (Insert x v way) ≡ Insert x v First) × (firstWay (Delete x way) ≡ Delete x First) × (firstWay (Regrade x v way) ≡ Regrade x v First)
   pub atOnce : (x v : ℕ) (way : Way) (es : List Entry)
       → (answeredAtOnce (Insert x v way) es ≡ has x es) × (answeredAtOnce (Delete x way) es ≡ not (has x es))
       × (answeredAtOnce (Regrade x v way) es ≡ not (has x es))
+  -- when the change of an update is known: it is not answered at once; an insertion and a regrading have no siblings, a deletion all that it needs
+  pub known : (z : Stand) (memory : ℕ → Page) (leaf : ℕ) (fathers : List ℕ)
+      → Exactly (changeKnown k memory z leaf fathers ≡ true) ((answeredAtOnce (z .op) (memory leaf .entries) ≡ false) × NoMore k memory z leaf fathers)
+  -- the order of conversion: the top page of a path, then the sibling on its level, if there is one (the last taken is the highest), then those below
+  pub turnsNone : (z : Stand) → z .path ≡ [] → pagesInTurn z ≡ []
+  pub turnsAlone : (z : Stand) (top : ℕ) (below : List ℕ) → z .path ≡ top ∷ below → length (z .beside) ≤ length below
+      → pagesInTurn z ≡ top ∷ pagesInTurn (onPages z below (z .locks) (z .beside) (z .sidelocks))
+  pub turnsBoth : (z : Stand) (top s : ℕ) (below lower : List ℕ) → z .path ≡ top ∷ below → z .beside ≡ lower ++ s ∷ [] → length lower ≡ length below
+      → pagesInTurn z ≡ top ∷ (s ∷ pagesInTurn (onPages z below (z .locks) lower (z .sidelocks)))
   -- no entry of a list is at or above a key just if every key of it is below
   pub nearest : (x : ℕ) (es : List Entry) → Exactly (atOrAbove x es ≡ []) (AllBelow x es)
   -- a page is safe, as 01 says when ancestors are given up

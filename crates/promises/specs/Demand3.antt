@@ -4,11 +4,12 @@
 -- and comes exactly when a new key needs more pages than are free. While any operation is open, some open one can be granted
 -- its step, and if none is begun, 304 rounds that each step every open slot end them all."
 -- Next of 02 (i) is among the operations: "Demand 3's sorted list learns this question." So is the regrading of 02 (iv): "Demand 3's
--- list learns the operation." 02 (v): an update by the second way ends once, whether it began again or not, and "the rounds in demand 3
--- become 16 × 29 = 464".
+-- list learns the operation." 02 (v): an update by the second way ends once, whether it began again or not. 02 (vi): "A deletion takes at most 19 grants
+-- and 19 conversions: 16 × 38 = 608 rounds."
 use Prim.Native.Nat.{ℕ, _+_, _*_, _≤_, _<_}
 use mathlib.Core.Bool.{true, false}
 use mathlib.Core.List.{List, _++_}
+use mathlib.Core.Logic.{_⊎_, _≢_}
 use mathlib.Core.Path.{_≡_}
 use lib.ListN.{length}
 use Rattle.ground.specs.Limits.{slotCount, slotGrants, roundsEnough}
@@ -17,9 +18,10 @@ use Rattle.page.specs.Place.{has, information}
 use Rattle.pool.specs.Pool.{pageAt, freePages}
 use Rattle.slots.specs.declared.Op.{Op}
 use Rattle.slots.specs.declared.Op.the-variants.{Insert}
-use Rattle.slots.specs.declared.Way.the-variants.{First}
+use Rattle.slots.specs.declared.Way.{Way}
+use Rattle.slots.specs.declared.Way.the-variants.{First, Third}
 use Rattle.slots.specs.declared.State.{State}
-use Rattle.slots.specs.declared.Answer.the-variants.{Inserted, AlreadyThere, NoRoom}
+use Rattle.slots.specs.declared.Answer.the-variants.{Inserted, AlreadyThere, NoRoom, Moved}
 use Rattle.slots.specs.Parts.{openAt, wantAt, Opened}
 use Rattle.slots.specs.Grant.{grants}
 use Rattle.slots.specs.Heard.{changesNothing}
@@ -32,6 +34,7 @@ use Rattle.runs.specs.Done.{Done, nobody, done, plainAnswers, plainEntries, ops
 use Rattle.runs.specs.PlainFacts.{PlainFacts}
 use Rattle.runs.specs.Rounds.{RoundsClose}
 use Rattle.runs.specs.Counts.{CountsFrom}
+use Rattle.promises.specs.Terms.{Converts}
 
 -- ---- the same answers
 
@@ -52,8 +55,9 @@ pub record Agreement (start : Start) (cs : List Call) (r : Told) : Type 0 where
 
 -- ---- room
 
--- An insertion of x by the first way that is granted its leaf, in a pool that is the tree t. ""No room" .. comes exactly when a new key
--- needs more pages than are free." (By the second way it changes a leaf that has room, or begins again: demand 2.)
+-- An insertion of x by the first way that is granted its leaf, or one by the third that is not answered Moved, in a pool that is the tree t. ""No room" ..
+-- comes exactly when a new key needs more pages than are free." 02 (vi): "Room is counted in the step that makes the change, after the last
+-- conversion.": until then it is answered Moved. (By the second way it changes a leaf that has room, or begins again: demand 2.)
 pub record RoomExact (k n : ℕ) (ws : List ℕ) (l : ℕ) (t : Tr l) (x : ℕ) (after : Left) : Type 0 where
   -- "a key already there is answered so", and AlreadyThere carries "the information there"
   pub there : has x (entriesOf l t) ≡ true → after .answer ≡ AlreadyThere (information x (entriesOf l t))
@@ -65,9 +69,11 @@ pub record RoomExact (k n : ℕ) (ws : List ℕ) (l : ℕ) (t : Tr l) (x : ℕ) 
 pub record NoRoomSays (k n : ℕ) (st : State) (ws : List ℕ) (l : ℕ) (t : Tr l) (s : ℕ) (after : Left) : Type 0 where
   pub key : ℕ
   pub lot : ℕ
-  pub inserts : Opened st s (Insert key lot First)
+  pub way : Way
+  pub inserts : Opened st s (Insert key lot way)
   pub granted : grants st s ≡ true
-  pub atLeaf : isLeaf (pageAt k ws (wantAt st s)) ≡ true
+  -- by the first way it was granted its leaf; by the third a conversion; by the second it is never answered so
+  pub here : ((way ≡ First) × (isLeaf (pageAt k ws (wantAt st s)) ≡ true)) ⊎ ((way ≡ Third) × Converts st s)
   pub new : has key (entriesOf l t) ≡ false
   pub needsMore : length (freePages k n ws) < treeRoom k key l t
   pub words : after .words ≡ ws
@@ -77,6 +83,8 @@ pub record Room (k n : ℕ) (st : State) (ws : List ℕ) : Type 0 where
   pub free : (l : ℕ) (t : Tr l) → PoolForms k n ws l t → length (freePages k n ws) + pageCount l t ≡ n
   pub exact : (l : ℕ) (t : Tr l) (s x v : ℕ) → PoolForms k n ws l t → s < slotCount → Opened st s (Insert x v First) → grants st s ≡ true
       → isLeaf (pageAt k ws (wantAt st s)) ≡ true → RoomExact k n ws l t x (stepped st ws s)
+  pub exactInTurn : (l : ℕ) (t : Tr l) (s x v : ℕ) → PoolForms k n ws l t → s < slotCount → Opened st s (Insert x v Third) → grants st s ≡ true
+      → stepped st ws s .answer ≢ Moved → RoomExact k n ws l t x (stepped st ws s)
   pub says : (l : ℕ) (t : Tr l) (s : ℕ) → PoolForms k n ws l t → stepped st ws s .answer ≡ NoRoom → NoRoomSays k n st ws l t s (stepped st ws s)
 
 -- ---- no standstill
@@ -103,11 +111,11 @@ pub record Demand3 (start : Start) (cs : List Call) : Type 0 where
   pub room : Room (start .state .k) (start .state .n) (runFrom start cs .state) (runFrom start cs .words)
   -- "While any operation is open, some open one can be granted its step"
   pub someGoes : (s : ℕ) → s < slotCount → openAt (runFrom start cs .state) s ≡ true → SomeGoes (runFrom start cs .state) (runFrom start cs .words)
-  -- "and if none is begun, 304 rounds that each step every open slot end them all": 464 with 02 (v)
+  -- "and if none is begun, 304 rounds that each step every open slot end them all": 608 with 02 (vi)
   pub rounds : RoundsClose (runFrom start cs .state) (runFrom start cs .words)
   -- 01: "Granted steps, with h the level of page 0 when it is granted: search and insertion take h, deletion h to 2h-1. So at
   -- most 19 a slot, and 16 × 19 = 304." Next: "It takes at most 2h-1 grants, so 304 stands." A regrading takes h. By the second way:
-  -- "At most 10 + 19 grants". Of whatever operation begins here, in whatever calls follow
+  -- "At most 10 + 19 grants". By the third: "at most 19 grants and 19 conversions". Of whatever operation begins here, in whatever calls follow
   pub grantCounts : CountsFrom (runFrom start cs .state) (runFrom start cs .words)
   pub roundsOfSlots : roundsEnough ≡ slotCount * slotGrants
 

@@ -15,4 +15,5 @@ pub mod RegradeRows
 pub mod WideRows
 pub mod DamageRows
 pub mod SecondRows
+pub mod ThirdRows
 pub mod Regrading

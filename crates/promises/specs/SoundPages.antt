@@ -4,7 +4,7 @@
 -- then hold." Demand 1 has that the rule's test, `soundForStep`, passes exactly then.
 -- A slot's path is given from the top downward, a deletion's siblings from the leaf's upward, the second way of a Next from the top downward.
 use Prim.Native.Nat.{ℕ, suc, _+_, _*_, _≤_, _<_}
-use mathlib.Core.Bool.{true}
+use mathlib.Core.Bool.{true, false}
 use mathlib.Core.List.{List, [], _∷_, _++_, reverse}
 use mathlib.Core.Logic.{_⊎_, _≢_}
 use mathlib.Core.Path.{_≡_}
@@ -15,10 +15,13 @@ use Rattle.page.specs.Place.{pointer}
 use Rattle.page.specs.Splits.{entryAt}
 use Rattle.page.specs.Short.{neighbour}
 use Rattle.pool.specs.Pool.{wordsOf, pageAt}
+use Rattle.slots.specs.declared.Lock.{Lock}
+use Rattle.slots.specs.declared.Lock.the-variants.{Xi, Alpha}
 use Rattle.slots.specs.Parts.{keyOf, isDelete, isNext, Stand}
+use Rattle.footing.specs.Granted.{answeredAtOnce, pagesInTurn}
 use Rattle.runs.specs.PlainFacts.{AllBelow}
 use Rattle.runs.specs.Stance.{Safe, StandsAtLeaf}
-use Rattle.promises.specs.Terms.{In, Once, WantsAs}
+use Rattle.promises.specs.Terms.{In, Once, GoesWith, ByThird, ConvertsHere, HeldHere, WantsAs, NoMore}
 
 -- ---- a page by itself
 
@@ -115,31 +118,59 @@ pub record GoesAcross (k : ℕ) (memory : ℕ → Page) (z : Stand) : Type 0 whe
   pub lower : memory (getD (z .path) 0 0) .level ≡ memory (getD (z .beside ++ z .want ∷ []) 0 0) .level + 1
   pub leftmost : LeftmostWay memory (z .beside ++ z .want ∷ [])
 
+-- ---- where it stands
+
+-- It gathers pages: it wants one that it does not hold, and holds all with the kind with which it goes down.
+pub record GathersRightly (k : ℕ) (memory : ℕ → Page) (z : Stand) : Type 0 where
+  pub new : ConvertsHere z → ⊥
+  pub holds : (p : ℕ) (lock : Lock) → HeldHere z p lock → GoesWith (z .op) lock
+  pub stands : ComesDown memory z ⊎ (AsksSibling k memory z ⊎ GoesAcross k memory z)
+
+-- 02 (vi): "When the change is known, path and siblings are converted to ξ from the top down, path page before sibling on each level, one conversion a
+-- step. A conversion wants a held page". Its path is given upward as leaf and fathers.
+pub record ConvertsRightly (k : ℕ) (memory : ℕ → Page) (z : Stand) : Type 0 where
+  pub third : ByThird (z .op)
+  pub leaf : ℕ
+  pub fathers : List ℕ
+  pub upward : reverse (z .path) ≡ leaf ∷ fathers
+  pub atLeaf : StandsAtLeaf memory (z .path)
+  pub way : Way memory (keyOf (z .op)) (z .path)
+  -- the change is known, and a sibling has the level of the page beside it
+  pub unanswered : answeredAtOnce (z .op) (memory leaf .entries) ≡ false
+  pub noMore : NoMore k memory z leaf fathers
+  pub levels : (j : ℕ) → j < length (z .beside) → memory (getD (reverse (z .path)) j 0) .level ≡ memory (getD (z .beside) j 0) .level
+  -- what stands before the want in the order of conversion has ξ, the want and what stands behind it α
+  pub done : List ℕ
+  pub rest : List ℕ
+  pub turns : pagesInTurn z ≡ done ++ z .want ∷ rest
+  pub converted : (p : ℕ) → In p done → HeldHere z p Xi
+  pub left : (p : ℕ) → In p (z .want ∷ rest) → HeldHere z p Alpha
+
 -- ---- the page wanted next
 
--- Granted its want, the operation would hold these pages and want page q.
+-- Granted its want, the operation would hold these pages and want page q. Conversions are exempt: neither who converts nor who would then is asked.
 pub data WouldWant (k : ℕ) (memory : ℕ → Page) (z : Stand) (holding : List ℕ) (q : ℕ) : Type 0 where
   -- It comes down to a safe page above the leaves, which it holds alone; to one that is not safe, beside all that it holds.
-  alone : (StandsAtLeaf memory (z .path) → ⊥) → memory (z .want) .level ≢ 1 → Safe (z .op) k (memory (z .want))
+  alone : (ConvertsHere z → ⊥) → (StandsAtLeaf memory (z .path) → ⊥) → memory (z .want) .level ≢ 1 → Safe (z .op) k (memory (z .want))
       → RoutesTo (keyOf (z .op)) (memory (z .want)) q → holding ≡ z .want ∷ [] → WouldWant k memory z holding q
-  lower : (StandsAtLeaf memory (z .path) → ⊥) → memory (z .want) .level ≢ 1 → (Safe (z .op) k (memory (z .want)) → ⊥)
+  lower : (ConvertsHere z → ⊥) → (StandsAtLeaf memory (z .path) → ⊥) → memory (z .want) .level ≢ 1 → (Safe (z .op) k (memory (z .want)) → ⊥)
       → RoutesTo (keyOf (z .op)) (memory (z .want)) q → holding ≡ z .path ++ z .want ∷ [] → WouldWant k memory z holding q
   -- A deletion comes to its leaf, where the key is: it would be short, and is not page 0.
-  leafSibling : (StandsAtLeaf memory (z .path) → ⊥) → memory (z .want) .level ≡ 1 → isDelete (z .op) ≡ true
+  leafSibling : (ConvertsHere z → ⊥) → (StandsAtLeaf memory (z .path) → ⊥) → memory (z .want) .level ≡ 1 → isDelete (z .op) ≡ true
       → (i : ℕ) × (i < μ (memory (z .want))) × (entryAt i (memory (z .want) .entries) .key ≡ keyOf (z .op))
       → μ (memory (z .want)) ≤ k → z .want ≢ 0
       → q ≡ neighbour (keyOf (z .op)) (memory (getD (reverse (z .path)) 0 0)) → holding ≡ z .path ++ z .want ∷ [] → WouldWant k memory z holding q
   -- The sibling granted has none to spare, and the father would be short and is not page 0.
-  fatherSibling : StandsAtLeaf memory (z .path) → isDelete (z .op) ≡ true → μ (memory (z .want)) ≤ k
+  fatherSibling : (ConvertsHere z → ⊥) → StandsAtLeaf memory (z .path) → isDelete (z .op) ≡ true → μ (memory (z .want)) ≤ k
       → μ (memory (getD (reverse (z .path)) (suc (length (z .beside))) 0)) ≤ k → getD (reverse (z .path)) (suc (length (z .beside))) 0 ≢ 0
       → q ≡ neighbour (keyOf (z .op)) (memory (getD (reverse (z .path)) (suc (suc (length (z .beside)))) 0))
       → holding ≡ z .path ++ (z .beside ++ z .want ∷ []) → WouldWant k memory z holding q
   -- A Next comes to its leaf, which has no key at or above, and the top page has a child to the right.
-  across : (StandsAtLeaf memory (z .path) → ⊥) → memory (z .want) .level ≡ 1 → isNext (z .op) ≡ true
+  across : (ConvertsHere z → ⊥) → (StandsAtLeaf memory (z .path) → ⊥) → memory (z .want) .level ≡ 1 → isNext (z .op) ≡ true
       → AllBelow (keyOf (z .op)) (memory (z .want) .entries) → 1 ≤ length (z .path) → Safe (z .op) k (memory (getD (z .path) 0 0))
       → q ≡ neighbour (keyOf (z .op)) (memory (getD (z .path) 0 0)) → holding ≡ z .path ++ z .want ∷ [] → WouldWant k memory z holding q
   -- On its second way it is granted a page above the leaves.
-  onward : StandsAtLeaf memory (z .path) → isNext (z .op) ≡ true → memory (z .want) .level ≢ 1
+  onward : (ConvertsHere z → ⊥) → StandsAtLeaf memory (z .path) → isNext (z .op) ≡ true → memory (z .want) .level ≢ 1
       → q ≡ pointer 0 (memory (z .want)) → holding ≡ z .path ++ (z .beside ++ z .want ∷ []) → WouldWant k memory z holding q
 
 -- ---- all of it
@@ -150,5 +181,6 @@ pub record SoundForStep (k n : ℕ) (ws : List ℕ) (z : Stand) : Type 0 where
   pub kept : KeptRightly k (pageAt k ws) z
   -- the page is wanted with the kind of lock that the rules would have it want
   pub wants : WantsAs (pageAt k ws) z
-  pub stands : ComesDown (pageAt k ws) z ⊎ (AsksSibling k (pageAt k ws) z ⊎ GoesAcross k (pageAt k ws) z)
+  -- so are its pages held, and so it stands
+  pub stands : GathersRightly k (pageAt k ws) z ⊎ ConvertsRightly k (pageAt k ws) z
   pub new : (holding : List ℕ) (q : ℕ) → WouldWant k (pageAt k ws) z holding q → In q holding → ⊥

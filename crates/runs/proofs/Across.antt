@@ -19,7 +19,7 @@ use Rattle.page.specs.Place.{pointer}
 use Rattle.page.specs.Short.{hasRight, neighbour}
 use Rattle.slots.specs.declared.Op.{Op}
 use Rattle.slots.specs.declared.Op.the-variants.{Search, Insert, Delete, Next, Regrade}
-use Rattle.slots.specs.declared.Way.the-variants.{First, Second}
+use Rattle.slots.specs.declared.Way.the-variants.{First, Second, Third}
 use Rattle.slots.specs.Parts.{keyOf, isNext, Stand}
 use Rattle.footing.specs.Granted.{isSafe}
 use Rattle.tree.specs.Tree.{Tr, occurs, way, Forms}
@@ -56,11 +56,14 @@ pub next-right : (op : Op) (k : ℕ) (P : Page) → isNext op ≡ true → isSaf
 next-right (Search x) k P asks safe = absurd (false≢true asks)
 next-right (Insert x v First) k P asks safe = absurd (false≢true asks)
 next-right (Insert x v Second) k P asks safe = absurd (false≢true asks)
+next-right (Insert x v Third) k P asks safe = absurd (false≢true asks)
 next-right (Delete x First) k P asks safe = absurd (false≢true asks)
 next-right (Delete x Second) k P asks safe = absurd (false≢true asks)
+next-right (Delete x Third) k P asks safe = absurd (false≢true asks)
 next-right (Next x) k P asks safe = and-second (not (isLeaf P)) (hasRight x P) safe
 next-right (Regrade x v First) k P asks safe = absurd (false≢true asks)
 next-right (Regrade x v Second) k P asks safe = absurd (false≢true asks)
+next-right (Regrade x v Third) k P asks safe = absurd (false≢true asks)
 
 module _ (k n : ℕ) (memory : ℕ → Page) (l : ℕ) (t : Tr l) (one : 1 ≤ k) (forms : Forms k n memory l t)
     (z : Stand) (key : keyOf (z .op) < wordRange) (c : Crossing k memory l t z) where

@@ -33,7 +33,7 @@ use Rattle.tree.proofs.Words.{pool-leads}
 use Rattle.runs.specs.Run.{Call, begin, step, report, called, Told, run, Start, runFrom, InWords, Run}
 use Rattle.runs.specs.Plain.{Reply, plain}
 use Rattle.runs.specs.Done.{Done, ended, nobody, asks, done, plainAnswers, plainEntries, opsOf, answersIn}
-use Rattle.runs.specs.Step.{Ended, AsPlain, NoRoomLeft}
+use Rattle.runs.specs.Step.{Ended}
 use Rattle.runs.proofs.Invariant.{Invariant}
 use Rattle.runs.proofs.PlainLaws.{plain-ways}
 use Rattle.runs.proofs.Calls.{StepOf, noSlot, idle, waits, onward, over, step-of, same-op, closed-open}

@@ -1,48 +1,55 @@
 -- Every call keeps what holds of a run: begin, step and report, one after the other.
 use Prim.Native.Nat.{ℕ, _≤_, _<_}
-use mathlib.Core.Bool.{true, false, cond, not, false≢true}
+use mathlib.Core.Bool.{Bool, true, false, cond, not, _&&_, false≢true}
 use mathlib.Core.Logic.{_⊎_, inl, inr, ⊎-elim, _≢_}
-use mathlib.Core.List.{List, [], _∷_, _++_, reverse, append-nil}
+use mathlib.Core.List.{List, [], _∷_, _++_, reverse, append-nil, append-assoc}
 use mathlib.Core.Path.{_≡_, refl, sym, ap, ap₂, subst, _∙_}
 use native.Mathlib.Omega.{arith}
-use lib.Dec.{ltb}
-use lib.ListN.{length}
-use borrow.Author.Tests.{ltb-true, ltb-false, lt-ltb, eq-eqb}
+use lib.Dec.{ltb, eqb}
+use lib.ListN.{length, length-append}
+use borrow.Author.Tests.{ltb-true, ltb-false, lt-ltb, eq-eqb, eqb-true, eqb-false}
 use Rattle.ground.specs.Limits.{slotCount, wordRange}
 use Rattle.ground.specs.Tests.{member}
-use Rattle.ground.proofs.Bools.{true-or-false, not-both, false-if-not-true, or-cases, or-first, or-second, not-of-true, not-of-false}
+use Rattle.ground.proofs.Bools.{true-or-false, not-both, false-if-not-true, and-both, and-first-fails, or-second, not-of-true, not-of-false}
 use Rattle.ground.proofs.Choice.{by-test, cond-true, cond-false}
-use Rattle.ground.proofs.Tests.{member-none, member-there, member-cases, member-append, member-last}
+use Rattle.ground.proofs.Tests.{member-none, member-one, member-there, member-last}
 use Rattle.page.specs.Words.{Page}
 use Rattle.pool.specs.Pool.{Write, poolLength, pageAt, applied}
 use Rattle.slots.specs.declared.Op.{Op}
+use Rattle.slots.specs.declared.Lock.{Lock}
+use Rattle.slots.specs.declared.Lock.the-variants.{Xi, Alpha}
+use Rattle.slots.specs.declared.Under.{Under}
 use Rattle.slots.specs.declared.Task.{Task}
 use Rattle.slots.specs.declared.Task.the-variants.{Closed, Open}
 use Rattle.slots.specs.declared.Slot.{Slot}
 use Rattle.slots.specs.declared.State.{State}
 use Rattle.slots.specs.declared.Answer.{Answer}
 use Rattle.slots.specs.declared.Answer.the-variants.{Waiting, Moved, BadState, BadPool, BadSlot, SlotIdle}
-use Rattle.slots.specs.Parts.{isOpen, held, keyOf, heldLock, firstWay, Stand, freshStand, holding, standOf, slotOf, slotAt, openAt, wantAt, holdsAt, closedSlot, Opened}
-use Rattle.slots.specs.Locks.{lockHeld}
+use Rattle.slots.specs.Parts.{isOpen, held, keyOf, isSecond, isThird, firstWay, under, xiOn, withXi, Stand, freshStand, holding, holdingLocks, converting, standOf, slotOf, slotAt, openAt, wantAt, holdsAt, closedSlot, Opened}
+use Rattle.slots.specs.Locks.{lockAmong, lockHeld, sameLock, canWant}
+use Rattle.slots.specs.Sound.{convertsRightly}
 use Rattle.slots.specs.Grant.{grants}
 use Rattle.slots.specs.Book.{rewritten, begins, goesOn, closes}
 use Rattle.slots.proofs.SoundFacts.{SoundState, facts-sound}
 use Rattle.slots.proofs.OrderLaws.{same-or-not}
+use Rattle.slots.proofs.LockLaws.{third-not-second, third-not-xi, xi-there, xi-elsewhere, among-first, among-behind, can-want-xi}
 use Rattle.slots.proofs.Clashes.{update-alone, wanted-alone}
 use Rattle.slots.proofs.GrantLaws.{Takable, taking-fits}
-use Rattle.slots.proofs.Keeping.{Shaped, slot-here, slot-other, lock-new, stand-new, begins-sound, begins-shaped, closes-sound, closes-shaped, goes-on-sound, goes-on-shaped}
+use Rattle.slots.proofs.Keeping.{Shaped, slot-here, slot-other, held-new, lock-new, stand-new, begins-sound, begins-shaped, closes-sound, closes-shaped, goes-on-sound, goes-on-shaped}
 use Rattle.footing.specs.Fitting.{verdict}
 use Rattle.index.specs.Step.{Left, left, acted, steppedTask, stepped}
 use Rattle.tree.specs.Tree.{Tr, PoolForms}
 use Rattle.tree.specs.Change.{memoryAfter, writtenPages}
 use Rattle.tree.proofs.Words.{fit-writes, applied-memory, pool-leads}
-use Rattle.runs.specs.Stance.{HoldsWith, Locked, Stance, Takes}
-use Rattle.runs.specs.Step.{Writable, Ended, Comes, moves, stops}
+use Rattle.runs.specs.Stance.{HoldsWith, Locked, Gathering, Converting, Stance, Converts, Takes}
+use Rattle.runs.specs.Step.{Scene, Writable, Ended, Comes, moves, stops}
 use Rattle.runs.proofs.Invariant.{Invariant, scene}
-use Rattle.runs.proofs.Placing.{WellHeld, well-held}
+use Rattle.runs.proofs.Placing.{WellHeld, well-held, gathers-new, turn-held}
 use Rattle.runs.proofs.Others.{others-keep, others-wait}
 use Rattle.runs.proofs.Stepping.{same-key, granted-comes}
-use Rattle.runs.proofs.Locking.{held-with, paired, due-held-can, fresh-holds, due-wanted}
+use Rattle.runs.proofs.Locking.{due-held, held-with, paired, due-held-can, fresh-holds, due-wanted}
+use Rattle.runs.proofs.Turning.{scene-ordered, once-own, due-left}
+use Rattle.runs.proofs.Paths.{no-length}
 
 -- a slot stands in a pool
 abbrev StandsIn : ℕ → List ℕ → (l : ℕ) → Tr l → Op → Slot → Type 0
@@ -58,6 +65,60 @@ same-op {op = op} e = ap (λ (task : Task). opOf task op) e
 
 pub closed-open : {op : Op} → Closed ≡ Open op → ⊥
 closed-open e = false≢true (ap isOpen e)
+
+-- ---- the want
+
+-- a want that a sound slot can have: a page that it does not hold, or a conversion from α to ξ
+record WantedRightly (z : Stand) : Type 0 where
+  converts : convertsRightly (Open (z .op)) (slotOf z) ≡ true
+  can : canWant (z .op) (z .lock) ≡ true
+  third : converting z ≡ true → isThird (z .op) ≡ true
+
+module _ (k n : ℕ) (ws : List ℕ) (l : ℕ) (t : Tr l) (z : Stand) (scene : Scene k n ws l t z) where
+  abbrev turns : Bool
+  turns = isThird (z .op) && sameLock (lockHeld (slotOf z) (z .want)) Alpha && sameLock (z .lock) Xi
+
+  abbrev plain : Bool
+  plain = not (isThird (z .op) && sameLock (z .lock) Xi)
+
+  -- who gathers by the third way wants with α
+  gathers-alpha : converting z ≡ false → isThird (z .op) && sameLock (z .lock) Xi ≡ false
+  gathers-alpha new =
+      by-test (isThird (z .op))
+      (λ third.
+      ap (λ (lock : Lock). isThird (z .op) && sameLock lock Xi)
+      (scene .locked .wants new ∙ due-held (z .op) (pageAt k ws) (reverse (z .path)) (third-not-second (z .op) third))
+      ∙ third-not-xi (z .op))
+      (λ other. and-first-fails (sameLock (z .lock) Xi) other)
+
+  wanted-new : Gathering k (pageAt k ws) l t z → WantedRightly z
+  wanted-new g =
+      let new = gathers-new k n ws l t z scene g in
+      record {
+        converts = cond-false turns plain (ap (member (z .want)) (held-new z) ∙ new) ∙ not-of-false (gathers-alpha new);
+        can = due-wanted (z .op) (z .lock) (pageAt k ws) (reverse (z .path)) (scene .locked .wants new);
+        third = λ own. not-both own new;
+      }
+
+  wanted-own : Converting k (pageAt k ws) l t z → WantedRightly z
+  wanted-own c =
+      let own = turn-held k n ws l t z scene c in
+      let xi : z .lock ≡ Xi = scene .locked .converts own in
+      let ordered = scene-ordered k n ws l t z scene in
+      let once = once-own z ordered (c .third) (scene .locked .holds) (c .done) (c .rest) (c .turns) .0 in
+      let alpha : lockHeld (slotOf z) (z .want) ≡ Alpha
+      = lock-new z (paired z (scene .locked .holds)) (z .want)
+      ∙ held-with z (scene .locked .holds) (z .want) own
+      ∙ due-left z ordered (c .third) (scene .locked .holds) (c .done) (c .rest) (c .turns) (z .want) once in
+      record {
+        converts = cond-true turns plain (ap (member (z .want)) (held-new z) ∙ own)
+            ∙ and-both (and-both (c .third) (ap (λ (lock : Lock). sameLock lock Alpha) alpha)) (ap (λ (lock : Lock). sameLock lock Xi) xi);
+        can = ap (canWant (z .op)) xi ∙ can-want-xi (z .op) (or-second (isSecond (z .op)) (c .third));
+        third = λ _. c .third;
+      }
+
+  wanted-rightly : WantedRightly z
+  wanted-rightly = ⊎-elim wanted-new wanted-own (scene .stance)
 
 -- One slot is written anew, the words may change: what has to be shown of that slot, and of the others.
 module _ (st : State) (ws : List ℕ) (inv : Invariant st ws) (s : ℕ) (b : s < slotCount) where
@@ -111,8 +172,10 @@ module _ (st : State) (ws : List ℕ) (inv : Invariant st ws) (s : ℕ) (b : s <
     where
       here : StandsIn (st .k) ws (inv .height) (inv .tree) op (slotOf (freshStand op))
       here =
-          subst (λ (z : Stand). Stance (st .k) (pageAt (st .k) ws) (inv .height) (inv .tree) z × Locked (pageAt (st .k) ws) z) (sym (stand-new (freshStand op) (paired (freshStand op) (fresh-holds op))))
-          (inl (record { noPath = refl; noSiblings = refl; wantsRoot = refl }), record { wants = refl; holds = fresh-holds op })
+          subst (λ (z : Stand). Stance (st .k) (pageAt (st .k) ws) (inv .height) (inv .tree) z × Locked (pageAt (st .k) ws) z) (sym (stand-new (freshStand op) (paired (freshStand op) (fresh-holds op)))) (
+            inl (inl (record { noPath = refl; noSiblings = refl; wantsRoot = refl })),
+            record { wants = λ _. refl; converts = λ own. not-both own (member-none 0); holds = fresh-holds op },
+          )
 
   -- Going on: the slot holds what it took and stands again.
   pub move-keeps : (op : Op) (z : Stand) → Opened st s op → grants st s ≡ true
@@ -126,8 +189,7 @@ module _ (st : State) (ws : List ℕ) (inv : Invariant st ws) (s : ℕ) (b : s <
       slot-anew (slotOf z) _ _ ws (inv .height) (inv .tree)
       (goes-on-shaped st (inv .shaped) (inv .sound) s b z opened)
       (goes-on-sound st (inv .shaped) (inv .sound) s b z opened (well .limits) (well .below) (well .different)
-      (due-wanted (z .op) (z .lock) (pageAt (st .k) ws) (reverse (z .path)) (locked .wants))
-      (due-held-can z (locked .holds))
+      (wanted .converts) (wanted .can) (due-held-can z (wanted .third) (locked .holds))
       (λ u c n p m. taking-fits st (inv .sound) s b granted (slotOf z) p (from p m) u c n))
       (inv .forms)
       (λ op′ e. let same : z .op ≡ op′ = same-op e in
@@ -140,9 +202,14 @@ module _ (st : State) (ws : List ℕ) (inv : Invariant st ws) (s : ℕ) (b : s <
       key : keyOf (z .op) < wordRange
       key = subst (λ (y : ℕ). y < wordRange) (sym (same-key (z .op) op asked)) (inv .keys s op b runs)
 
+      seen : Scene (st .k) (st .n) ws (inv .height) (inv .tree) z
+      seen = record { kLeast = inv .sound .kLeast; kMost = inv .sound .kMost; nMost = inv .sound .nMost; key = key; forms = inv .forms; stance = stance; locked = locked }
+
       well : WellHeld (st .n) (inv .height) (inv .tree) z
-      well = well-held (st .k) (st .n) ws (inv .height) (inv .tree) z
-          (record { kLeast = inv .sound .kLeast; kMost = inv .sound .kMost; nMost = inv .sound .nMost; key = key; forms = inv .forms; stance = stance; locked = locked })
+      well = well-held (st .k) (st .n) ws (inv .height) (inv .tree) z seen
+
+      wanted : WantedRightly z
+      wanted = wanted-rightly (st .k) (st .n) ws (inv .height) (inv .tree) z seen
 
       here : StandsIn (st .k) ws (inv .height) (inv .tree) (z .op) (slotOf z)
       here =
@@ -252,44 +319,100 @@ module _ (st : State) (ws : List ℕ) (inv : Invariant st ws) (s : ℕ) where
       (λ f. noSlot (ltb-false s slotCount f) (past ∙ cond-true (left BadSlot st ws) _ (not-of-false f)))
       (true-or-false (ltb s slotCount))
 
--- what a slot that goes on holds, it held or wanted
-takes-from : (k : ℕ) (memory : ℕ → Page) (z z′ : Stand) → Takes k memory z z′
-    → (p : ℕ) → member p (holding z′) ≡ true → (member p (holding z) ≡ true) ⊎ (p ≡ z .want)
-takes-from k memory z z′ (inl g) p m =
-    ⊎-elim (λ h. not-both h (member-none p)) inr
-    (member-last p [] (z .want) (subst (λ (ps : List ℕ). member p ps ≡ true) (ap₂ _++_ (g .holds) (g .still)) m))
-takes-from k memory z z′ (inr (inl g)) p m =
-    ⊎-elim (λ h. inl (member-append p (z .path) (z .beside) ∙ or-first (member p (z .beside)) h)) inr
-    (member-last p (z .path) (z .want) (subst (λ (ps : List ℕ). member p ps ≡ true) (ap₂ _++_ (g .holds) (g .still) ∙ append-nil (z .path ++ z .want ∷ [])) m))
-takes-from k memory z z′ (inr (inr (inl g))) p m =
-    ⊎-elim (λ h. inl (member-append p (z .path) (z .beside) ∙ or-first (member p (z .beside)) h))
-    (λ h. ⊎-elim (λ g. inl (member-append p (z .path) (z .beside) ∙ or-second (member p (z .path)) g)) inr (member-last p (z .beside) (z .want) h))
-    (or-cases (member p (z .path)) (member p (z .beside ++ z .want ∷ []))
-    (sym (member-append p (z .path) (z .beside ++ z .want ∷ [])) ∙ subst (λ (ps : List ℕ). member p ps ≡ true) (ap₂ _++_ (g .still) (g .holds)) m))
-takes-from k memory z z′ (inr (inr (inr g))) p m =
-    not-both (subst (λ (y : Stand). member p (holding y) ≡ true) (g .fresh) m) (member-none p)
+-- ---- what a slot holds that goes on
 
--- what it keeps it holds under the kind that it held it under, and what it takes under the kind that it wanted it with
-takable : (st : State) (s : ℕ) (op : Op) → Opened st s op → HoldsWith (standOf op (slotAt st s)) → (k : ℕ) (memory : ℕ → Page) (z : Stand)
-    → HoldsWith z → Takes k memory (standOf op (slotAt st s)) z
-    → (p : ℕ) → member p (holding z) ≡ true → Takable st s (slotOf z) p
-takable st s op runs was k memory z now takes p m = by-case takes
-  where
-    kind-now : z .op ≡ op → lockHeld (slotOf z) p ≡ heldLock op
-    kind-now same = lock-new z (paired z now) p ∙ held-with z now p m ∙ ap heldLock same
+-- the conversions of two lists of pages are those of both together
+xi-append : (p : ℕ) (pages more : List ℕ) (locks others : List Under) → length locks ≡ length pages
+    → withXi p pages locks ++ withXi p more others ≡ withXi p (pages ++ more) (locks ++ others)
+unfolding withXi
+xi-append p [] more [] others e = refl
+xi-append p [] more (u ∷ locks) others e = absurd (omega (arith, e))
+xi-append p (q ∷ pages) more [] others e = absurd (omega (arith, e))
+xi-append p (q ∷ pages) more (u ∷ locks) others e =
+    ap (λ (ls : List Under). xiOn p q u ∷ ls) (xi-append p pages more locks others (omega (arith, e)))
 
-    under : z .op ≡ op → slotAt st s .lock ≡ heldLock op → Takable st s (slotOf z) p
-    under same kind =
-        ⊎-elim
-        (λ h. inl (h, kind-now same ∙ sym (held-with (standOf op (slotAt st s)) was p h)))
-        (λ w. inr (w, kind-now same ∙ sym kind))
-        (takes-from k memory (standOf op (slotAt st s)) z takes p m)
+-- What it keeps it holds under the kind that it held it under, and what it takes under the kind that it wanted it with.
+module _ (st : State) (s : ℕ) (op : Op) (runs : Opened st s op) (memory : ℕ → Page) (was : Locked memory (standOf op (slotAt st s))) (k : ℕ) (z : Stand) (now : HoldsWith z) where
+  abbrev old : Stand
+  old = standOf op (slotAt st s)
 
-    by-case : Takes k memory (standOf op (slotAt st s)) z → Takable st s (slotOf z) p
-    by-case (inl g) = under (g .same) (g .under)
-    by-case (inr (inl g)) = under (g .same) (g .under)
-    by-case (inr (inr (inl g))) = under (g .same) (g .under)
-    by-case (inr (inr (inr g))) = not-both (subst (λ (y : Stand). member p (holding y) ≡ true) (g .fresh) m) (member-none p)
+  size : length (holdingLocks old) ≡ length (holding old)
+  size =
+      let p = paired old (was .holds) in
+      length-append (old .locks) (old .sidelocks) ∙ omega (arith, p .path, p .beside, length-append (old .path) (old .beside))
+
+  kind : (p : ℕ) → lockHeld (slotOf z) p ≡ lockAmong p (holding z) (holdingLocks z)
+  kind p = lock-new z (paired z now) p
+
+  -- it holds one page more
+  adds : holding z ≡ holding old ++ old .want ∷ [] → holdingLocks z ≡ holdingLocks old ++ under (old .lock) ∷ []
+      → (p : ℕ) → member p (holding z) ≡ true → Takable st s (slotOf z) p
+  unfolding lockAmong
+  adds pages locks p m =
+      let told : lockHeld (slotOf z) p ≡ lockAmong p (holding old ++ old .want ∷ []) (holdingLocks old ++ under (old .lock) ∷ [])
+      = kind p ∙ ap₂ (lockAmong p) pages locks in
+      by-test (member p (holding old))
+      (λ h. inl (h, told ∙ among-first p (old .want ∷ []) (under (old .lock) ∷ []) (holding old) (holdingLocks old) size h))
+      (λ f.
+      let same : p ≡ old .want
+      = ⊎-elim (λ h. not-both h f) (λ e. e) (member-last p (holding old) (old .want) (sym (ap (member p) pages) ∙ m)) in
+      inr (
+        same,
+        told
+            ∙ among-behind p (old .want ∷ []) (under (old .lock) ∷ []) (holding old) (holdingLocks old) size f
+            ∙ cond-true (old .lock) (lockAmong p [] []) (eq-eqb p (old .want) same),
+      ))
+
+  -- it holds one page alone
+  alone : holding z ≡ old .want ∷ [] → holdingLocks z ≡ under (old .lock) ∷ []
+      → (p : ℕ) → member p (holding z) ≡ true → Takable st s (slotOf z) p
+  unfolding lockAmong
+  alone pages locks p m =
+      let same : p ≡ old .want = member-one p (old .want) (sym (ap (member p) pages) ∙ m) in
+      inr (same, kind p ∙ ap₂ (lockAmong p) pages locks ∙ cond-true (old .lock) (lockAmong p [] []) (eq-eqb p (old .want) same))
+
+  -- it holds the same pages, the wanted one with ξ
+  turned : Converts old z → (p : ℕ) → member p (holding z) ≡ true → Takable st s (slotOf z) p
+  turned g p m =
+      let pages : holding z ≡ holding old = ap₂ (λ (ps ss : List ℕ). ps ++ ss) (g .still) (g .beside) in
+      let locks : holdingLocks z ≡ withXi (old .want) (holding old) (holdingLocks old)
+      = ap₂ (λ (ls us : List Under). ls ++ us) (g .locks) (g .sidelocks)
+      ∙ xi-append (old .want) (old .path) (old .beside) (old .locks) (old .sidelocks) (paired old (was .holds) .path) in
+      let held : member p (holding old) ≡ true = sym (ap (member p) pages) ∙ m in
+      let told : lockHeld (slotOf z) p ≡ lockAmong p (holding old) (withXi (old .want) (holding old) (holdingLocks old))
+      = kind p ∙ ap₂ (lockAmong p) pages locks in
+      by-test (eqb p (old .want))
+      (λ e.
+      let same = eqb-true p (old .want) e in
+      inr (
+        same,
+        told
+            ∙ ap (λ (q : ℕ). lockAmong q (holding old) (withXi (old .want) (holding old) (holdingLocks old))) same
+            ∙ xi-there (old .want) (holding old) (holdingLocks old) size (g .held)
+            ∙ sym (was .converts (g .held)),
+      ))
+      (λ o. inl (held, told ∙ xi-elsewhere (old .want) p (holding old) (holdingLocks old) (eqb-false p (old .want) o)))
+
+  takable : Takes k memory old z → (p : ℕ) → member p (holding z) ≡ true → Takable st s (slotOf z) p
+  takable (inl (inl g)) p m =
+      alone (ap₂ (λ (ps ss : List ℕ). ps ++ ss) (g .holds) (g .still)) (ap₂ (λ (ls us : List Under). ls ++ us) (g .locks) (g .sidelocks)) p m
+  takable (inl (inr (inl g))) p m =
+      let none : old .sidelocks ≡ [] = no-length (old .sidelocks) (paired old (was .holds) .beside ∙ ap length (g .noSiblings)) in
+      adds
+      (ap₂ (λ (ps ss : List ℕ). ps ++ ss) (g .holds) (g .still)
+      ∙ append-nil (old .path ++ old .want ∷ [])
+      ∙ ap (λ (ps : List ℕ). ps ++ old .want ∷ []) (sym (append-nil (old .path)) ∙ ap (λ (ss : List ℕ). old .path ++ ss) (sym (g .noSiblings))))
+      (ap₂ (λ (ls us : List Under). ls ++ us) (g .locks) (g .sidelocks)
+      ∙ append-nil (old .locks ++ under (old .lock) ∷ [])
+      ∙ ap (λ (ls : List Under). ls ++ under (old .lock) ∷ []) (sym (append-nil (old .locks)) ∙ ap (λ (us : List Under). old .locks ++ us) (sym none)))
+      p m
+  takable (inl (inr (inr (inl g)))) p m =
+      adds
+      (ap₂ (λ (ps ss : List ℕ). ps ++ ss) (g .still) (g .holds) ∙ sym (append-assoc (old .path) (old .beside) (old .want ∷ [])))
+      (ap₂ (λ (ls us : List Under). ls ++ us) (g .locks) (g .sidelocks) ∙ sym (append-assoc (old .locks) (old .sidelocks) (under (old .lock) ∷ [])))
+      p m
+  takable (inl (inr (inr (inr g)))) p m = not-both (subst (λ (y : Stand). member p (holding y) ≡ true) (g .fresh) m) (member-none p)
+  takable (inr g) p m = turned g p m
 
 -- A step keeps what holds of a run.
 pub step-keeps : (st : State) (ws : List ℕ) (inv : Invariant st ws) (s : ℕ) → StepOf st ws inv s → Invariant (stepped st ws s .state) (stepped st ws s .words)
@@ -298,6 +421,6 @@ step-keeps st ws inv s (idle b c e) = subst (λ (r : Left). Invariant (r .state)
 step-keeps st ws inv s (waits op b runs g e) = subst (λ (r : Left). Invariant (r .state) (r .words)) (sym e) inv
 step-keeps st ws inv s (onward op z b runs g e same stance locked takes) =
     subst (λ (r : Left). Invariant (r .state) (r .words)) (sym e)
-    (move-keeps st ws inv s b op z runs g same stance locked (takable st s op runs (inv .locked s op b runs .holds) (st .k) (pageAt (st .k) ws) z (locked .holds) takes))
+    (move-keeps st ws inv s b op z runs g same stance locked (takable st s op runs (pageAt (st .k) ws) (inv .locked s op b runs) (st .k) z (locked .holds) takes))
 step-keeps st ws inv s (over op a writes b runs g e ended) =
     subst (λ (r : Left). Invariant (r .state) (r .words)) (sym e) (end-keeps st ws inv s b op a writes runs g ended)

@@ -1,30 +1,38 @@
 -- Fathers of the pages that a slot holds and wants: it holds the father of each of them, but for the top page of its path and
--- for page 0, and what it wants lies inside the range of the top page, on a lower level.
+-- for page 0, and what it wants lies inside the range of the top page, on a lower level. Who converts wants a page that it holds: the top page,
+-- or one of those inside it. It converts a father before what lies under it.
 use Prim.Native.Nat.{ℕ, zero, suc, _+_, _-_, _≤_, _<_}
 use mathlib.Core.Bool.{true}
-use mathlib.Core.List.{List, [], _∷_, _++_, reverse, append-assoc}
+use mathlib.Core.List.{List, [], _∷_, _++_, reverse, reverse-cons, append-assoc}
 use mathlib.Core.Logic.{_⊎_, inl, inr, ⊎-elim}
 use mathlib.Core.Path.{_≡_, refl, sym, ap, _∙_, subst}
 use native.Mathlib.Nat.{eq-or-lt-of-le}
 use native.Mathlib.Omega.{arith}
-use lib.ListN.{length, getD, length-append, length-reverse, List·getD-append}
-use lib.Seq.{getD-append-seam, getD-append-add}
+use borrow.Author.Tests.{ltb-true}
+use lib.Dec.{ltb}
+use lib.ListN.{length, getD, take, drop, length-append, length-reverse, take-append-drop, List·getD-append}
+use lib.Seq.{length-take-le, drop-cons, getD-append-seam, getD-append-add}
 use Rattle.ground.specs.Limits.{wordRange}
 use Rattle.ground.specs.Tests.{member}
 use Rattle.ground.proofs.Bools.{not-both, or-cases, or-first, or-second}
-use Rattle.ground.proofs.Tests.{member-none, member-append, member-from, member-at}
+use Rattle.ground.proofs.Choice.{by-test, cond-true, cond-false}
+use Rattle.ground.proofs.Tests.{member-none, member-there, member-one, member-cases, member-append, member-inside, member-from, member-at}
 use Rattle.page.specs.Words.{Page, μ}
 use Rattle.page.specs.Place.{place, pointer}
 use Rattle.page.specs.Short.{neighbour}
 use Rattle.page.proofs.PlaceLaws.{place-most}
-use Rattle.slots.specs.Parts.{keyOf, Stand, holding}
+use Rattle.slots.specs.Parts.{keyOf, Stand, holding, converting}
+use Rattle.footing.specs.Granted.{inTurn, pagesInTurn}
 use Rattle.tree.specs.Tree.{Tr, Stands, way, Forms}
 use Rattle.tree.specs.Facts.{Placed, WayFacts, PlaceFacts}
+use Rattle.tree.proofs.DeletionRule.{needs-length}
 use Rattle.tree.proofs.Search.{way-facts}
 use Rattle.tree.proofs.Ways.{stands-root, neighbour-pointer, place-facts}
-use Rattle.runs.specs.Stance.{Stance, Coming, WantsSibling, Crossing}
+use Rattle.runs.specs.Stance.{Stance, Gathering, Coming, WantsSibling, Crossing, Converting}
 use Rattle.runs.proofs.Paths.{member-reverse}
 use Rattle.runs.proofs.Across.{top-upward}
+use Rattle.runs.proofs.Needing.{needs-course}
+use Rattle.runs.proofs.Turns.{besideOne, held-turn}
 
 -- ---- a path read upward
 
@@ -45,6 +53,82 @@ held-at p path siblings m =
     inl (found .0, omega (arith, length-reverse path, found .1), found .2))
     (λ h. inr (member-at p siblings 0 h))
     (or-cases (member p path) (member p siblings) (sym (member-append p path siblings) ∙ m))
+
+-- ---- the order of conversion goes down, level by level
+
+-- no page of the list is on a higher level than one before it
+abbrev Falling : (ℕ → ℕ) → List ℕ → Type 0
+Falling level [] = Unit {0}
+Falling level (p ∷ ps) = ((q : ℕ) → member q ps ≡ true → level q ≤ level p) × Falling level ps
+
+-- so none of the back part is on a higher level than one of the front part
+falling-split : (level : ℕ → ℕ) (front back : List ℕ) → Falling level (front ++ back) → (p q : ℕ) → member p front ≡ true → member q back ≡ true
+    → level q ≤ level p
+falling-split level [] back f p q a b = not-both a (member-none p)
+falling-split level (r ∷ front) back f p q a b =
+    ⊎-elim
+    (λ e. subst (λ (s : ℕ). level q ≤ level s) (sym e) (f .0 q (member-append q front back ∙ or-second (member q front) b)))
+    (λ h. falling-split level front back (f .1) p q h b)
+    (member-cases p r front a)
+
+-- from the leaf upward the pages are on levels 1, 2 ..
+abbrev Levels : (ℕ → ℕ) → List ℕ → Type 0
+Levels level up = (j : ℕ) → j < length up → level (getD up j 0) ≡ suc j
+
+-- a path without its top page
+levels-below : (level : ℕ → ℕ) (p : ℕ) (below : List ℕ) → Levels level (reverse (p ∷ below)) → Levels level (reverse below)
+levels-below level p below up j h =
+    ap level (sym (ap (λ (ps : List ℕ). getD ps j 0) (reverse-cons p below) ∙ List·getD-append (reverse below) (p ∷ []) 0 j h))
+    ∙ up j (omega (arith, length-reverse below, length-reverse (p ∷ below)))
+
+level-top : (level : ℕ → ℕ) (p : ℕ) (below : List ℕ) → Levels level (reverse (p ∷ below)) → level p ≡ suc (length below)
+level-top level p below up =
+    ap level (sym (top-upward (p ∷ below) (length below) refl)) ∙ up (length below) (omega (arith, length-reverse (p ∷ below)))
+
+-- siblings too, from the leaf's upward
+module _ (level : ℕ → ℕ) (beside : List ℕ) (siblings : Levels level beside) where
+  one-level : (below q : ℕ) → member q (besideOne 0 below beside) ≡ true → level q ≡ suc below
+  one-level below q m =
+      by-test (ltb below (length beside))
+      (λ y.
+      ap level (member-one q (getD beside below 0) (subst (λ (ps : List ℕ). member q ps ≡ true) (cond-true (getD beside below 0 ∷ []) [] y) m))
+      ∙ siblings below (ltb-true below (length beside) y))
+      (λ n. not-both (subst (λ (ps : List ℕ). member q ps ≡ true) (cond-false (getD beside below 0 ∷ []) [] n) m) (member-none q))
+
+  turn-levels : (path : List ℕ) → Levels level (reverse path) → (q : ℕ) → member q (inTurn 0 path beside) ≡ true → level q ≤ length path
+  unfolding inTurn
+  turn-levels [] up q m = not-both m (member-none q)
+  turn-levels (p ∷ below) up q m =
+      ⊎-elim
+      (λ e. omega (arith, ap level e, level-top level p below up))
+      (λ h. ⊎-elim
+      (λ s. omega (arith, one-level (length below) q s))
+      (λ r. omega (arith, turn-levels below (levels-below level p below up) q r))
+      (or-cases (member q (besideOne 0 (length below) beside)) (member q (inTurn 0 below beside))
+      (sym (member-append q (besideOne 0 (length below) beside) (inTurn 0 below beside)) ∙ h)))
+      (member-cases q p (besideOne 0 (length below) beside ++ inTurn 0 below beside) m)
+
+  behind-falls : (below : List ℕ) → Levels level (reverse below) → Falling level (inTurn 0 below beside)
+      → Falling level (besideOne 0 (length below) beside ++ inTurn 0 below beside)
+  behind-falls below up falls =
+      by-test (ltb (length below) (length beside))
+      (λ y.
+      let s : ℕ = getD beside (length below) 0 in
+      let high : level s ≡ suc (length below) = siblings (length below) (ltb-true (length below) (length beside) y) in
+      subst (λ (ps : List ℕ). Falling level (ps ++ inTurn 0 below beside)) (sym (cond-true (s ∷ []) [] y))
+      ((λ (q : ℕ) m. omega (arith, high, turn-levels below up q m)), falls))
+      (λ n.
+      subst (λ (ps : List ℕ). Falling level (ps ++ inTurn 0 below beside)) (sym (cond-false (getD beside (length below) 0 ∷ []) [] n)) falls)
+
+  turn-falls : (path : List ℕ) → Levels level (reverse path) → Falling level (inTurn 0 path beside)
+  unfolding inTurn
+  turn-falls [] up = tt
+  turn-falls (p ∷ below) up =
+      let lower : Levels level (reverse below) = levels-below level p below up in
+      let rest : List ℕ = besideOne 0 (length below) beside ++ inTurn 0 below beside in (
+        (λ (q : ℕ) m. omega (arith, level-top level p below up, turn-levels (p ∷ below) up q (member-there p q rest m))),
+        behind-falls below lower (turn-falls below lower),
+      )
 
 -- ---- fathers
 
@@ -153,6 +237,15 @@ module _ (k n : ℕ) (memory : ℕ → Page) (l : ℕ) (t : Tr l) (forms : Forms
         later = omega (arith, same .sameFrom, c .low);
       }
 
+  -- and one level lower
+  father-level : (p q : ℕ) → Father memory l t p q → memory p .level ≡ memory q .level + 1
+  father-level p q f =
+      let c = facts .pointed p (f .under) (f .from) (f .to) (f .index) (f .stands) (f .most) in
+      let high : memory p .level ≡ f .under + 2 = facts .level p (f .under + 2) (f .from) (f .to) (f .stands) in
+      let low : memory q .level ≡ f .under + 1
+      = ap (λ (r : ℕ). memory r .level) (sym (f .points)) ∙ facts .level (pointer (f .index) (memory p)) (f .under + 1) (c .from) (c .to) (c .stands) in
+      omega (arith, high, low)
+
   -- and so does what lies inside that
   inside-inside : (q r level a : ℕ) (i : Inside l t level a q) → Inside l t (i .newLevel) (i .from) r → Inside l t level a r
   inside-inside q r level a i j =
@@ -166,7 +259,7 @@ module _ (k n : ℕ) (memory : ℕ → Page) (l : ℕ) (t : Tr l) (forms : Forms
       }
 
   -- a page of a way lies inside every page above it
-  way-inside : (x u c level a b : ℕ) → x < wordRange → c < u → u ≤ l → Stands l t 0 wordRange (getD (way x l t) u 0) level a b
+  pub way-inside : (x u c level a b : ℕ) → x < wordRange → c < u → u ≤ l → Stands l t 0 wordRange (getD (way x l t) u 0) level a b
       → Inside l t level a (getD (way x l t) c 0)
   way-inside x zero c level a b key h most s = absurd (omega arith)
   way-inside x (suc v) c level a b key h most s =
@@ -212,16 +305,23 @@ module _ (k n : ℕ) (memory : ℕ → Page) (l : ℕ) (t : Tr l) (forms : Forms
               (subst (λ (p : ℕ). Father memory l t p (getD (way x l t) (base + j) 0)) (path-at (suc j) (suc (base + j)) h (omega arith)) f);
         }
 
+    path-cases : (p j : ℕ) → j < length path → getD (reverse path) j 0 ≡ p → Top path p ⊎ UnderPath memory l t path p
+    path-cases p j h e =
+        ⊎-elim
+        (λ top. inl (record { index = j; last = top; here = e }))
+        (λ more. inr (subst (UnderPath memory l t path) e (path-under j more)))
+        (eq-or-lt-of-le h)
+
     -- and so is the neighbour of each
+    neighbour-father : (j q : ℕ) → suc j < length path → q ≡ neighbour x (memory (getD (reverse path) (suc j) 0))
+        → Father memory l t (getD (reverse path) (suc j) 0) q
+    neighbour-father j q h e =
+        subst (Father memory l t (getD (reverse path) (suc j) 0)) (sym e)
+        (subst (λ (p : ℕ). Father memory l t p (neighbour x (memory p))) (path-at (suc j) (suc (base + j)) h (omega arith))
+        (father-of-neighbour x (base + j) x key (omega (arith, up .inside))))
+
     neighbour-under : (j q : ℕ) → suc j < length path → q ≡ neighbour x (memory (getD (reverse path) (suc j) 0)) → UnderPath memory l t path q
-    neighbour-under j q h e =
-        record {
-          index = suc j;
-          held = h;
-          father = subst (Father memory l t (getD (reverse path) (suc j) 0)) (sym e)
-              (subst (λ (p : ℕ). Father memory l t p (neighbour x (memory p))) (path-at (suc j) (suc (base + j)) h (omega arith))
-              (father-of-neighbour x (base + j) x key (omega (arith, up .inside))));
-        }
+    neighbour-under j q h e = record { index = suc j; held = h; father = neighbour-father j q h e }
 
     -- what is under the path lies inside its top page, and lower
     under-inside : (p q level a b : ℕ) → Top path p → Stands l t 0 wordRange p level a b → UnderPath memory l t path q → Inside l t level a q
@@ -403,8 +503,95 @@ module _ (k n : ℕ) (memory : ℕ → Page) (l : ℕ) (t : Tr l) (forms : Forms
             };
           }
 
-    -- An open slot wants page 0, or a page whose father it holds.
-    pub wants-under : Stance k memory l t z → (z .want ≡ 0) ⊎ UnderHeld memory l t z (z .want)
+    -- Its change known, it converts what it holds.
+    module _ (c : Converting k memory l t z) where
+      turning-climbs : Climbs (keyOf (z .op)) (z .path) 0
+      turning-climbs = climbs (keyOf (z .op)) [] (z .path) (c .upper) key (c .whole)
+
+      -- each sibling was asked for as a neighbour, and the father of the two is held
+      sibling-asked : (j : ℕ) → j < length (z .beside)
+          → (suc j < length (z .path)) × (getD (z .beside) j 0 ≡ neighbour (keyOf (z .op)) (memory (getD (reverse (z .path)) (suc j) 0)))
+      sibling-asked j h =
+          let x : ℕ = keyOf (z .op) in
+          let s : ℕ = getD (z .beside) j 0 in
+          let before : List ℕ = take j (z .beside) in
+          let after : List ℕ = drop (suc j) (z .beside) in
+          let cut : z .beside ≡ before ++ s ∷ after
+          = sym (take-append-drop j (z .beside)) ∙ ap (λ (ss : List ℕ). before ++ ss) (drop-cons (z .beside) j 0 h) in
+          let need = c .asked before s after cut in
+          let long : length before ≡ j = length-take-le j (z .beside) (omega arith) in
+          let size : length (z .path) ≡ suc (length (c .fathers)) = sym (length-reverse (z .path)) ∙ ap length (c .upward) in (
+            omega (arith, needs-length k memory x (c .leaf) (c .fathers) before s need),
+            needs-course k memory x (c .leaf) (c .fathers) before s need .wantsNext
+                ∙ ap (λ (i : ℕ). neighbour x (memory (getD (c .fathers) i 0))) long
+                ∙ ap (λ (up : List ℕ). neighbour x (memory (getD up (suc j) 0))) (sym (c .upward)),
+          )
+
+      pub turning-few : length (z .beside) ≤ length (z .path)
+      turning-few =
+          ⊎-elim
+          (λ e. omega arith)
+          (λ some. omega (arith, sibling-asked (length (z .beside) - 1) (omega arith) .0))
+          (eq-or-lt-of-le {n = 0} {m = length (z .beside)} (omega arith))
+
+      -- what it converts is what it holds
+      turning-holds : (q : ℕ) → member q (pagesInTurn z) ≡ member q (holding z)
+      turning-holds q = held-turn (z .path) (z .beside) turning-few q
+
+      turning-own : converting z ≡ true
+      turning-own = sym (turning-holds (z .want)) ∙ ap (member (z .want)) (c .turns) ∙ member-inside (z .want) (c .done) (c .rest)
+
+      -- each page of it is the top one, or its father is in the path
+      turning-under : (p : ℕ) → member p (holding z) ≡ true → Top (z .path) p ⊎ UnderPath memory l t (z .path) p
+      turning-under p m =
+          ⊎-elim
+          (λ found. path-cases (keyOf (z .op)) key (z .path) 0 turning-climbs p (found .0) (found .1) (found .2))
+          (λ found. inr (neighbour-under (keyOf (z .op)) key (z .path) 0 turning-climbs (found .0) p (sibling-asked (found .0) (found .1) .0)
+          (sym (found .2) ∙ sibling-asked (found .0) (found .1) .1)))
+          (held-at p (z .path) (z .beside) m)
+
+      -- So the page that it wants is the top one, or inside it.
+      turning-inside : (p level a b : ℕ) → Top (z .path) p → Stands l t 0 wordRange p level a b → (z .want ≡ p) ⊎ Inside l t level a (z .want)
+      turning-inside p level a b top st =
+          ⊎-elim
+          (λ own. let same : own .index ≡ top .index = omega (arith, own .last, top .last) in
+          inl (sym (own .here) ∙ ap (λ (i : ℕ). getD (reverse (z .path)) i 0) same ∙ top .here))
+          (λ u. inr (under-inside (keyOf (z .op)) key (z .path) 0 turning-climbs p (z .want) level a b top st u))
+          (turning-under (z .want) turning-own)
+
+      -- ---- fathers first
+
+      path-levels : Levels (λ (q : ℕ). memory q .level) (reverse (z .path))
+      path-levels j h =
+          let inside : j < length (z .path) = omega (arith, length-reverse (z .path)) in
+          let here = path-at (keyOf (z .op)) key (z .path) 0 turning-climbs j j inside (omega arith) in
+          sym (ap (λ (q : ℕ). memory q .level) here)
+          ∙ ways (keyOf (z .op)) key .level j (omega (arith, turning-climbs .inside))
+          ∙ omega arith
+
+      sibling-levels : Levels (λ (q : ℕ). memory q .level) (z .beside)
+      sibling-levels j h =
+          let asked = sibling-asked j h in
+          let above : ℕ = getD (reverse (z .path)) (suc j) 0 in
+          let f : Father memory l t above (getD (z .beside) j 0)
+          = neighbour-father (keyOf (z .op)) key (z .path) 0 turning-climbs j (getD (z .beside) j 0) (asked .0) (asked .1) in
+          let high : memory above .level ≡ suc (suc j) = path-levels (suc j) (omega (arith, length-reverse (z .path), asked .0)) in
+          omega (arith, high, father-level above (getD (z .beside) j 0) f)
+
+      -- what is converted has its father converted
+      pub father-first : (p q : ℕ) → Father memory l t p q → member p (holding z) ≡ true → member q (c .done) ≡ true → member p (c .done) ≡ true
+      father-first p q f holds m =
+          let level : ℕ → ℕ = λ (r : ℕ). memory r .level in
+          let falls : Falling level (c .done ++ z .want ∷ c .rest)
+          = subst (Falling level) (c .turns) (turn-falls level (z .beside) sibling-levels (z .path) path-levels) in
+          let there : member p (c .done ++ z .want ∷ c .rest) ≡ true = ap (member p) (sym (c .turns)) ∙ turning-holds p ∙ holds in
+          ⊎-elim
+          (λ h. h)
+          (λ h. absurd (omega (arith, father-level p q f, falling-split level (c .done) (z .want ∷ c .rest) falls q p m h)))
+          (or-cases (member p (c .done)) (member p (z .want ∷ c .rest)) (sym (member-append p (c .done) (z .want ∷ c .rest)) ∙ there))
+
+    -- Who gathers pages wants page 0, or a page whose father it holds.
+    pub wants-under : Gathering k memory l t z → (z .want ≡ 0) ⊎ UnderHeld memory l t z (z .want)
     wants-under (inl s) = inl (s .wantsRoot)
     wants-under (inr (inl c)) = inr (under-held memory l t z (z .want) (coming-under c))
     wants-under (inr (inr (inl b))) = inr (under-held memory l t z (z .want) (beside-under b))
@@ -412,54 +599,71 @@ module _ (k n : ℕ) (memory : ℕ → Page) (l : ℕ) (t : Tr l) (forms : Forms
         inr (subst (UnderHeld memory l t z) (getD-append-seam (z .beside) (z .want) [] 0) (second-under c (length (z .beside)) (omega arith)))
 
     -- A page that it holds is the top one of its path, or it holds the page's father.
-    path-cases : (base p : ℕ) → Climbs (keyOf (z .op)) (z .path) base → (j : ℕ) → j < length (z .path) → getD (reverse (z .path)) j 0 ≡ p
-        → Top (z .path) p ⊎ UnderHeld memory l t z p
-    path-cases base p up j h e =
-        ⊎-elim
-        (λ top. inl (record { index = j; last = top; here = e }))
-        (λ more. inr (subst (UnderHeld memory l t z) e
-        (under-held memory l t z (getD (reverse (z .path)) j 0) (path-under (keyOf (z .op)) key (z .path) base up j more))))
-        (eq-or-lt-of-le h)
+    above-held : (p : ℕ) → Top (z .path) p ⊎ UnderPath memory l t (z .path) p → Top (z .path) p ⊎ UnderHeld memory l t z p
+    above-held p = ⊎-elim inl (λ u. inr (under-held memory l t z p u))
 
     pub held-under : Stance k memory l t z → (p : ℕ) → member p (holding z) ≡ true
         → Top (z .path) p ⊎ UnderHeld memory l t z p
-    held-under (inl s) p m =
+    held-under (inl (inl s)) p m =
         not-both (subst (λ (xs : List ℕ). member p (xs ++ z .beside) ≡ true) (s .noPath) m) (ap (member p) (s .noSiblings) ∙ member-none p)
-    held-under (inr (inl c)) p m =
+    held-under (inl (inr (inl c))) p m =
         ⊎-elim
-        (λ found. path-cases (base c) p (coming-climbs c) (found .0) (found .1) (found .2))
+        (λ found. above-held p (path-cases (keyOf (z .op)) key (z .path) (base c) (coming-climbs c) p (found .0) (found .1) (found .2)))
         (λ found. absurd (omega (arith, ap length (c .noSiblings), found .1)))
         (held-at p (z .path) (z .beside) m)
-    held-under (inr (inr (inl b))) p m =
+    held-under (inl (inr (inr (inl b)))) p m =
         ⊎-elim
-        (λ found. path-cases 0 p (beside-climbs b) (found .0) (found .1) (found .2))
+        (λ found. above-held p (path-cases (keyOf (z .op)) key (z .path) 0 (beside-climbs b) p (found .0) (found .1) (found .2)))
         (λ found. inr (under-held memory l t z p (neighbour-under (keyOf (z .op)) key (z .path) 0 (beside-climbs b) (found .0) p
         (omega (arith, b .fewer, found .1)) (sym (found .2) ∙ b .neighbours (found .0) (found .1)))))
         (held-at p (z .path) (z .beside) m)
-    held-under (inr (inr (inr c))) p m =
+    held-under (inl (inr (inr (inr c)))) p m =
         ⊎-elim
-        (λ found. path-cases 0 p (crossing-climbs c) (found .0) (found .1) (found .2))
+        (λ found. above-held p (path-cases (keyOf (z .op)) key (z .path) 0 (crossing-climbs c) p (found .0) (found .1) (found .2)))
         (λ found. inr (subst (UnderHeld memory l t z)
         (List·getD-append (z .beside) (z .want ∷ []) 0 (found .0) (found .1) ∙ found .2)
         (second-under c (found .0) (omega (arith, found .1)))))
         (held-at p (z .path) (z .beside) m)
+    held-under (inr c) p m = above-held p (turning-under c p m)
 
-    -- What it wants lies inside the top page of its path, and lower.
+    -- What it wants lies inside the top page of its path, and lower, or it converts the top page.
     pub wants-inside : Stance k memory l t z → (p level a b : ℕ) → Top (z .path) p → Stands l t 0 wordRange p level a b
-        → Inside l t level a (z .want)
-    wants-inside (inl s) p level a b top st = absurd (omega (arith, ap length (s .noPath), top .last))
-    wants-inside (inr (inl c)) p level a b top st =
-        under-inside (keyOf (z .op)) key (z .path) (base c) (coming-climbs c) p (z .want) level a b top st (coming-under c)
-    wants-inside (inr (inr (inl d))) p level a b top st =
-        under-inside (keyOf (z .op)) key (z .path) 0 (beside-climbs d) p (z .want) level a b top st (beside-under d)
-    wants-inside (inr (inr (inr c))) p level a b top st = second-inside c p level a b top st
+        → ((converting z ≡ true) × (z .want ≡ p)) ⊎ Inside l t level a (z .want)
+    wants-inside (inl (inl s)) p level a b top st = absurd (omega (arith, ap length (s .noPath), top .last))
+    wants-inside (inl (inr (inl c))) p level a b top st =
+        inr (under-inside (keyOf (z .op)) key (z .path) (base c) (coming-climbs c) p (z .want) level a b top st (coming-under c))
+    wants-inside (inl (inr (inr (inl d)))) p level a b top st =
+        inr (under-inside (keyOf (z .op)) key (z .path) 0 (beside-climbs d) p (z .want) level a b top st (beside-under d))
+    wants-inside (inl (inr (inr (inr c)))) p level a b top st = inr (second-inside c p level a b top st)
+    wants-inside (inr c) p level a b top st = ⊎-elim (λ e. inl (turning-own c, e)) inr (turning-inside c p level a b top st)
 
     -- The wanted page stands in the tree.
+    child-placed : (q : ℕ) → UnderHeld memory l t z q → Placed l t 0 wordRange q
+    child-placed q u =
+        let f = u .father in
+        let c = child-inside (u .above) q (f .under + 2) (f .from) (f .to) (f .stands) f in
+        record { level = c .newLevel; from = c .from; to = c .to; stands = c .stands }
+
+    turning-placed : Converting k memory l t z → Placed l t 0 wordRange (z .want)
+    turning-placed c =
+        ⊎-elim
+        (λ top.
+        let i : ℕ = top .index in
+        let spot = facts .onWay (keyOf (z .op)) i key (omega (arith, top .last, turning-climbs c .inside)) in
+        let here = path-at (keyOf (z .op)) key (z .path) 0 (turning-climbs c) i i (omega (arith, top .last)) (omega arith) ∙ top .here in
+        record {
+          level = i + 1;
+          from = spot .from;
+          to = spot .to;
+          stands = subst (λ (q : ℕ). Stands l t 0 wordRange q (i + 1) (spot .from) (spot .to)) here (spot .stands);
+        })
+        (λ u. child-placed (z .want) (under-held memory l t z (z .want) u))
+        (turning-under c (z .want) (turning-own c))
+
     pub wants-placed : Stance k memory l t z → Placed l t 0 wordRange (z .want)
-    wants-placed st =
+    wants-placed (inl g) =
         ⊎-elim
         (λ e. record { level = l + 1; from = 0; to = wordRange; stands = subst (λ (q : ℕ). Stands l t 0 wordRange q (l + 1) 0 wordRange) (sym e) root-place })
-        (λ u. let f = u .father in
-        let c = child-inside (u .above) (z .want) (f .under + 2) (f .from) (f .to) (f .stands) f in
-        record { level = c .newLevel; from = c .from; to = c .to; stands = c .stands })
-        (wants-under st)
+        (child-placed (z .want))
+        (wants-under g)
+    wants-placed (inr c) = turning-placed c

@@ -1,8 +1,8 @@
 -- A slot that comes down its key's way: the step's tests of its pages hold, and once its want is granted it holds a stretch
 -- of the way again, with the granted page as its lowest.
 use Prim.Native.Nat.{ℕ, suc, _+_, _≤_, _<_}
-use mathlib.Core.Bool.{true, false, not, _&&_, _||_}
-use mathlib.Core.List.{List, [], _∷_, _++_, reverse, reverse-append, reverse-cons, append-assoc}
+use mathlib.Core.Bool.{true, false, cond, not, _&&_, _||_}
+use mathlib.Core.List.{List, [], _∷_, _++_, map, map-append, reverse, reverse-append, reverse-cons, append-assoc}
 use mathlib.Core.Logic.{_⊎_, inl, inr, ⊎-elim}
 use mathlib.Core.Path.{_≡_, refl, sym, ap, ap₂, _∙_, subst}
 use native.Mathlib.Omega.{arith}
@@ -18,16 +18,48 @@ use Rattle.page.specs.Place.{route}
 use Rattle.slots.specs.declared.Op.{Op}
 use Rattle.slots.specs.declared.Lock.{Lock}
 use Rattle.slots.specs.declared.Under.{Under}
-use Rattle.slots.specs.Parts.{keyOf, Stand, onPages, wantsNext}
+use Rattle.slots.specs.Parts.{keyOf, heldLock, under, Stand, holding, converting, onPages, wantsNext}
+use Rattle.slots.specs.Locks.{sameLock}
+use Rattle.slots.proofs.LockLaws.{lock-same}
+use Rattle.ground.specs.Tests.{all}
 use Rattle.footing.specs.Granted.{isSafe, kept, atItsLeaf}
-use Rattle.footing.specs.Fitting.{descends, rightlyKept, rightlyBeside, rightlyAcross, isNone, fitting}
+use Rattle.footing.specs.Fitting.{descends, rightlyKept, rightlyBeside, rightlyAcross, rightlyConverting, isNone, holdsDue, fittingNew, fitting}
 use Rattle.tree.specs.Tree.{Tr, way}
 use Rattle.tree.specs.Facts.{WayFacts}
 use Rattle.ground.proofs.Choice.{by-test}
 use Rattle.tree.proofs.DeletionStep.{one-last}
-use Rattle.runs.specs.Stance.{Rightly, WantsWith, Starting, Coming}
+use Rattle.runs.specs.Stance.{Rightly, HoldsWith, Locked, Starting, Coming}
 use Rattle.runs.proofs.Paths.{no-length}
-use Rattle.runs.proofs.Locking.{lock-test}
+use Rattle.runs.proofs.Locking.{lock-test, due-plain, plain-holds}
+
+-- ---- the step's tests of a slot that gathers pages
+
+-- every page has the kind with which the operation goes down
+plain-test : (lock : Lock) (pages : List ℕ) → all (λ (u : Under). sameLock (u .lock) lock) (map (λ (p : ℕ). under lock) pages) ≡ true
+unfolding all
+plain-test lock [] = refl
+plain-test lock (p ∷ pages) = and-both (lock-same lock) (plain-test lock pages)
+
+holds-test : (z : Stand) → converting z ≡ false → HoldsWith z → holdsDue z ≡ true
+holds-test z new w =
+    let plain = plain-holds z (λ p. due-plain z p new) w in
+    ap (all (λ (u : Under). sameLock (u .lock) (heldLock (z .op))))
+    (ap₂ (λ (ls ss : List Under). ls ++ ss) (plain .0) (plain .1) ∙ sym (map-append (λ (p : ℕ). under (heldLock (z .op))) (z .path) (z .beside)))
+    ∙ plain-test (heldLock (z .op)) (holding z)
+
+pub fits-new : (k : ℕ) (memory : ℕ → Page) (z : Stand) → converting z ≡ false → Locked memory z
+    → rightlyKept (z .op) k memory (z .path) (z .want) ≡ true
+    → cond (atItsLeaf memory (reverse (z .path)))
+    (descends memory (keyOf (z .op)) (z .path) && (rightlyBeside k memory z (reverse (z .path)) || rightlyAcross k memory z (z .path)))
+    (descends memory (keyOf (z .op)) (z .path ++ z .want ∷ []) && isNone (z .beside)) ≡ true
+    → fitting k memory z ≡ true
+unfolding fitting fittingNew
+fits-new k memory z new locked kept rest =
+    and-both kept
+    (cond-false (rightlyConverting k memory z (reverse (z .path))) (fittingNew k memory z) new
+    ∙ and-both (and-both (lock-test memory z (locked .wants new)) (holds-test z new (locked .holds))) rest)
+
+-- ---- a slot that comes down
 
 -- The pages that a slot holds while it comes down are those that it should, or none yet, where it wants page 0.
 abbrev pub HeldRightly : Op → ℕ → (ℕ → Page) → List ℕ → ℕ → Type 0
@@ -161,13 +193,12 @@ module _ (k : ℕ) (memory : ℕ → Page) (l : ℕ) (t : Tr l) (z : Stand) (fac
     down-above = above-leaf memory (keyOf (z .op)) l t facts (reverse (z .path)) (down .lower) (z .want) (down .upper) (down .whole)
 
     -- its pages are the ones the rules would have it hold and want
-    pub down-fitting : z .beside ≡ [] → WantsWith memory z → fitting k memory z ≡ true
-    unfolding fitting
-    down-fitting none locked =
+    pub down-fitting : z .beside ≡ [] → converting z ≡ false → Locked memory z → fitting k memory z ≡ true
+    down-fitting none new locked =
         let stretch : way (keyOf (z .op)) l t ≡ down .lower ++ (reverse (z .path ++ z .want ∷ []) ++ down .upper)
         = down .whole ∙ ap (λ (ps : List ℕ). down .lower ++ (ps ++ down .upper)) (sym (reverse-append (z .path) (z .want ∷ []))) in
-        and-both
-        (and-both (kept-test (z .op) k memory (z .path) (z .want) (down .held)) (lock-test memory z locked))
+        fits-new k memory z new locked
+        (kept-test (z .op) k memory (z .path) (z .want) (down .held))
         (cond-false
         (descends memory (keyOf (z .op)) (z .path)
         && (rightlyBeside k memory z (reverse (z .path)) || rightlyAcross k memory z (z .path)))

@@ -3,9 +3,11 @@ pub mod PlainLaws
 pub mod Paths
 pub mod HeldPath
 pub mod Across
+pub mod Turns
 pub mod Needing
 pub mod Placing
 pub mod Locking
+pub mod Turning
 pub mod Others
 pub mod Granting
 pub mod Landing
@@ -23,4 +25,7 @@ pub mod Steps
 pub mod Measure
 pub mod MeasureLaws
 pub mod Rounds
+pub mod Grants
+pub mod ThirdSteps
+pub mod Conversions
 pub mod Counts

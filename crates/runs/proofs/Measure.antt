@@ -6,26 +6,38 @@ use mathlib.Core.List.{List, [], _∷_, _++_, reverse, append-assoc}
 use mathlib.Core.Logic.{inl, inr}
 use mathlib.Core.Path.{_≡_, refl, sym, ap, _∙_, subst}
 use native.Mathlib.Omega.{arith}
-use lib.ListN.{length, getD, length-append, length-reverse, List·getD-append}
-use lib.Seq.{getD-append-seam, getD-append-add}
-use Rattle.ground.specs.Limits.{tallest, wordRange, wayGrants, slotGrants}
-use Rattle.ground.proofs.Limits.{grants-of-height, grants-of-ways}
-use Rattle.ground.proofs.Bools.{not-both}
+use borrow.Author.Tests.{ltb-true, ltb-false}
+use lib.Dec.{ltb}
+use lib.ListN.{length, getD, take, length-append, length-reverse, List·getD-append}
+use lib.Seq.{take-suc, take-all, getD-append-seam, getD-append-add}
+use Rattle.ground.specs.Limits.{tallest, wordRange, wayGrants, secondGrants, slotGrants}
+use Rattle.ground.proofs.Limits.{grants-of-height, grants-of-ways, grants-of-third, grants-enough}
+use Rattle.ground.specs.Tests.{distinct}
+use Rattle.ground.proofs.Bools.{not-both, false-if-not-true}
 use Rattle.ground.proofs.Choice.{by-test, cond-true, cond-false}
 use Rattle.page.specs.Words.{Page}
+use Rattle.page.specs.Place.{has}
 use Rattle.pool.specs.Pool.{pageAt}
 use Rattle.slots.specs.declared.Op.{Op}
 use Rattle.slots.specs.declared.Op.the-variants.{Search, Insert, Delete, Next, Regrade}
-use Rattle.slots.specs.declared.Way.the-variants.{First, Second}
+use Rattle.slots.specs.declared.Way.the-variants.{First, Second, Third}
 use Rattle.slots.specs.declared.Task.{Task}
 use Rattle.slots.specs.declared.Task.the-variants.{Closed, Open}
 use Rattle.slots.specs.declared.Slot.{Slot}
 use Rattle.slots.specs.declared.State.{State}
-use Rattle.slots.specs.Parts.{keyOf, isDelete, isSecond, goesBeside, pathOf, besideOf, Stand, slotAt}
-use Rattle.tree.specs.Tree.{Tr, way, Forms}
+use Rattle.slots.specs.Parts.{keyOf, isDelete, isNext, isSecond, isThird, goesBeside, Stand, standOf, converting, slotAt}
+use Rattle.slots.specs.Grant.{olderThan}
+use Rattle.slots.proofs.LockLaws.{third-not-second}
+use Rattle.footing.specs.Granted.{inTurn, pagesInTurn}
+use Rattle.tree.specs.Tree.{Tr, entriesOf, way, Forms}
 use Rattle.tree.proofs.Search.{way-facts}
-use Rattle.runs.specs.Stance.{Stance}
-use Rattle.runs.proofs.Placing.{next-beside}
+use Rattle.runs.specs.Stance.{Gathering, Stance}
+use Rattle.runs.specs.Step.{Scene}
+pub use Rattle.runs.proofs.Placing.{deletes-beside, beside-first}
+use Rattle.runs.proofs.Placing.{next-beside, fewer-beside, gathers-new, turn-held}
+use Rattle.runs.proofs.Turns.{besideOne, before-turn, once-before}
+use Rattle.runs.proofs.Turning.{Ordered, scene-ordered, turn-once}
+use Rattle.runs.proofs.Locking.{deletes-updates, updates-not-next}
 
 -- the lowest page of a path
 abbrev pub lowestOf : List ℕ → ℕ
@@ -39,18 +51,30 @@ leftFirst memory (p ∷ ps) siblings = 2 * memory (lowestOf (p ∷ ps)) .level +
 
 -- By the second way it goes down to the leaf, and may begin again by the first way.
 abbrev pub leftSecond : (ℕ → Page) → List ℕ → ℕ
-leftSecond memory [] = slotGrants
+leftSecond memory [] = secondGrants
 leftSecond memory (p ∷ ps) = wayGrants + (memory (lowestOf (p ∷ ps)) .level - 1)
 
-abbrev pub leftOpen : Op → (ℕ → Page) → List ℕ → List ℕ → ℕ
-leftOpen op memory path siblings = cond (isSecond op) (leftSecond memory path) (leftFirst memory path siblings)
+-- By the third way it takes as many pages as by the first, and converts each page that it holds or has still to take, but for those that it has
+-- converted: they stand before the one that it wants.
+abbrev pub converted : Stand → ℕ
+converted z = cond (converting z) (length (olderThan (z .want) (pagesInTurn z))) 0
 
-abbrev pub leftTask : (ℕ → Page) → Task → List ℕ → List ℕ → ℕ
-leftTask memory Closed path siblings = 0
-leftTask memory (Open op) path siblings = leftOpen op memory path siblings
+abbrev pub leftPages : (ℕ → Page) → Stand → ℕ
+leftPages memory z = leftFirst memory (z .path) (z .beside)
+
+abbrev pub leftTurns : (ℕ → Page) → Stand → ℕ
+leftTurns memory z = leftPages memory z + (length (z .path) + length (z .beside)) - converted z
+
+-- the measure of a slot that stands here, by its way
+abbrev pub leftOpen : (ℕ → Page) → Stand → ℕ
+leftOpen memory z = cond (isSecond (z .op)) (leftSecond memory (z .path)) (cond (isThird (z .op)) (leftPages memory z + leftTurns memory z) (leftPages memory z))
+
+abbrev pub leftTask : (ℕ → Page) → Slot → Task → ℕ
+leftTask memory slot Closed = 0
+leftTask memory slot (Open op) = leftOpen memory (standOf op slot)
 
 abbrev pub leftSlot : (ℕ → Page) → Slot → ℕ
-leftSlot memory slot = leftTask memory (slot .task) (pathOf slot) (besideOf slot)
+leftSlot memory slot = leftTask memory slot (slot .task)
 
 -- the measure of slot s
 abbrev pub grantsLeft : State → List ℕ → ℕ → ℕ
@@ -64,31 +88,66 @@ pub record Low (memory : ℕ → Page) (l : ℕ) (t : Tr l) (path : List ℕ) (h
   pub level : memory (lowestOf path) .level ≡ height
   pub inside : height + length path ≤ l + 2
 
--- Where an open slot stands, in levels.
+-- What it holds, in the order of conversion: what is converted, the page that it wants, and what is still to be converted.
+pub record Turned (z : Stand) : Type 0 where
+  pub third : isThird (z .op) ≡ true
+  pub ordered : Ordered z
+  pub fewer : length (z .beside) < length (z .path)
+  pub held : converting z ≡ true
+  pub done : List ℕ
+  pub rest : List ℕ
+  pub turns : pagesInTurn z ≡ done ++ z .want ∷ rest
+
+-- Where an open slot stands, in levels. While it gathers it wants a page that it does not hold.
 pub data Where (memory : ℕ → Page) (l : ℕ) (t : Tr l) (z : Stand) : Type 0 where
-  atStart : z .path ≡ [] → z .beside ≡ [] → memory (z .want) .level ≡ l + 1 → Where memory l t z
-  onTheWay : (low : ℕ) → Low memory l t (z .path) (low + 2) → z .beside ≡ [] → memory (z .want) .level ≡ low + 1 → Where memory l t z
-  atTheLeaf : Low memory l t (z .path) 1 → suc (length (z .beside)) < length (z .path) → goesBeside (z .op) ≡ true → Where memory l t z
+  atStart : converting z ≡ false → z .path ≡ [] → z .beside ≡ [] → memory (z .want) .level ≡ l + 1 → Where memory l t z
+  onTheWay : converting z ≡ false → (low : ℕ) → Low memory l t (z .path) (low + 2) → z .beside ≡ [] → memory (z .want) .level ≡ low + 1 → Where memory l t z
+  -- (who goes by the third way is a deletion here, and its key is there)
+  atTheLeaf : converting z ≡ false → Low memory l t (z .path) 1 → suc (length (z .beside)) < length (z .path) → goesBeside (z .op) ≡ true
+      → (isThird (z .op) ≡ true → (isNext (z .op) ≡ false) × (has (keyOf (z .op)) (memory (lowestOf (z .path)) .entries) ≡ true)) → Where memory l t z
+  inTurns : Low memory l t (z .path) 1 → Turned z → Where memory l t z
 
--- a deletion goes beside its path
-pub deletes-beside : (op : Op) → isDelete op ≡ true → goesBeside op ≡ true
-deletes-beside (Search x) e = e
-deletes-beside (Insert x v First) e = e
-deletes-beside (Insert x v Second) e = e
-deletes-beside (Delete x First) e = refl
-deletes-beside (Delete x Second) e = e
-deletes-beside (Next x) e = refl
-deletes-beside (Regrade x v First) e = e
-deletes-beside (Regrade x v Second) e = e
+-- ---- the order of conversion has every page that is held
 
--- who goes beside its path does not go by the second way
-pub beside-first : (op : Op) → goesBeside op ≡ true → isSecond op ≡ false
-beside-first (Search x) e = refl
-beside-first (Insert x v way) e = not-both e refl
-beside-first (Delete x First) e = refl
-beside-first (Delete x Second) e = not-both e refl
-beside-first (Next x) e = refl
-beside-first (Regrade x v way) e = not-both e refl
+-- the siblings of so many pages, and of one more
+one-more : (below : ℕ) (beside : List ℕ) → length (besideOne 0 below beside) + length (take below beside) ≡ length (take (suc below) beside)
+one-more below beside =
+    by-test (ltb below (length beside))
+    (λ y.
+    let e = ap length (cond-true (getD beside below 0 ∷ []) [] y) in
+    let more = ap length (take-suc beside below 0 (ltb-true below (length beside) y)) in
+    omega (arith, e, more, length-append (take below beside) (getD beside below 0 ∷ [])))
+    (λ n.
+    let few = ltb-false below (length beside) n in
+    let e = ap length (cond-false (getD beside below 0 ∷ []) [] n) in
+    omega (arith, e, ap length (take-all below beside few), ap length (take-all (suc below) beside (omega (arith, few)))))
+
+turn-length : (path beside : List ℕ) → length (inTurn 0 path beside) ≡ length path + length (take (length path) beside)
+unfolding inTurn
+turn-length [] beside = refl
+turn-length (p ∷ below) beside =
+    omega (arith, length-append (besideOne 0 (length below) beside) (inTurn 0 below beside), turn-length below beside, one-more (length below) beside)
+
+module _ (z : Stand) (o : Turned z) where
+  -- what stands before the want is converted
+  pub converted-done : converted z ≡ length (o .done)
+  converted-done =
+      cond-true (length (olderThan (z .want) (pagesInTurn z))) 0 (o .held)
+      ∙ ap length
+      (ap (olderThan (z .want)) (o .turns)
+      ∙ before-turn (o .done) (z .want) (o .rest)
+      (once-before (o .done) (z .want) (o .rest) (subst (λ (ps : List ℕ). distinct ps ≡ true) (o .turns) (turn-once z (o .ordered))) .0))
+
+  pub turned-all : length (o .done) + suc (length (o .rest)) ≡ length (z .path) + length (z .beside)
+  turned-all =
+      sym (length-append (o .done) (z .want ∷ o .rest))
+      ∙ ap length (sym (o .turns))
+      ∙ turn-length (z .path) (z .beside)
+      ∙ ap (λ (bs : List ℕ). length (z .path) + length bs) (take-all (length (z .path)) (z .beside) (o .ordered .few))
+
+-- who gathers has converted nothing
+pub gathers-none : (z : Stand) → converting z ≡ false → converted z ≡ 0
+gathers-none z new = cond-false (length (olderThan (z .want) (pagesInTurn z))) 0 new
 
 module _ (op : Op) (k n : ℕ) (memory : ℕ → Page) (l : ℕ) (t : Tr l) (forms : Forms k n memory l t) (key : keyOf op < wordRange) where
   -- a page of the way is on the level of its index
@@ -111,25 +170,80 @@ module _ (op : Op) (k n : ℕ) (memory : ℕ → Page) (l : ℕ) (t : Tr l) (for
   leaf-at : (path upper : List ℕ) → 1 ≤ length path → way (keyOf op) l t ≡ reverse path ++ upper → Low memory l t path 1
   leaf-at path upper some e = subst (Low memory l t path) (omega arith) (low-at path [] upper some e)
 
-pub where-it-stands : (k n : ℕ) (memory : ℕ → Page) (l : ℕ) (t : Tr l) (z : Stand) → Forms k n memory l t → keyOf (z .op) < wordRange
-    → Stance k memory l t z → Where memory l t z
-where-it-stands k n memory l t z forms key (inl s) =
-    let facts = way-facts k n memory l t forms (keyOf (z .op)) key in
-    atStart (s .noPath) (s .noSiblings) (ap (λ (p : ℕ). memory p .level) (s .wantsRoot ∙ sym (facts .root)) ∙ facts .level l (omega arith))
-where-it-stands k n memory l t z forms key (inr (inl c)) =
-    let lower : List ℕ = c .lower in
-    let rest : List ℕ = reverse (z .path) ++ c .upper in
-    let longer : length (lower ++ z .want ∷ []) + 1 ≡ length lower + 2 = omega (arith, length-append lower (z .want ∷ [])) in
-    let low : Low memory l t (z .path) (length (lower ++ z .want ∷ []) + 1)
-    = low-at (z .op) k n memory l t forms key (z .path) (lower ++ z .want ∷ []) (c .upper) (c .rightly .some) (c .whole ∙ sym (append-assoc lower (z .want ∷ []) rest)) in
-    let len : length (way (keyOf (z .op)) l t) ≡ l + 1 = way-facts k n memory l t forms (keyOf (z .op)) key .pages in
-    let wanted = way-level (z .op) k n memory l t forms key (length lower) (z .want) (omega (arith, len, ap length (c .whole), length-append lower (z .want ∷ rest)))
-    (ap (λ (w : List ℕ). getD w (length lower) 0) (c .whole) ∙ getD-append-seam lower (z .want) rest 0) in
-    onTheWay (length lower) (subst (Low memory l t (z .path)) longer low) (c .noSiblings) wanted
-where-it-stands k n memory l t z forms key (inr (inr (inl b))) =
-    atTheLeaf (leaf-at (z .op) k n memory l t forms key (z .path) (b .upper) (b .rightly .some) (b .whole)) (b .fewer) (deletes-beside (z .op) (b .deletes))
-where-it-stands k n memory l t z forms key (inr (inr (inr c))) =
-    atTheLeaf (leaf-at (z .op) k n memory l t forms key (z .path) (c .upper) (c .rightly .some) (c .whole)) (c .fewer) (next-beside (z .op) (c .asksNext))
+  -- which tells whether the key is there
+  leaf-key : (path upper : List ℕ) → 1 ≤ length path → way (keyOf op) l t ≡ reverse path ++ upper
+      → has (keyOf op) (memory (lowestOf path) .entries) ≡ has (keyOf op) (entriesOf l t)
+  leaf-key path upper some e =
+      let facts = way-facts k n memory l t forms (keyOf op) key in
+      let spot : lowestOf path ≡ getD (way (keyOf op) l t) 0 0
+      = sym (List·getD-append (reverse path) upper 0 0 (omega (arith, length-reverse path))) ∙ ap (λ (w : List ℕ). getD w 0 0) (sym e) in
+      ap (λ (p : ℕ). has (keyOf op) (memory p .entries)) spot ∙ ap (λ (P : Page). has (keyOf op) (P .entries)) (facts .leaf) ∙ facts .decides
+
+-- a Next has no ways, and is no deletion
+nexts-not-third : (op : Op) → isNext op ≡ true → isThird op ≡ false
+nexts-not-third (Search x) d = refl
+nexts-not-third (Insert x v First) d = refl
+nexts-not-third (Insert x v Second) d = refl
+nexts-not-third (Insert x v Third) d = not-both d refl
+nexts-not-third (Delete x First) d = refl
+nexts-not-third (Delete x Second) d = refl
+nexts-not-third (Delete x Third) d = not-both d refl
+nexts-not-third (Next x) d = refl
+nexts-not-third (Regrade x v First) d = refl
+nexts-not-third (Regrade x v Second) d = refl
+nexts-not-third (Regrade x v Third) d = not-both d refl
+
+deletes-not-next : (op : Op) → isDelete op ≡ true → isNext op ≡ false
+deletes-not-next op d = updates-not-next op (deletes-updates op d)
+
+module _ (k n : ℕ) (ws : List ℕ) (l : ℕ) (t : Tr l) (z : Stand) (scene : Scene k n ws l t z) where
+  abbrev memory : ℕ → Page
+  memory = pageAt k ws
+
+  abbrev forms : Forms k n memory l t
+  forms = scene .forms .forms
+
+  abbrev key : keyOf (z .op) < wordRange
+  key = scene .key
+
+  gathers-where : converting z ≡ false → Gathering k memory l t z → Where memory l t z
+  gathers-where new (inl s) =
+      let facts = way-facts k n memory l t forms (keyOf (z .op)) key in
+      atStart new (s .noPath) (s .noSiblings) (ap (λ (p : ℕ). memory p .level) (s .wantsRoot ∙ sym (facts .root)) ∙ facts .level l (omega arith))
+  gathers-where new (inr (inl c)) =
+      let lower : List ℕ = c .lower in
+      let rest : List ℕ = reverse (z .path) ++ c .upper in
+      let longer : length (lower ++ z .want ∷ []) + 1 ≡ length lower + 2 = omega (arith, length-append lower (z .want ∷ [])) in
+      let low : Low memory l t (z .path) (length (lower ++ z .want ∷ []) + 1)
+      = low-at (z .op) k n memory l t forms key (z .path) (lower ++ z .want ∷ []) (c .upper) (c .rightly .some) (c .whole ∙ sym (append-assoc lower (z .want ∷ []) rest)) in
+      let len : length (way (keyOf (z .op)) l t) ≡ l + 1 = way-facts k n memory l t forms (keyOf (z .op)) key .pages in
+      let wanted = way-level (z .op) k n memory l t forms key (length lower) (z .want) (omega (arith, len, ap length (c .whole), length-append lower (z .want ∷ rest)))
+      (ap (λ (w : List ℕ). getD w (length lower) 0) (c .whole) ∙ getD-append-seam lower (z .want) rest 0) in
+      onTheWay new (length lower) (subst (Low memory l t (z .path)) longer low) (c .noSiblings) wanted
+  gathers-where new (inr (inr (inl b))) =
+      atTheLeaf new (leaf-at (z .op) k n memory l t forms key (z .path) (b .upper) (b .rightly .some) (b .whole)) (b .fewer) (deletes-beside (z .op) (b .deletes))
+      (λ _. (deletes-not-next (z .op) (b .deletes), leaf-key (z .op) k n memory l t forms key (z .path) (b .upper) (b .rightly .some) (b .whole) ∙ b .there))
+  gathers-where new (inr (inr (inr c))) =
+      atTheLeaf new (leaf-at (z .op) k n memory l t forms key (z .path) (c .upper) (c .rightly .some) (c .whole)) (c .fewer) (next-beside (z .op) (c .asksNext))
+      (λ third. not-both third (nexts-not-third (z .op) (c .asksNext)))
+
+  by-stance : Stance k memory l t z → Where memory l t z
+  by-stance (inl g) = gathers-where (gathers-new k n ws l t z scene g) g
+  by-stance (inr c) =
+      let few = fewer-beside k n memory l t (scene .kLeast) (scene .nMost) forms z key c in
+      inTurns (leaf-at (z .op) k n memory l t forms key (z .path) (c .upper) (c .rightly .some) (c .whole))
+      (record {
+        third = c .third;
+        ordered = scene-ordered k n ws l t z scene;
+        fewer = few;
+        held = turn-held k n ws l t z scene c;
+        done = c .done;
+        rest = c .rest;
+        turns = c .turns;
+      })
+
+  pub where-it-stands : Where memory l t z
+  where-it-stands = by-stance (scene .stance)
 
 -- ---- the measure of an open slot, by where it stands
 
@@ -143,18 +257,24 @@ second-some memory [] h = absurd (omega arith)
 second-some memory (p ∷ ps) h = refl
 
 -- the measure by the way
-pub left-by-first : (op : Op) (memory : ℕ → Page) (path siblings : List ℕ) → isSecond op ≡ false → leftOpen op memory path siblings ≡ leftFirst memory path siblings
-left-by-first op memory path siblings first = cond-false (leftSecond memory path) (leftFirst memory path siblings) first
+pub left-by-first : (memory : ℕ → Page) (z : Stand) → isSecond (z .op) ≡ false → isThird (z .op) ≡ false → leftOpen memory z ≡ leftPages memory z
+left-by-first memory z first only =
+    cond-false (leftSecond memory (z .path)) _ first ∙ cond-false (leftPages memory z + leftTurns memory z) (leftPages memory z) only
 
-pub left-by-second : (op : Op) (memory : ℕ → Page) (path siblings : List ℕ) → isSecond op ≡ true → leftOpen op memory path siblings ≡ leftSecond memory path
-left-by-second op memory path siblings second = cond-true (leftSecond memory path) (leftFirst memory path siblings) second
+pub left-by-second : (memory : ℕ → Page) (z : Stand) → isSecond (z .op) ≡ true → leftOpen memory z ≡ leftSecond memory (z .path)
+left-by-second memory z second = cond-true (leftSecond memory (z .path)) _ second
+
+pub left-by-third : (memory : ℕ → Page) (z : Stand) → isThird (z .op) ≡ true → leftOpen memory z ≡ leftPages memory z + leftTurns memory z
+left-by-third memory z third =
+    cond-false (leftSecond memory (z .path)) _ (third-not-second (z .op) third)
+    ∙ cond-true (leftPages memory z + leftTurns memory z) (leftPages memory z) third
 
 module _ (memory : ℕ → Page) (l : ℕ) (t : Tr l) where
   -- holding nothing
   pub left-start : (path siblings : List ℕ) → path ≡ [] → leftFirst memory path siblings ≡ wayGrants
   left-start path siblings e = ap (λ (p : List ℕ). leftFirst memory p siblings) e
 
-  pub second-start : (path : List ℕ) → path ≡ [] → leftSecond memory path ≡ slotGrants
+  pub second-start : (path : List ℕ) → path ≡ [] → leftSecond memory path ≡ secondGrants
   second-start path e = ap (leftSecond memory) e
 
   -- coming down
@@ -169,50 +289,95 @@ module _ (memory : ℕ → Page) (l : ℕ) (t : Tr l) where
   second-coming path low w = second-some memory path (w .some) ∙ omega (arith, w .level)
 
   -- at the leaf
-  pub left-leaf : (path siblings : List ℕ) → Low memory l t path 1 → suc (length siblings) < length path
-      → leftFirst memory path siblings ≡ length path - 1 - length siblings
-  left-leaf path siblings w h =
+  pub left-leaf : (path siblings : List ℕ) → Low memory l t path 1 → leftFirst memory path siblings ≡ length path - 1 - length siblings
+  left-leaf path siblings w =
       let level : memory (lowestOf path) .level ≡ 1 = w .level in
-      left-some memory path siblings (w .some) ∙ omega arith
+      let some : 1 ≤ length path = w .some in
+      left-some memory path siblings some ∙ omega arith
 
-  -- "So at most 19", by the first way, and at least one while it is open
-  first-bounds : (z : Stand) → l + 1 ≤ tallest → Where memory l t z
-      → (1 ≤ leftFirst memory (z .path) (z .beside)) × (leftFirst memory (z .path) (z .beside) ≤ wayGrants)
-  first-bounds z h (atStart e f g) =
-      let is = left-start (z .path) (z .beside) e in (omega (arith, is, grants-of-height), omega (arith, is, grants-of-height))
-  first-bounds z h (onTheWay low w e g) =
-      let is = left-coming (z .path) (z .beside) low w e in
-      let inside : low + 2 + length (z .path) ≤ l + 2 = w .inside in
-      (omega (arith, is), omega (arith, is, grants-of-height, w .some))
-  first-bounds z h (atTheLeaf w f d) =
-      let is = left-leaf (z .path) (z .beside) w f in
-      let inside : 1 + length (z .path) ≤ l + 2 = w .inside in
-      (omega (arith, is), omega (arith, is, grants-of-height))
+  -- "So at most 19": what is left of pages to take,
+  pub pages-most : (z : Stand) → l + 1 ≤ tallest → Where memory l t z → leftPages memory z ≤ wayGrants
+  pages-most z h (atStart new e f g) = omega (arith, left-start (z .path) (z .beside) e)
+  pages-most z h (onTheWay new low w e g) = omega (arith, left-coming (z .path) (z .beside) low w e, grants-of-height, w .some, w .inside)
+  pages-most z h (atTheLeaf new w f d there) = omega (arith, left-leaf (z .path) (z .beside) w, grants-of-height, w .inside)
+  pages-most z h (inTurns w o) = omega (arith, left-leaf (z .path) (z .beside) w, grants-of-height, w .inside)
+
+  -- "and 19 conversions": and what is left to convert
+  pub turns-most : (z : Stand) → l + 1 ≤ tallest → Where memory l t z → leftTurns memory z ≤ wayGrants
+  turns-most z h (atStart new e f g) = omega (arith, left-start (z .path) (z .beside) e, ap length e, ap length f)
+  turns-most z h (onTheWay new low w e g) = omega (arith, left-coming (z .path) (z .beside) low w e, grants-of-height, w .some, w .inside, ap length e)
+  turns-most z h (atTheLeaf new w f d there) = omega (arith, left-leaf (z .path) (z .beside) w, grants-of-height, w .inside)
+  turns-most z h (inTurns w o) = omega (arith, left-leaf (z .path) (z .beside) w, grants-of-height, w .inside, o .fewer)
+
+  -- while it gathers, there is a page to take
+  pub pages-some : (z : Stand) → l + 1 ≤ tallest → Where memory l t z → converting z ≡ false → 1 ≤ leftPages memory z
+  pages-some z h (atStart new e f g) _ = omega (arith, left-start (z .path) (z .beside) e, grants-of-height)
+  pages-some z h (onTheWay new low w e g) _ = omega (arith, left-coming (z .path) (z .beside) low w e)
+  pages-some z h (atTheLeaf new w f d there) _ = omega (arith, left-leaf (z .path) (z .beside) w)
+  pages-some z h (inTurns w o) new = not-both (o .held) new
+
+  -- while it converts, there is one to convert
+  pub turns-some : (z : Stand) → Turned z → 1 ≤ leftTurns memory z
+  turns-some z o = omega (arith, converted-done z o, turned-all z o)
+
+  pub where-turned : (z : Stand) → Where memory l t z → converting z ≡ true → Turned z
+  where-turned z (atStart new e f g) held = not-both held new
+  where-turned z (onTheWay new low w e g) held = not-both held new
+  where-turned z (atTheLeaf new w f d there) held = not-both held new
+  where-turned z (inTurns w o) held = o
+
+  -- who converts goes by the third way
+  gathers-or-third : (z : Stand) → isThird (z .op) ≡ false → Where memory l t z → converting z ≡ false
+  gathers-or-third z only at = false-if-not-true (converting z) (λ held. not-both (where-turned z at held .third) only)
+
+  first-bounds : (z : Stand) → isThird (z .op) ≡ false → l + 1 ≤ tallest → Where memory l t z → (1 ≤ leftPages memory z) × (leftPages memory z ≤ wayGrants)
+  first-bounds z only h at = (pages-some z h at (gathers-or-third z only at), pages-most z h at)
 
   -- "At most 10 + 19 grants", by the second way
   second-bounds : (z : Stand) → isSecond (z .op) ≡ true → l + 1 ≤ tallest → Where memory l t z
-      → (1 ≤ leftSecond memory (z .path)) × (leftSecond memory (z .path) ≤ slotGrants)
-  second-bounds z second h (atStart e f g) =
-      let is = second-start (z .path) e in (omega (arith, is, grants-of-ways), omega (arith, is))
-  second-bounds z second h (onTheWay low w e g) =
+      → (1 ≤ leftSecond memory (z .path)) × (leftSecond memory (z .path) ≤ secondGrants)
+  second-bounds z second h (atStart new e f g) =
+      let is = second-start (z .path) e in (omega (arith, is, grants-of-ways, grants-of-height), omega (arith, is))
+  second-bounds z second h (onTheWay new low w e g) =
       let is = second-coming (z .path) low w in
       let inside : low + 2 + length (z .path) ≤ l + 2 = w .inside in
       (omega (arith, is), omega (arith, is, grants-of-ways))
-  second-bounds z second h (atTheLeaf w f d) = not-both second (beside-first (z .op) d)
+  second-bounds z second h (atTheLeaf new w f d there) = not-both second (beside-first (z .op) d)
+  second-bounds z second h (inTurns w o) = not-both second (third-not-second (z .op) (o .third))
 
-  -- At most so many as a slot takes, at least one while it is open, and fewer by the first way.
-  pub left-bounds : (z : Stand) → l + 1 ≤ tallest → Where memory l t z
-      → (1 ≤ leftOpen (z .op) memory (z .path) (z .beside)) × (leftOpen (z .op) memory (z .path) (z .beside) ≤ slotGrants)
+  -- "at most 19 grants and 19 conversions", by the third
+  third-bounds : (z : Stand) → l + 1 ≤ tallest → Where memory l t z
+      → (1 ≤ leftPages memory z + leftTurns memory z) × (leftPages memory z + leftTurns memory z ≤ slotGrants)
+  third-bounds z h at =
+      let pages = pages-most z h at in
+      let turns = turns-most z h at in (
+        by-test (converting z)
+            (λ held. omega (arith, turns-some z (where-turned z at held)))
+            (λ new. omega (arith, pages-some z h at new)),
+        omega (arith, pages, turns, grants-of-third),
+      )
+
+  -- At most so many as a slot takes, at least one while it is open.
+  pub left-bounds : (z : Stand) → l + 1 ≤ tallest → Where memory l t z → (1 ≤ leftOpen memory z) × (leftOpen memory z ≤ slotGrants)
   left-bounds z h at =
       by-test (isSecond (z .op))
       (λ second.
-      let is = left-by-second (z .op) memory (z .path) (z .beside) second in
+      let is = left-by-second memory z second in
       let bounds = second-bounds z second h at in
+      (omega (arith, is, bounds .0), omega (arith, is, bounds .1, grants-enough)))
+      (λ first. by-test (isThird (z .op))
+      (λ third.
+      let is = left-by-third memory z third in
+      let bounds = third-bounds z h at in
       (omega (arith, is, bounds .0), omega (arith, is, bounds .1)))
-      (λ first.
-      let is = left-by-first (z .op) memory (z .path) (z .beside) first in
-      let bounds = first-bounds z h at in
-      (omega (arith, is, bounds .0), omega (arith, is, bounds .1, grants-of-ways)))
+      (λ only.
+      let is = left-by-first memory z first only in
+      let bounds = first-bounds z only h at in
+      (omega (arith, is, bounds .0), omega (arith, is, bounds .1, grants-of-ways, grants-enough))))
 
-  pub left-first-most : (z : Stand) → isSecond (z .op) ≡ false → l + 1 ≤ tallest → Where memory l t z → leftOpen (z .op) memory (z .path) (z .beside) ≤ wayGrants
-  left-first-most z first h at = omega (arith, left-by-first (z .op) memory (z .path) (z .beside) first, first-bounds z h at .1)
+  -- and fewer by the first way and by the second
+  pub left-first-most : (z : Stand) → isSecond (z .op) ≡ false → isThird (z .op) ≡ false → l + 1 ≤ tallest → Where memory l t z → leftOpen memory z ≤ wayGrants
+  left-first-most z first only h at = omega (arith, left-by-first memory z first only, pages-most z h at)
+
+  pub left-second-most : (z : Stand) → isSecond (z .op) ≡ true → l + 1 ≤ tallest → Where memory l t z → leftOpen memory z ≤ secondGrants
+  left-second-most z second h at = omega (arith, left-by-second memory z second, second-bounds z second h at .1)

@@ -4,23 +4,27 @@ use Prim.Native.Nat.{ℕ, suc, _≤_, _<_}
 use native.Mathlib.Omega.{arith}
 use mathlib.Core.Bool.{Bool, true, false, cond, _||_}
 use mathlib.Core.List.{List, [], _∷_, _++_, reverse}
-use mathlib.Core.Logic.{_≢_}
-use mathlib.Core.Path.{_≡_, refl, sym, ap, _∙_}
+use mathlib.Core.Logic.{_≢_, inl, inr, ⊎-elim}
+use mathlib.Core.Path.{_≡_, refl, sym, ap, ap₂, _∙_}
 use borrow.Author.Tests.{ltb-false, le-ltb, eqb-true, eqb-false}
 use lib.Dec.{eqb, ltb}
 use lib.ListN.{length, getD, length-reverse}
 use Rattle.ground.specs.Limits.{wordRange}
-use Rattle.ground.proofs.Bools.{or-first-fails, or-second-fails}
+use Rattle.ground.proofs.Bools.{not-both, or-first, or-second, or-cases, or-first-fails, or-second-fails}
 use Rattle.ground.proofs.Choice.{cond-false}
-use Rattle.ground.proofs.Tests.{member-from}
+use Rattle.ground.specs.Tests.{member}
+use Rattle.ground.proofs.Tests.{member-from, member-here, member-there, member-append, member-inside}
 use Rattle.page.specs.Words.{Page, μ}
 use Rattle.page.specs.Place.{has}
 use Rattle.page.specs.Short.{neighbour}
 use Rattle.change.specs.Deletion.{Need, nothing, sibling, astray, satisfied, needs}
+use Rattle.slots.specs.declared.Op.{Op}
 use Rattle.slots.specs.declared.Op.the-variants.{Delete}
-use Rattle.slots.specs.declared.Way.the-variants.{First}
+use Rattle.slots.specs.declared.Way.{Way}
+use Rattle.slots.specs.declared.Way.the-variants.{First, Second, Third}
 use Rattle.slots.specs.declared.Lock.{Lock}
-use Rattle.slots.specs.Parts.{Stand, wantBeside, wantsNext, withOp}
+use Rattle.slots.specs.Parts.{isDelete, Stand, wantBeside, wantsNext, withOp}
+use Rattle.footing.specs.Granted.{isSafe}
 use Rattle.tree.specs.Tree.{Tr, entriesOf, way, Forms}
 use Rattle.tree.specs.Change.{HeldWay}
 use Rattle.tree.specs.Deletion.{canSpare, Deletes, Asked, Needed}
@@ -115,6 +119,49 @@ module _ (k : ℕ) (memory : ℕ → Page) (x : ℕ) where
         wantsNext = rest .wantsNext;
       }
 
+-- what is needed goes by the pages of the path and the siblings
+pub needs-by : (k : ℕ) (memory after : ℕ → Page) (x p : ℕ) (fathers siblings : List ℕ)
+    → ((q : ℕ) → member q (p ∷ fathers ++ siblings) ≡ true → after q ≡ memory q)
+    → needs k after x p fathers siblings ≡ needs k memory x p fathers siblings
+unfolding needs
+needs-by k memory after x p [] siblings same =
+    ap (λ (P : Page). cond (eqb p 0 || ltb k (μ P)) (satisfied siblings) astray) (same p (member-here p siblings))
+needs-by k memory after x p (f ∷ up) [] same =
+    ap₂ (λ (P F : Page). cond (eqb p 0 || ltb k (μ P)) nothing (sibling (neighbour x F)))
+    (same p (member-here p (f ∷ up ++ []))) (same f (member-there p f (f ∷ up ++ []) (member-here f (up ++ []))))
+needs-by k memory after x p (f ∷ up) (s ∷ ss) same =
+    let further = needs-by k memory after x f up ss
+    (λ q m. same q (member-there p q (f ∷ up ++ s ∷ ss) (widened q f up ss m))) in
+    let last : member s (p ∷ (f ∷ up) ++ s ∷ ss) ≡ true = member-inside s (p ∷ f ∷ up) ss in
+    ap₂ (λ (P F : Page). cond (eqb p 0 || ltb k (μ P)) astray (cond (eqb s (neighbour x F)) (cond (ltb k (μ (after s))) (satisfied ss) (needs k after x f up ss)) astray))
+    (same p (member-here p (f ∷ up ++ s ∷ ss))) (same f (member-there p f (f ∷ up ++ s ∷ ss) (member-here f (up ++ s ∷ ss))))
+    ∙ ap₂ (λ (S : Page) (d : Need). cond (eqb p 0 || ltb k (μ (memory p))) astray (cond (eqb s (neighbour x (memory f))) (cond (ltb k (μ S)) (satisfied ss) d) astray))
+    (same s last) further
+  where
+    widened : (q f : ℕ) (up ss : List ℕ) → member q (f ∷ up ++ ss) ≡ true → member q (f ∷ up ++ s ∷ ss) ≡ true
+    widened q f up ss m =
+        member-append q (f ∷ up) (s ∷ ss)
+        ∙ ⊎-elim
+        (λ h. or-first (member q (s ∷ ss)) h)
+        (λ h. or-second (member q (f ∷ up)) (member-there s q ss h))
+        (or-cases (member q (f ∷ up)) (member q ss) (sym (member-append q (f ∷ up) ss) ∙ m))
+
+-- ---- pages as safe by one way as by another
+
+pub rightly-as : (op op′ : Op) (k : ℕ) (memory : ℕ → Page) (path : List ℕ) → ((P : Page) → isSafe op′ k P ≡ isSafe op k P)
+    → Rightly op k memory path → Rightly op′ k memory path
+rightly-as op op′ k memory path same r = record {
+  some = r .some;
+  top = ⊎-elim inl (λ s. inr (same (memory (getD path 0 0)) ∙ s)) (r .top);
+  unsafe = λ i h. same (memory (getD path (suc i) 0)) ∙ r .unsafe i h;
+}
+
+-- a deletion that takes siblings goes by the first way or the third: its pages are as safe
+pub deletes-safe : (x : ℕ) (way′ : Way) (k : ℕ) → isDelete (Delete x way′) ≡ true → (P : Page) → isSafe (Delete x way′) k P ≡ isSafe (Delete x First) k P
+deletes-safe x First k d P = refl
+deletes-safe x Second k d P = not-both d refl
+deletes-safe x Third k d P = refl
+
 -- ---- a deletion at its leaf
 
 -- A deletion of x at its leaf, with the siblings that it took so far, each when asked.
@@ -155,18 +202,19 @@ module _ {k n : ℕ} {memory : ℕ → Page} {l : ℕ} {t : Tr l} {x : ℕ} {z :
       omega (arith, times-append 0 (way x l t) (z .beside), distinct-times (way x l t ++ z .beside) (leaf-needed .different) 0)
 
   -- it needs a sibling: it stands as a slot that wants it
-  pub leaf-goes : (s : ℕ) → needs k memory x leaf fathers (z .beside) ≡ sibling s → (lock : Lock) → WantsSibling k memory l t (wantsNext (withOp (Delete x First) z) s lock)
-  leaf-goes s e lock =
+  pub leaf-goes : (way′ : Way) → isDelete (Delete x way′) ≡ true → (s : ℕ) → needs k memory x leaf fathers (z .beside) ≡ sibling s → (lock : Lock)
+      → WantsSibling k memory l t (wantsNext (withOp (Delete x way′) z) s lock)
+  leaf-goes way′ takes s e lock =
       let course = needs-course k memory x leaf fathers (z .beside) s e in
       let fewer = needs-length k memory x leaf fathers (z .beside) s e in
       let size : length (z .path) ≡ suc (length fathers) = sym (length-reverse (z .path)) ∙ ap length (a .upward) in
       let at : (j : ℕ) → getD (reverse (z .path)) j 0 ≡ getD (leaf ∷ fathers) j 0 = λ j. ap (λ (up : List ℕ). getD up j 0) (a .upward) in
       record {
-        deletes = refl;
+        deletes = takes;
         there = a .there;
         upper = a .upper;
         whole = a .whole;
-        rightly = a .rightly;
+        rightly = rightly-as (Delete x First) (Delete x way′) k memory (z .path) (deletes-safe x way′ k takes) (a .rightly);
         fewer = omega arith;
         short = λ j h.
             let other = course .notRoot j h in
@@ -205,11 +253,11 @@ leaf-first [] h = absurd (omega arith)
 leaf-first (p ∷ up) h = (p, up, refl)
 
 -- a slot that wants a sibling stands at its leaf, and that sibling is the one it needs
-pub beside-leaf : {k n : ℕ} {memory : ℕ → Page} {l : ℕ} {t : Tr l} {x : ℕ} (z : Stand)
-    → Forms k n memory l t → 1 ≤ k → x < wordRange → WantsSibling k memory l t (withOp (Delete x First) z)
+pub beside-leaf : {k n : ℕ} {memory : ℕ → Page} {l : ℕ} {t : Tr l} {x : ℕ} (way′ : Way) (z : Stand)
+    → Forms k n memory l t → 1 ≤ k → x < wordRange → WantsSibling k memory l t (withOp (Delete x way′) z)
     → (leaf : ℕ) × (fathers : List ℕ) × AtLeaf k n memory l t x z leaf fathers
     × (needs k memory x leaf fathers (z .beside) ≡ sibling (z .want))
-beside-leaf {k} {n} {memory} {l} {t} {x} z forms one key b =
+beside-leaf {k} {n} {memory} {l} {t} {x} way′ z forms one key b =
     let (leaf, fathers, upward) = leaf-first (reverse (z .path)) (omega (arith, b .rightly .some, length-reverse (z .path))) in
     let size : length (z .path) ≡ suc (length fathers) = sym (length-reverse (z .path)) ∙ ap length upward in
     let at : (j : ℕ) → getD (reverse (z .path)) j 0 ≡ getD (leaf ∷ fathers) j 0 = λ j. ap (λ (up : List ℕ). getD up j 0) upward in
@@ -232,7 +280,7 @@ beside-leaf {k} {n} {memory} {l} {t} {x} z forms one key b =
         upward = upward;
         upper = b .upper;
         whole = b .whole;
-        rightly = b .rightly;
+        rightly = rightly-as (Delete x way′) (Delete x First) k memory (z .path) (λ P. sym (deletes-safe x way′ k (b .deletes) P)) (b .rightly);
         asked = course-asked k memory x leaf fathers (z .beside) (λ h. astray≢sibling (sym h ∙ need));
       },
       need,

@@ -2,8 +2,8 @@
 -- entry in the tree. On its second way its pages are the ones the rules would have it hold and want, and it takes one more, or the
 -- first entry of the second leaf at or above its key is its answer.
 use Prim.Native.Nat.{ℕ, suc, _+_, _-_, _≤_, _<_}
-use mathlib.Core.Bool.{Bool, true, false, _&&_, true≢false}
-use mathlib.Core.List.{List, [], _∷_, _++_, reverse}
+use mathlib.Core.Bool.{Bool, true, false, _&&_, true≢false, false≢true}
+use mathlib.Core.List.{List, [], _∷_, _++_, map, reverse}
 use mathlib.Core.Logic.{inl, inr, ⊎-elim}
 use mathlib.Core.Path.{_≡_, refl, sym, ap, _∙_, subst}
 use native.Mathlib.Omega.{arith}
@@ -23,20 +23,20 @@ use Rattle.slots.specs.declared.Op.the-variants.{Next}
 use Rattle.slots.specs.declared.Answer.the-variants.{None as NoLot}
 use Rattle.slots.specs.declared.Lock.the-variants.{Rho}
 use Rattle.slots.specs.declared.Under.{Under}
-use Rattle.slots.specs.Parts.{onlyReads, Stand, onPages, wantBeside, wantsNext, withOp}
+use Rattle.slots.specs.Parts.{onlyReads, under, converting, Stand, onPages, wantBeside, wantsNext, withOp}
 use Rattle.footing.specs.Granted.{isSafe, nextAnswer, crosses, byNearest, atLeaf, goesLeft, besides}
 use Rattle.footing.specs.Fitting.{isNone, leftmost, turnsRight, rightlyAcross}
 use Rattle.tree.specs.Tree.{Tr, entriesOf, way, leafOn, Forms, PoolForms}
 use Rattle.tree.specs.Facts.{WayFacts, SameFirst, NextFacts}
 use Rattle.tree.proofs.Next.{next-facts}
-use Rattle.runs.specs.Stance.{HoldsWith, Locked, Rightly, Crossing, StandsAtLeaf, Takes}
+use Rattle.runs.specs.Stance.{WantsWith, Rightly, Crossing, StandsAtLeaf, Takes}
 use Rattle.runs.specs.Plain.{plain}
 use Rattle.runs.specs.Step.{Ended}
-use Rattle.runs.proofs.Locking.{due-held, beside-holds}
+use Rattle.runs.proofs.Locking.{due-held, beside-plain}
 use Rattle.runs.proofs.PlainLaws.{above-key}
 use Rattle.runs.proofs.HeldPath.{below-unsafe}
 use Rattle.runs.proofs.Across.{Across, across, top-upward, first-facts, second-facts, second-level}
-use Rattle.runs.proofs.Landing.{Does, on, done, leaf-page, leaf-is, nothing-ends}
+use Rattle.runs.proofs.Landing.{Plain, Does, on, done, leaf-page, leaf-is, nothing-ends}
 
 -- ---- answers and tests
 
@@ -107,6 +107,7 @@ module _ (k n : ℕ) (ws : List ℕ) (l : ℕ) (t : Tr l) (pool : PoolForms k n 
   answers found same =
       nothing-ends k n ws l t pool z₀ (Next x) (nextAnswer found)
       (inl (record { answer = same; entries = refl; room = λ y v w e m. absurd (true≢false (ap onlyReads e)) }))
+      (λ third. absurd (false≢true third))
 
   -- where it stands with this path, held so
   abbrev down : List ℕ → List Under → Stand
@@ -115,7 +116,7 @@ module _ (k n : ℕ) (ws : List ℕ) (l : ℕ) (t : Tr l) (pool : PoolForms k n 
   module _ (path : List ℕ) (locks : List Under) (leaf : ℕ) (fathers upper : List ℕ) (upward : reverse path ≡ leaf ∷ fathers)
       (whole : way x l t ≡ leaf ∷ (fathers ++ upper)) (rightly : Rightly (Next x) k memory path)
       (takes : (q : ℕ) → Takes k memory (withOp (Next x) z₀) (wantsNext (down path locks) q Rho))
-      (holds : (q : ℕ) → HoldsWith (wantsNext (down path locks) q Rho)) where
+      (plain : locks ≡ map (λ (p : ℕ). under Rho) path) where
     onWay : way x l t ≡ reverse path ++ upper
     onWay = whole ∙ ap (λ (ps : List ℕ). ps ++ upper) (sym upward)
 
@@ -188,10 +189,13 @@ module _ (k n : ℕ) (ws : List ℕ) (l : ℕ) (t : Tr l) (pool : PoolForms k n 
         cond-ind (Does k n ws l t (withOp (Next x) z₀)) (isSafe (Next x) k (memory top))
         (λ safe.
         on (wantsNext (down path locks) (neighbour x (memory top)) Rho) refl refl
-        (inr (inr (inr
-        (subst (λ (p : ℕ). Crossing k memory l t (wantsNext (down path locks) (neighbour x (memory p)) Rho)) first
-        (goes-across none (ap (λ (p : ℕ). isSafe (Next x) k (memory p)) first ∙ safe))))))
-        (record { wants = sym (due-held (Next x) memory (reverse path) refl); holds = holds (neighbour x (memory top)) })
+        (inl (
+          inr (inr (inr
+              (subst (λ (p : ℕ). Crossing k memory l t (wantsNext (down path locks) (neighbour x (memory p)) Rho)) first
+              (goes-across none (ap (λ (p : ℕ). isSafe (Next x) k (memory p)) first ∙ safe))))),
+          sym (due-held (Next x) memory (reverse path) refl),
+          (plain, refl),
+        ))
         (takes (neighbour x (memory top))))
         (λ f.
         done NoLot [] refl
@@ -330,21 +334,31 @@ module _ (x k n : ℕ) (ws : List ℕ) (l : ℕ) (t : Tr l) (pool : PoolForms k 
       ∙ ap (λ (P : Page). nextAnswer (atOrAbove x (P .entries))) (second-facts k n pages l t forms z key two-ways .leaf)
       ∙ above-answers x (leafOn y l t) (entriesOf l t) (two-ways .beyond .nearest leaf-none none-lower)
 
-  left-does : Locked pages z → Does k n ws l t z (goesLeft pages z)
+  left-does : converting z ≡ false → WantsWith pages z → Plain z → Does k n ws l t z (goesLeft pages z)
   unfolding goesLeft
-  left-does locked =
+  left-does new wants plain =
       cond-ind (Does k n ws l t z) (isLeaf (pages (z .want)))
       (λ y.
       done (nextAnswer (atOrAbove x (pages (z .want) .entries))) [] refl
       (answers k n ws l t pool one z₀ x key first-way (atOrAbove x (pages (z .want) .entries)) (second-answers y)))
       (λ f.
-      on (wantsNext (wantBeside z) (pointer 0 (pages (z .want))) Rho) refl refl (inr (inr (inr (one-more f))))
-      (record {
-        wants = sym (due-held (Next x) pages (reverse (z .path)) refl);
-        holds = beside-holds z (locked .holds) (locked .wants ∙ due-held (Next x) pages (reverse (z .path)) refl) (pointer 0 (pages (z .want))) Rho;
-      })
-      (inr (inr (inl (record { same = refl; under = locked .wants ∙ due-held (Next x) pages (reverse (z .path)) refl; beside = refl; atLeaf = crossing-leaf; still = refl; holds = refl })))))
+      on (wantsNext (wantBeside z) (pointer 0 (pages (z .want))) Rho) refl refl
+      (inl (
+        inr (inr (inr (one-more f))),
+        sym (due-held (Next x) pages (reverse (z .path)) refl),
+        (plain .0, beside-plain z (plain .1) (wants ∙ due-held (Next x) pages (reverse (z .path)) refl)),
+      ))
+      (inl (inr (inr (inl (record {
+        same = refl;
+        new = new;
+        beside = refl;
+        atLeaf = crossing-leaf;
+        still = refl;
+        locks = refl;
+        holds = refl;
+        sidelocks = refl;
+      }))))))
 
-  pub crossing-does : Locked pages z → Does k n ws l t z (besides k pages z)
+  pub crossing-does : converting z ≡ false → WantsWith pages z → Plain z → Does k n ws l t z (besides k pages z)
   unfolding besides
   crossing-does = left-does

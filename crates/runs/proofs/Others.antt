@@ -3,30 +3,33 @@
 use Prim.Native.Nat.{ℕ, suc, _+_, _-_, _≤_, _<_}
 use native.Mathlib.Nat.{add-zero}
 use native.Mathlib.Omega.{arith}
-use mathlib.Core.Bool.{true, false}
+use mathlib.Core.Bool.{Bool, true, false, not, _&&_}
 use mathlib.Core.List.{List, [], _∷_, _++_, reverse}
 use mathlib.Core.Logic.{inl, inr, ⊎-elim}
-use mathlib.Core.Path.{_≡_, refl, sym, ap, _∙_, subst}
+use mathlib.Core.Path.{_≡_, refl, sym, ap, ap₂, _∙_, subst}
 use lib.ListN.{length, getD, take, drop, length-append, length-reverse, List·getD-append}
 use lib.Seq.{append-snoc, getD-append-seam, getD-append-add}
 use Rattle.ground.specs.Limits.{wordRange}
 use Rattle.ground.specs.Tests.{member}
-use Rattle.ground.proofs.Bools.{or-first, or-second}
-use Rattle.ground.proofs.Tests.{member-append, member-from}
+use Rattle.ground.proofs.Bools.{or-first, or-second, or-cases}
+use Rattle.ground.proofs.Tests.{member-here, member-append, member-from}
 use Rattle.page.specs.Words.{Page, Entry, μ}
 use Rattle.page.specs.Place.{pointer, route, has, atOrAbove}
 use Rattle.page.specs.Short.{neighbour}
 use Rattle.pool.specs.Pool.{Write}
-use Rattle.slots.specs.Parts.{keyOf, Stand, holding}
-use Rattle.footing.specs.Granted.{isSafe}
+use Rattle.slots.specs.declared.Op.{Op}
+use Rattle.slots.specs.declared.Op.the-variants.{Search, Insert, Delete, Next, Regrade}
+use Rattle.slots.specs.Parts.{keyOf, Stand, holding, withOp}
+use Rattle.footing.specs.Granted.{isSafe, answeredAtOnce, isNothing, needsNoMore, changeKnown}
 use Rattle.tree.specs.Tree.{Tr, way, leafOn, Forms}
 use Rattle.tree.specs.Facts.{WayFacts}
 use Rattle.tree.specs.Change.{memoryAfter, writtenPages, Leads}
 use Rattle.tree.proofs.Memory.{absent-times, unwritten}
 use Rattle.tree.proofs.Search.{way-facts}
 use Rattle.tree.proofs.Ways.{place-facts}
-use Rattle.runs.specs.Stance.{Locked, Rightly, Coming, WantsSibling, Crossing, Stance}
+use Rattle.runs.specs.Stance.{Locked, Rightly, Coming, WantsSibling, Crossing, Converting, Stance}
 use Rattle.runs.proofs.Paths.{first-below, member-reverse, stretch}
+use Rattle.runs.proofs.Needing.{needs-by}
 use Rattle.runs.proofs.Locking.{due-by}
 
 -- ---- the way of a key, before and after
@@ -229,6 +232,57 @@ module _ (k n : ℕ) (memory : ℕ → Page) (l : ℕ) (t : Tr l) (writes : List
         leftmost = λ j h. c .leftmost j h ∙ ap (pointer 0) (sym (sibling-same j h));
       }
 
+  -- and so does a slot that converts: what is needed goes by pages that it holds
+  known-keeps : (op : Op) (leaf : ℕ) (fathers : List ℕ) → ((q : ℕ) → member q (leaf ∷ fathers ++ z .beside) ≡ true → memoryAfter memory writes q ≡ memory q)
+      → changeKnown k (memoryAfter memory writes) (withOp op z) leaf fathers ≡ changeKnown k memory (withOp op z) leaf fathers
+  known-keeps op leaf fathers agree =
+      ap₂ (λ (P : Page) (b : Bool). not (answeredAtOnce op (P .entries)) && b) (agree leaf (member-here leaf (fathers ++ z .beside))) (more op)
+    where
+      more : (op : Op) → needsNoMore op k (memoryAfter memory writes) (z .beside) leaf fathers ≡ needsNoMore op k memory (z .beside) leaf fathers
+      more (Search x) = refl
+      more (Insert x v way′) = refl
+      more (Delete x way′) = ap isNothing (needs-by k memory (memoryAfter memory writes) x leaf fathers (z .beside) agree)
+      more (Next x) = refl
+      more (Regrade x v way′) = refl
+
+  converting-keeps : Converting k memory l t z
+      → Converting k (memoryAfter memory writes) (leads .height) (leads .tree) z
+  converting-keeps c =
+      let some = c .rightly .some in
+      let agree : (q : ℕ) → member q (c .leaf ∷ c .fathers ++ z .beside) ≡ true → memoryAfter memory writes q ≡ memory q
+      = λ q m. same q
+      (member-append q (z .path) (z .beside)
+      ∙ ⊎-elim
+      (λ h. or-first (member q (z .beside)) (sym (member-reverse q (z .path)) ∙ ap (member q) (c .upward) ∙ h))
+      (λ h. or-second (member q (z .path)) h)
+      (or-cases (member q (c .leaf ∷ c .fathers)) (member q (z .beside)) (sym (member-append q (c .leaf ∷ c .fathers) (z .beside)) ∙ m))) in
+      record {
+        third = c .third;
+        leaf = c .leaf;
+        fathers = c .fathers;
+        upward = c .upward;
+        upper = drop (0 + length (reverse (z .path))) onWay;
+        whole = leaf-whole (c .upper) some (c .whole);
+        rightly = rightly-keeps (c .rightly);
+        known = known-keeps (z .op) (c .leaf) (c .fathers) agree ∙ c .known;
+        asked = λ before s after e.
+            needs-by k memory (memoryAfter memory writes) x (c .leaf) (c .fathers) before (λ q m. agree q (earlier q before s after e m))
+            ∙ c .asked before s after e;
+        done = c .done;
+        rest = c .rest;
+        turns = c .turns;
+      }
+    where
+      earlier : (q : ℕ) (before : List ℕ) (s : ℕ) (after : List ℕ) → z .beside ≡ before ++ s ∷ after → member q (c .leaf ∷ c .fathers ++ before) ≡ true
+          → member q (c .leaf ∷ c .fathers ++ z .beside) ≡ true
+      earlier q before s after e m =
+          member-append q (c .leaf ∷ c .fathers) (z .beside)
+          ∙ ⊎-elim
+          (λ h. or-first (member q (z .beside)) h)
+          (λ h. or-second (member q (c .leaf ∷ c .fathers))
+          (ap (member q) e ∙ member-append q before (s ∷ after) ∙ or-first (member q (s ∷ after)) h))
+          (or-cases (member q (c .leaf ∷ c .fathers)) (member q before) (sym (member-append q (c .leaf ∷ c .fathers) before) ∙ m))
+
 -- and it still wants with the kind of lock that is due: the lowest page that it holds is as it was
 pub others-wait : (k n : ℕ) (memory : ℕ → Page) (l : ℕ) (t : Tr l) (writes : List Write) (es : List Entry) (z : Stand)
     → keyOf (z .op) < wordRange → Forms k n memory l t → (leads : Leads k n memory l t writes es)
@@ -236,9 +290,10 @@ pub others-wait : (k n : ℕ) (memory : ℕ → Page) (l : ℕ) (t : Tr l) (writ
     → Locked memory z
     → Locked (memoryAfter memory writes) z
 others-wait k n memory l t writes es z key forms leads apart locked = record {
-  wants =
-      locked .wants ∙ due-by (z .op) memory (memoryAfter memory writes) (reverse (z .path))
+  wants = λ new.
+      locked .wants new ∙ due-by (z .op) memory (memoryAfter memory writes) (reverse (z .path))
       (λ q m. same k n memory l t writes es z key forms leads apart q (of-upward k n memory l t writes es z key forms leads apart q m));
+  converts = locked .converts;
   holds = locked .holds;
 }
 
@@ -247,10 +302,12 @@ pub others-keep : (k n : ℕ) (memory : ℕ → Page) (l : ℕ) (t : Tr l) (writ
     → ((q : ℕ) → member q (holding z) ≡ true → member q (writtenPages writes) ≡ false)
     → Stance k memory l t z
     → Stance k (memoryAfter memory writes) (leads .height) (leads .tree) z
-others-keep k n memory l t writes es z one key forms leads apart (inl s) = inl s
-others-keep k n memory l t writes es z one key forms leads apart (inr (inl c)) =
-    inr (inl (coming-keeps k n memory l t writes es z key forms leads apart c))
-others-keep k n memory l t writes es z one key forms leads apart (inr (inr (inl b))) =
-    inr (inr (inl (beside-keeps k n memory l t writes es z key forms leads apart b)))
-others-keep k n memory l t writes es z one key forms leads apart (inr (inr (inr c))) =
-    inr (inr (inr (crossing-keeps k n memory l t writes es z key forms leads apart c)))
+others-keep k n memory l t writes es z one key forms leads apart (inl (inl s)) = inl (inl s)
+others-keep k n memory l t writes es z one key forms leads apart (inl (inr (inl c))) =
+    inl (inr (inl (coming-keeps k n memory l t writes es z key forms leads apart c)))
+others-keep k n memory l t writes es z one key forms leads apart (inl (inr (inr (inl b)))) =
+    inl (inr (inr (inl (beside-keeps k n memory l t writes es z key forms leads apart b))))
+others-keep k n memory l t writes es z one key forms leads apart (inl (inr (inr (inr c)))) =
+    inl (inr (inr (inr (crossing-keeps k n memory l t writes es z key forms leads apart c))))
+others-keep k n memory l t writes es z one key forms leads apart (inr c) =
+    inr (converting-keeps k n memory l t writes es z key forms leads apart c)

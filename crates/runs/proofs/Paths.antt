@@ -3,11 +3,13 @@
 use Prim.Native.Nat.{ℕ, zero, suc, _+_, _≤_, _<_}
 use native.Mathlib.Omega.{arith}
 use mathlib.Core.List.{List, [], _∷_, _++_, reverse, reverse-cons, head-eq-of-cons-eq, tail-eq-of-cons-eq}
+use mathlib.Core.Bool.{true, false≢true}
 use mathlib.Core.Path.{_≡_, refl, sym, ap, _∙_}
 use lib.ListN.{length, getD, take, drop, length-append, length-drop, take-append-drop}
 use lib.Seq.{getD-drop, drop-drop}
 use Rattle.ground.specs.Tests.{member}
 use Rattle.ground.proofs.Bools.{same-if-true-together}
+use Rattle.footing.specs.Granted.{isNone}
 use Rattle.tree.specs.Change.{topOf, belowTop}
 use Rattle.tree.proofs.Memory.{times, times-append, member-times, times-member}
 
@@ -15,6 +17,11 @@ use Rattle.tree.proofs.Memory.{times, times-append, member-times, times-member}
 pub no-length : {A : Type 0} (xs : List A) → length xs ≡ 0 → xs ≡ []
 no-length [] e = refl
 no-length (x ∷ xs) e = absurd (omega arith)
+
+-- and so is one that passes the test of it
+pub none-is : {A : Type 0} (xs : List A) → isNone xs ≡ true → xs ≡ []
+none-is [] e = refl
+none-is (x ∷ xs) e = absurd (false≢true e)
 
 -- ---- what holds at the first index and at those behind it holds at each
 

@@ -1,11 +1,11 @@
 -- "While any operation is open, some open one can be granted its step" (demand 3).
--- The wants are ranked: first the one whose page's range begins latest, then the one on the lowest level, then the oldest.
+-- The wants are ranked: first the one whose page's range begins latest, then the one on the lowest level, then conversions, then the oldest.
 -- Whoever is barred is barred by a slot whose own want ranks before, so the first of them is granted.
 use Prim.Native.Nat.{ℕ, zero, suc, _+_, _-_, _*_, _≤_, _<_}
-use mathlib.Core.Bool.{true, false, not, _&&_, _||_}
-use mathlib.Core.List.{List, [], _∷_}
+use mathlib.Core.Bool.{true, false, cond, not, _&&_, _||_}
+use mathlib.Core.List.{List, [], _∷_, reverse}
 use mathlib.Core.Logic.{_⊎_, inl, inr, ⊎-elim, _≢_}
-use mathlib.Core.Path.{_≡_, refl, sym, ap, ap₂, _∙_, subst}
+use mathlib.Core.Path.{_≡_, refl, sym, ap, _∙_, subst}
 use native.Mathlib.Nat.{mul-le-mul-right, suc-mul}
 use native.Mathlib.Omega.{arith}
 use borrow.Author.Tests.{eqb-true, eqb-false, eq-eqb, ne-eqb, not-true, not-false}
@@ -13,32 +13,36 @@ use lib.Dec.{eqb}
 use lib.ListN.{length}
 use Rattle.ground.specs.Limits.{slotCount, wordRange}
 use Rattle.ground.specs.Tests.{member}
-use Rattle.ground.proofs.Bools.{true-or-false, not-both, false-if-not-true, and-first, and-second, and-both, and-fails, or-first-fails, or-second-fails}
-use Rattle.ground.proofs.Choice.{cond-true, cond-false}
-use Rattle.ground.proofs.Tests.{member-none, member-here, member-there, member-cases, all-member, all-fails-at, allBelow-false-at}
+use Rattle.ground.proofs.Bools.{true-or-false, not-both, false-if-not-true, and-first, and-second, and-both, and-fails, or-cases, or-first-fails, or-second-fails}
+use Rattle.ground.proofs.Choice.{by-test, cond-true, cond-false}
+use Rattle.ground.proofs.Tests.{member-none, member-here, member-there, member-cases, all-member, all-fails-at, allBelow-at, allBelow-false-at}
 use Rattle.page.specs.Words.{Page}
 use Rattle.pool.specs.Pool.{pageAt}
 use Rattle.slots.specs.declared.Op.{Op}
 use Rattle.slots.specs.declared.Task.{Task}
 use Rattle.slots.specs.declared.Task.the-variants.{Closed, Open}
 use Rattle.slots.specs.declared.State.{State}
-use Rattle.slots.specs.Parts.{keyOf, heldLock, isOpen, pathOf, standOf, slotAt, openAt, wantAt, holdsAt, waitingOrder}
+use Rattle.slots.specs.Parts.{keyOf, isSecond, isThird, heldLock, isOpen, pathOf, Stand, standOf, slotAt, openAt, wantAt, holdsAt, waitingOrder}
 use Rattle.slots.specs.declared.Lock.{Lock}
-use Rattle.slots.specs.declared.Lock.the-variants.{Xi}
-use Rattle.slots.specs.Locks.{lockHeldAt, lockWantedAt, clash}
-use Rattle.slots.specs.Grant.{olderThan, clashingWant, noClash, noOlder, grants}
-use Rattle.slots.proofs.LockLaws.{op-locks, xi-clashes, clash-swap}
+use Rattle.slots.specs.declared.Lock.the-variants.{None, Rho, Xi, UpdaterRho, Alpha}
+use Rattle.slots.specs.Heard.{lockNumber}
+use Rattle.slots.specs.Locks.{lockHeldAt, lockWantedAt, sameLock, clash}
+use Rattle.slots.specs.Sound.{convertsRightly}
+use Rattle.slots.specs.Grant.{olderThan, clashingWant, noClash, noOlder, convertsAt, conversionOn, noConversion, grants}
+use Rattle.slots.proofs.LockLaws.{isLock, xi-clashes, clashes-rho, clash-swap, second-rho, same-lock, lock-same, alpha-not-xi}
 use Rattle.slots.proofs.Clashes.{no-two-locks-clash}
-use Rattle.slots.proofs.GrantLaws.{granted-no-clash, holder-open}
+use Rattle.slots.proofs.GrantLaws.{granted-no-clash, holder-open, holder-locks, held-lock}
 use Rattle.slots.proofs.OrderLaws.{same-or-not}
 use Rattle.tree.specs.Tree.{Tr, Stands, Forms}
 use Rattle.tree.specs.Facts.{Placed}
-use Rattle.runs.specs.Stance.{Locked, Stance}
-use Rattle.runs.specs.Waits.{Holder, Older, Barred}
-use Rattle.runs.proofs.Invariant.{Invariant}
-use Rattle.runs.proofs.Fathers.{Father, Top, one-father, root-fatherless, wants-under, held-under, wants-inside, wants-placed}
-use Rattle.runs.proofs.Locking.{held-with}
-use Rattle.runs.proofs.Barring.{Later, leaf-wanted, leaf-held}
+use Rattle.runs.specs.Stance.{Locked, Stance, Gathering, heldDue}
+use Rattle.runs.specs.Waits.{Holder, Older, Converter, Barred}
+use Rattle.runs.proofs.Invariant.{Invariant, scene}
+use Rattle.runs.proofs.Fathers.{Father, Inside, UnderHeld, one-father, root-fatherless, wants-under, held-under, wants-inside, wants-placed}
+use Rattle.runs.proofs.Locking.{due-held, due-plain, held-with}
+use Rattle.runs.proofs.Placing.{gathers-new, turn-held}
+use Rattle.runs.proofs.Turning.{scene-ordered}
+use Rattle.runs.proofs.Barring.{Later, shared-beyond, father-due}
 
 -- ---- what bars a want
 
@@ -66,19 +70,58 @@ older-found st s f =
     let both = not-false (same && clashes) fails in
     record { slot = t; older = m; same = eqb-true (wantAt st t) (wantAt st s) (and-first same clashes both); clashes = and-second same clashes both }
 
--- A want that is not granted is barred by a held clash or by an older want that clashes.
+conversion-found : (st : State) (s : ℕ) → noConversion st s ≡ false → Converter st s
+unfolding noConversion
+conversion-found st s f =
+    let (t, below, fails) = allBelow-false-at (λ (u : ℕ). eqb u s || not (conversionOn st s u)) slotCount f in
+    let same = eqb (wantAt st t) (wantAt st s) in
+    let both = not-false (conversionOn st s t) (or-second-fails (eqb t s) (not (conversionOn st s t)) fails) in
+    record {
+      slot = t;
+      below = below;
+      other = eqb-false t s (or-first-fails (eqb t s) (not (conversionOn st s t)) fails);
+      same = eqb-true (wantAt st t) (wantAt st s) (and-first same (convertsAt st t) both);
+      converts = and-second same (convertsAt st t) both;
+    }
+
+-- A want that is not granted is barred by a held clash, or, if it is no conversion, by an older want that clashes or by a conversion.
 pub barred : (st : State) (s : ℕ) → grants st s ≡ false → Barred st s
-barred st s f = ⊎-elim (λ e. inl (clash-found st s e)) (λ e. inr (older-found st s e)) (and-fails (noClash st s) (noOlder st s) f)
+barred st s f =
+    ⊎-elim
+    (λ e. inl (clash-found st s e))
+    (λ e. inr (
+      or-first-fails (convertsAt st s) (noOlder st s && noConversion st s) e,
+      ⊎-elim
+          (λ o. inl (older-found st s o))
+          (λ c. inr (conversion-found st s c))
+          (and-fails (noOlder st s) (noConversion st s) (or-second-fails (convertsAt st s) (noOlder st s && noConversion st s) e)),
+    ))
+    (and-fails (noClash st s) (convertsAt st s || (noOlder st s && noConversion st s)) f)
+
+-- who is granted a want that is no conversion has neither before it
+granted-first : (st : State) (s : ℕ) → grants st s ≡ true → convertsAt st s ≡ false → noOlder st s && noConversion st s ≡ true
+granted-first st s g new =
+    ⊎-elim (λ own. not-both own new) (λ h. h)
+    (or-cases (convertsAt st s) (noOlder st s && noConversion st s) (and-second (noClash st s) (convertsAt st s || (noOlder st s && noConversion st s)) g))
 
 -- And what is so barred is not granted.
 pub barred-waits : (st : State) (s : ℕ) → Barred st s → grants st s ≡ false
-unfolding noOlder
+unfolding noOlder noConversion
 barred-waits st s (inl h) =
     false-if-not-true (grants st s) (λ g. not-both (h .clashes) (granted-no-clash st s g (h .slot) (h .below) (h .other) (h .holds)))
-barred-waits st s (inr o) =
+barred-waits st s (inr (new, inl o)) =
     false-if-not-true (grants st s) (λ g. not-both (and-both (eq-eqb (wantAt st (o .slot)) (wantAt st s) (o .same)) (o .clashes))
     (not-true (clashingWant st s (o .slot))
-    (all-member (λ (u : ℕ). not (clashingWant st s u)) (olderThan s (waitingOrder st)) (and-second (noClash st s) (noOlder st s) g) (o .slot) (o .older))))
+    (all-member (λ (u : ℕ). not (clashingWant st s u)) (olderThan s (waitingOrder st))
+    (and-first (noOlder st s) (noConversion st s) (granted-first st s g new)) (o .slot) (o .older))))
+barred-waits st s (inr (new, inr c)) =
+    false-if-not-true (grants st s) (λ g.
+    ⊎-elim
+    (λ same. c .other (eqb-true (c .slot) s same))
+    (λ none. not-both (and-both (eq-eqb (wantAt st (c .slot)) (wantAt st s) (c .same)) (c .converts)) (not-true (conversionOn st s (c .slot)) none))
+    (or-cases (eqb (c .slot) s) (not (conversionOn st s (c .slot)))
+    (allBelow-at (λ (u : ℕ). eqb u s || not (conversionOn st s u)) slotCount
+    (and-second (noOlder st s) (noConversion st s) (granted-first st s g new)) (c .slot) (c .below))))
 
 -- ---- older wants
 
@@ -146,37 +189,79 @@ older-fewer s t (y ∷ ys) m =
 abbrev placeRank : (l level low : ℕ) → ℕ
 placeRank l level low = (wordRange - low) * (l + 2) + level
 
+-- of the wants for one page a conversion comes first
+abbrev turnRank : (st : State) (s : ℕ) → ℕ
+turnRank st s = cond (convertsAt st s) 0 1
+
+turn-most : (st : State) (s : ℕ) → turnRank st s ≤ 1
+turn-most st s =
+    by-test (convertsAt st s) (λ y. omega (arith, cond-true {A = ℕ} 0 1 y)) (λ n. omega (arith, cond-false {A = ℕ} 0 1 n))
+
 -- the rank of slot s's want for such a page
 abbrev rank : (st : State) (l s level low : ℕ) → ℕ
-rank st l s level low = placeRank l level low * suc (length (waitingOrder st)) + length (olderThan s (waitingOrder st))
+rank st l s level low = (2 * placeRank l level low + turnRank st s) * suc (length (waitingOrder st)) + length (olderThan s (waitingOrder st))
 
--- a page inside another, and lower, comes before it, whatever wants are older
+-- what comes before does so whatever wants are older
+place-first : (st : State) (s s′ a a′ : ℕ) → a′ < a
+    → a′ * suc (length (waitingOrder st)) + length (olderThan s′ (waitingOrder st)) < a * suc (length (waitingOrder st)) + length (olderThan s (waitingOrder st))
+place-first st s s′ a a′ less =
+    let m : ℕ = length (waitingOrder st) in
+    let more : suc a′ * suc m ≤ a * suc m = mul-le-mul-right (suc m) less in
+    let few : length (olderThan s′ (waitingOrder st)) ≤ m = older-most s′ (waitingOrder st) in
+    omega (arith, suc-mul a′ (suc m))
+
+-- a page inside another, and lower, comes before it
 inside-first : (st : State) (l s s′ level low level′ low′ : ℕ) → low ≤ low′ → level′ < level → rank st l s′ level′ low′ < rank st l s level low
 inside-first st l s s′ level low level′ low′ later lower =
-    let m : ℕ = length (waitingOrder st) in
-    let a : ℕ = placeRank l level low in
-    let a′ : ℕ = placeRank l level′ low′ in
     let parts : (wordRange - low′) * (l + 2) ≤ (wordRange - low) * (l + 2) = mul-le-mul-right (l + 2) (omega arith) in
-    let less : a′ < a = omega arith in
-    let more : suc a′ * suc m ≤ a * suc m = mul-le-mul-right (suc m) less in
-    let few : length (olderThan s′ (waitingOrder st)) ≤ m = older-most s′ (waitingOrder st) in
-    omega (arith, suc-mul a′ (suc m))
+    place-first st s s′ (2 * placeRank l level low + turnRank st s) (2 * placeRank l level′ low′ + turnRank st s′) (omega (arith, parts, turn-most st s′))
 
--- a page whose range begins later comes before it, whatever their levels and whatever wants are older
+-- a page whose range begins later comes before it, whatever their levels
 later-first : (st : State) (l s s′ level low level′ low′ : ℕ) → low < low′ → low′ < wordRange → level′ ≤ l + 1 → rank st l s′ level′ low′ < rank st l s level low
 later-first st l s s′ level low level′ low′ later words inTree =
-    let m : ℕ = length (waitingOrder st) in
-    let a : ℕ = placeRank l level low in
-    let a′ : ℕ = placeRank l level′ low′ in
     let parts : suc (wordRange - low′) * (l + 2) ≤ (wordRange - low) * (l + 2) = mul-le-mul-right (l + 2) (omega arith) in
-    let less : a′ < a = omega (arith, suc-mul (wordRange - low′) (l + 2)) in
-    let more : suc a′ * suc m ≤ a * suc m = mul-le-mul-right (suc m) less in
-    let few : length (olderThan s′ (waitingOrder st)) ≤ m = older-most s′ (waitingOrder st) in
-    omega (arith, suc-mul a′ (suc m))
+    place-first st s s′ (2 * placeRank l level low + turnRank st s) (2 * placeRank l level′ low′ + turnRank st s′)
+    (omega (arith, parts, suc-mul (wordRange - low′) (l + 2), turn-most st s′))
 
--- of two wants for one page the older comes first
-older-first : (st : State) (l s s′ level low : ℕ) → member s′ (olderThan s (waitingOrder st)) ≡ true → rank st l s′ level low < rank st l s level low
-older-first st l s s′ level low m = omega (arith, older-fewer s s′ (waitingOrder st) m)
+-- of two wants for one page a conversion comes first,
+conversion-first : (st : State) (l s s′ level low : ℕ) → convertsAt st s ≡ false → convertsAt st s′ ≡ true → rank st l s′ level low < rank st l s level low
+conversion-first st l s s′ level low new own =
+    let mine : turnRank st s ≡ 1 = cond-false 0 1 new in
+    let its : turnRank st s′ ≡ 0 = cond-true 0 1 own in
+    place-first st s s′ (2 * placeRank l level low + turnRank st s) (2 * placeRank l level low + turnRank st s′) (omega (arith, mine, its))
+
+-- and of others the older
+older-first : (st : State) (l s s′ level low : ℕ) → convertsAt st s ≡ false → member s′ (olderThan s (waitingOrder st)) ≡ true
+    → rank st l s′ level low < rank st l s level low
+older-first st l s s′ level low new m =
+    let mine : turnRank st s ≡ 1 = cond-false 0 1 new in
+    let parts : (2 * placeRank l level low + turnRank st s′) * suc (length (waitingOrder st)) ≤ (2 * placeRank l level low + turnRank st s) * suc (length (waitingOrder st))
+    = mul-le-mul-right (suc (length (waitingOrder st))) (omega (arith, mine, turn-most st s′)) in
+    omega (arith, parts, older-fewer s s′ (waitingOrder st) m)
+
+-- ---- kinds of lock
+
+-- who goes down with ξ or α
+abbrev Guards : Lock → Type 0
+Guards a = (a ≡ Xi) ⊎ (a ≡ Alpha)
+
+-- "α with ρ only; ξ with nothing"
+guard-clashes : (a : Lock) → Guards a → clash a Alpha ≡ true
+guard-clashes a (inl e) = ap (λ (lock : Lock). clash lock Alpha) e
+guard-clashes a (inr e) = ap (λ (lock : Lock). clash lock Alpha) e
+
+alpha-goes : (a : Lock) → isLock a ≡ true → clash Alpha a ≡ false → a ≡ Rho
+alpha-goes None o e = not-both o refl
+alpha-goes Rho o e = refl
+alpha-goes Xi o e = not-both refl e
+alpha-goes UpdaterRho o e = not-both refl e
+alpha-goes Alpha o e = not-both refl e
+
+-- with ρ nobody goes by the second way
+rho-first : (op : Op) → heldLock op ≡ Rho → isSecond op ≡ false
+rho-first op e =
+    false-if-not-true (isSecond op)
+    (λ y. let z : _≡_ {A = ℕ} 1 3 = ap lockNumber (sym e ∙ second-rho op y) in omega arith)
 
 -- ---- some want is granted
 
@@ -213,86 +298,216 @@ module _ (st : State) (ws : List ℕ) (inv : Invariant st ws) where
   holder-opens : (s : ℕ) (h : Holder st s) → openAt st (h .slot) ≡ true
   holder-opens s h = holder-open (st .n) (slotAt st (h .slot)) (wantAt st s) (inv .sound .slot (h .slot) (h .below)) (h .holds)
 
-  -- the kinds under which a slot holds its pages are one
-  held-by : (s p : ℕ) → s < slotCount → (op : Op) → slotAt st s .task ≡ Open op → holdsAt st s p ≡ true → lockHeldAt st s p ≡ heldLock op
+  -- the kind under which a slot holds a page is the one that is due
+  held-by : (s p : ℕ) → s < slotCount → (op : Op) → slotAt st s .task ≡ Open op → holdsAt st s p ≡ true
+      → lockHeldAt st s p ≡ heldDue (standOf op (slotAt st s)) p
   held-by s p b op runs holds = held-with (standOf op (slotAt st s)) (inv .locked s op b runs .holds) p holds
 
-  -- Who holds the wanted page with a clashing lock holds it as the top page of its path, or he holds its father too, as the slot does that
-  -- wants the page. Then the slot wants it with another kind than it holds the father under, and the holder wants a page to the right of it.
-  holder-at-top : (s : ℕ) (b : s < slotCount) (o : openAt st s ≡ true) (w : Placed (inv .height) (inv .tree) 0 wordRange (wantAt st s)) (h : Holder st s)
-      → Top (pathOf (slotAt st (h .slot))) (wantAt st s)
-      ⊎ Later (st .k) (st .n) (pageAt (st .k) ws) (inv .height) (inv .tree) (inv .sound .kLeast) (inv .forms .forms)
-      (standOf (standing (h .slot) (h .below) (holder-opens s h) .op) (slotAt st (h .slot))) (standing (h .slot) (h .below) (holder-opens s h) .key) (w .from)
-  holder-at-top s b o w h =
-      let memory : ℕ → Page = pageAt (st .k) ws in
-      let forms : Forms (st .k) (st .n) memory (inv .height) (inv .tree) = inv .forms .forms in
-      let v : ℕ = h .slot in
-      let p : ℕ = wantAt st s in
-      let me = standing s b o in
-      let it = standing v (h .below) (holder-opens s h) in
-      ⊎-elim
-      (λ top. inl top)
-      (λ u. ⊎-elim
-      (λ root. absurd (root-fatherless (st .k) (st .n) memory (inv .height) (inv .tree) forms (u .above)
-      (subst (Father memory (inv .height) (inv .tree) (u .above)) root (u .father))))
-      (λ w′.
-      let same = one-father (st .k) (st .n) memory (inv .height) (inv .tree) forms (w′ .above) (u .above) p (w′ .father) (u .father) in
-      let mine : holdsAt st s (u .above) ≡ true = subst (λ (q : ℕ). holdsAt st s q ≡ true) same (w′ .held) in
-      let apart : clash (heldLock (it .op)) (heldLock (me .op)) ≡ false
-      = sym (ap₂ clash (held-by v (u .above) (h .below) (it .op) (it .runs) (u .held)) (held-by s (u .above) b (me .op) (me .runs) mine))
-      ∙ no-two-locks-clash st (inv .sound) v s (u .above) (h .below) b (h .other) (u .held) mine in
-      let against : clash (heldLock (it .op)) (slotAt st s .lock) ≡ true
-      = ap (λ (lock : Lock). clash lock (slotAt st s .lock)) (sym (held-by v p (h .below) (it .op) (it .runs) (h .holds))) ∙ h .clashes in
-      let other : slotAt st s .lock ≢ heldLock (me .op) = λ e. not-both (ap (clash (heldLock (it .op))) (sym e) ∙ against) apart in
-      inr
-      (leaf-held (st .k) (st .n) memory (inv .height) (inv .tree) (inv .sound .kLeast) forms (standOf (it .op) (slotAt st v)) (it .key) (it .stance)
-      (λ xi. not-both (clash-swap Xi (heldLock (me .op)) ∙ xi-clashes (heldLock (me .op)) (op-locks (me .op))) (ap (λ (lock : Lock). clash lock (heldLock (me .op))) (sym xi) ∙ apart))
-      p (h .holds)
-      (leaf-wanted (st .k) (st .n) memory (inv .height) (inv .tree) (inv .sound .kLeast) forms (standOf (me .op) (slotAt st s)) (me .key) (me .stance) (me .locked .wants) other)
-      w))
-      (wants-under (st .k) (st .n) memory (inv .height) (inv .tree) forms (standOf (me .op) (slotAt st s)) (me .key) (me .stance)))
-      (held-under (st .k) (st .n) memory (inv .height) (inv .tree) forms (standOf (it .op) (slotAt st v)) (it .key) (it .stance) p (h .holds))
+  -- who waits to convert a page has α on it
+  alpha-at : (s : ℕ) → s < slotCount → openAt st s ≡ true → convertsAt st s ≡ true → lockHeldAt st s (wantAt st s) ≡ Alpha
+  alpha-at s b o own =
+      let (op, runs) = opened (slotAt st s .task) o in
+      let third = isThird op in
+      let alpha = sameLock (lockHeldAt st s (wantAt st s)) Alpha in
+      let xi = sameLock (lockWantedAt st s) Xi in
+      let test : convertsRightly (Open op) (slotAt st s) ≡ true
+      = subst (λ (task : Task). convertsRightly task (slotAt st s) ≡ true) runs (inv .sound .slot s b .converts) in
+      same-lock (lockHeldAt st s (wantAt st s)) Alpha
+      (and-second third alpha (and-first (third && alpha) xi (sym (cond-true (third && alpha && xi) (not (third && xi)) own) ∙ test)))
+
+  -- another want for the same page comes before
+  same-better : (s t : ℕ) (w : Placed (inv .height) (inv .tree) 0 wordRange (wantAt st s)) → t < slotCount → openAt st t ≡ true → wantAt st t ≡ wantAt st s
+      → rank st (inv .height) t (w .level) (w .from) < rank st (inv .height) s (w .level) (w .from)
+      → RankedBelow st (inv .height) (inv .tree) (rank st (inv .height) s (w .level) (w .from))
+  same-better s t w b o e less = record {
+    slot = t;
+    below = b;
+    runs = o;
+    place = record {
+      level = w .level;
+      from = w .from;
+      to = w .to;
+      stands = subst (λ (q : ℕ). Stands (inv .height) (inv .tree) 0 wordRange q (w .level) (w .from) (w .to)) (sym e) (w .stands);
+    };
+    less = less;
+  }
+
+  -- A slot, and a holder of the page that it wants.
+  module _ (s : ℕ) (b : s < slotCount) (o : openAt st s ≡ true) (w : Placed (inv .height) (inv .tree) 0 wordRange (wantAt st s)) (h : Holder st s) where
+    abbrev v : ℕ
+    v = h .slot
+
+    abbrev p : ℕ
+    p = wantAt st s
+
+    abbrev me : OpenStance s
+    me = standing s b o
+
+    abbrev it : OpenStance v
+    it = standing v (h .below) (holder-opens s h)
+
+    abbrev mine : Stand
+    mine = standOf (me .op) (slotAt st s)
+
+    abbrev its : Stand
+    its = standOf (it .op) (slotAt st v)
+
+    abbrev Better : Type 0
+    Better = RankedBelow st (inv .height) (inv .tree) (rank st (inv .height) s (w .level) (w .from))
+
+    -- ---- the holder's want comes before: it lies inside the page, to the right of it, or it is a conversion of the page
+
+    better-inside : Inside (inv .height) (inv .tree) (w .level) (w .from) (wantAt st v) → Better
+    better-inside i = record {
+      slot = v;
+      below = h .below;
+      runs = holder-opens s h;
+      place = record { level = i .newLevel; from = i .from; to = i .to; stands = i .stands };
+      less = inside-first st (inv .height) s v (w .level) (w .from) (i .newLevel) (i .from) (i .later) (i .lower);
+    }
+
+    better-later : Later (st .k) (st .n) (pageAt (st .k) ws) (inv .height) (inv .tree) (inv .sound .kLeast) (inv .forms .forms) its (it .key) (w .from) → Better
+    better-later i = record {
+      slot = v;
+      below = h .below;
+      runs = holder-opens s h;
+      place = record { level = i .level; from = i .from; to = i .to; stands = i .stands };
+      less = later-first st (inv .height) s v (w .level) (w .from) (i .level) (i .from) (i .later) (i .inWords) (i .inTree);
+    }
+
+    -- ---- who goes down with ξ or α
+
+    module _ (guards : Guards (heldLock (it .op))) where
+      -- so does it hold each page
+      guards-at : (q : ℕ) → holdsAt st v q ≡ true → Guards (lockHeldAt st v q)
+      guards-at q holds =
+          ⊎-elim
+          (λ e. ⊎-elim (λ xi. inl (e ∙ xi)) (λ alpha. inr (e ∙ alpha)) guards)
+          (λ third. inl (third .1))
+          (held-lock (st .n) (slotAt st v) (it .op) q (inv .sound .slot v (h .below)) (it .runs) holds)
+
+      -- it bars no conversion: that slot would hold the page with α
+      wants-new : convertsAt st s ≡ false
+      wants-new =
+          false-if-not-true (convertsAt st s)
+          (λ own. not-both (guard-clashes (lockHeldAt st v p) (guards-at p (h .holds)))
+          (ap (clash (lockHeldAt st v p)) (sym (alpha-at s b o own))
+          ∙ no-two-locks-clash st (inv .sound) v s p (h .below) b (h .other) (h .holds) own))
+
+      wants-gathering : Gathering (st .k) (pageAt (st .k) ws) (inv .height) (inv .tree) mine
+      wants-gathering =
+          ⊎-elim
+          (λ g. g)
+          (λ c. not-both (turn-held (st .k) (st .n) ws (inv .height) (inv .tree) mine (scene st ws inv s (me .op) b (me .runs)) c) wants-new)
+          (me .stance)
+
+      -- It does not hold the page's father too, q, which the slot holds that wants the page. For then it would hold q with α, and the page with ξ.
+      module _ (q : ℕ) (father : Father (pageAt (st .k) ws) (inv .height) (inv .tree) q p) (its-holds : holdsAt st v q ≡ true) (mine-holds : holdsAt st s q ≡ true) where
+        apart : clash (lockHeldAt st v q) (lockHeldAt st s q) ≡ false
+        apart = no-two-locks-clash st (inv .sound) v s q (h .below) b (h .other) its-holds mine-holds
+
+        mine-locks : isLock (lockHeldAt st s q) ≡ true
+        mine-locks = holder-locks (st .n) (slotAt st s) q (inv .sound .slot s b) mine-holds
+
+        father-alpha : lockHeldAt st v q ≡ Alpha
+        father-alpha =
+            ⊎-elim
+            (λ xi. not-both (clash-swap Xi (lockHeldAt st s q) ∙ xi-clashes (lockHeldAt st s q) mine-locks)
+            (ap (λ (lock : Lock). clash lock (lockHeldAt st s q)) (sym xi) ∙ apart))
+            (λ alpha. alpha)
+            (guards-at q its-holds)
+
+        -- so who wants the page goes down with ρ, and wants it with ρ
+        goes-rho : heldLock (me .op) ≡ Rho
+        goes-rho =
+            sym (held-by s q b (me .op) (me .runs) mine-holds ∙ due-plain mine q wants-new)
+            ∙ alpha-goes (lockHeldAt st s q) mine-locks (ap (λ (lock : Lock). clash lock (lockHeldAt st s q)) (sym father-alpha) ∙ apart)
+
+        wants-rho : lockWantedAt st s ≡ Rho
+        wants-rho = me .locked .wants wants-new ∙ due-held (me .op) (pageAt (st .k) ws) (reverse (pathOf (slotAt st s))) (rho-first (me .op) goes-rho) ∙ goes-rho
+
+        -- with which ξ alone clashes
+        page-xi : lockHeldAt st v p ≡ Xi
+        page-xi = clashes-rho (lockHeldAt st v p) (ap (clash (lockHeldAt st v p)) (sym wants-rho) ∙ h .clashes)
+
+        -- but a page is converted after its father
+        father-xi : lockHeldAt st v q ≡ Xi
+        father-xi =
+            ⊎-elim
+            (λ g.
+            let new = gathers-new (st .k) (st .n) ws (inv .height) (inv .tree) its (scene st ws inv v (it .op) (h .below) (it .runs)) g in
+            at-father ∙ due-plain its q new ∙ sym (due-plain its p new) ∙ sym at-page ∙ page-xi)
+            (λ c.
+            let ordered = scene-ordered (st .k) (st .n) ws (inv .height) (inv .tree) its (scene st ws inv v (it .op) (h .below) (it .runs)) in
+            at-father
+            ∙ father-due (st .k) (st .n) (pageAt (st .k) ws) (inv .height) (inv .tree) (inv .sound .kLeast) (inv .forms .forms) its (it .key) c ordered (it .locked .holds)
+            q p father its-holds (sym at-page ∙ page-xi))
+            (it .stance)
+          where
+            at-father : lockHeldAt st v q ≡ heldDue its q
+            at-father = held-by v q (h .below) (it .op) (it .runs) its-holds
+
+            at-page : lockHeldAt st v p ≡ heldDue its p
+            at-page = held-by v p (h .below) (it .op) (it .runs) (h .holds)
+
+        not-both-held : ⊥
+        not-both-held = alpha-not-xi (sym father-alpha ∙ father-xi)
+
+      no-father : UnderHeld (pageAt (st .k) ws) (inv .height) (inv .tree) its p → ⊥
+      no-father u =
+          let memory : ℕ → Page = pageAt (st .k) ws in
+          let forms : Forms (st .k) (st .n) memory (inv .height) (inv .tree) = inv .forms .forms in
+          ⊎-elim
+          (λ root. root-fatherless (st .k) (st .n) memory (inv .height) (inv .tree) forms (u .above) (subst (Father memory (inv .height) (inv .tree) (u .above)) root (u .father)))
+          (λ w′.
+          let same = one-father (st .k) (st .n) memory (inv .height) (inv .tree) forms (w′ .above) (u .above) p (w′ .father) (u .father) in
+          not-both-held (u .above) (u .father) (u .held) (subst (λ (q : ℕ). holdsAt st s q ≡ true) same (w′ .held)))
+          (wants-under (st .k) (st .n) memory (inv .height) (inv .tree) forms mine (me .key) wants-gathering)
+
+      -- So the page is the top one of its path, and what it wants lies inside it, or is the page itself as a conversion.
+      guard-better : Better
+      guard-better =
+          let memory : ℕ → Page = pageAt (st .k) ws in
+          let forms : Forms (st .k) (st .n) memory (inv .height) (inv .tree) = inv .forms .forms in
+          ⊎-elim
+          (λ top. ⊎-elim
+          (λ own. same-better s v w (h .below) (holder-opens s h) (own .1) (conversion-first st (inv .height) s v (w .level) (w .from) wants-new (own .0)))
+          better-inside
+          (wants-inside (st .k) (st .n) memory (inv .height) (inv .tree) forms its (it .key) (it .stance) p (w .level) (w .from) (w .to) top (w .stands)))
+          (λ u. absurd (no-father u))
+          (held-under (st .k) (st .n) memory (inv .height) (inv .tree) forms its (it .key) (it .stance) p (h .holds))
+
+    -- ---- who goes down with another kind
+
+    share-better : heldLock (it .op) ≢ Xi → heldLock (it .op) ≢ Alpha → Better
+    share-better noXi noAlpha =
+        ⊎-elim better-inside better-later
+        (shared-beyond (st .k) (st .n) (pageAt (st .k) ws) (inv .height) (inv .tree) (inv .sound .kLeast) (inv .forms .forms) its (it .key) (it .stance)
+        noXi noAlpha p (h .holds) w)
+
+    holder-better : Better
+    holder-better =
+        let kind : Lock = heldLock (it .op) in
+        let differs : (lock : Lock) → sameLock kind lock ≡ false → kind ≢ lock
+        = λ lock n e. not-both (ap (λ (a : Lock). sameLock a lock) e ∙ lock-same lock) n in
+        by-test (sameLock kind Xi)
+        (λ xi. guard-better (inl (same-lock kind Xi xi)))
+        (λ noXi. by-test (sameLock kind Alpha)
+        (λ alpha. guard-better (inr (same-lock kind Alpha alpha)))
+        (λ noAlpha. share-better (differs Xi noXi) (differs Alpha noAlpha)))
 
   -- Whoever is barred is barred by a slot whose own want ranks before.
-  better : (s : ℕ) → s < slotCount → openAt st s ≡ true → (w : Placed (inv .height) (inv .tree) 0 wordRange (wantAt st s)) → Holder st s ⊎ Older st s
+  better : (s : ℕ) → s < slotCount → openAt st s ≡ true → (w : Placed (inv .height) (inv .tree) 0 wordRange (wantAt st s)) → Barred st s
       → RankedBelow st (inv .height) (inv .tree) (rank st (inv .height) s (w .level) (w .from))
-  better s b o w (inl h) =
-      let v : ℕ = h .slot in
-      let it = standing v (h .below) (holder-opens s h) in
-      ⊎-elim
-      (λ top.
-      let i = wants-inside (st .k) (st .n) (pageAt (st .k) ws) (inv .height) (inv .tree) (inv .forms .forms) (standOf (it .op) (slotAt st v)) (it .key) (it .stance)
-      (wantAt st s) (w .level) (w .from) (w .to) top (w .stands) in
-      record {
-        slot = v;
-        below = h .below;
-        runs = holder-opens s h;
-        place = record { level = i .newLevel; from = i .from; to = i .to; stands = i .stands };
-        less = inside-first st (inv .height) s v (w .level) (w .from) (i .newLevel) (i .from) (i .later) (i .lower);
-      })
-      (λ i.
-      record {
-        slot = v;
-        below = h .below;
-        runs = holder-opens s h;
-        place = record { level = i .level; from = i .from; to = i .to; stands = i .stands };
-        less = later-first st (inv .height) s v (w .level) (w .from) (i .level) (i .from) (i .later) (i .inWords) (i .inTree);
-      })
-      (holder-at-top s b o w h)
-  better s b o w (inr e) =
+  better s b o w (inl h) = holder-better s b o w h
+  better s b o w (inr (new, inl e)) =
       let waits = older-waits s (e .slot) (waitingOrder st) (e .older) in
-      record {
-        slot = e .slot;
-        below = inv .sound .orderBelow (e .slot) waits;
-        runs = inv .sound .orderOpen (e .slot) waits;
-        place = record {
-          level = w .level;
-          from = w .from;
-          to = w .to;
-          stands = subst (λ (q : ℕ). Stands (inv .height) (inv .tree) 0 wordRange q (w .level) (w .from) (w .to)) (sym (e .same)) (w .stands);
-        };
-        less = older-first st (inv .height) s (e .slot) (w .level) (w .from) (e .older);
-      }
+      same-better s (e .slot) w (inv .sound .orderBelow (e .slot) waits) (inv .sound .orderOpen (e .slot) waits) (e .same)
+      (older-first st (inv .height) s (e .slot) (w .level) (w .from) new (e .older))
+  better s b o w (inr (new, inr c)) =
+      same-better s (c .slot) w (c .below)
+      (holder-open (st .n) (slotAt st (c .slot)) (wantAt st (c .slot)) (inv .sound .slot (c .slot) (c .below)) (c .converts)) (c .same)
+      (conversion-first st (inv .height) s (c .slot) (w .level) (w .from) new (c .converts))
 
   -- so, from one slot to a better one, some slot is granted: ranks end at 0
   best : (bound : ℕ) → RankedBelow st (inv .height) (inv .tree) bound → CanGo st

@@ -75,7 +75,7 @@ sum-bound (suc n) m f h =
 unfoldable pub allLeft : State → List ℕ → ℕ
 allLeft st ws = sumBelow slotCount (grantsLeft st ws)
 
--- "304": what all slots have left at most
+-- "16 × 38 = 608": what all slots have left at most
 pub all-left-bound : (st : State) (ws : List ℕ) → Invariant st ws → allLeft st ws ≤ roundsEnough
 unfolding allLeft
 all-left-bound st ws inv =

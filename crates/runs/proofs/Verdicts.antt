@@ -4,13 +4,13 @@ use Prim.Native.Nat.{ℕ, _+_, _*_, _<_}
 use mathlib.Core.Bool.{Bool, true, false, cond, not, _&&_, _||_}
 use mathlib.Core.List.{List, [], _∷_, _++_, reverse, reverse-append}
 use mathlib.Core.Logic.{⊎-elim}
-use mathlib.Core.Path.{_≡_, refl, sym, subst}
+use mathlib.Core.Path.{_≡_, refl, sym, subst, _∙_}
 use native.Mathlib.Omega.{arith}
 use lib.Dec.{eqb, ltb}
 use lib.ListN.{length}
 use borrow.Author.Tests.{ltb-true, eqb-false, not-false}
 use Rattle.ground.specs.Tests.{count, member}
-use Rattle.ground.proofs.Bools.{not-both, and-second, or-cases}
+use Rattle.ground.proofs.Bools.{not-both, false-if-not-true, and-first, and-second, or-cases}
 use Rattle.ground.proofs.Choice.{cond-ind, cond-true, cond-false}
 use Rattle.page.specs.Words.{Page, μ, isLeaf}
 use Rattle.page.specs.Place.{has, information}
@@ -19,14 +19,17 @@ use Rattle.change.specs.Insertion.{isFull, room}
 use Rattle.change.specs.Deletion.{Need, nothing, sibling, astray, needs, deletion}
 use Rattle.slots.specs.declared.Op.{Op}
 use Rattle.slots.specs.declared.Op.the-variants.{Search, Insert, Delete, Next, Regrade}
-use Rattle.slots.specs.declared.Way.the-variants.{First, Second}
+use Rattle.slots.specs.declared.Way.the-variants.{First, Second, Third}
+use Rattle.slots.specs.declared.Lock.the-variants.{Xi}
 use Rattle.slots.specs.declared.Answer.{Answer}
 use Rattle.slots.specs.declared.Answer.the-variants.{Inserted, AlreadyThere, Deleted, NoSuchKey, NoRoom, Regraded}
 use Rattle.slots.specs.Heard.{numberOf}
+use Rattle.slots.specs.Locks.{sameLock}
 use Rattle.slots.specs.declared.Under.{Under}
-use Rattle.slots.specs.Parts.{isSecond, Stand, onPages}
-use Rattle.footing.specs.Granted.{Verdict, broken, goes, ends, isSafe, keptLocks, byNeed, deletes, staysSecond, atLeaf, fromLeaf, byWayAtLeaf, comesDown, besides, atItsLeaf, granted}
-use Rattle.footing.specs.Fitting.{soundForStep, verdict}
+use Rattle.slots.specs.Parts.{keyOf, isSecond, isThird, Stand, holding, converting, onPages}
+use Rattle.footing.specs.Granted.{Verdict, broken, goes, ends, isSafe, keptLocks, byNeed, deletes, staysSecond, changeKnown, locksInTurn, toConvert, convertedFirst, atLeaf, fromLeaf, byWayAtLeaf, comesDown, besides, converts, atItsLeaf, granted}
+use Rattle.footing.specs.Fitting.{pagesSound, descends, rightlyKept, sameLevels, xiThenAlpha, isFirst, rightlyConverting, fittingNew, fitting, nextIsNew, soundForStep, verdict}
+use Rattle.footing.proofs.OnTurn.{converted-by}
 use Rattle.runs.proofs.PlainLaws.{clashes}
 
 -- an operation ends only if this test holds
@@ -75,7 +78,9 @@ way-ends : (k : ℕ) (memory : ℕ → Page) (free : List ℕ) (z : Stand) (leaf
 way-ends k memory free z leaf fathers =
     cond-ind (EndsIf (stillBy (z .op) k memory leaf)) (isSecond (z .op) && not (staysSecond (z .op) k memory leaf))
     (λ _. tt)
-    (λ no. ends-if (still-by (isSecond (z .op)) (staysSecond (z .op) k memory leaf) no) (atLeaf (z .op) k memory free z leaf fathers))
+    (λ no.
+    ends-if (still-by (isSecond (z .op)) (staysSecond (z .op) k memory leaf) no)
+    (convertedFirst k memory z leaf fathers (atLeaf (z .op) k memory free z leaf fathers)))
 
 comes-down-stays : (k : ℕ) (memory : ℕ → Page) (free : List ℕ) (z : Stand) → EndsIf (stillBy (z .op) k memory (z .want)) (comesDown k memory free z)
 comes-down-stays k memory free z =
@@ -117,6 +122,7 @@ leaf-lacks : (op : Op) (k : ℕ) (memory : ℕ → Page) (free : List ℕ) (z : 
 unfolding atLeaf deletes
 leaf-lacks (Search x) k memory free z leaf fathers still = λ _. refl
 leaf-lacks (Insert x v First) k memory free z leaf fathers still = first-lacks (Insert x v First) refl (atLeaf (Insert x v First) k memory free z leaf fathers)
+leaf-lacks (Insert x v Third) k memory free z leaf fathers still = first-lacks (Insert x v Third) refl (atLeaf (Insert x v Third) k memory free z leaf fathers)
 leaf-lacks (Insert x v Second) k memory free z leaf fathers still =
     let there : Bool = has x (memory leaf .entries) in
     let safe : Bool = ltb (μ (memory leaf)) (2 * k) in
@@ -127,12 +133,14 @@ leaf-lacks (Insert x v Second) k memory free z leaf fathers still =
     (λ few _. absurd (safe-room k memory leaf (z .path) free (⊎-elim (λ t. not-both t missing) (λ t. t) (or-cases there safe stays)) few))
     (λ _. another Inserted refl))
 leaf-lacks (Delete x First) k memory free z leaf fathers still = first-lacks (Delete x First) refl (atLeaf (Delete x First) k memory free z leaf fathers)
+leaf-lacks (Delete x Third) k memory free z leaf fathers still = first-lacks (Delete x Third) refl (atLeaf (Delete x Third) k memory free z leaf fathers)
 leaf-lacks (Delete x Second) k memory free z leaf fathers still =
     cond-ind (FirstLacks (Delete x Second)) (has x (memory leaf .entries))
     (λ _. need-lacks (Delete x Second) z (information x (memory leaf .entries)) (deletion k memory x leaf fathers (z .beside)) (needs k memory x leaf fathers (z .beside)))
     (λ _. another NoSuchKey refl)
 leaf-lacks (Next x) k memory free z leaf fathers still = first-lacks (Next x) refl (atLeaf (Next x) k memory free z leaf fathers)
 leaf-lacks (Regrade x v First) k memory free z leaf fathers still = first-lacks (Regrade x v First) refl (atLeaf (Regrade x v First) k memory free z leaf fathers)
+leaf-lacks (Regrade x v Third) k memory free z leaf fathers still = first-lacks (Regrade x v Third) refl (atLeaf (Regrade x v Third) k memory free z leaf fathers)
 leaf-lacks (Regrade x v Second) k memory free z leaf fathers still =
     cond-ind (FirstLacks (Regrade x v Second)) (has x (memory leaf .entries))
     (λ _. another (Regraded (information x (memory leaf .entries))) refl)
@@ -140,11 +148,34 @@ leaf-lacks (Regrade x v Second) k memory free z leaf fathers still =
 
 way-lacks : (k : ℕ) (memory : ℕ → Page) (free : List ℕ) (z : Stand) (leaf : ℕ) (fathers : List ℕ) → FirstLacks (z .op) (byWayAtLeaf k memory free z leaf fathers)
 way-lacks k memory free z leaf fathers =
-    cond-ind (FirstLacks (z .op)) (isSecond (z .op) && not (staysSecond (z .op) k memory leaf)) (λ _. tt) (λ still. leaf-lacks (z .op) k memory free z leaf fathers still)
+    cond-ind (FirstLacks (z .op)) (isSecond (z .op) && not (staysSecond (z .op) k memory leaf)) (λ _. tt)
+    (λ still.
+    converted-by (FirstLacks (z .op)) k memory z leaf fathers (atLeaf (z .op) k memory free z leaf fathers)
+    (leaf-lacks (z .op) k memory free z leaf fathers still) (λ _. tt))
 
 comes-down-lacks : (k : ℕ) (memory : ℕ → Page) (free : List ℕ) (z : Stand) → FirstLacks (z .op) (comesDown k memory free z)
 comes-down-lacks k memory free z =
     comes-down-by (FirstLacks (z .op)) k memory free z (λ _ path locks fathers. way-lacks k memory free (onPages z path locks [] []) (z .want) fathers) (λ _. tt)
+
+-- Who converts goes by the third way, and stands at its leaf.
+pub turn-parts : (k : ℕ) (memory : ℕ → Page) (z : Stand) (up : List ℕ) → rightlyConverting k memory z up ≡ true
+    → (isThird (z .op) ≡ true) × (atItsLeaf memory up ≡ true)
+turn-parts k memory z [] e = not-both e refl
+turn-parts k memory z (leaf ∷ fathers) e =
+    let third : Bool = isThird (z .op) in
+    let here : Bool = isLeaf (memory leaf) in
+    let goes-down : Bool = descends memory (keyOf (z .op)) (z .path) in
+    let known : Bool = changeKnown k memory z leaf fathers in
+    let levels : Bool = sameLevels memory (leaf ∷ fathers) (z .beside) in
+    let xi : Bool = sameLock (z .lock) Xi in
+    let kinds : Bool = xiThenAlpha (locksInTurn z) in
+    let a₁ = and-first (third && here && goes-down && known && levels && xi && kinds) (isFirst (z .want) (toConvert z)) e in
+    let a₂ = and-first (third && here && goes-down && known && levels && xi) kinds a₁ in
+    let a₃ = and-first (third && here && goes-down && known && levels) xi a₂ in
+    let a₄ = and-first (third && here && goes-down && known) levels a₃ in
+    let a₅ = and-first (third && here && goes-down) known a₄ in
+    let a₆ = and-first (third && here) goes-down a₅ in
+    (and-first third here a₆, and-second third here a₆)
 
 -- What the step comes to in these words.
 module _ (k n : ℕ) (ws : List ℕ) (z : Stand) where
@@ -154,25 +185,45 @@ module _ (k n : ℕ) (ws : List ℕ) (z : Stand) where
   unfolding verdict
   by-verdict P b f = cond-ind P (soundForStep k n ws z) f (λ _. b)
 
-  -- above its leaf it is granted the next page of its way
-  above-rule : atItsLeaf (pageAt k ws) (reverse (z .path)) ≡ false
+  -- who converts, in pages sound for the step, passes the test of conversions
+  pub sound-turn : soundForStep k n ws z ≡ true → converting z ≡ true → rightlyConverting k (pageAt k ws) z (reverse (z .path)) ≡ true
+  unfolding soundForStep fitting
+  sound-turn fits own =
+      let pages : Bool = pagesSound k n ws (holding z ++ z .want ∷ []) in
+      let right : Bool = rightlyKept (z .op) k (pageAt k ws) (z .path) (z .want) in
+      let turn : Bool = rightlyConverting k (pageAt k ws) z (reverse (z .path)) in
+      let new : Bool = fittingNew k (pageAt k ws) z in
+      let fit : Bool = fitting k (pageAt k ws) z in
+      let here = and-second pages fit (and-first (pages && fit) (nextIsNew (granted k (pageAt k ws) (freePages k n ws) z)) fits) in
+      sym (cond-true turn new own) ∙ and-second right (cond (converting z) turn new) here
+
+  -- above its leaf it converts nothing,
+  above-new : soundForStep k n ws z ≡ true → atItsLeaf (pageAt k ws) (reverse (z .path)) ≡ false → converting z ≡ false
+  above-new fits at =
+      false-if-not-true (converting z)
+      (λ own. not-both (turn-parts k (pageAt k ws) z (reverse (z .path)) (sound-turn fits own) .1) at)
+
+  -- and is granted the next page of its way
+  above-rule : soundForStep k n ws z ≡ true → atItsLeaf (pageAt k ws) (reverse (z .path)) ≡ false
       → granted k (pageAt k ws) (freePages k n ws) z ≡ comesDown k (pageAt k ws) (freePages k n ws) z
   unfolding granted
-  above-rule at = cond-false (besides k (pageAt k ws) z) (comesDown k (pageAt k ws) (freePages k n ws) z) at
+  above-rule fits at =
+      cond-false (converts k (pageAt k ws) (freePages k n ws) z) _ (above-new fits at)
+      ∙ cond-false (besides k (pageAt k ws) z) (comesDown k (pageAt k ws) (freePages k n ws) z) at
 
   -- an operation that comes down ends only at a leaf
   pub coming-ends : atItsLeaf (pageAt k ws) (reverse (z .path)) ≡ false → (a : Answer) (writes : List Write)
       → verdict k n ws z ≡ ends a writes → isLeaf (pageAt k ws (z .want)) ≡ true
   coming-ends at a writes e =
       let P : Verdict → Type 0 = EndsIf (isLeaf (pageAt k ws (z .want))) in
-      subst P e (by-verdict P tt (λ _. subst P (sym (above-rule at)) (comes-down-ends k (pageAt k ws) (freePages k n ws) z)))
+      subst P e (by-verdict P tt (λ fits. subst P (sym (above-rule fits at)) (comes-down-ends k (pageAt k ws) (freePages k n ws) z)))
 
   -- and an update by the second way only where it does not begin again
   pub coming-stays : atItsLeaf (pageAt k ws) (reverse (z .path)) ≡ false → EndsIf (stillBy (z .op) k (pageAt k ws) (z .want)) (verdict k n ws z)
   coming-stays at =
       let P : Verdict → Type 0 = EndsIf (stillBy (z .op) k (pageAt k ws) (z .want)) in
-      by-verdict P tt (λ _. subst P (sym (above-rule at)) (comes-down-stays k (pageAt k ws) (freePages k n ws) z))
+      by-verdict P tt (λ fits. subst P (sym (above-rule fits at)) (comes-down-stays k (pageAt k ws) (freePages k n ws) z))
 
   -- nor does it end for want of room
   pub coming-lacks : atItsLeaf (pageAt k ws) (reverse (z .path)) ≡ false → FirstLacks (z .op) (verdict k n ws z)
-  coming-lacks at = by-verdict (FirstLacks (z .op)) tt (λ _. subst (FirstLacks (z .op)) (sym (above-rule at)) (comes-down-lacks k (pageAt k ws) (freePages k n ws) z))
+  coming-lacks at = by-verdict (FirstLacks (z .op)) tt (λ fits. subst (FirstLacks (z .op)) (sym (above-rule fits at)) (comes-down-lacks k (pageAt k ws) (freePages k n ws) z))

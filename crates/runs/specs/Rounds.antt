@@ -1,4 +1,4 @@
--- "if none is begun, 304 rounds that each step every open slot end them all": what a round is, and what many rounds are.
+-- "if none is begun, 304 rounds that each step every open slot end them all", 608 with 02 (vi): what a round is, and what many rounds are.
 use Prim.Native.Nat.{ℕ, _≤_, _<_}
 use mathlib.Core.Bool.{Bool, true, false, _||_}
 use mathlib.Core.List.{List, [], _∷_, _++_}
@@ -36,7 +36,7 @@ abbrev pub Rounds : State → List ℕ → List (List Call) → Type 0
 Rounds st ws [] = Unit {0}
 Rounds st ws (cs ∷ rest) = Round st cs × Rounds (run cs st ws .state) (run cs st ws .words) rest
 
--- "16 × 19 = 304" rounds, or more, from this state on close every slot.
+-- 02 (vi): "16 × 38 = 608 rounds", or more, from this state on close every slot.
 abbrev pub RoundsClose : State → List ℕ → Type 0
 RoundsClose st ws =
     (rounds : List (List Call)) → Rounds st ws rounds → roundsEnough ≤ length rounds

@@ -2,7 +2,7 @@
 -- "Slots, locks and steps" of document 01, said of the tree as it is at that moment. A slot's path is given from the top
 -- downward, the way of a key from the leaf upward.
 use Prim.Native.Nat.{ℕ, suc, _*_, _≤_, _<_}
-use mathlib.Core.Bool.{true, false}
+use mathlib.Core.Bool.{true, false, cond, _&&_}
 use mathlib.Core.List.{List, [], _∷_, _++_, reverse, map}
 use mathlib.Core.Logic.{_⊎_, _≢_}
 use mathlib.Core.Path.{_≡_}
@@ -10,28 +10,35 @@ use lib.ListN.{length, getD}
 use Rattle.page.specs.Words.{Page, μ}
 use Rattle.page.specs.Place.{place, pointer, has, atOrAbove}
 use Rattle.page.specs.Short.{neighbour}
+use Rattle.ground.specs.Tests.{member}
 use Rattle.slots.specs.declared.Op.{Op}
 use Rattle.slots.specs.declared.Op.the-variants.{Search, Insert, Delete, Next, Regrade}
-use Rattle.slots.specs.declared.Way.the-variants.{First, Second}
+use Rattle.slots.specs.declared.Way.the-variants.{First, Second, Third}
 use Rattle.slots.specs.declared.Lock.{Lock}
-use Rattle.slots.specs.Parts.{keyOf, isDelete, isNext, isSecond, firstWay, heldLock, goesBeside, under, Stand, freshStand}
-use Rattle.footing.specs.Granted.{isSafe, answeredAtOnce}
+use Rattle.slots.specs.declared.Lock.the-variants.{Xi}
+use Rattle.slots.specs.Parts.{keyOf, isDelete, isNext, isSecond, isThird, firstWay, heldLock, goesBeside, under, withXi, converting, Stand, freshStand}
+use Rattle.slots.specs.Grant.{olderThan}
+use Rattle.footing.specs.Granted.{isSafe, answeredAtOnce, changeKnown, pagesInTurn}
 use Rattle.footing.specs.Fitting.{lockDue}
 use Rattle.tree.specs.Tree.{Tr, entriesOf, way}
+use Rattle.tree.specs.Deletion.{Asked}
 
 -- When a page is safe for an operation: then all its ancestors are given up. "Search gives up the father." "Insertion: if the page
 -- has μ < 2k". "Deletion: the same with μ > k". Next: it is no leaf, and "still has a child to the right of the route".
--- Regrading: "every page is safe for it". By the second way an update gives up the father as a search does. The rule's test of it is
--- `isSafe`, proved to be this.
+-- Regrading: "every page is safe for it". By the second way an update gives up the father as a search does, by the third its ancestors as by the
+-- first. The rule's test of it is `isSafe`, proved to be this.
 abbrev pub Safe : Op → ℕ → Page → Type 0
 Safe (Search x) k P = Unit {0}
 Safe (Insert x v First) k P = μ P < 2 * k
 Safe (Insert x v Second) k P = Unit {0}
+Safe (Insert x v Third) k P = μ P < 2 * k
 Safe (Delete x First) k P = k < μ P
 Safe (Delete x Second) k P = Unit {0}
+Safe (Delete x Third) k P = k < μ P
 Safe (Next x) k P = (P .level ≢ 1) × (place x (P .entries) < μ P)
 Safe (Regrade x v First) k P = Unit {0}
 Safe (Regrade x v Second) k P = Unit {0}
+Safe (Regrade x v Third) k P = Unit {0}
 
 -- The pages of a path are those whose ancestors could not be given up: the top one is page 0 or safe for the operation, and
 -- none below it is safe. (For a search, a regrading and an update by the second way every page is safe: so they hold one.)
@@ -90,14 +97,34 @@ pub record Crossing (k : ℕ) (memory : ℕ → Page) (l : ℕ) (t : Tr l) (z : 
   pub turns : getD (z .beside ++ z .want ∷ []) 0 0 ≡ neighbour (keyOf (z .op)) (memory (getD (z .path) 0 0))
   pub leftmost : (j : ℕ) → j < length (z .beside) → getD (z .beside ++ z .want ∷ []) (suc j) 0 ≡ pointer 0 (memory (getD (z .beside) j 0))
 
--- The kind of lock with which it wants its next page: the kind under which its operation holds; by the second way "a ξ-lock wanted on the
+-- At its leaf, its change is known: 02 (vi): "When the change is known, path and siblings are converted to ξ from the top down, path page before
+-- sibling on each level, one conversion a step. A conversion wants a held page".
+pub record Converting (k : ℕ) (memory : ℕ → Page) (l : ℕ) (t : Tr l) (z : Stand) : Type 0 where
+  pub third : isThird (z .op) ≡ true
+  pub leaf : ℕ
+  pub fathers : List ℕ
+  pub upward : reverse (z .path) ≡ leaf ∷ fathers
+  pub upper : List ℕ
+  pub whole : way (keyOf (z .op)) l t ≡ reverse (z .path) ++ upper
+  pub rightly : Rightly (z .op) k memory (z .path)
+  -- the key is not one that is answered at once, and no sibling is needed any more
+  pub known : changeKnown k memory z leaf fathers ≡ true
+  -- each sibling that it holds was asked for in its turn
+  pub asked : Asked k memory (keyOf (z .op)) leaf fathers (z .beside)
+  -- what was converted, the page that is wanted, and what is still to be converted
+  pub done : List ℕ
+  pub rest : List ℕ
+  pub turns : pagesInTurn z ≡ done ++ z .want ∷ rest
+
+-- The kind of lock with which it wants a new page: the kind with which its operation goes down; by the second way "a ξ-lock wanted on the
 -- leaf": ξ exactly if the lowest page that it holds is on level 2.
 abbrev pub WantsWith : (ℕ → Page) → Stand → Type 0
 WantsWith memory z = z .lock ≡ lockDue (z .op) memory (reverse (z .path))
 
--- The kind of lock under which the rules would have it hold page p: one for all.
+-- The kind of lock under which the rules would have it hold page p: the kind with which its operation goes down, and ξ where it was converted: before
+-- the page that is wanted now.
 abbrev pub heldDue : Stand → ℕ → Lock
-heldDue z p = heldLock (z .op)
+heldDue z p = cond (converting z && member p (olderThan (z .want) (pagesInTurn z))) Xi (heldLock (z .op))
 
 -- 02 (vi): "Each held page now carries its kind": the one that is due.
 pub record HoldsWith (z : Stand) : Type 0 where
@@ -106,17 +133,21 @@ pub record HoldsWith (z : Stand) : Type 0 where
 
 -- The kinds of lock with which it wants and holds.
 pub record Locked (memory : ℕ → Page) (z : Stand) : Type 0 where
-  pub wants : WantsWith memory z
+  pub wants : converting z ≡ false → WantsWith memory z
+  pub converts : converting z ≡ true → z .lock ≡ Xi
   pub holds : HoldsWith z
 
--- An open slot stands in the tree as the rules would have it.
+-- An open slot stands in the tree as the rules would have it: it gathers pages, or it converts those that it holds.
+abbrev pub Gathering : ℕ → (ℕ → Page) → (l : ℕ) → Tr l → Stand → Type 0
+Gathering k memory l t z = Starting z ⊎ (Coming k memory l t z ⊎ (WantsSibling k memory l t z ⊎ Crossing k memory l t z))
+
 abbrev pub Stance : ℕ → (ℕ → Page) → (l : ℕ) → Tr l → Stand → Type 0
-Stance k memory l t z = Starting z ⊎ (Coming k memory l t z ⊎ (WantsSibling k memory l t z ⊎ Crossing k memory l t z))
+Stance k memory l t z = Gathering k memory l t z ⊎ Converting k memory l t z
 
 -- ---- what a slot that stands at z and goes on holds afterwards, at z′
 
--- In the first three cases it goes on with its operation (same), and holds the page that it takes under the kind of lock that it wanted it with
--- (under).
+-- In the first three cases it takes a page that it did not hold (new), goes on with its operation (same), and holds the page under the kind of lock that
+-- it wanted it with, and what it keeps under the kind that it had (locks, sidelocks).
 
 -- the lowest page of its path is a leaf
 abbrev pub StandsAtLeaf : (ℕ → Page) → List ℕ → Type 0
@@ -127,42 +158,66 @@ StandsAtLeaf memory path = (1 ≤ length path) × (memory (getD (reverse path) 0
 -- for it". Coming down to a page that is safe for the operation, it holds that page alone.
 pub record GivesUp (k : ℕ) (memory : ℕ → Page) (z z′ : Stand) : Type 0 where
   pub same : z′ .op ≡ z .op
-  pub under : z .lock ≡ heldLock (z .op)
+  pub new : converting z ≡ false
   pub comesDown : StandsAtLeaf memory (z .path) → ⊥
   pub safe : isSafe (z .op) k (memory (z .want)) ≡ true
   pub noSiblings : z .beside ≡ []
   pub holds : z′ .path ≡ z .want ∷ []
+  pub locks : z′ .locks ≡ under (z .lock) ∷ []
   pub still : z′ .beside ≡ []
+  pub sidelocks : z′ .sidelocks ≡ []
 
 -- coming down to one that is not safe, it gives up nothing
 pub record Keeps (k : ℕ) (memory : ℕ → Page) (z z′ : Stand) : Type 0 where
   pub same : z′ .op ≡ z .op
-  pub under : z .lock ≡ heldLock (z .op)
+  pub new : converting z ≡ false
   pub comesDown : StandsAtLeaf memory (z .path) → ⊥
   pub unsafe : isSafe (z .op) k (memory (z .want)) ≡ false
   pub noSiblings : z .beside ≡ []
   pub holds : z′ .path ≡ z .path ++ z .want ∷ []
+  pub locks : z′ .locks ≡ z .locks ++ under (z .lock) ∷ []
   pub still : z′ .beside ≡ []
+  pub sidelocks : z′ .sidelocks ≡ []
 
 -- a deletion at its leaf takes the sibling, and a Next the page of its second way, beside all that it holds
 pub record TakesBeside (memory : ℕ → Page) (z z′ : Stand) : Type 0 where
   pub same : z′ .op ≡ z .op
-  pub under : z .lock ≡ heldLock (z .op)
+  pub new : converting z ≡ false
   pub beside : goesBeside (z .op) ≡ true
   pub atLeaf : StandsAtLeaf memory (z .path)
   pub still : z′ .path ≡ z .path
+  pub locks : z′ .locks ≡ z .locks
   pub holds : z′ .beside ≡ z .beside ++ z .want ∷ []
+  pub sidelocks : z′ .sidelocks ≡ z .sidelocks ++ under (z .lock) ∷ []
 
 -- 02 (v): "A key already there or missing is answered at once; a safe leaf is changed; otherwise all locks are given up and the operation
 -- begins again by the first way. If page 0 is a leaf, it begins again in any case." Then it holds nothing and wants page 0, as an operation
 -- of the first way that has just begun.
 pub record BeginsAgain (k : ℕ) (memory : ℕ → Page) (z z′ : Stand) : Type 0 where
   pub second : isSecond (z .op) ≡ true
+  pub new : converting z ≡ false
   pub leaf : memory (z .want) .level ≡ 1
   pub why : (z .want ≡ 0)
       ⊎ ((answeredAtOnce (z .op) (memory (z .want) .entries) ≡ false) × (isSafe (firstWay (z .op)) k (memory (z .want)) ≡ false))
   pub fresh : z′ ≡ freshStand (firstWay (z .op))
 
--- one of the four; of the operation and the pages at most one can be
+-- 02 (vi): "one conversion a step": it holds what it held, and the page that it wanted with ξ now. It wants the next one.
+pub record Converts (z z′ : Stand) : Type 0 where
+  pub same : z′ .op ≡ z .op
+  pub third : isThird (z .op) ≡ true
+  pub held : converting z ≡ true
+  pub still : z′ .path ≡ z .path
+  pub locks : z′ .locks ≡ withXi (z .want) (z .path) (z .locks)
+  pub beside : z′ .beside ≡ z .beside
+  pub sidelocks : z′ .sidelocks ≡ withXi (z .want) (z .beside) (z .sidelocks)
+  -- the page that follows in the order of conversion
+  pub done : List ℕ
+  pub rest : List ℕ
+  pub turns : pagesInTurn z ≡ done ++ z .want ∷ (z′ .want ∷ rest)
+
+-- one of the five; of the operation and the pages at most one can be
+abbrev pub Gathers : ℕ → (ℕ → Page) → Stand → Stand → Type 0
+Gathers k memory z z′ = GivesUp k memory z z′ ⊎ (Keeps k memory z z′ ⊎ (TakesBeside memory z z′ ⊎ BeginsAgain k memory z z′))
+
 abbrev pub Takes : ℕ → (ℕ → Page) → Stand → Stand → Type 0
-Takes k memory z z′ = GivesUp k memory z z′ ⊎ (Keeps k memory z z′ ⊎ (TakesBeside memory z z′ ⊎ BeginsAgain k memory z z′))
+Takes k memory z z′ = Gathers k memory z z′ ⊎ Converts z z′

@@ -17,7 +17,7 @@ use Rattle.slots.specs.declared.Way.{Way}
 use Rattle.slots.specs.declared.Lock.the-variants.{Xi}
 use Rattle.slots.specs.declared.Answer.{Answer}
 use Rattle.slots.specs.declared.Answer.the-variants.{NoRoom, Regraded}
-use Rattle.slots.specs.Parts.{keyOf, onlyReads, firstWay, Stand, holding}
+use Rattle.slots.specs.Parts.{keyOf, onlyReads, isThird, firstWay, Stand, holding, converting}
 use Rattle.slots.specs.Locks.{lockIn}
 use Rattle.slots.specs.Heard.{isOneOf, writing}
 use Rattle.footing.specs.Granted.{goes, ends}
@@ -70,6 +70,9 @@ pub record Ended (k n : ℕ) (ws : List ℕ) (l : ℕ) (t : Tr l) (z : Stand) (a
   -- a search or a Next writes nothing, and of the answers only Inserted, Deleted and Regraded write
   pub reads : onlyReads (z .op) ≡ true → writes ≡ []
   pub writers : isOneOf a writing ≡ false → writes ≡ []
+  -- 02 (vi): "Room is counted in the step that makes the change, after the last conversion.": by the third way a change is made, or found to lack room,
+  -- just in a conversion
+  pub turned : isThird (z .op) ≡ true → isOneOf a (NoRoom ∷ writing) ≡ converting z
   -- a regrading writes the page that it wanted, and no other
   pub regrades : (old : ℕ) → a ≡ Regraded old → (q : ℕ) → member q (writtenPages writes) ≡ true → q ≡ z .want
 

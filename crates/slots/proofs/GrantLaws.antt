@@ -17,18 +17,19 @@ use Rattle.slots.specs.declared.Task.{Task}
 use Rattle.slots.specs.declared.Task.the-variants.{Closed, Open}
 use Rattle.slots.specs.declared.Slot.{Slot}
 use Rattle.slots.specs.declared.Lock.{Lock}
+use Rattle.slots.specs.declared.Lock.the-variants.{Xi}
 use Rattle.slots.specs.declared.State.{State}
-use Rattle.slots.specs.Parts.{isOpen, heldLock, held, pathOf, besideOf, slotAt, wantAt, holdsAt}
+use Rattle.slots.specs.Parts.{isOpen, heldLock, isThird, held, pathOf, besideOf, wantAt, holdsAt}
 use Rattle.slots.specs.Locks.{lockHeld, lockHeldAt, lockWantedAt, clash}
 use Rattle.slots.specs.Sound.{withinLimits}
-use Rattle.slots.specs.Grant.{noClash, noOlder, grants}
+use Rattle.slots.specs.Grant.{noClash, noOlder, convertsAt, noConversion, grants}
 use Rattle.slots.proofs.SoundFacts.{SoundSlot, SoundState}
 use Rattle.slots.proofs.LockLaws.{isLock, can-hold, can-hold-locks, clash-swap, others-go}
 
 -- No other slot holds the wanted page of a granted slot with a clashing lock.
 pub granted-no-clash : (st : State) (s : ℕ) → grants st s ≡ true → (t : ℕ) → t < slotCount → t ≢ s → holdsAt st t (wantAt st s) ≡ true → clash (lockHeldAt st t (wantAt st s)) (lockWantedAt st s) ≡ false
 unfolding noClash
-granted-no-clash st s g = others-go st s (wantAt st s) (lockWantedAt st s) (and-first (noClash st s) (noOlder st s) g)
+granted-no-clash st s g = others-go st s (wantAt st s) (lockWantedAt st s) (and-first (noClash st s) (convertsAt st s || (noOlder st s && noConversion st s)) g)
 
 -- a slot that holds a page is open
 holder-task : (task : Task) (depth beside p : ℕ) (path siblings : List ℕ) → withinLimits task depth beside ≡ true → member p (take depth path ++ take beside siblings) ≡ true → isOpen task ≡ true
@@ -44,8 +45,9 @@ pub holder-open : (n : ℕ) (s : Slot) (p : ℕ) → SoundSlot n s → member p 
 unfolding pathOf besideOf
 holder-open n s p f m = holder-task (s .task) (s .depth) (s .breadth) p (s .path) (s .beside) (f .limits) m
 
--- what it holds it holds under the kind of its operation,
-pub held-lock : (n : ℕ) (s : Slot) (op : Op) (p : ℕ) → SoundSlot n s → s .task ≡ Open op → member p (held s) ≡ true → lockHeld s p ≡ heldLock op
+-- what it holds it holds under the kind with which its operation goes down, or by the third way with ξ,
+pub held-lock : (n : ℕ) (s : Slot) (op : Op) (p : ℕ) → SoundSlot n s → s .task ≡ Open op → member p (held s) ≡ true
+    → (lockHeld s p ≡ heldLock op) ⊎ ((isThird op ≡ true) × (lockHeld s p ≡ Xi))
 held-lock n s op p f e m = can-hold op (lockHeld s p) (f .under op e p m)
 
 -- so with a lock

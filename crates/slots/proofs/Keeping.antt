@@ -1,33 +1,35 @@
 -- Beginning, going on and closing keep a sound state sound, and leave every other slot as it was.
 -- Arrays are lists to the prover, so the lengths are said: a state is shaped as its type says.
-use Prim.Native.Nat.{ℕ, zero, suc, _+_, _-_, _≤_, _<_, zero-le}
-use mathlib.Core.Bool.{Bool, true, false, not, _||_, or-false}
+use Prim.Native.Nat.{ℕ, zero, suc, _+_, _-_, _≤_, _<_, min, zero-le}
+use mathlib.Core.Bool.{Bool, true, false, not, _&&_, _||_, or-false}
 use mathlib.Core.Logic.{_≢_, _⊎_, ⊎-elim}
 use mathlib.Core.Path.{_≡_, refl, sym, ap, ap₂, subst, _∙_}
 use mathlib.Core.List.{List, [], _∷_, _++_}
 use native.Mathlib.Omega.{arith}
-use lib.ListN.{length, getD, take, drop, set, replicate, length-set, length-append, length-drop, length-replicate}
+use lib.ListN.{length, getD, take, drop, set, replicate, length-set, length-append, length-take, length-drop, length-replicate}
 use lib.Seq.{getD-set-same, getD-set-other}
 use Rattle.ground.specs.Limits.{largestK, largestN, slotCount, searchHolds, regradeHolds, secondHolds, pathHolds, siblingHolds}
 use Rattle.ground.specs.Tests.{member, distinct, filled}
 use Rattle.ground.proofs.Padded.{filled-list}
-use Rattle.ground.proofs.Bools.{false-if-not-true, not-both, and-both}
+use Rattle.ground.proofs.Bools.{false-if-not-true, not-both, and-both, not-of-false}
+use Rattle.ground.proofs.Choice.{cond-false}
 use Rattle.ground.proofs.Tests.{member-none, member-one, member-append, member-inside, member-last, distinct-none, distinct-snoc}
 use Rattle.slots.specs.declared.Op.{Op}
 use Rattle.slots.specs.declared.Op.the-variants.{Search, Insert, Delete, Next, Regrade}
-use Rattle.slots.specs.declared.Way.the-variants.{First, Second}
+use Rattle.slots.specs.declared.Way.the-variants.{First, Second, Third}
 use Rattle.slots.specs.declared.Task.{Task}
 use Rattle.slots.specs.declared.Task.the-variants.{Closed, Open}
-use Rattle.slots.specs.declared.Lock.the-variants.{None}
+use Rattle.slots.specs.declared.Lock.{Lock}
+use Rattle.slots.specs.declared.Lock.the-variants.{None, Xi}
 use Rattle.slots.specs.declared.Under.{Under}
 use Rattle.slots.specs.declared.Slot.{Slot}
 use Rattle.slots.specs.declared.State.{State}
-use Rattle.slots.specs.Parts.{isOpen, held, pathOf, besideOf, locksOf, sidelocksOf, lockCells, under, Stand, holding, holdingLocks, onPages, freshStand, standOf, slotOf, slotAt, openAt, holdsAt, waitingOrder, closedSlot, idleState}
-use Rattle.slots.specs.Locks.{lockAmong, lockHeld, lockHeldAt, canHold, canWant, clash}
-use Rattle.slots.specs.Sound.{withinLimits}
+use Rattle.slots.specs.Parts.{isOpen, heldLock, isThird, held, pathOf, besideOf, locksOf, sidelocksOf, lockCells, under, Stand, holding, holdingLocks, onPages, freshStand, standOf, slotOf, slotAt, openAt, holdsAt, waitingOrder, closedSlot, idleState}
+use Rattle.slots.specs.Locks.{lockAmong, lockHeld, lockHeldAt, sameLock, canHold, canWant, clash}
+use Rattle.slots.specs.Sound.{withinLimits, convertsRightly}
 use Rattle.slots.specs.Book.{rewritten, leaving, begins, goesOn, closes}
 use Rattle.slots.proofs.SoundFacts.{SoundSlot, SoundState}
-use Rattle.slots.proofs.LockLaws.{clash-swap, can-want-held}
+use Rattle.slots.proofs.LockLaws.{clash-swap, can-want-held, third-not-xi}
 use Rattle.slots.proofs.OrderLaws.{same-or-not, length-waiting, length-leaving, member-leaving, leaving-gone, distinct-leaving, leaving-was, order-has-room, waiting-begins, waiting-requeued, waiting-closes}
 
 -- the arrays have the lengths of their types
@@ -117,6 +119,23 @@ pub record Paired (z : Stand) : Type 0 where
   pub path : length (z .locks) ≡ length (z .path)
   pub beside : length (z .sidelocks) ≡ length (z .beside)
 
+-- a slot has as many cells for kinds as for pages
+pub slot-paired : (op : Op) (slot : Slot) → length (slot .locks) ≡ length (slot .path) → length (slot .sidelocks) ≡ length (slot .beside)
+    → Paired (standOf op slot)
+unfolding pathOf besideOf locksOf sidelocksOf
+slot-paired op slot path beside = record {
+  path = first (slot .depth) (slot .locks) (slot .path) path;
+  beside = first (slot .breadth) (slot .sidelocks) (slot .beside) beside;
+}
+  where
+    first : (i : ℕ) (locks : List Under) (pages : List ℕ) → length locks ≡ length pages → length (take i locks) ≡ length (take i pages)
+    first i locks pages e = length-take i locks ∙ ap (min i) e ∙ sym (length-take i pages)
+
+-- and so a kind for every page that it holds
+pub kinds-long : (z : Stand) → Paired z → length (holdingLocks z) ≡ length (holding z)
+kinds-long z paired =
+    length-append (z .locks) (z .sidelocks) ∙ ap₂ (λ (a b : ℕ). a + b) (paired .path) (paired .beside) ∙ sym (length-append (z .path) (z .beside))
+
 module _ (z : Stand) (paired : Paired z) where
   pub locks-new : locksOf (slotOf z) ≡ z .locks
   unfolding locksOf
@@ -145,18 +164,21 @@ unfolding pathOf besideOf filled
 closed-holds-nothing = refl
 
 closed-sound : (n : ℕ) → SoundSlot n closedSlot
-closed-sound n = record { limits = refl; below = λ o. not-both o refl; different = λ o. not-both o refl; rightly = refl; under = λ op e p m. holds-none closedSlot closed-holds-nothing p m }
+closed-sound n = record { limits = refl; below = λ o. not-both o refl; different = λ o. not-both o refl; rightly = refl; converts = refl; under = λ op e p m. holds-none closedSlot closed-holds-nothing p m }
 
 begun-limits : (op : Op) → withinLimits (Open op) 0 0 ≡ true
 unfolding searchHolds regradeHolds secondHolds pathHolds siblingHolds
 begun-limits (Search x) = refl
 begun-limits (Insert x v First) = refl
 begun-limits (Insert x v Second) = refl
+begun-limits (Insert x v Third) = refl
 begun-limits (Delete x First) = refl
 begun-limits (Delete x Second) = refl
+begun-limits (Delete x Third) = refl
 begun-limits (Next x) = refl
 begun-limits (Regrade x v First) = refl
 begun-limits (Regrade x v Second) = refl
+begun-limits (Regrade x v Third) = refl
 
 -- another number behind a list
 member-before : (t s : ℕ) (xs : List ℕ) → t ≢ s → member t (xs ++ s ∷ []) ≡ member t xs
@@ -165,6 +187,12 @@ member-before t s xs n =
     ∙ ap (λ (h : Bool). member t xs || h) (false-if-not-true (member t (s ∷ [])) (λ h. n (member-one t s h)))
     ∙ or-false (member t xs)
 
+-- who wants a page that it does not hold, with the kind with which it goes down, converts none
+fresh-converts : (op : Op) (s : Slot) → s .lock ≡ heldLock op → member (s .want) (held s) ≡ false → convertsRightly (Open op) s ≡ true
+fresh-converts op s e new =
+    cond-false _ _ new
+    ∙ not-of-false (ap (λ (l : Lock). isThird op && sameLock l Xi) e ∙ third-not-xi op)
+
 begun-sound : (n : ℕ) (op : Op) → 1 ≤ n → SoundSlot n (slotOf (freshStand op))
 unfolding distinct member
 begun-sound n op h =
@@ -172,8 +200,9 @@ begun-sound n op h =
     record {
       limits = begun-limits op;
       below = λ _ p m. subst (λ (q : ℕ). q < n) (sym (member-one p 0 (subst (λ (l : List ℕ). member p (0 ∷ l) ≡ true) holds m))) h;
-      different = λ _. subst (λ (l : List ℕ). distinct (0 ∷ l) ≡ true) (sym holds) refl;
+      different = λ _. subst (λ (l : List ℕ). distinct l ≡ true) (sym holds) refl;
       rightly = can-want-held op;
+      converts = fresh-converts op (slotOf (freshStand op)) refl (ap (member 0) holds ∙ member-none 0);
       under = λ _ _ p m. holds-none (slotOf (freshStand op)) holds p m;
     }
 
@@ -252,21 +281,23 @@ module _ (st : State) (shaped : Shaped st) (f : SoundState st) (s : ℕ) (b : s 
   pub goes-on-sound : (z : Stand) → openAt st s ≡ true
       → withinLimits (Open (z .op)) (length (z .path)) (length (z .beside)) ≡ true
       → ((p : ℕ) → member p (z .want ∷ holding z) ≡ true → p < st .n)
-      → distinct (z .want ∷ holding z) ≡ true
+      → distinct (holding z) ≡ true
+      → convertsRightly (Open (z .op)) (slotOf z) ≡ true
       → canWant (z .op) (z .lock) ≡ true
       → ((p : ℕ) → member p (holding z) ≡ true → canHold (z .op) (lockHeld (slotOf z) p) ≡ true)
       → ((t : ℕ) → t < slotCount → t ≢ s → (p : ℕ) → member p (holding z) ≡ true → holdsAt st t p ≡ true
       → clash (lockHeld (slotOf z) p) (lockHeldAt st t p) ≡ false)
       → SoundState (goesOn st s z)
   unfolding goesOn
-  goes-on-sound z opened limits below different rightly under locks =
+  goes-on-sound z opened limits below different converts rightly under locks =
       let slot = slotOf z in
       let holds : holding z ≡ held slot = sym (held-new z) in
       let g : SoundSlot (st .n) slot = record {
         limits = limits;
         below = λ _ p m. below p (subst (λ (l : List ℕ). member p (z .want ∷ l) ≡ true) (sym holds) m);
-        different = λ _. subst (λ (l : List ℕ). distinct (z .want ∷ l) ≡ true) holds different;
+        different = λ _. subst (λ (l : List ℕ). distinct l ≡ true) holds different;
         rightly = rightly;
+        converts = converts;
         under = λ op e p m. subst (λ (o : Op). canHold o (lockHeld slot p) ≡ true) (open-op e) (under p (subst (λ (l : List ℕ). member p l ≡ true) (sym holds) m));
       } in
       keeps-sound st shaped f s b slot (leaving s (waitingOrder st) ++ s ∷ drop (st .waiting) (st .order)) (st .waiting)

@@ -1,18 +1,22 @@
 -- Laws of the lists behind the bookkeeping: cells behind a list are 0, and a slot is taken out of the order.
 use Prim.Native.Nat.{ℕ, zero, suc, _+_, _-_, _≤_, _<_}
 use mathlib.Core.Bool.{true, false≢true}
-use mathlib.Core.Path.{_≡_, refl, sym, ap, subst, _∙_}
+use mathlib.Core.Path.{_≡_, refl, sym, ap, ap₂, subst, _∙_}
 use mathlib.Core.List.{List, [], _∷_, _++_, append-assoc, append-nil}
 use mathlib.Core.Logic.{⊎-elim}
 use native.Mathlib.Omega.{arith}
 use native.Mathlib.Numerals.{add-one}
 use lib.ListN.{length, getD, take, drop, set, length-append, length-drop, take-append-drop, drop-of-length-le}
 use lib.Seq.{set-at, take-suc, drop-cons, drop-append-le, slice-empty, length-take-le, append-snoc, take-take, getD-take}
-use Rattle.ground.specs.Tests.{member}
+use Rattle.ground.specs.Tests.{member, filled}
+use Rattle.slots.specs.declared.Lock.the-variants.{None}
+use Rattle.slots.specs.declared.Under.{Under}
+use Rattle.slots.specs.Parts.{under, xiOn, withXi}
 use Rattle.ground.proofs.Bools.{not-both}
-pub use Rattle.ground.proofs.Padded.{padded-add, padded-more, filled-add, filled-more}
+pub use Rattle.ground.proofs.Padded.{padded-add, padded-more, filled-set, filled-add, filled-more}
 use Rattle.ground.proofs.Tests.{member-none, member-cases, member-other}
 use Rattle.slots.specs.Book.{leaving}
+use Rattle.slots.proofs.LockLaws.{xi-snoc, length-xi}
 use Rattle.slots.proofs.OrderLaws.{leaving-here, leaving-there}
 
 -- one page more behind the first i cells
@@ -150,3 +154,17 @@ gap-done order at w last behind fits =
     let back : w - 1 + 1 ≡ w = omega arith in
     gap-filled order at (w - 1) (omega arith) (omega arith) last
     ∙ ap (λ (n : ℕ). (take at order ++ drop (at + 1) (take n order)) ++ last ∷ drop n order) back
+
+-- the next kind stored, with ξ where page p stands
+pub xi-more : (n : ℕ) (pages : List ℕ) (locks : List Under) (p i : ℕ) → i < n → i < length pages → i < length locks
+    → set (filled (under None) n (withXi p (take i pages) (take i locks))) i (xiOn p (getD pages i 0) (getD locks i (under None)))
+    ≡ filled (under None) n (withXi p (take (i + 1) pages) (take (i + 1) locks))
+xi-more n pages locks p i h a b =
+    let la : length (take i pages) ≡ i = length-take-le i pages (omega arith) in
+    let lb : length (take i locks) ≡ i = length-take-le i locks (omega arith) in
+    let next : Under = xiOn p (getD pages i 0) (getD locks i (under None)) in
+    filled-set (under None) n (withXi p (take i pages) (take i locks)) i next (length-xi p (take i pages) (take i locks) (lb ∙ sym la) ∙ la) h
+    ∙ ap (filled (under None) n)
+    (sym (xi-snoc p (take i pages) (take i locks) (getD pages i 0) (getD locks i (under None)) (lb ∙ sym la))
+    ∙ ap₂ (withXi p) (sym (take-suc pages i 0 a)) (sym (take-suc locks i (under None) b))
+    ∙ ap (λ (m : ℕ). withXi p (take m pages) (take m locks)) (sym (add-one i)))

@@ -4,7 +4,7 @@ use mathlib.Core.Path.{_≡_, refl}
 use native.Mathlib.Omega.{arith}
 use Rattle.slots.specs.declared.Op.{Op}
 use Rattle.slots.specs.declared.Op.the-variants.{Search, Insert, Delete, Next, Regrade}
-use Rattle.slots.specs.declared.Way.the-variants.{First, Second}
+use Rattle.slots.specs.declared.Way.the-variants.{First, Second, Third}
 use Rattle.slots.specs.declared.operations.Asked.the-variants.{Known}
 use Rattle.slots.specs.Operations.{highestKind, kindNumber, keyOf, informationOf, askedBy, firstWay}
 
@@ -12,21 +12,27 @@ pub asked-back : (op : Op) → askedBy (kindNumber op) (keyOf op) (informationOf
 asked-back (Search x) = refl
 asked-back (Insert x v First) = refl
 asked-back (Insert x v Second) = refl
+asked-back (Insert x v Third) = refl
 asked-back (Delete x First) = refl
 asked-back (Delete x Second) = refl
+asked-back (Delete x Third) = refl
 asked-back (Next x) = refl
 asked-back (Regrade x v First) = refl
 asked-back (Regrade x v Second) = refl
+asked-back (Regrade x v Third) = refl
 
 pub kind-within : (op : Op) → kindNumber op ≤ highestKind
 kind-within (Search x) = omega arith
 kind-within (Insert x v First) = omega arith
 kind-within (Insert x v Second) = omega arith
+kind-within (Insert x v Third) = omega arith
 kind-within (Delete x First) = omega arith
 kind-within (Delete x Second) = omega arith
+kind-within (Delete x Third) = omega arith
 kind-within (Next x) = omega arith
 kind-within (Regrade x v First) = omega arith
 kind-within (Regrade x v Second) = omega arith
+kind-within (Regrade x v Third) = omega arith
 
 -- by the first way the key and the information are the same
 pub first-key : (op : Op) → keyOf (firstWay op) ≡ keyOf op

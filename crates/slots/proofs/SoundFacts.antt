@@ -16,7 +16,7 @@ use Rattle.slots.specs.declared.Slot.{Slot}
 use Rattle.slots.specs.declared.State.{State}
 use Rattle.slots.specs.Parts.{isOpen, held, slotAt, openAt, holdsAt, waitingOrder, idleState}
 use Rattle.slots.specs.Locks.{lockHeld, lockHeldAt, canHold, clash, noClashOn}
-use Rattle.slots.specs.Sound.{namesEach, orderSound, withinLimits, belowAndOnce, ifOpen, wantsRightly, holdsRightly, slotSound, noClashingHolds, sound}
+use Rattle.slots.specs.Sound.{namesEach, orderSound, withinLimits, belowAndOnce, ifOpen, wantsRightly, holdsRightly, convertsRightly, slotSound, noClashingHolds, sound}
 use Rattle.slots.proofs.LockLaws.{others-go, others-go-from}
 
 -- one slot, in a pool of n pages
@@ -24,10 +24,12 @@ pub record SoundSlot (n : ℕ) (s : Slot) : Type 0 where
   pub limits : withinLimits (s .task) (s .depth) (s .breadth) ≡ true
   -- of an open slot: "all pages named are below N"
   pub below : isOpen (s .task) ≡ true → (p : ℕ) → member p (s .want ∷ held s) ≡ true → p < n
-  -- "no slot holds a page twice or wants one it holds"
-  pub different : isOpen (s .task) ≡ true → distinct (s .want ∷ held s) ≡ true
+  -- "no slot holds a page twice"
+  pub different : isOpen (s .task) ≡ true → distinct (held s) ≡ true
   -- its want is for a kind of lock that its operation can want
   pub rightly : wantsRightly (s .task) (s .lock) ≡ true
+  -- "or wants one it holds", but as a conversion
+  pub converts : convertsRightly (s .task) s ≡ true
   -- what it holds it holds under a kind that its operation can hold a page under
   pub under : (op : Op) → s .task ≡ Open op → (p : ℕ) → member p (held s) ≡ true → canHold op (lockHeld s p) ≡ true
 
@@ -72,15 +74,18 @@ sound-slot n s h =
     let opened = ifOpen (s .task) (belowAndOnce n s) in
     let wants = wantsRightly (s .task) (s .lock) in
     let holds = holdsRightly (s .task) s in
-    let three = and-first (within && opened && wants) holds h in
+    let changes = convertsRightly (s .task) s in
+    let four = and-first (within && opened && wants && holds) changes h in
+    let three = and-first (within && opened && wants) holds four in
     let both = and-first (within && opened) wants three in
     let pages : isOpen (s .task) ≡ true → belowAndOnce n s ≡ true = if-open (s .task) (belowAndOnce n s) (and-second within opened both) in
     record {
       limits = and-first within opened both;
-      below = λ o p m. ltb-true p n (all-member (λ (q : ℕ). ltb q n) (s .want ∷ held s) (and-first names (distinct (s .want ∷ held s)) (pages o)) p m);
-      different = λ o. and-second names (distinct (s .want ∷ held s)) (pages o);
+      below = λ o p m. ltb-true p n (all-member (λ (q : ℕ). ltb q n) (s .want ∷ held s) (and-first names (distinct (held s)) (pages o)) p m);
+      different = λ o. and-second names (distinct (held s)) (pages o);
       rightly = and-second (within && opened) wants three;
-      under = holds-under (s .task) s (and-second (within && opened && wants) holds h);
+      converts = and-second (within && opened && wants && holds) changes h;
+      under = holds-under (s .task) s (and-second (within && opened && wants) holds four);
     }
 
 pub slot-sound : (n : ℕ) (s : Slot) → SoundSlot n s → slotSound n s ≡ true
@@ -88,11 +93,13 @@ unfolding slotSound
 slot-sound n s h =
     and-both
     (and-both
+    (and-both
     (and-both (h .limits)
     (if-open-from (s .task) (belowAndOnce n s)
     (λ o. and-both (all-from-members (λ (q : ℕ). ltb q n) (s .want ∷ held s) (λ p m. lt-ltb p n (h .below o p m))) (h .different o))))
     (h .rightly))
-    (under-holds (s .task) s (h .under))
+    (under-holds (s .task) s (h .under)))
+    (h .converts)
 
 -- the test of k and N, and those that go through the slots, by name
 abbrev numbersTest : State → Bool

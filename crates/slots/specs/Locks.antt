@@ -12,7 +12,7 @@ use Rattle.slots.specs.declared.Lock.the-variants.{None, Rho, Xi, Update
 use Rattle.slots.specs.declared.Slot.{Slot}
 use Rattle.slots.specs.declared.Under.{Under}
 use Rattle.slots.specs.declared.State.{State}
-use Rattle.slots.specs.Operations.{heldLock, isSecond}
+use Rattle.slots.specs.Operations.{heldLock, isSecond, isThird}
 use Rattle.slots.specs.Heard.{lockNumber}
 use Rattle.slots.specs.Parts.{held, heldLocks, Stand, holding, holdingLocks, slotAt, holdsAt}
 
@@ -33,13 +33,14 @@ lockWanted s = s .lock
 abbrev pub sameLock : Lock → Lock → Bool
 sameLock a b = eqb (lockNumber a) (lockNumber b)
 
--- the kinds that an operation can hold a page under at all: one for each
+-- the kinds that an operation can hold a page under at all: the one with which it goes down, and by the third way ξ, where it was converted
 abbrev pub canHold : Op → Lock → Bool
-canHold op lock = sameLock lock (heldLock op)
+canHold op lock = sameLock lock (heldLock op) || (isThird op && sameLock lock Xi)
 
--- the kinds that an operation can want at all: the one under which it holds, and by the second way "a ξ-lock wanted on the leaf"
+-- the kinds that an operation can want at all: the one with which it goes down; by the second way "a ξ-lock wanted on the leaf"; by the third ξ, as
+-- a conversion
 abbrev pub canWant : Op → Lock → Bool
-canWant op lock = sameLock lock (heldLock op) || (isSecond op && sameLock lock Xi)
+canWant op lock = sameLock lock (heldLock op) || ((isSecond op || isThird op) && sameLock lock Xi)
 
 -- the kind under which a slot that stands here holds page p
 abbrev pub lockIn : Stand → ℕ → Lock

@@ -1,13 +1,13 @@
 -- What is listed by operation, in one table. A new operation is a row of `rowOf` and a place in `operations`.
 -- (How many pages it may hold stands in Sound.)
 use Prim.Native.Nat.{ℕ}
-use mathlib.Core.Bool.{Bool, true, false, cond}
+use mathlib.Core.Bool.{Bool, true, false, cond, _||_}
 use mathlib.Core.List.{List, [], _∷_}
 use lib.Dec.{eqb}
 use Rattle.slots.specs.declared.Way.{Way}
-use Rattle.slots.specs.declared.Way.the-variants.{First, Second}
+use Rattle.slots.specs.declared.Way.the-variants.{First, Second, Third}
 use Rattle.slots.specs.declared.Lock.{Lock}
-use Rattle.slots.specs.declared.Lock.the-variants.{Rho, Xi, UpdaterRho}
+use Rattle.slots.specs.declared.Lock.the-variants.{Rho, Xi, UpdaterRho, Alpha}
 use Rattle.slots.specs.declared.Op.{Op}
 use Rattle.slots.specs.declared.Op.the-variants.{Search, Insert, Delete, Next, Regrade}
 use Rattle.slots.specs.declared.operations.Asked.{Asked}
@@ -23,26 +23,28 @@ pub record Row : Type 0 where
   pub reads : Bool
   -- it may hold pages beside its path: a deletion's siblings, the second way of a Next. The others go straight down.
   pub beside : Bool
-  -- the kind of lock under which it holds its pages
+  -- the kind of lock with which it goes down
   pub lock : Lock
 
 abbrev pub row : ℕ → ℕ → ℕ → Bool → Bool → Lock → Row
 row kind key information reads beside lock = record { kind = kind; key = key; information = information; reads = reads; beside = beside; lock = lock }
 
 -- what goes by the way of an update
-abbrev pub byWay : {A : Type 0} → Way → A → A → A
-byWay First first second = first
-byWay Second first second = second
+abbrev pub byWay : {A : Type 0} → Way → A → A → A → A
+byWay First first second third = first
+byWay Second first second third = second
+byWay Third first second third = third
 
 -- kind, key, information, reads, beside, lock.
 -- "Searches use ρ-locks, insertions and deletions ξ-locks." Next: "It uses ρ-locks". Regrading: "It takes ξ-locks". 02 (v), the second way:
 -- "ρ-locks down, a ξ-lock wanted on the leaf"; 02 (vi): "The ρ of (v) becomes a kind of its own, updater's ρ." There a deletion takes no siblings.
+-- 02 (vi), the third way: "updaters go down with α-locks".
 abbrev pub rowOf : Op → Row
 rowOf (Search x) = row 1 x 0 true false Rho
-rowOf (Insert x v way) = row (byWay way 2 6) x v false false (byWay way Xi UpdaterRho)
-rowOf (Delete x way) = row (byWay way 3 7) x 0 false (byWay way true false) (byWay way Xi UpdaterRho)
+rowOf (Insert x v way) = row (byWay way 2 6 9) x v false false (byWay way Xi UpdaterRho Alpha)
+rowOf (Delete x way) = row (byWay way 3 7 10) x 0 false (byWay way true false true) (byWay way Xi UpdaterRho Alpha)
 rowOf (Next x) = row 4 x 0 true true Rho
-rowOf (Regrade x v way) = row (byWay way 5 8) x v false false (byWay way Xi UpdaterRho)
+rowOf (Regrade x v way) = row (byWay way 5 8 11) x v false false (byWay way Xi UpdaterRho Alpha)
 
 -- all operations with this key and information, in the order of their kinds
 abbrev pub operations : ℕ → ℕ → List Op
@@ -55,10 +57,13 @@ operations key information =
     ∷ Insert key information Second
     ∷ Delete key Second
     ∷ Regrade key information Second
+    ∷ Insert key information Third
+    ∷ Delete key Third
+    ∷ Regrade key information Third
     ∷ []
 
 abbrev pub highestKind : ℕ
-highestKind = 8
+highestKind = 11
 
 -- ---- the columns
 
@@ -80,13 +85,13 @@ onlyReads op = rowOf op .reads
 abbrev pub goesBeside : Op → Bool
 goesBeside op = rowOf op .beside
 
--- the kind of lock under which an operation holds its pages
+-- the kind of lock with which an operation goes down: under it it holds its pages, until it converts them
 abbrev pub heldLock : Op → Lock
 heldLock op = rowOf op .lock
 
--- a deletion by the first way: it alone takes siblings
+-- a deletion by the first or the third way: these alone take siblings
 abbrev pub isDelete : Op → Bool
-isDelete op = eqb (kindNumber op) (kindNumber (Delete 0 First))
+isDelete op = eqb (kindNumber op) (kindNumber (Delete 0 First)) || eqb (kindNumber op) (kindNumber (Delete 0 Third))
 
 abbrev pub isNext : Op → Bool
 isNext op = eqb (kindNumber op) (kindNumber (Next 0))
@@ -96,10 +101,18 @@ isNext op = eqb (kindNumber op) (kindNumber (Next 0))
 -- it goes down by the second way
 abbrev pub isSecond : Op → Bool
 isSecond (Search x) = false
-isSecond (Insert x v way) = byWay way false true
-isSecond (Delete x way) = byWay way false true
+isSecond (Insert x v way) = byWay way false true false
+isSecond (Delete x way) = byWay way false true false
 isSecond (Next x) = false
-isSecond (Regrade x v way) = byWay way false true
+isSecond (Regrade x v way) = byWay way false true false
+
+-- it goes down by the third way
+abbrev pub isThird : Op → Bool
+isThird (Search x) = false
+isThird (Insert x v way) = byWay way false false true
+isThird (Delete x way) = byWay way false false true
+isThird (Next x) = false
+isThird (Regrade x v way) = byWay way false false true
 
 -- the same operation by the first way
 abbrev pub firstWay : Op → Op

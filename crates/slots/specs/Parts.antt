@@ -1,20 +1,21 @@
 -- What a slot and a state are made of, read off as lists, and one maker for each. "Slots, locks and steps" of document 01.
 use Prim.Native.Nat.{ℕ}
-use mathlib.Core.Bool.{Bool, true, false}
+use mathlib.Core.Bool.{Bool, true, false, cond}
 use mathlib.Core.List.{List, [], _∷_, _++_}
 use mathlib.Core.Path.{_≡_}
+use lib.Dec.{eqb}
 use lib.ListN.{length, getD, take, replicate}
 use Rattle.ground.specs.Limits.{pathHolds, slotCount}
 use Rattle.ground.specs.Tests.{member, padded, filled}
 use Rattle.slots.specs.declared.Lock.{Lock}
-use Rattle.slots.specs.declared.Lock.the-variants.{None}
+use Rattle.slots.specs.declared.Lock.the-variants.{None, Xi}
 use Rattle.slots.specs.declared.Under.{Under}
 use Rattle.slots.specs.declared.Op.{Op}
 use Rattle.slots.specs.declared.Task.{Task}
 use Rattle.slots.specs.declared.Task.the-variants.{Closed, Open}
 use Rattle.slots.specs.declared.Slot.{Slot}
 use Rattle.slots.specs.declared.State.{State}
-pub use Rattle.slots.specs.Operations.{keyOf, onlyReads, isDelete, isNext, goesBeside, heldLock, isSecond, firstWay}
+pub use Rattle.slots.specs.Operations.{keyOf, onlyReads, isDelete, isNext, goesBeside, heldLock, isSecond, isThird, firstWay}
 
 abbrev pub isOpen : Task → Bool
 isOpen Closed = false
@@ -98,6 +99,22 @@ wantsNext z want lock = stand (z .op) (z .path) (z .locks) (z .beside) (z .sidel
 
 abbrev pub withOp : Op → Stand → Stand
 withOp op z = stand op (z .path) (z .locks) (z .beside) (z .sidelocks) (z .want) (z .lock)
+
+-- A conversion: the wanted page, which it holds, is held with ξ from now on.
+abbrev pub xiOn : ℕ → ℕ → Under → Under
+xiOn p q u = cond (eqb p q) (under Xi) u
+
+unfoldable pub withXi : ℕ → List ℕ → List Under → List Under
+withXi p [] locks = locks
+withXi p (q ∷ pages) [] = []
+withXi p (q ∷ pages) (u ∷ locks) = xiOn p q u ∷ withXi p pages locks
+
+abbrev pub wantConverted : Stand → Stand
+wantConverted z = onPages z (z .path) (withXi (z .want) (z .path) (z .locks)) (z .beside) (withXi (z .want) (z .beside) (z .sidelocks))
+
+-- 02 (vi): "A conversion wants a held page"
+abbrev pub converting : Stand → Bool
+converting z = member (z .want) (holding z)
 
 -- where a slot stands that is open with this operation
 abbrev pub standOf : Op → Slot → Stand

@@ -8,10 +8,12 @@ pub mod operations;
 use ground::HELD;
 use ground::SLOTS;
 
-// How an update goes down: with ξ-locks, or as a reader does and with ξ on its leaf alone.
+// How an update goes down: with ξ-locks; as a reader does, and with ξ on its leaf alone; or with α-locks, which let readers stay and are converted to
+// ξ once its change is known.
 pub enum Way {
     First,
     Second,
+    Third,
 }
 
 // What a buyer asks for. Keys and information are any 32-bit unsigned numbers. An update has a way; who only reads has none.

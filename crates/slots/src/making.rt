@@ -1,4 +1,4 @@
-// Slots as the rules make them: closed, fresh, and with one page more.
+// Slots as the rules make them: closed, fresh, with one page more, and with one page converted.
 use crate::Lock;
 use crate::Op;
 use crate::Slot;
@@ -12,7 +12,7 @@ ghost use Prim.Native.Nat.{_≤_, _<_};
 ghost use lib.ListN.{take};
 ghost use Rattle.ground.specs.Limits.{pathHolds};
 ghost use Rattle.ground.specs.Tests.{padded};
-ghost use Rattle.slots.specs.Parts.{closedSlot, pathOf, besideOf, locksOf, sidelocksOf, lockCells, under, onPages, freshStand, standOf, slotOf};
+ghost use Rattle.slots.specs.Parts.{closedSlot, pathOf, besideOf, locksOf, sidelocksOf, lockCells, under, xiOn, withXi, onPages, wantConverted, freshStand, standOf, slotOf};
 
 // A closed slot holds nothing; its cells are 0.
 pub fn closed_slot() -> Slot
@@ -76,6 +76,30 @@ fn with_lock(cells: [Under; HELD], count: usize, lock: Lock) -> [Under; HELD]
 {
     let mut next = tidy_locks(cells, count);
     next[count] = Under { lock };
+    next
+}
+
+// ξ on page p, and the kind as it is on another.
+fn xi_on(page: u32, p: u32, under: Under) -> Under
+    ensures { λ r. ⌜ r ≡ xiOn p page under ⌝ }
+{
+    if p == page {
+        return Under { lock: Lock::Xi };
+    }
+    under
+}
+
+// The first `count` kinds, with ξ where page p stands, and none behind them.
+fn with_xi(pages: [u32; HELD], locks: [Under; HELD], count: usize, p: u32) -> [Under; HELD]
+    requires { ⌜ count ≤ pathHolds ⌝ }
+    ensures { λ r. ⌜ r ≡ lockCells (withXi p (take count pages) (take count locks)) ⌝ }
+{
+    let mut next = [Under { lock: Lock::None }; HELD];
+    let mut i = 0;
+    while i < count {
+        next[i] = xi_on(pages[i], p, locks[i]);
+        i += 1;
+    }
     next
 }
 
@@ -162,5 +186,31 @@ pub fn holding_beside(op: Op, slot: Slot, p: u32) -> Slot
         beside: with_page(beside, breadth, p),
         sidelocks: with_lock(sidelocks, breadth, lock),
         breadth: breadth + 1,
+    }
+}
+
+// A slot that holds with ξ the page that it wanted, and held before.
+pub fn converted(op: Op, slot: Slot) -> Slot
+    requires { ⌜ (slot .depth ≤ pathHolds) × (slot .breadth ≤ pathHolds) ⌝ }
+    ensures { λ r. ⌜ r ≡ slotOf (wantConverted (standOf op slot)) ⌝ }
+{
+    let path = slot.path;
+    let locks = slot.locks;
+    let depth = slot.depth;
+    let beside = slot.beside;
+    let sidelocks = slot.sidelocks;
+    let breadth = slot.breadth;
+    let lock = slot.lock;
+    let want = slot.want;
+    Slot {
+        task: Task::Open(op),
+        want,
+        lock,
+        path: tidy(path, depth),
+        locks: with_xi(path, locks, depth, want),
+        depth,
+        beside: tidy(beside, breadth),
+        sidelocks: with_xi(beside, sidelocks, breadth, want),
+        breadth,
     }
 }

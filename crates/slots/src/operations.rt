@@ -4,7 +4,7 @@ use crate::Lock;
 use crate::Op;
 use crate::Way;
 ghost use mathlib.Core.Path.{_≡_};
-ghost use Rattle.slots.specs.Operations.{byWay, keyOf, informationOf, kindNumber, askedBy, isSecond, firstWay, heldLock};
+ghost use Rattle.slots.specs.Operations.{byWay, keyOf, informationOf, kindNumber, askedBy, isSecond, isThird, firstWay, heldLock};
 ghost use Rattle.slots.specs.declared.Lock;
 ghost use mathlib.Core.Bool.{true, false};
 
@@ -26,7 +26,14 @@ pub const DELETES_SECOND: u32 = 7;
 
 pub const REGRADES_SECOND: u32 = 8;
 
-pub const HIGHEST_KIND: u32 = REGRADES_SECOND;
+// By the third way.
+pub const INSERTS_THIRD: u32 = 9;
+
+pub const DELETES_THIRD: u32 = 10;
+
+pub const REGRADES_THIRD: u32 = 11;
+
+pub const HIGHEST_KIND: u32 = REGRADES_THIRD;
 
 // What three numbers ask for, if the kind exists.
 pub enum Asked {
@@ -60,13 +67,14 @@ pub fn information_asked(op: Op) -> u32
     }
 }
 
-// One of two numbers, by the way.
-fn by_way(way: Way, first: u32, second: u32) -> u32
-    ensures { λ r. ⌜ r ≡ byWay way first second ⌝ }
+// One of three numbers, by the way.
+fn by_way(way: Way, first: u32, second: u32, third: u32) -> u32
+    ensures { λ r. ⌜ r ≡ byWay way first second third ⌝ }
 {
     match way {
         Way::First => first,
         Way::Second => second,
+        Way::Third => third,
     }
 }
 
@@ -75,20 +83,21 @@ pub fn kind_asked(op: Op) -> u32
 {
     match op {
         Op::Search(_) => SEARCHES,
-        Op::Insert(_, _, way) => by_way(way, INSERTS, INSERTS_SECOND),
-        Op::Delete(_, way) => by_way(way, DELETES, DELETES_SECOND),
+        Op::Insert(_, _, way) => by_way(way, INSERTS, INSERTS_SECOND, INSERTS_THIRD),
+        Op::Delete(_, way) => by_way(way, DELETES, DELETES_SECOND, DELETES_THIRD),
         Op::Next(_) => NEXTS,
-        Op::Regrade(_, _, way) => by_way(way, REGRADES, REGRADES_SECOND),
+        Op::Regrade(_, _, way) => by_way(way, REGRADES, REGRADES_SECOND, REGRADES_THIRD),
     }
 }
 
 // It goes down by the second way.
 fn is_second_way(way: Way) -> bool
-    ensures { λ r. ⌜ r ≡ byWay way false true ⌝ }
+    ensures { λ r. ⌜ r ≡ byWay way false true false ⌝ }
 {
     match way {
         Way::First => false,
         Way::Second => true,
+        Way::Third => false,
     }
 }
 
@@ -101,6 +110,29 @@ pub fn is_second(op: Op) -> bool
         Op::Delete(_, way) => is_second_way(way),
         Op::Next(_) => false,
         Op::Regrade(_, _, way) => is_second_way(way),
+    }
+}
+
+// It goes down by the third way.
+fn is_third_way(way: Way) -> bool
+    ensures { λ r. ⌜ r ≡ byWay way false false true ⌝ }
+{
+    match way {
+        Way::First => false,
+        Way::Second => false,
+        Way::Third => true,
+    }
+}
+
+pub fn is_third(op: Op) -> bool
+    ensures { λ r. ⌜ r ≡ isThird op ⌝ }
+{
+    match op {
+        Op::Search(_) => false,
+        Op::Insert(_, _, way) => is_third_way(way),
+        Op::Delete(_, way) => is_third_way(way),
+        Op::Next(_) => false,
+        Op::Regrade(_, _, way) => is_third_way(way),
     }
 }
 
@@ -117,17 +149,18 @@ pub fn first_way(op: Op) -> Op
     }
 }
 
-// The lock under which an update holds its pages, by its way.
+// The lock with which an update goes down, by its way.
 fn way_lock(way: Way) -> Lock
-    ensures { λ r. ⌜ r ≡ byWay way Lock.Xi Lock.UpdaterRho ⌝ }
+    ensures { λ r. ⌜ r ≡ byWay way Lock.Xi Lock.UpdaterRho Lock.Alpha ⌝ }
 {
     match way {
         Way::First => Lock::Xi,
         Way::Second => Lock::UpdaterRho,
+        Way::Third => Lock::Alpha,
     }
 }
 
-// The lock under which an operation holds its pages.
+// The lock with which an operation goes down.
 pub fn held_lock(op: Op) -> Lock
     ensures { λ r. ⌜ r ≡ heldLock op ⌝ }
 {
@@ -167,6 +200,15 @@ pub fn asked_by(kind: u32, key: u32, information: u32) -> Asked
     }
     if kind == REGRADES_SECOND {
         return Asked::Known(Op::Regrade(key, information, Way::Second));
+    }
+    if kind == INSERTS_THIRD {
+        return Asked::Known(Op::Insert(key, information, Way::Third));
+    }
+    if kind == DELETES_THIRD {
+        return Asked::Known(Op::Delete(key, Way::Third));
+    }
+    if kind == REGRADES_THIRD {
+        return Asked::Known(Op::Regrade(key, information, Way::Third));
     }
     Asked::Unknown
 }

@@ -1,4 +1,4 @@
--- Laws for the test of a state, on lists: the first elements of a list pass a test or differ, pages are named one by one, and so are locks.
+-- Laws for the test of a state, on lists: the first elements of a list pass a test or differ, pages are named one by one, and so are words.
 use Prim.Native.Nat.{ℕ, _+_, _≤_, _<_}
 use mathlib.Core.Bool.{Bool, true, false, not, _&&_, _||_}
 use mathlib.Core.List.{List, [], _++_}
@@ -13,8 +13,8 @@ use lib.Seq.{length-take-le, getD-take}
 use Rattle.ground.specs.Tests.{all, allBelow, member, distinct}
 use Rattle.ground.proofs.Bools.{and-both, and-first, and-second, and-first-fails, and-second-fails, or-cases, or-first-fails, or-second-fails, not-of-true, not-of-false, false-if-not-true}
 use Rattle.ground.proofs.Tests.{all-none, all-more, all-stops, member-append, member-at, distinct-none, distinct-more, distinct-at, allBelow-none, allBelow-more, allBelow-stops}
-use Rattle.lent.specs.Words.{cell, numberIn}
-use Rattle.soundness.specs.Checking.{enters, mayEnter, columnUnder}
+use Rattle.lent.specs.Words.{cell}
+use Rattle.soundness.specs.Checking.{enters, mayEnter, columnPasses}
 
 -- ---- the first elements of a list, one more in each turn
 
@@ -49,74 +49,73 @@ module _ (xs : List ℕ) (i : ℕ) where
 -- ---- pages, one more in each turn
 
 -- no page: nothing is asked
-pub may-none : (n want : ℕ) (own : List ℕ) → mayEnter n want own [] ≡ true
+pub may-none : (n other : ℕ) (own : List ℕ) → mayEnter n other own [] ≡ true
 unfolding mayEnter
-may-none n want own = and-both (all-none (enters n want own)) distinct-none
+may-none n other own = and-both (all-none (enters n other own)) distinct-none
 
-module _ (n want : ℕ) (own pages : List ℕ) (i : ℕ) where
+module _ (n other : ℕ) (own pages : List ℕ) (i : ℕ) where
   -- one page more
-  pub may-on : i < length pages → mayEnter n want own (take i pages) ≡ true → getD pages i 0 < n → (getD pages i 0 ≡ want → ⊥)
-      → member (getD pages i 0) (own ++ take i pages) ≡ false → mayEnter n want own (take (i + 1) pages) ≡ true
+  pub may-on : i < length pages → mayEnter n other own (take i pages) ≡ true → getD pages i 0 < n → (getD pages i 0 ≡ other → ⊥)
+      → member (getD pages i 0) (own ++ take i pages) ≡ false → mayEnter n other own (take (i + 1) pages) ≡ true
   unfolding mayEnter
-  may-on h t low other new =
+  may-on h t low apart new =
       let p : ℕ = getD pages i 0 in
       let parts : member p own || member p (take i pages) ≡ false = sym (member-append p own (take i pages)) ∙ new in
       and-both
-      (all-on pages i (enters n want own) h
-      (and-first (all (enters n want own) (take i pages)) (distinct (take i pages)) t)
-      (and-both (and-both (lt-ltb p n low) (not-of-false (ne-eqb p want other))) (not-of-false (or-first-fails (member p own) (member p (take i pages)) parts))))
+      (all-on pages i (enters n other own) h
+      (and-first (all (enters n other own) (take i pages)) (distinct (take i pages)) t)
+      (and-both (and-both (lt-ltb p n low) (not-of-false (ne-eqb p other apart))) (not-of-false (or-first-fails (member p own) (member p (take i pages)) parts))))
       (differ-on pages i h
-      (and-second (all (enters n want own) (take i pages)) (distinct (take i pages)) t)
+      (and-second (all (enters n other own) (take i pages)) (distinct (take i pages)) t)
       (or-second-fails (member p own) (member p (take i pages)) parts))
 
   module _ (count : ℕ) (h : i < count) (room : count ≤ length pages) where
     -- a page is not below n
-    pub may-stop-high : n ≤ getD pages i 0 → mayEnter n want own (take count pages) ≡ false
+    pub may-stop-high : n ≤ getD pages i 0 → mayEnter n other own (take count pages) ≡ false
     unfolding mayEnter
     may-stop-high high =
         and-first-fails (distinct (take count pages))
-        (all-stop pages i (enters n want own) count h room
-        (and-first-fails (not (member (getD pages i 0) own)) (and-first-fails (not (eqb (getD pages i 0) want)) (le-ltb (getD pages i 0) n high))))
+        (all-stop pages i (enters n other own) count h room
+        (and-first-fails (not (member (getD pages i 0) own)) (and-first-fails (not (eqb (getD pages i 0) other)) (le-ltb (getD pages i 0) n high))))
 
-    -- a page is the wanted one
-    pub may-stop-want : getD pages i 0 ≡ want → mayEnter n want own (take count pages) ≡ false
+    -- a page is the other one
+    pub may-stop-other : getD pages i 0 ≡ other → mayEnter n other own (take count pages) ≡ false
     unfolding mayEnter
-    may-stop-want e =
+    may-stop-other e =
         and-first-fails (distinct (take count pages))
-        (all-stop pages i (enters n want own) count h room
-        (and-first-fails (not (member (getD pages i 0) own)) (and-second-fails (ltb (getD pages i 0) n) (not-of-true (eq-eqb (getD pages i 0) want e)))))
+        (all-stop pages i (enters n other own) count h room
+        (and-first-fails (not (member (getD pages i 0) own)) (and-second-fails (ltb (getD pages i 0) n) (not-of-true (eq-eqb (getD pages i 0) other e)))))
 
     -- a page stands in the list already
-    pub may-stop-twice : member (getD pages i 0) (own ++ take i pages) ≡ true → mayEnter n want own (take count pages) ≡ false
+    pub may-stop-twice : member (getD pages i 0) (own ++ take i pages) ≡ true → mayEnter n other own (take count pages) ≡ false
     unfolding mayEnter
     may-stop-twice m = ⊎-elim first again (or-cases (member p own) (member p (take i pages)) (sym (member-append p own (take i pages)) ∙ m))
       where
         p : ℕ
         p = getD pages i 0
 
-        first : member p own ≡ true → all (enters n want own) (take count pages) && distinct (take count pages) ≡ false
+        first : member p own ≡ true → all (enters n other own) (take count pages) && distinct (take count pages) ≡ false
         first o =
             and-first-fails (distinct (take count pages))
-            (all-stop pages i (enters n want own) count h room (and-second-fails (ltb p n && not (eqb p want)) (not-of-true o)))
+            (all-stop pages i (enters n other own) count h room (and-second-fails (ltb p n && not (eqb p other)) (not-of-true o)))
 
-        again : member p (take i pages) ≡ true → all (enters n want own) (take count pages) && distinct (take count pages) ≡ false
-        again w = and-second-fails (all (enters n want own) (take count pages)) (differ-stop pages i count h room w)
+        again : member p (take i pages) ≡ true → all (enters n other own) (take count pages) && distinct (take count pages) ≡ false
+        again w = and-second-fails (all (enters n other own) (take count pages)) (differ-stop pages i count h room w)
 
--- ---- the locks of a column, one more in each turn
+-- ---- the words of a column, one more in each turn
 
-module _ (ws : List ℕ) (row s number : ℕ) where
-  abbrev has : ℕ → Bool
-  has j = eqb (numberIn (cell ws (row + j) s)) number
+module _ (test : ℕ → Bool) (ws : List ℕ) (row s : ℕ) where
+  abbrev passes : ℕ → Bool
+  passes j = test (cell ws (row + j) s)
 
-  pub under-none : columnUnder ws row s 0 number ≡ true
-  unfolding columnUnder
-  under-none = allBelow-none has
+  pub passes-none : columnPasses test ws row s 0 ≡ true
+  unfolding columnPasses
+  passes-none = allBelow-none passes
 
-  pub under-on : (i : ℕ) → columnUnder ws row s i number ≡ true → numberIn (cell ws (row + i) s) ≡ number → columnUnder ws row s (i + 1) number ≡ true
-  unfolding columnUnder
-  under-on i t e =
-      ap (λ (m : ℕ). allBelow m has) (add-one i) ∙ allBelow-more has i ∙ and-both t (eq-eqb (numberIn (cell ws (row + i) s)) number e)
+  pub passes-on : (i : ℕ) → columnPasses test ws row s i ≡ true → test (cell ws (row + i) s) ≡ true → columnPasses test ws row s (i + 1) ≡ true
+  unfolding columnPasses
+  passes-on i t e = ap (λ (m : ℕ). allBelow m passes) (add-one i) ∙ allBelow-more passes i ∙ and-both t e
 
-  pub under-stop : (i count : ℕ) → i < count → (numberIn (cell ws (row + i) s) ≡ number → ⊥) → columnUnder ws row s count number ≡ false
-  unfolding columnUnder
-  under-stop i count h n = allBelow-stops has count i h (ne-eqb (numberIn (cell ws (row + i) s)) number n)
+  pub passes-stop : (i count : ℕ) → i < count → test (cell ws (row + i) s) ≡ false → columnPasses test ws row s count ≡ false
+  unfolding columnPasses
+  passes-stop i count h f = allBelow-stops passes count i h f

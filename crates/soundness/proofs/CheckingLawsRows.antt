@@ -1,155 +1,140 @@
 -- Laws for the rows of the slots: what they tell of a slot's pages, and that with the slots that hold more than one page they
 -- are the rule of a sound slot.
 use Prim.Native.Nat.{ℕ, zero, suc, _+_, _-_, _≤_, _<_}
-use mathlib.Core.Bool.{Bool, true, false, not, _&&_, _||_, and-true, and-false}
+use mathlib.Core.Bool.{Bool, true, false, cond, not, _&&_, _||_, and-true, and-false}
 use mathlib.Core.List.{List, [], _∷_, _++_}
 use mathlib.Core.Logic.{_⊎_, inl, inr, ⊎-elim}
 use mathlib.Core.Path.{_≡_, refl, sym, ap, ap₂, _∙_}
 use native.Mathlib.Omega.{arith}
-use borrow.Author.Tests.{eq-eqb, eqb-true, le-leb, lt-leb, leb-true, ltb-true, ltb-false, not-true}
+use borrow.Author.Tests.{eq-eqb, eqb-true, le-leb, lt-leb, leb-true, ltb-true, ltb-false}
 use lib.Dec.{eqb, ltb, leb}
-use lib.ListN.{length, getD, take, length-append}
-use lib.Seq.{length-take-le}
+use lib.ListN.{length, getD, take}
 use Rattle.ground.specs.Limits.{searchHolds, regradeHolds, secondHolds, pathHolds, siblingHolds}
 use Rattle.ground.specs.Tests.{all, allBelow, member, distinct}
 use Rattle.ground.proofs.Bools.{and-first, and-second, and-both, and-first-fails, or-cases, or-first, or-second, or-first-fails, or-second-fails, not-of-false, same-if-true-together, true-or-false}
 use Rattle.ground.proofs.Choice.{by-test}
-use Rattle.ground.proofs.Tests.{all-none, all-append, all-more, allBelow-none, allBelow-more, allBelow-at}
+use Rattle.ground.proofs.Tests.{allBelow-at}
+use Rattle.slots.specs.declared.Op.{Op}
+use Rattle.slots.specs.declared.Op.the-variants.{Search, Insert, Delete, Next, Regrade}
+use Rattle.slots.specs.declared.Way.the-variants.{First, Second, Third}
+use Rattle.slots.specs.declared.Task.the-variants.{Open}
 use Rattle.slots.specs.declared.Lock.{Lock}
-use Rattle.slots.specs.declared.Lock.the-variants.{None, Rho, Xi, UpdaterRho}
+use Rattle.slots.specs.declared.Lock.the-variants.{None, Rho, Xi, UpdaterRho, Alpha}
 use Rattle.slots.specs.declared.Under.{Under}
 use Rattle.slots.specs.declared.Slot.{Slot}
 use Rattle.slots.specs.Heard.{lockNumber, lockNamed}
+use Rattle.slots.specs.Operations.{isThird}
 use Rattle.slots.specs.Parts.{under, held, heldLocks, pathOf, besideOf, locksOf, sidelocksOf}
-use Rattle.slots.specs.Locks.{lockHeld, sameLock}
-use Rattle.slots.specs.Sound.{withinLimits, belowAndOnce, ifOpen, wantsRightly, holdsRightly, slotSound}
-use Rattle.slots.proofs.LockLaws.{isLock, among-every}
+use Rattle.slots.specs.Locks.{lockAmong, lockHeld, sameLock, canHold}
+use Rattle.slots.specs.Sound.{withinLimits, belowAndOnce, ifOpen, wantsRightly, holdsRightly, convertsRightly, slotSound}
+use Rattle.slots.proofs.LockLaws.{isLock, among-none}
 use Rattle.lent.specs.Layout.{rowLength, columnLength, kindRow, keyRow, informationRow, wantRow, lockRow, depthRow, breadthRow, pathRow, besideRow}
 use Rattle.lent.specs.Words.{cell, pageIn, numberIn, column, lockColumn, highestKind, taskFrom, slotIn}
 use Rattle.lent.specs.Holds.{WithinRows}
 use Rattle.lent.proofs.HoldLaws.{by-kind, same-number}
 use Rattle.lent.proofs.StateLaws.{length-column, column-cell, length-locks, lock-cell}
-use Rattle.soundness.specs.Checking.{kindLock, topRow, kindWants, rowFine, mayHoldMore, columnUnder, underKind, deepFine}
+use Rattle.soundness.specs.Checking.{kindHolds, topRow, kindWants, asConversion, rowFine, mayHoldMore, columnPasses, heldPass, wordUnder, columnUnder, underKind, convertsFine, pagesFine, deepFine}
+use Rattle.soundness.proofs.CheckingLawsHeld.{held-pass}
 
 -- ---- what the rows tell of the pages
-
--- the wanted page and the top of the path, if there is one, are below n and not the same
-abbrev named : ℕ → ℕ → ℕ → ℕ → Bool
-named depth n want top = ltb want n && (eqb depth 0 || (ltb top n && not (eqb want top)))
-
-abbrev asked : ℕ → ℕ → List ℕ → Bool
-asked n want pages = all (λ (p : ℕ). ltb p n) (want ∷ pages) && distinct (want ∷ pages)
-
-none-held : (a : Bool) → a && true ≡ (a && true) && true
-none-held true = refl
-none-held false = refl
-
-one-held : (a b e : Bool) → a && (b && not e) ≡ (a && (b && true)) && (not (e || false) && true)
-one-held true true true = refl
-one-held true true false = refl
-one-held true false e = refl
-one-held false b e = refl
-
--- one page or none is held
-shallow : (n want depth breadth : ℕ) (path siblings : List ℕ) → length path ≡ columnLength → ltb 1 depth || ltb 0 breadth ≡ false
-    → named depth n want (getD path 0 0) ≡ asked n want (take depth path ++ take breadth siblings)
-unfolding all distinct member
-shallow n want depth breadth path siblings long e =
-    let none : breadth ≡ 0 = omega (arith, ltb-false 0 breadth (or-second-fails (ltb 1 depth) (ltb 0 breadth) e)) in
-    by-depth depth (ltb-false 1 depth (or-first-fails (ltb 1 depth) (ltb 0 breadth) e)) path long
-    ∙ ap (λ (b : ℕ). asked n want (take depth path ++ take b siblings)) (sym none)
-  where
-    by-depth : (d : ℕ) → d ≤ 1 → (l : List ℕ) → length l ≡ columnLength → named d n want (getD l 0 0) ≡ asked n want (take d l ++ [])
-    by-depth zero h l k = none-held (ltb want n)
-    by-depth (suc zero) h [] k = absurd (omega arith)
-    by-depth (suc zero) h (x ∷ l) k = one-held (ltb want n) (ltb x n) (eqb want x)
-    by-depth (suc (suc d)) h l k = absurd (omega arith)
-
--- however many are held
-rows-of-pages : (n want depth : ℕ) (path rest : List ℕ) → length path ≡ columnLength → asked n want (take depth path ++ rest) ≡ true → named depth n want (getD path 0 0) ≡ true
-unfolding all distinct member
-rows-of-pages n want zero path rest long e =
-    and-both (and-first (ltb want n) (all (λ (p : ℕ). ltb p n) rest) (and-first (all (λ (p : ℕ). ltb p n) (want ∷ rest)) (distinct (want ∷ rest)) e)) refl
-rows-of-pages n want (suc d) [] rest long e = absurd (omega arith)
-rows-of-pages n want (suc d) (x ∷ path) rest long e =
-    let pages : List ℕ = x ∷ (take d path ++ rest) in
-    let low = and-first (all (λ (p : ℕ). ltb p n) (want ∷ pages)) (distinct (want ∷ pages)) e in
-    let differ = and-second (all (λ (p : ℕ). ltb p n) (want ∷ pages)) (distinct (want ∷ pages)) e in
-    let below = and-first (ltb x n) (all (λ (p : ℕ). ltb p n) (take d path ++ rest)) (and-second (ltb want n) (all (λ (p : ℕ). ltb p n) pages) low) in
-    let other = or-first-fails (eqb want x) (member want (take d path ++ rest)) (not-true (member want pages) (and-first (not (member want pages)) (distinct pages) differ)) in
-    and-both (and-first (ltb want n) (all (λ (p : ℕ). ltb p n) pages) low) (or-second (eqb (suc d) 0) (and-both below (not-of-false other)))
-
--- ---- the locks of the pages
-
--- the lock of the top is asked behind what is asked of its page
-lock-behind : (a z x l : Bool) → a && (z || x && l) ≡ a && (z || x) && (z || l)
-lock-behind true true x l = refl
-lock-behind true false x l = refl
-lock-behind false z x l = refl
-
-module _ (ws : List ℕ) (s number : ℕ) where
-  -- one page or none is held
-  under-shallow : (depth breadth : ℕ) → ltb 1 depth || ltb 0 breadth ≡ false
-      → eqb depth 0 || eqb (numberIn (cell ws pathRow s)) number ≡ columnUnder ws pathRow s depth number && columnUnder ws besideRow s breadth number
-  unfolding columnUnder allBelow
-  under-shallow depth breadth e =
-      let none : breadth ≡ 0 = omega (arith, ltb-false 0 breadth (or-second-fails (ltb 1 depth) (ltb 0 breadth) e)) in
-      by-depth depth (ltb-false 1 depth (or-first-fails (ltb 1 depth) (ltb 0 breadth) e))
-      ∙ ap (λ (b : ℕ). columnUnder ws pathRow s depth number && columnUnder ws besideRow s b number) (sym none)
-    where
-      by-depth : (d : ℕ) → d ≤ 1 → eqb d 0 || eqb (numberIn (cell ws pathRow s)) number ≡ columnUnder ws pathRow s d number && true
-      by-depth zero h = refl
-      by-depth (suc zero) h = sym (and-true (eqb (numberIn (cell ws pathRow s)) number))
-      by-depth (suc (suc d)) h = absurd (omega arith)
-
-  -- however many are held
-  under-top : (depth : ℕ) → columnUnder ws pathRow s depth number ≡ true → eqb depth 0 || eqb (numberIn (cell ws pathRow s)) number ≡ true
-  unfolding columnUnder
-  under-top zero e = refl
-  under-top (suc d) e =
-      or-second (eqb (suc d) 0) (allBelow-at (λ (j : ℕ). eqb (numberIn (cell ws (pathRow + j) s)) number) (suc d) e 0 (omega arith))
-
--- the numbers of a column as locks
-under-cells : (lock : Lock) → isLock lock ≡ true → (ws : List ℕ) (row s count : ℕ) → count ≤ columnLength
-    → columnUnder ws row s count (lockNumber lock) ≡ all (λ (u : Under). sameLock (u .lock) lock) (take count (lockColumn ws row s))
-unfolding columnUnder
-under-cells lock o ws row s zero h =
-    allBelow-none (λ (j : ℕ). eqb (numberIn (cell ws (row + j) s)) (lockNumber lock)) ∙ sym (all-none (λ (u : Under). sameLock (u .lock) lock))
-under-cells lock o ws row s (suc i) h =
-    allBelow-more (λ (j : ℕ). eqb (numberIn (cell ws (row + j) s)) (lockNumber lock)) i
-    ∙ ap₂ (λ (a b : Bool). a && b) (under-cells lock o ws row s i (omega arith))
-    (same-number lock o (numberIn (cell ws (row + i) s)) ∙ ap (λ (u : Under). sameLock (u .lock) lock) (sym (lock-cell ws row s i (omega arith))))
-    ∙ sym (all-more (λ (u : Under). sameLock (u .lock) lock) (lockColumn ws row s) i (under None) (omega (arith, length-locks ws row s)))
-
--- A slot that holds no page twice: the locks of its pages are those in their cells.
-module _ (ws : List ℕ) (s : ℕ) (path : cell ws depthRow s ≤ columnLength) (beside : cell ws breadthRow s ≤ columnLength) where
-  paired : length (heldLocks (slotIn ws s)) ≡ length (held (slotIn ws s))
-  unfolding pathOf besideOf locksOf sidelocksOf
-  paired =
-      let d : ℕ = cell ws depthRow s in
-      let b : ℕ = cell ws breadthRow s in
-      length-append (take d (lockColumn ws pathRow s)) (take b (lockColumn ws besideRow s))
-      ∙ ap₂ (λ (x y : ℕ). x + y) (long d (lockColumn ws pathRow s) (length-locks ws pathRow s) path) (long b (lockColumn ws besideRow s) (length-locks ws besideRow s) beside)
-      ∙ sym (ap₂ (λ (x y : ℕ). x + y) (long d (column ws pathRow s) (length-column ws pathRow s) path) (long b (column ws besideRow s) (length-column ws besideRow s) beside))
-      ∙ sym (length-append (take d (column ws pathRow s)) (take b (column ws besideRow s)))
-    where
-      long : {A : Type 0} (m : ℕ) (l : List A) → length l ≡ columnLength → m ≤ columnLength → length (take m l) ≡ m
-      long m l e h = length-take-le m l (omega arith)
-
-  under-held : (lock : Lock) → isLock lock ≡ true → distinct (held (slotIn ws s)) ≡ true
-      → columnUnder ws pathRow s (cell ws depthRow s) (lockNumber lock) && columnUnder ws besideRow s (cell ws breadthRow s) (lockNumber lock)
-      ≡ all (λ (p : ℕ). sameLock (lockHeld (slotIn ws s) p) lock) (held (slotIn ws s))
-  unfolding pathOf besideOf locksOf sidelocksOf
-  under-held lock o different =
-      ap₂ (λ (a b : Bool). a && b) (under-cells lock o ws pathRow s (cell ws depthRow s) path) (under-cells lock o ws besideRow s (cell ws breadthRow s) beside)
-      ∙ sym (all-append (λ (u : Under). sameLock (u .lock) lock) (take (cell ws depthRow s) (lockColumn ws pathRow s)) (take (cell ws breadthRow s) (lockColumn ws besideRow s)))
-      ∙ among-every (λ (l : Lock). sameLock l lock) (held (slotIn ws s)) (heldLocks (slotIn ws s)) paired different
-
--- ---- what a fine row says
 
 -- more than one page is held
 abbrev more : ℕ → ℕ → Bool
 more depth breadth = ltb 1 depth || ltb 0 breadth
+
+-- the wanted page and the top of the path, if there is one, are below n
+abbrev named : ℕ → ℕ → ℕ → ℕ → Bool
+named depth n want top = ltb want n && (eqb depth 0 || ltb top n)
+
+-- a slot that holds no more than its top converts it if it wants it, and nothing else; c: it wants a conversion, own: its top, a: that is under α
+abbrev turns : Bool → Bool → Bool → Bool → Bool
+turns deep c own a = deep || (c && own && a) || (not c && not own)
+
+abbrev asked : ℕ → ℕ → List ℕ → Bool
+asked n want pages = all (λ (p : ℕ). ltb p n) (want ∷ pages) && distinct pages
+
+abbrev converts : Bool → ℕ → List ℕ → List Under → Bool
+converts c want pages locks = cond c (sameLock (lockAmong want pages locks) Alpha) (not (member want pages))
+
+none-held : (x c a : Bool) → (x && true) && turns false c false a ≡ ((x && true) && true) && cond c false true
+none-held true true a = refl
+none-held true false a = refl
+none-held false c a = refl
+
+one-held : (x b c e a : Bool) (l : Lock) → a ≡ sameLock l Alpha
+    → (x && b) && turns false c e a ≡ ((x && (b && true)) && (not false && true)) && cond c (sameLock (cond e l None) Alpha) (not (e || false))
+one-held false b c e a l s = refl
+one-held true false c e a l s = refl
+one-held true true true true true l s = s
+one-held true true true true false l s = s
+one-held true true true false a l s = refl
+one-held true true false true a l s = refl
+one-held true true false false a l s = refl
+
+-- one page or none is held
+shallow : (n want depth breadth : ℕ) (c a : Bool) (path siblings : List ℕ) (locks others : List Under) → length path ≡ columnLength → length locks ≡ columnLength
+    → a ≡ sameLock (getD locks 0 (under None) .lock) Alpha → more depth breadth ≡ false
+    → named depth n want (getD path 0 0) && turns (more depth breadth) c (ltb 0 depth && eqb want (getD path 0 0)) a
+    ≡ asked n want (take depth path ++ take breadth siblings) && converts c want (take depth path ++ take breadth siblings) (take depth locks ++ take breadth others)
+unfolding all distinct member lockAmong
+shallow n want depth breadth c a path siblings locks others long many alpha e =
+    let none : breadth ≡ 0 = omega (arith, ltb-false 0 breadth (or-second-fails (ltb 1 depth) (ltb 0 breadth) e)) in
+    ap (λ (m : Bool). named depth n want (getD path 0 0) && turns m c (ltb 0 depth && eqb want (getD path 0 0)) a) e
+    ∙ by-depth depth (ltb-false 1 depth (or-first-fails (ltb 1 depth) (ltb 0 breadth) e)) path locks long many alpha
+    ∙ ap (λ (b : ℕ). asked n want (take depth path ++ take b siblings) && converts c want (take depth path ++ take b siblings) (take depth locks ++ take b others)) (sym none)
+  where
+    by-depth : (d : ℕ) → d ≤ 1 → (l : List ℕ) (us : List Under) → length l ≡ columnLength → length us ≡ columnLength → a ≡ sameLock (getD us 0 (under None) .lock) Alpha
+        → named d n want (getD l 0 0) && turns false c (ltb 0 d && eqb want (getD l 0 0)) a ≡ asked n want (take d l ++ []) && converts c want (take d l ++ []) (take d us ++ [])
+    by-depth zero h l us k m s = none-held (ltb want n) c a
+    by-depth (suc zero) h [] us k m s = absurd (omega arith)
+    by-depth (suc zero) h (x ∷ l) [] k m s = absurd (omega arith)
+    by-depth (suc zero) h (x ∷ l) (u ∷ us) k m s = one-held (ltb want n) (ltb x n) c (eqb want x) a (u .lock) s
+    by-depth (suc (suc d)) h l us k m s = absurd (omega arith)
+
+-- however many are held
+rows-of-pages : (n want depth : ℕ) (path rest : List ℕ) → length path ≡ columnLength → asked n want (take depth path ++ rest) ≡ true → named depth n want (getD path 0 0) ≡ true
+unfolding all
+rows-of-pages n want zero path rest long e =
+    and-both (and-first (ltb want n) (all (λ (p : ℕ). ltb p n) rest) (and-first (all (λ (p : ℕ). ltb p n) (want ∷ rest)) (distinct rest) e)) refl
+rows-of-pages n want (suc d) [] rest long e = absurd (omega arith)
+rows-of-pages n want (suc d) (x ∷ path) rest long e =
+    let pages : List ℕ = x ∷ (take d path ++ rest) in
+    let low = and-first (all (λ (p : ℕ). ltb p n) (want ∷ pages)) (distinct pages) e in
+    let below = and-first (ltb x n) (all (λ (p : ℕ). ltb p n) (take d path ++ rest)) (and-second (ltb want n) (all (λ (p : ℕ). ltb p n) pages) low) in
+    and-both (and-first (ltb want n) (all (λ (p : ℕ). ltb p n) pages) low) (or-second (eqb (suc d) 0) below)
+
+-- ---- the locks of the pages
+
+-- the lock of the top is asked behind what is asked of its page, and of the want
+lock-behind : (x z b h k : Bool) → x && ((z || b && h) && k) ≡ (x && (z || b) && k) && (z || h)
+lock-behind false z b h k = refl
+lock-behind true true b h k = sym (and-true k)
+lock-behind true false true true k = sym (and-true k)
+lock-behind true false true false k = sym (and-false k)
+lock-behind true false false h k = refl
+
+module _ (test : ℕ → Bool) (ws : List ℕ) (s : ℕ) where
+  -- one page or none is held
+  under-shallow : (depth breadth : ℕ) → more depth breadth ≡ false
+      → eqb depth 0 || test (cell ws pathRow s) ≡ columnPasses test ws pathRow s depth && columnPasses test ws besideRow s breadth
+  unfolding columnPasses allBelow
+  under-shallow depth breadth e =
+      let none : breadth ≡ 0 = omega (arith, ltb-false 0 breadth (or-second-fails (ltb 1 depth) (ltb 0 breadth) e)) in
+      by-depth depth (ltb-false 1 depth (or-first-fails (ltb 1 depth) (ltb 0 breadth) e))
+      ∙ ap (λ (b : ℕ). columnPasses test ws pathRow s depth && columnPasses test ws besideRow s b) (sym none)
+    where
+      by-depth : (d : ℕ) → d ≤ 1 → eqb d 0 || test (cell ws pathRow s) ≡ columnPasses test ws pathRow s d && true
+      by-depth zero h = refl
+      by-depth (suc zero) h = sym (and-true (test (cell ws pathRow s)))
+      by-depth (suc (suc d)) h = absurd (omega arith)
+
+  -- however many are held
+  under-top : (depth : ℕ) → columnPasses test ws pathRow s depth ≡ true → eqb depth 0 || test (cell ws pathRow s) ≡ true
+  unfolding columnPasses
+  under-top zero e = refl
+  under-top (suc d) e = or-second (eqb (suc d) 0) (allBelow-at (λ (j : ℕ). test (cell ws (pathRow + j) s)) (suc d) e 0 (omega arith))
+
+-- ---- what a fine row says
 
 -- fewer beside the path than on it
 abbrev fewer : ℕ → ℕ → Bool
@@ -248,17 +233,19 @@ beside-too depth breadth =
     ∙ follows (leb depth columnLength) (leb breadth (columnLength - 1)) (fewer depth breadth) (few-beside depth breadth)
 
 -- the kind's test stands before that of the pages, which asks what the rows ask
-fits : (r w t d m p : Bool) → (d ≡ false → w && t ≡ p) → (p ≡ true → w && t ≡ true) → r && w && t && (not d || (m && p)) ≡ r && (not d || m) && p
+fits : (r w t d m p : Bool) → (d ≡ false → w && t ≡ p) → (d ≡ true → p ≡ true → w && t ≡ true) → r && w && t && (not d || (m && p)) ≡ r && (not d || m) && p
 fits false w t d m p f g = refl
 fits true w t false m p f g = and-true (w && t) ∙ f refl
 fits true w t true false p f g = and-false (w && t)
-fits true w t true true true f g = and-true (w && t) ∙ g refl
+fits true w t true true true f g = and-true (w && t) ∙ g refl refl
 fits true w t true true false f g = and-false (w && t)
 
-module _ (key information depth breadth n want : ℕ) (top pages : Bool) (empty : depth ≡ 0 → top ≡ true)
-    (same : more depth breadth ≡ false → ltb want n && top ≡ pages) (told : pages ≡ true → ltb want n && top ≡ true) where
+module _ (key information depth breadth n want : ℕ) (top pages : Bool)
+    (same : more depth breadth ≡ false → ltb want n && top ≡ pages) (told : more depth breadth ≡ true → pages ≡ true → ltb want n && top ≡ true) where
+  -- of a closed slot the top, which is not there, tells nothing
   abbrev Fits : ℕ → Type 0
-  Fits kind = rowPages kind depth breadth n want top && (not (more depth breadth) || (mayHoldMore kind breadth && pages))
+  Fits kind = (eqb kind 0 ≡ true → depth ≡ 0 → top ≡ true)
+      → rowPages kind depth breadth n want top && (not (more depth breadth) || (mayHoldMore kind breadth && pages))
       ≡ withinLimits (taskFrom kind key information) depth breadth && ifOpen (taskFrom kind key information) pages
 
   -- the limits of an open kind are the rule's; what is left are the pages
@@ -271,7 +258,7 @@ module _ (key information depth breadth n want : ℕ) (top pages : Bool) (empty 
 
   -- a closed slot: nothing is held, and nothing asked of its pages
   nothing : Fits 0
-  nothing =
+  nothing empty =
       same-if-true-together (rowPages 0 depth breadth n want top && (not (more depth breadth) || false)) (most 0 0 depth breadth && true)
       (λ e.
       let none = row-says 0 depth breadth n want top (and-first (rowPages 0 depth breadth n want top) (not (more depth breadth) || false) e) .closed refl in
@@ -282,15 +269,29 @@ module _ (key information depth breadth n want : ℕ) (top pages : Bool) (empty 
       let aside = leb-true breadth 0 (and-second (leb depth 0) (leb breadth 0) both) in
       let no-path : depth ≡ 0 = omega arith in
       let none-aside : breadth ≡ 0 = omega arith in
-      ap₂ (λ (d b : ℕ). rowPages 0 d b n want top && (not (more d b) || false)) no-path none-aside ∙ and-both (empty no-path) refl)
+      ap₂ (λ (d b : ℕ). rowPages 0 d b n want top && (not (more d b) || false)) no-path none-aside ∙ and-both (empty refl no-path) refl)
 
   -- a search, a regrading, and the updates by the second way
   at-most-one : Fits 1
   unfolding searchHolds
-  at-most-one =
+  at-most-one _ =
       limited 1 0 false
       (one-page (leb depth columnLength) (fewer depth breadth) (ltb 1 depth) (ltb 0 breadth) (λ e. let few = ltb-false 1 depth e in le-leb depth columnLength (omega arith))
       ∙ ap₂ (λ (a b : Bool). a && b && fewer depth breadth) (at-most depth 1) (at-most breadth 0))
+
+  -- an insertion
+  on-path : Fits 2
+  unfolding pathHolds
+  on-path _ =
+      limited columnLength 0 (eqb breadth 0)
+      (ap (λ (m : Bool). leb depth columnLength && true && fewer depth breadth && (not (more depth breadth) || m)) (at-most-none breadth ∙ sym (at-most breadth 0))
+      ∙ path-alone (leb depth columnLength) (fewer depth breadth) (ltb 1 depth) (ltb 0 breadth)
+      ∙ ap (λ (b : Bool). leb depth columnLength && b && fewer depth breadth) (at-most breadth 0))
+
+  -- a deletion, and Next
+  with-siblings : Fits 3
+  unfolding pathHolds siblingHolds
+  with-siblings _ = limited columnLength (columnLength - 1) true (beside-too depth breadth)
 
   kind-fits : (kind : ℕ) → kind ≤ highestKind → Fits kind
   unfolding searchHolds regradeHolds secondHolds pathHolds siblingHolds
@@ -298,15 +299,15 @@ module _ (key information depth breadth n want : ℕ) (top pages : Bool) (empty 
       by-kind Fits
       nothing
       at-most-one
-      (limited columnLength 0 (eqb breadth 0)
-      (ap (λ (m : Bool). leb depth columnLength && true && fewer depth breadth && (not (more depth breadth) || m)) (at-most-none breadth ∙ sym (at-most breadth 0))
-      ∙ path-alone (leb depth columnLength) (fewer depth breadth) (ltb 1 depth) (ltb 0 breadth)
-      ∙ ap (λ (b : Bool). leb depth columnLength && b && fewer depth breadth) (at-most breadth 0)))
-      (limited columnLength (columnLength - 1) true (beside-too depth breadth))
-      (limited columnLength (columnLength - 1) true (beside-too depth breadth))
+      on-path
+      with-siblings
+      with-siblings
       at-most-one
       at-most-one
       at-most-one
+      at-most-one
+      on-path
+      with-siblings
       at-most-one
 
 -- what is within the limits of a kind is within the rows
@@ -322,6 +323,9 @@ limits-short key information depth breadth =
     (few 1 0 (omega arith) (omega arith))
     (few 1 0 (omega arith) (omega arith))
     (few 1 0 (omega arith) (omega arith))
+    (few 1 0 (omega arith) (omega arith))
+    (few 10 0 (omega arith) (omega arith))
+    (few 10 9 (omega arith) (omega arith))
     (few 1 0 (omega arith) (omega arith))
   where
     few : (onPath aside : ℕ) → onPath ≤ columnLength → aside ≤ columnLength → most onPath aside depth breadth ≡ true → (depth ≤ columnLength) × (breadth ≤ columnLength)
@@ -344,52 +348,89 @@ module _ (key information lock : ℕ) where
   updates : eqb lock (lockNumber Xi) || false ≡ sameLock (lockNamed lock) Xi || false
   updates = ap (λ (b : Bool). b || false) (same-number Xi refl lock)
 
-  either : eqb lock (lockNumber UpdaterRho) || eqb lock (lockNumber Xi) ≡ sameLock (lockNamed lock) UpdaterRho || sameLock (lockNamed lock) Xi
-  either = ap₂ (λ (a b : Bool). a || b) (same-number UpdaterRho refl lock) (same-number Xi refl lock)
+  second : eqb lock (lockNumber UpdaterRho) || eqb lock (lockNumber Xi) ≡ sameLock (lockNamed lock) UpdaterRho || sameLock (lockNamed lock) Xi
+  second = ap₂ (λ (a b : Bool). a || b) (same-number UpdaterRho refl lock) (same-number Xi refl lock)
+
+  third : eqb lock (lockNumber Alpha) || eqb lock (lockNumber Xi) ≡ sameLock (lockNamed lock) Alpha || sameLock (lockNamed lock) Xi
+  third = ap₂ (λ (a b : Bool). a || b) (same-number Alpha refl lock) (same-number Xi refl lock)
 
   wants-fit : (kind : ℕ) → kind ≤ highestKind → Wants kind
-  wants-fit = by-kind Wants refl reads updates updates reads updates either either either
+  wants-fit = by-kind Wants refl reads updates updates reads updates second second second third third third
 
--- ---- the locks of what is held
+-- ---- the locks of what is held, and what is converted
 
--- kind by kind: the pages of a slot are under the lock of its kind, as the rule has it
+-- m: the wanted page is held, a: under α, t: by the third way, x: ξ is wanted
+turned : (m a t x : Bool) → (m ≡ false → a ≡ false) → cond (t && x) a (not m) ≡ cond m (t && a && x) (not (t && x))
+turned true a true true h = sym (and-true a)
+turned true a true false h = sym (and-false a)
+turned true a false x h = refl
+turned false a true true h = h refl
+turned false a true false h = refl
+turned false a false x h = refl
+
+swapped : (p c u : Bool) → (p && c) && u ≡ p && u && c
+swapped false c u = refl
+swapped true true u = sym (and-true u)
+swapped true false u = sym (and-false u)
+
+-- kind by kind: the pages of a slot are under locks that its kind can hold them under, and it converts rightly, as the rule has it
 module _ (ws : List ℕ) (n s key information : ℕ) (path : cell ws depthRow s ≤ columnLength) (beside : cell ws breadthRow s ≤ columnLength) where
   abbrev slot : Slot
   slot = slotIn ws s
 
-  -- all pages are held under the lock of this number
-  abbrev under-number : ℕ → Bool
-  under-number number = columnUnder ws pathRow s (cell ws depthRow s) number && columnUnder ws besideRow s (cell ws breadthRow s) number
+  abbrev held-want : Bool
+  held-want = sameLock (lockHeld slot (slot .want)) Alpha
+
+  abbrev converts-by : ℕ → Bool
+  converts-by kind = cond (asConversion kind (cell ws lockRow s)) held-want (not (member (slot .want) (held slot)))
 
   abbrev Holds : ℕ → Type 0
-  Holds kind = ifOpen (taskFrom kind key information) (belowAndOnce n slot && under-number (kindLock kind))
-      ≡ ifOpen (taskFrom kind key information) (belowAndOnce n slot) && holdsRightly (taskFrom kind key information) slot
+  Holds kind = ifOpen (taskFrom kind key information) ((belowAndOnce n slot && converts-by kind) && heldPass (wordUnder kind) ws s)
+      ≡ ifOpen (taskFrom kind key information) (belowAndOnce n slot) && holdsRightly (taskFrom kind key information) slot && convertsRightly (taskFrom kind key information) slot
 
-  under-lock : (lock : Lock) → isLock lock ≡ true
-      → belowAndOnce n slot && under-number (lockNumber lock) ≡ belowAndOnce n slot && all (λ (p : ℕ). sameLock (lockHeld slot p) lock) (held slot)
-  unfolding distinct
-  under-lock lock o =
+  -- what is not held is under no lock
+  not-alpha : member (slot .want) (held slot) ≡ false → held-want ≡ false
+  not-alpha f = ap (λ (l : Lock). sameLock l Alpha) (among-none (slot .want) (held slot) (heldLocks slot) f)
+
+  -- an open slot, whose kind can hold and converts as the rule says
+  open-fits : (kind : ℕ) (op : Op) → ((i : ℕ) → kindHolds kind i ≡ canHold op (lockNamed i)) → asConversion kind (cell ws lockRow s) ≡ isThird op && sameLock (slot .lock) Xi
+      → (belowAndOnce n slot && converts-by kind) && heldPass (wordUnder kind) ws s
+      ≡ belowAndOnce n slot && all (λ (p : ℕ). canHold op (lockHeld slot p)) (held slot) && convertsRightly (Open op) slot
+  open-fits kind op holds third =
       by-test (belowAndOnce n slot)
       (λ t.
       let names = all (λ (p : ℕ). ltb p n) (slot .want ∷ held slot) in
-      let different = and-second (not (member (slot .want) (held slot))) (distinct (held slot)) (and-second names (distinct (slot .want ∷ held slot)) t) in
-      ap (λ (b : Bool). belowAndOnce n slot && b) (under-held ws s path beside lock o different))
+      ap₂ (λ (c u : Bool). (belowAndOnce n slot && c) && u)
+      (ap (λ (c : Bool). cond c held-want (not (member (slot .want) (held slot)))) third
+      ∙ turned (member (slot .want) (held slot)) held-want (isThird op) (sameLock (slot .lock) Xi) not-alpha)
+      (held-pass (wordUnder kind) (λ (p : ℕ) (l : Lock). canHold op l) (λ w. holds (numberIn w)) ws s path beside (and-second names (distinct (held slot)) t))
+      ∙ swapped (belowAndOnce n slot) (convertsRightly (Open op) slot) (all (λ (p : ℕ). canHold op (lockHeld slot p)) (held slot)))
       (λ f.
-      and-first-fails (under-number (lockNumber lock)) f
-      ∙ sym (and-first-fails (all (λ (p : ℕ). sameLock (lockHeld slot p) lock) (held slot)) f))
+      and-first-fails (heldPass (wordUnder kind) ws s) (and-first-fails (converts-by kind) f)
+      ∙ sym (and-first-fails (convertsRightly (Open op) slot) (and-first-fails (all (λ (p : ℕ). canHold op (lockHeld slot p)) (held slot)) f)))
+
+  -- the kinds that hold under one lock alone, and those of the third way
+  alone : (l : Lock) → isLock l ≡ true → (i : ℕ) → eqb i (lockNumber l) || false ≡ sameLock (lockNamed i) l || false
+  alone l o i = ap (λ (b : Bool). b || false) (same-number l o i)
+
+  either : (i : ℕ) → eqb i (lockNumber Alpha) || eqb i (lockNumber Xi) ≡ sameLock (lockNamed i) Alpha || sameLock (lockNamed i) Xi
+  either i = ap₂ (λ (a b : Bool). a || b) (same-number Alpha refl i) (same-number Xi refl i)
 
   holds-fit : (kind : ℕ) → kind ≤ highestKind → Holds kind
   holds-fit =
       by-kind Holds
       refl
-      (under-lock Rho refl)
-      (under-lock Xi refl)
-      (under-lock Xi refl)
-      (under-lock Rho refl)
-      (under-lock Xi refl)
-      (under-lock UpdaterRho refl)
-      (under-lock UpdaterRho refl)
-      (under-lock UpdaterRho refl)
+      (open-fits 1 (Search key) (alone Rho refl) refl)
+      (open-fits 2 (Insert key information First) (alone Xi refl) refl)
+      (open-fits 3 (Delete key First) (alone Xi refl) refl)
+      (open-fits 4 (Next key) (alone Rho refl) refl)
+      (open-fits 5 (Regrade key information First) (alone Xi refl) refl)
+      (open-fits 6 (Insert key information Second) (alone UpdaterRho refl) refl)
+      (open-fits 7 (Delete key Second) (alone UpdaterRho refl) refl)
+      (open-fits 8 (Regrade key information Second) (alone UpdaterRho refl) refl)
+      (open-fits 9 (Insert key information Third) either (same-number Xi refl (cell ws lockRow s)))
+      (open-fits 10 (Delete key Third) either (same-number Xi refl (cell ws lockRow s)))
+      (open-fits 11 (Regrade key information Third) either (same-number Xi refl (cell ws lockRow s)))
 
 -- ---- one slot
 
@@ -399,12 +440,13 @@ want-last false k d = refl
 want-last true true d = sym (and-true d)
 want-last true false d = sym (and-false d)
 
--- and that of the locks held behind it
-holds-last : (w o h k : Bool) → w && (o && h) && k ≡ w && o && k && h
-holds-last false o h k = refl
-holds-last true false h k = refl
-holds-last true true true k = sym (and-true k)
-holds-last true true false k = sym (and-false k)
+-- and those of the locks held and of what is converted behind it
+holds-last : (w o h v k : Bool) → w && (o && h && v) && k ≡ w && o && k && h && v
+holds-last false o h v k = refl
+holds-last true false h v k = refl
+holds-last true true true true k = sym (and-true (k && true) ∙ and-true k)
+holds-last true true true false k = sym (and-false (k && true))
+holds-last true true false v k = sym (and-first-fails v (and-false k))
 
 together : (a b c : Bool) → a && b && c ≡ a && (b && c)
 together true b c = refl
@@ -423,8 +465,14 @@ module _ (ws : List ℕ) (n s : ℕ) (known : cell ws kindRow s ≤ highestKind)
   abbrev want : ℕ
   want = cell ws wantRow s
 
+  abbrev word : ℕ
+  word = cell ws pathRow s
+
+  abbrev lock : ℕ
+  lock = cell ws lockRow s
+
   abbrev top : Bool
-  top = topRow depth n want (cell ws pathRow s) (kindLock kind)
+  top = topRow kind depth breadth n want lock word
 
   abbrev task-within : Bool
   task-within = withinLimits (slotIn ws s .task) depth breadth
@@ -432,50 +480,78 @@ module _ (ws : List ℕ) (n s : ℕ) (known : cell ws kindRow s ≤ highestKind)
   abbrev pages : Bool
   pages = belowAndOnce n (slotIn ws s)
 
-  first : getD (column ws pathRow s) 0 0 ≡ pageIn (cell ws pathRow s)
+  first : getD (column ws pathRow s) 0 0 ≡ pageIn word
   first = column-cell ws pathRow s 0 (omega arith)
 
-  -- what the rows tell of the pages, and then of the lock of the top
-  top-parts : ltb want n && top ≡ named depth n want (getD (column ws pathRow s) 0 0) && (eqb depth 0 || eqb (numberIn (cell ws pathRow s)) (kindLock kind))
-  top-parts =
-      lock-behind (ltb want n) (eqb depth 0) (ltb (pageIn (cell ws pathRow s)) n && not (eqb want (pageIn (cell ws pathRow s)))) (eqb (numberIn (cell ws pathRow s)) (kindLock kind))
-      ∙ ap (λ (p : ℕ). named depth n want p && (eqb depth 0 || eqb (numberIn (cell ws pathRow s)) (kindLock kind))) (sym first)
+  first-lock : eqb (numberIn word) (lockNumber Alpha) ≡ sameLock (getD (lockColumn ws pathRow s) 0 (under None) .lock) Alpha
+  first-lock =
+      same-number Alpha refl (numberIn word)
+      ∙ ap (λ (u : Under). sameLock (u .lock) Alpha) (sym (lock-cell ws pathRow s 0 (omega arith)))
 
-  rows-same : more depth breadth ≡ false → ltb want n && top ≡ pages && underKind ws s
-  unfolding pathOf besideOf
+  -- what the rows tell of the pages and of the want, and then of the lock of the top
+  top-parts : ltb want n && top
+      ≡ (named depth n want (getD (column ws pathRow s) 0 0)
+      && turns (more depth breadth) (asConversion kind lock) (ltb 0 depth && eqb want (getD (column ws pathRow s) 0 0)) (eqb (numberIn word) (lockNumber Alpha)))
+      && (eqb depth 0 || wordUnder kind word)
+  top-parts =
+      lock-behind (ltb want n) (eqb depth 0) (ltb (pageIn word) n) (wordUnder kind word)
+      (turns (more depth breadth) (asConversion kind lock) (ltb 0 depth && eqb want (pageIn word)) (eqb (numberIn word) (lockNumber Alpha)))
+      ∙ ap (λ (p : ℕ). (named depth n want p
+      && turns (more depth breadth) (asConversion kind lock) (ltb 0 depth && eqb want p) (eqb (numberIn word) (lockNumber Alpha)))
+      && (eqb depth 0 || wordUnder kind word)) (sym first)
+
+  rows-same : more depth breadth ≡ false → ltb want n && top ≡ pagesFine ws n s && underKind ws s
+  unfolding pathOf besideOf locksOf sidelocksOf
   rows-same e =
       top-parts
       ∙ ap₂ (λ (a b : Bool). a && b)
-      (shallow n want depth breadth (column ws pathRow s) (column ws besideRow s) (length-column ws pathRow s) e)
-      (under-shallow ws s (kindLock kind) depth breadth e)
+      (shallow n want depth breadth (asConversion kind lock) (eqb (numberIn word) (lockNumber Alpha)) (column ws pathRow s) (column ws besideRow s) (lockColumn ws pathRow s) (lockColumn ws besideRow s)
+      (length-column ws pathRow s) (length-locks ws pathRow s) first-lock e)
+      (under-shallow (wordUnder kind) ws s depth breadth e)
 
-  rows-told : pages && underKind ws s ≡ true → ltb want n && top ≡ true
+  rows-told : more depth breadth ≡ true → pagesFine ws n s && underKind ws s ≡ true → ltb want n && top ≡ true
   unfolding pathOf besideOf
-  rows-told e =
+  rows-told m e =
+      let own = ltb 0 depth && eqb want (getD (column ws pathRow s) 0 0) in
+      let turn = asConversion kind lock in
+      let alpha = eqb (numberIn word) (lockNumber Alpha) in
       top-parts
       ∙ and-both
-      (rows-of-pages n want depth (column ws pathRow s) (take breadth (column ws besideRow s)) (length-column ws pathRow s) (and-first pages (underKind ws s) e))
-      (under-top ws s (kindLock kind) depth
-      (and-first (columnUnder ws pathRow s depth (kindLock kind)) (columnUnder ws besideRow s breadth (kindLock kind)) (and-second pages (underKind ws s) e)))
+      (and-both
+      (rows-of-pages n want depth (column ws pathRow s) (take breadth (column ws besideRow s)) (length-column ws pathRow s)
+      (and-first pages (convertsFine ws s) (and-first (pagesFine ws n s) (underKind ws s) e)))
+      (or-first (not turn && not own) (or-first (turn && own && alpha) m)))
+      (under-top (wordUnder kind) ws s depth
+      (and-first (columnUnder ws pathRow s depth kind) (columnUnder ws besideRow s breadth kind) (and-second (pagesFine ws n s) (underKind ws s) e)))
+
+  -- a closed slot has no top, and wants no conversion
+  empty : eqb kind 0 ≡ true → depth ≡ 0 → top ≡ true
+  empty z none =
+      let own = ltb 0 depth && eqb want (pageIn word) in
+      let turn = asConversion kind lock in
+      let still : turn ≡ false = ap (λ (k : ℕ). asConversion k lock) (eqb-true kind 0 z) in
+      and-both
+      (or-first (ltb (pageIn word) n && wordUnder kind word) (eq-eqb depth 0 none))
+      (or-second (more depth breadth || (turn && own && eqb (numberIn word) (lockNumber Alpha)))
+      (and-both (not-of-false still) (not-of-false (and-first-fails (eqb want (pageIn word)) (ap (ltb 0) none)))))
 
   -- limits and pages
-  pages-fit : rowPages kind depth breadth n want top && deepFine ws n s ≡ task-within && ifOpen (slotIn ws s .task) (pages && underKind ws s)
+  pages-fit : rowPages kind depth breadth n want top && deepFine ws n s ≡ task-within && ifOpen (slotIn ws s .task) (pagesFine ws n s && underKind ws s)
   pages-fit =
-      ap (λ (b : Bool). rowPages kind depth breadth n want top && (not (more depth breadth) || b)) (together (mayHoldMore kind breadth) pages (underKind ws s))
-      ∙ kind-fits (cell ws keyRow s) (cell ws informationRow s) depth breadth n want top (pages && underKind ws s)
-      (λ z. or-first (ltb (pageIn (cell ws pathRow s)) n && not (eqb want (pageIn (cell ws pathRow s))) && eqb (numberIn (cell ws pathRow s)) (kindLock kind)) (eq-eqb depth 0 z))
-      rows-same rows-told kind known
+      ap (λ (b : Bool). rowPages kind depth breadth n want top && (not (more depth breadth) || b)) (together (mayHoldMore kind breadth) (pagesFine ws n s) (underKind ws s))
+      ∙ kind-fits (cell ws keyRow s) (cell ws informationRow s) depth breadth n want top (pagesFine ws n s && underKind ws s) rows-same rows-told kind known empty
 
-  -- and the locks of the pages
-  locks-fit : task-within && ifOpen (slotIn ws s .task) (pages && underKind ws s) ≡ task-within && (ifOpen (slotIn ws s .task) pages && holdsRightly (slotIn ws s .task) (slotIn ws s))
+  -- and the locks of the pages, and what is converted
+  locks-fit : task-within && ifOpen (slotIn ws s .task) (pagesFine ws n s && underKind ws s)
+      ≡ task-within && (ifOpen (slotIn ws s .task) pages && holdsRightly (slotIn ws s .task) (slotIn ws s) && convertsRightly (slotIn ws s .task) (slotIn ws s))
   locks-fit =
       by-test task-within
       (λ t.
       let short = limits-short (cell ws keyRow s) (cell ws informationRow s) depth breadth kind known t in
       ap (λ (b : Bool). task-within && b) (holds-fit ws n s (cell ws keyRow s) (cell ws informationRow s) (short .0) (short .1) kind known))
       (λ f.
-      and-first-fails (ifOpen (slotIn ws s .task) (pages && underKind ws s)) f
-      ∙ sym (and-first-fails (ifOpen (slotIn ws s .task) pages && holdsRightly (slotIn ws s .task) (slotIn ws s)) f))
+      and-first-fails (ifOpen (slotIn ws s .task) (pagesFine ws n s && underKind ws s)) f
+      ∙ sym (and-first-fails (ifOpen (slotIn ws s .task) pages && holdsRightly (slotIn ws s .task) (slotIn ws s) && convertsRightly (slotIn ws s .task) (slotIn ws s)) f))
 
   -- the rows and the pages of a slot that holds more are the rule
   pub slot-fits : rowFine ws n s && deepFine ws n s ≡ slotSound n (slotIn ws s)
@@ -483,14 +559,15 @@ module _ (ws : List ℕ) (n s : ℕ) (known : cell ws kindRow s ≤ highestKind)
   slot-fits =
       want-last (rowPages kind depth breadth n want top) (eqb kind 0 || kindWants kind (cell ws lockRow s)) (deepFine ws n s)
       ∙ ap₂ (λ (a b : Bool). a && b) (pages-fit ∙ locks-fit) (wants-fit (cell ws keyRow s) (cell ws informationRow s) (cell ws lockRow s) kind known)
-      ∙ holds-last task-within (ifOpen (slotIn ws s .task) pages) (holdsRightly (slotIn ws s .task) (slotIn ws s)) (wantsRightly (slotIn ws s .task) (slotIn ws s .lock))
+      ∙ holds-last task-within (ifOpen (slotIn ws s .task) pages) (holdsRightly (slotIn ws s .task) (slotIn ws s)) (convertsRightly (slotIn ws s .task) (slotIn ws s))
+      (wantsRightly (slotIn ws s .task) (slotIn ws s .lock))
 
 -- ---- the rows of every slot
 
 module _ (ws : List ℕ) (n : ℕ) (e : allBelow rowLength (rowFine ws n) ≡ true) where
   pub row-at : (s : ℕ) → s < rowLength → Row (cell ws kindRow s) (cell ws depthRow s) (cell ws breadthRow s)
   row-at s h =
-      let top = topRow (cell ws depthRow s) n (cell ws wantRow s) (cell ws pathRow s) (kindLock (cell ws kindRow s)) in
+      let top = topRow (cell ws kindRow s) (cell ws depthRow s) (cell ws breadthRow s) n (cell ws wantRow s) (cell ws lockRow s) (cell ws pathRow s) in
       row-says (cell ws kindRow s) (cell ws depthRow s) (cell ws breadthRow s) n (cell ws wantRow s) top
       (and-first (rowPages (cell ws kindRow s) (cell ws depthRow s) (cell ws breadthRow s) n (cell ws wantRow s) top) (eqb (cell ws kindRow s) 0 || kindWants (cell ws kindRow s) (cell ws lockRow s))
       (allBelow-at (rowFine ws n) rowLength e s h))

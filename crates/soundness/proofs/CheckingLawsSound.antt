@@ -21,7 +21,7 @@ use Rattle.lent.specs.Words.{cell, highestKind, taskFrom, orderIn, asRead, know
 use Rattle.lent.specs.Holds.{WithinRows, OpenOrder}
 use Rattle.lent.proofs.StateLaws.{slot-read, state-known}
 use Rattle.lent.proofs.HoldLaws.{all-both, by-kind, kind-known}
-use Rattle.soundness.specs.Checking.{rowFine, deepFine, openKind, xiAlone}
+use Rattle.soundness.specs.Checking.{rowFine, deepFine, openKind, standsAlone}
 use Rattle.soundness.proofs.CheckingLawsRows.{slot-fits, row-at, rows-short}
 use Rattle.soundness.proofs.CheckingLawsAlone.{no-clashes}
 
@@ -44,7 +44,7 @@ named-same p q waiting order same =
         (true-or-false (ltb s slotCount))
 
 open-kind : (key information kind : ℕ) → kind ≤ highestKind → isOpen (taskFrom kind key information) ≡ openKind kind
-open-kind key information = by-kind (λ (k : ℕ). isOpen (taskFrom k key information) ≡ openKind k) refl refl refl refl refl refl refl refl refl
+open-kind key information = by-kind (λ (k : ℕ). isOpen (taskFrom k key information) ≡ openKind k) refl refl refl refl refl refl refl refl refl refl refl refl
 
 -- a slot is open as its kind tells
 open-as : (ws : List ℕ) (s : ℕ) → known ws ≡ true → s < rowLength → openAt (asRead ws) s ≡ openKind (cell ws kindRow s)
@@ -108,7 +108,7 @@ module _ (ws : List ℕ) where
   deeps = allBelow rowLength (deepFine ws (getD ws nAt 0))
 
   abbrev alones : Bool
-  alones = allBelow rowLength (xiAlone ws)
+  alones = allBelow rowLength (standsAlone ws)
 
   abbrev slots : Bool
   slots = allBelow slotCount (λ (s : ℕ). slotSound (getD ws nAt 0) (slotAt (asRead ws) s))
@@ -127,7 +127,7 @@ module _ (ws : List ℕ) where
   known-sound e =
       ap (λ (w : Bool). numbers && w && slots && clashless) (order-words ws e)
       ∙ by-test slots
-      (λ t. ap (λ (a : Bool). numbers && names && slots && a) (no-clashes ws (getD ws nAt 0) e (slot-fact t)))
+      (λ t. ap (λ (a : Bool). numbers && names && slots && a) (no-clashes ws (getD ws nAt 0) e (rows-short ws (getD ws nAt 0) (and-first rows deeps (slots-words ws e ∙ t))) (slot-fact t)))
       (last-any numbers names slots clashless alones)
       ∙ ap (λ (x : Bool). numbers && names && x && alones) (sym (slots-words ws e))
       ∙ reorder numbers names rows deeps alones

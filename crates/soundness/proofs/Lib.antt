@@ -3,6 +3,7 @@ pub mod WalkLaws
 pub mod CheckingLaws
 pub mod CheckingLawsOrder
 pub mod CheckingLawsSlot
+pub mod CheckingLawsHeld
 pub mod CheckingLawsRows
 pub mod CheckingLawsAlone
 pub mod CheckingLawsSound

@@ -1,6 +1,6 @@
 // Whether a state is sound. First kind, numbers of pages held, want, its lock and top of the path of every slot, with no way out in
 // between, so that several slots are looked at in one go. Then the waiting order is held against the open slots; then the slots that hold
-// more than one page are looked at; then each page held under ξ is looked for in the other slots.
+// more than one page are looked at; then each page held under ξ or α is looked for in the other slots.
 use ground::HELD;
 use ground::LARGEST_K;
 use ground::LARGEST_N;
@@ -23,30 +23,37 @@ use lent::cells::want_at;
 use lent::cells::wanted_lock_at;
 use lent::cells::wide;
 use lent::cells::word_at;
+use lent::granting::ALPHA;
 use lent::granting::RHO;
 use lent::granting::XI;
 use lent::granting::column_has;
+use lent::granting::held_lock_at;
 use lent::granting::is_deep;
 use lent::granting::others_hold;
+use lent::granting::row_of;
 use lent::granting::some_deep;
 use slots::locking::lock_table;
 use slots::operations::DELETES;
+use slots::operations::DELETES_THIRD;
 use slots::operations::HIGHEST_KIND;
 use slots::operations::INSERTS;
+use slots::operations::INSERTS_THIRD;
 use slots::operations::NEXTS;
 use slots::operations::REGRADES;
+use slots::operations::REGRADES_SECOND;
 ghost use Prim.Native.Nat.{ℕ, _≤_, _<_};
-ghost use mathlib.Core.Bool.{false, not, _&&_};
+ghost use mathlib.Core.Bool.{false, _&&_};
 ghost use mathlib.Core.Path.{_≡_};
 ghost use lib.ListN.{length, getD, take};
 ghost use Rattle.ground.specs.Limits.{kInRange, nInRange, slotCount};
-ghost use Rattle.ground.specs.Tests.{all, allBelow, countBelow};
+ghost use Rattle.ground.specs.Tests.{allBelow, countBelow};
 ghost use Rattle.slots.specs.Report.{maskBelow};
-ghost use Rattle.slots.specs.Sound.{namesEach, belowAndOnce, sound};
-ghost use Rattle.lent.specs.Layout.{waitingAt, rowLength, columnLength, kindRow, wantRow, pathRow, besideRow};
+ghost use Rattle.slots.specs.Locks.{lockTable};
+ghost use Rattle.slots.specs.Sound.{namesEach, sound};
+ghost use Rattle.lent.specs.Layout.{waitingAt, rowLength, columnLength, kindRow, pathRow, besideRow};
 ghost use Rattle.lent.specs.Words.{cell, column, slotIn, orderIn, stateOf};
-ghost use Rattle.lent.specs.Holds.{WithinRows, othersHold};
-ghost use Rattle.soundness.specs.Checking.{mayEnter, updatesKind, kindLock, kindWants, fineRow, rowFine, mayHoldMore, columnUnder, underKind, moreFine, deepFine, openKind, aloneIn, updates, xiAlone};
+ghost use Rattle.lent.specs.Holds.{WithinRows};
+ghost use Rattle.soundness.specs.Checking.{mayEnter, heldOnce, updatesKind, thirdKind, excludesKind, kindLock, kindHolds, kindWants, asConversion, topRow, fineRow, rowFine, pagesFine, mayHoldMore, columnUnder, underKind, moreFine, deepFine, openKind, columnApart, apartIn, wordAlone, columnAlone, eachAlone, aloneIn, excludes, standsAlone};
 
 // The longest path, as the words have it.
 const DEPTH_LIMIT: u32 = HELD as u32;
@@ -76,20 +83,55 @@ fn is_update(kind: u32) -> bool
     (kind / 2 == 1) | (kind == REGRADES)
 }
 
-// The number of the lock under which an open slot of this kind holds its pages: ξ for an update by the first way, updater's ρ by the second
-// (the kinds behind the first way's), else ρ.
+// A slot of this kind goes by the third way: these kinds stand behind the second way's.
+fn is_third(kind: u32) -> bool
+    ensures { λ r. ⌜ r ≡ thirdKind kind ⌝ }
+{
+    REGRADES_SECOND < kind
+}
+
+// The number of the lock with which an open slot of this kind goes down: ξ for an update by the first way, updater's ρ by the second (the
+// kinds behind the first way's), α by the third, else ρ. They are numbered ρ, ξ, updater's ρ, α.
 fn kind_lock(kind: u32) -> u32
     ensures { λ r. ⌜ r ≡ kindLock kind ⌝ }
 {
-    RHO + is_update(kind) as u32 + 2 * ((REGRADES < kind) as u32)
+    RHO + is_update(kind) as u32 + 2 * ((REGRADES < kind) as u32) + is_third(kind) as u32
 }
 
-// An open slot of this kind can want with the lock of this number: with the one under which it holds, and by the second way (the kinds
-// behind the first way's) with ξ.
+// An open slot of this kind can hold a page under the lock of this number: under the one with which it goes down, and by the third way
+// under ξ, where it was converted.
+fn kind_holds(kind: u32, lock: u32) -> bool
+    ensures { λ r. ⌜ r ≡ kindHolds kind lock ⌝ }
+{
+    (lock == kind_lock(kind)) | (is_third(kind) & (lock == XI))
+}
+
+// It can want with the lock of this number: with the one with which it goes down, and by the second and the third way (the kinds behind the
+// first way's) with ξ.
 fn kind_wants(kind: u32, lock: u32) -> bool
     ensures { λ r. ⌜ r ≡ kindWants kind lock ⌝ }
 {
     (lock == kind_lock(kind)) | ((REGRADES < kind) & (lock == XI))
+}
+
+// It wants a conversion: by the third way ξ is wanted so alone.
+fn wants_conversion(kind: u32, lock: u32) -> bool
+    ensures { λ r. ⌜ r ≡ asConversion kind lock ⌝ }
+{
+    is_third(kind) & (lock == XI)
+}
+
+// The top of the path, if there is one, is below n, and under a lock that the kind can hold it under. A slot that holds no more converts its
+// top, from α, if it wants it, and nothing else; of a slot that holds more this is asked of all its pages (`pages_fine`).
+fn top_fine(kind: u32, depth: u32, breadth: u32, n: u32, want: u32, lock: u32, top: u32) -> bool
+    ensures { λ r. ⌜ r ≡ topRow kind depth breadth n want lock top ⌝ }
+{
+    let page = page_in(top);
+    let number = number_in(top);
+    let own = (0 < depth) & (want == page);
+    let converts = wants_conversion(kind, lock);
+    ((depth == 0) | ((page < n) & kind_holds(kind, number)))
+        & ((1 < depth) | (0 < breadth) | (converts & own & (number == ALPHA)) | (!converts & !own))
 }
 
 // A slot with these numbers may be sound, as far as the rows tell. A closed slot holds nothing, and its want is not looked at. The open
@@ -99,13 +141,12 @@ fn kind_wants(kind: u32, lock: u32) -> bool
 fn is_fine(kind: u32, depth: u32, breadth: u32, n: u32, want: u32, lock: u32, top: u32) -> bool
     ensures { λ r. ⌜ r ≡ fineRow kind depth breadth n want lock top ⌝ }
 {
-    let page = page_in(top);
     (kind <= HIGHEST_KIND)
         & (depth <= DEPTH_LIMIT)
         & ((kind != 0) | (depth == 0))
         & ((breadth == 0) | (breadth < depth))
         & ((kind == 0) | (want < n))
-        & ((depth == 0) | ((page < n) & (want != page) & (number_in(top) == kind_lock(kind))))
+        & top_fine(kind, depth, breadth, n, want, lock, top)
         & ((kind == 0) | kind_wants(kind, lock))
 }
 
@@ -131,20 +172,26 @@ fn rows_fine(cells: &[u32; STATE], n: u32) -> bool
     good
 }
 
-// The first `count` rows from `row` on name pages below n, none of them the wanted one, none among the first `own` of the
-// path, and none twice.
-fn may_enter(cells: &[u32; STATE], s: usize, n: u32, row: usize, count: usize, own: usize) -> bool
+// The first `count` rows from `row` on name pages below n, none of them `other`, none among the first `own` of the path, and none twice.
+fn may_enter(
+    cells: &[u32; STATE],
+    s: usize,
+    n: u32,
+    other: u32,
+    row: usize,
+    count: usize,
+    own: usize,
+) -> bool
     requires { ⌜ (s < rowLength) × (row ≤ besideRow) × (count ≤ columnLength) × (own ≤ columnLength) ⌝ }
-    ensures { λ r. ⌜ r ≡ mayEnter n (cell (now (cells .entry)) wantRow s) (take own (column (now (cells .entry)) pathRow s)) (take count (column (now (cells .entry)) row s)) ⌝ }
+    ensures { λ r. ⌜ r ≡ mayEnter n other (take own (column (now (cells .entry)) pathRow s)) (take count (column (now (cells .entry)) row s)) ⌝ }
 {
-    let want = want_at(cells, s);
     let mut i = 0;
     while i < count {
         let p = page_in(word_at(cells, row + i, s));
         if n <= p {
             return false;
         }
-        if p == want {
+        if p == other {
             return false;
         }
         if column_has(cells, PATH, own, s, p) {
@@ -158,20 +205,36 @@ fn may_enter(cells: &[u32; STATE], s: usize, n: u32, row: usize, count: usize, o
     true
 }
 
-// All pages that slot s names are below n, it holds none twice, and wants none that it holds.
-fn pages_fine(cells: &[u32; STATE], s: usize, n: u32) -> bool
+// All pages that slot s holds are below n, none of them is `other`, and it holds none twice.
+fn all_enter(cells: &[u32; STATE], s: usize, n: u32, other: u32) -> bool
     requires { ⌜ (s < rowLength) × WithinRows (now cells) ⌝ }
-    ensures { λ r. ⌜ r ≡ belowAndOnce n (slotIn (now (cells .entry)) s) ⌝ }
+    ensures { λ r. ⌜ r ≡ heldOnce n other (slotIn (now (cells .entry)) s) ⌝ }
 {
-    if n <= want_at(cells, s) {
-        return false;
-    }
     let depth = wide(depth_at(cells, s));
-    if !may_enter(cells, s, n, PATH, depth, 0) {
+    if !may_enter(cells, s, n, other, PATH, depth, 0) {
         return false;
     }
     let breadth = wide(breadth_at(cells, s));
-    may_enter(cells, s, n, BESIDE, breadth, depth)
+    may_enter(cells, s, n, other, BESIDE, breadth, depth)
+}
+
+// All pages that slot s names are below n, it holds none twice, and wants one that it holds only as a conversion, from α. Of a conversion
+// the wanted page may stand among the others; n may not, but no page below n is n.
+fn pages_fine(cells: &[u32; STATE], s: usize, n: u32) -> bool
+    requires { ⌜ (s < rowLength) × WithinRows (now cells) ⌝ }
+    ensures { λ r. ⌜ r ≡ pagesFine (now (cells .entry)) n s ⌝ }
+{
+    let want = want_at(cells, s);
+    if n <= want {
+        return false;
+    }
+    if !wants_conversion(kind_at(cells, s), wanted_lock_at(cells, s)) {
+        return all_enter(cells, s, n, want);
+    }
+    if held_lock_at(cells, s, want) != ALPHA {
+        return false;
+    }
+    all_enter(cells, s, n, n)
 }
 
 // A slot of this kind may hold more than one page, with so many beside its path: a deletion and a Next may, an insertion on its
@@ -179,17 +242,20 @@ fn pages_fine(cells: &[u32; STATE], s: usize, n: u32) -> bool
 fn may_hold_more(kind: u32, breadth: u32) -> bool
     ensures { λ r. ⌜ r ≡ mayHoldMore kind breadth ⌝ }
 {
-    (kind == DELETES) | (kind == NEXTS) | ((kind == INSERTS) & (breadth == 0))
+    (kind == DELETES)
+        | (kind == NEXTS)
+        | (kind == DELETES_THIRD)
+        | (((kind == INSERTS) | (kind == INSERTS_THIRD)) & (breadth == 0))
 }
 
-// The first `count` rows from `row` on, of slot s, have the lock of this number.
-fn column_under(cells: &[u32; STATE], s: usize, row: usize, count: usize, lock: u32) -> bool
+// The first `count` rows from `row` on, of slot s, have locks that a slot of this kind can hold a page under.
+fn column_under(cells: &[u32; STATE], s: usize, row: usize, count: usize, kind: u32) -> bool
     requires { ⌜ (s < rowLength) × (row ≤ besideRow) × (count ≤ columnLength) ⌝ }
-    ensures { λ r. ⌜ r ≡ columnUnder (now (cells .entry)) row s count lock ⌝ }
+    ensures { λ r. ⌜ r ≡ columnUnder (now (cells .entry)) row s count kind ⌝ }
 {
     let mut i = 0;
     while i < count {
-        if number_in(word_at(cells, row + i, s)) != lock {
+        if !kind_holds(kind, number_in(word_at(cells, row + i, s))) {
             return false;
         }
         i += 1;
@@ -197,19 +263,19 @@ fn column_under(cells: &[u32; STATE], s: usize, row: usize, count: usize, lock: 
     true
 }
 
-// All pages of slot s are held under the lock of its kind.
+// All pages of slot s are held under locks that its kind can hold a page under.
 fn under_kind(cells: &[u32; STATE], s: usize) -> bool
     requires { ⌜ (s < rowLength) × WithinRows (now cells) ⌝ }
     ensures { λ r. ⌜ r ≡ underKind (now (cells .entry)) s ⌝ }
 {
-    let lock = kind_lock(kind_at(cells, s));
-    if !column_under(cells, s, PATH, wide(depth_at(cells, s)), lock) {
+    let kind = kind_at(cells, s);
+    if !column_under(cells, s, PATH, wide(depth_at(cells, s)), kind) {
         return false;
     }
-    column_under(cells, s, BESIDE, wide(breadth_at(cells, s)), lock)
+    column_under(cells, s, BESIDE, wide(breadth_at(cells, s)), kind)
 }
 
-// Slot s, which holds more than one page, may, its pages are fine, and held under the lock of its kind.
+// Slot s, which holds more than one page, may, its pages are fine, and held under locks that its kind can hold them under.
 fn more_fine(cells: &[u32; STATE], s: usize, n: u32) -> bool
     requires { ⌜ (s < rowLength) × WithinRows (now cells) ⌝ }
     ensures { λ r. ⌜ r ≡ moreFine (now (cells .entry)) n s ⌝ }
@@ -302,9 +368,9 @@ fn order_sound(cells: &[u32; STATE], waiting: usize, busy: [bool; SLOTS]) -> boo
 
 // No other slot holds one of the first `count` pages from row `from` on, of slot s, under a lock that clashes with the kind of this row
 // of the table.
-fn column_alone(cells: &[u32; STATE], s: usize, from: usize, count: usize, row: [bool; 4]) -> bool
+fn column_apart(cells: &[u32; STATE], s: usize, from: usize, count: usize, row: [bool; 4]) -> bool
     requires { ⌜ (s < rowLength) × (from ≤ besideRow) × (count ≤ columnLength) × WithinRows (now cells) ⌝ }
-    ensures { λ r. ⌜ r ≡ all (λ (p : ℕ). not (othersHold (now (cells .entry)) s row p)) (take count (column (now (cells .entry)) from s)) ⌝ }
+    ensures { λ r. ⌜ r ≡ columnApart (now (cells .entry)) from s row count ⌝ }
 {
     let mut i = 0;
     while i < count {
@@ -317,24 +383,84 @@ fn column_alone(cells: &[u32; STATE], s: usize, from: usize, count: usize, row: 
 }
 
 // No other slot holds a page that slot s holds, under a lock that clashes with the kind of this row.
-fn is_alone(cells: &[u32; STATE], s: usize, row: [bool; 4]) -> bool
+fn is_apart(cells: &[u32; STATE], s: usize, row: [bool; 4]) -> bool
     requires { ⌜ (s < rowLength) × WithinRows (now cells) ⌝ }
-    ensures { λ r. ⌜ r ≡ aloneIn (now (cells .entry)) s row ⌝ }
+    ensures { λ r. ⌜ r ≡ apartIn (now (cells .entry)) s row ⌝ }
 {
-    if !column_alone(cells, s, PATH, wide(depth_at(cells, s)), row) {
+    if !column_apart(cells, s, PATH, wide(depth_at(cells, s)), row) {
         return false;
     }
-    column_alone(cells, s, BESIDE, wide(breadth_at(cells, s)), row)
+    column_apart(cells, s, BESIDE, wide(breadth_at(cells, s)), row)
 }
 
-// The slots that hold under ξ, one bit for each.
-fn updating(cells: &[u32; STATE]) -> u16
-    ensures { λ r. ⌜ r ≡ maskBelow rowLength (updates (now (cells .entry))) ⌝ }
+// No other slot holds the page of this word of slot s under a lock that clashes with the word's own.
+fn word_alone(cells: &[u32; STATE], s: usize, table: [[bool; 4]; 4], word: u32) -> bool
+    requires { ⌜ (s < rowLength) × WithinRows (now cells) × (table ≡ lockTable) ⌝ }
+    ensures { λ r. ⌜ r ≡ wordAlone (now (cells .entry)) s word ⌝ }
+{
+    !others_hold(cells, s, row_of(table, number_in(word)), page_in(word))
+}
+
+// So of the first `count` words from row `from` on.
+fn column_alone(
+    cells: &[u32; STATE],
+    s: usize,
+    from: usize,
+    count: usize,
+    table: [[bool; 4]; 4],
+) -> bool
+    requires { ⌜ (s < rowLength) × (from ≤ besideRow) × (count ≤ columnLength) × WithinRows (now cells) × (table ≡ lockTable) ⌝ }
+    ensures { λ r. ⌜ r ≡ columnAlone (now (cells .entry)) from s count ⌝ }
+{
+    let mut i = 0;
+    while i < count {
+        if !word_alone(cells, s, table, word_at(cells, from + i, s)) {
+            return false;
+        }
+        i += 1;
+    }
+    true
+}
+
+// So of all pages that slot s holds.
+fn each_alone(cells: &[u32; STATE], s: usize, table: [[bool; 4]; 4]) -> bool
+    requires { ⌜ (s < rowLength) × WithinRows (now cells) × (table ≡ lockTable) ⌝ }
+    ensures { λ r. ⌜ r ≡ eachAlone (now (cells .entry)) s ⌝ }
+{
+    if !column_alone(cells, s, PATH, wide(depth_at(cells, s)), table) {
+        return false;
+    }
+    column_alone(cells, s, BESIDE, wide(breadth_at(cells, s)), table)
+}
+
+// No other slot holds a page of slot s, which holds under ξ or α, under a lock that clashes. By the third way each page is asked by its own
+// lock. By the first all are under ξ: one row, known beforehand, is quicker.
+fn is_alone(cells: &[u32; STATE], s: usize, table: [[bool; 4]; 4]) -> bool
+    requires { ⌜ (s < rowLength) × WithinRows (now cells) × (table ≡ lockTable) ⌝ }
+    ensures { λ r. ⌜ r ≡ aloneIn (now (cells .entry)) s ⌝ }
+{
+    if is_third(kind_at(cells, s)) {
+        return each_alone(cells, s, table);
+    }
+    let row = table[wide(XI) - 1];
+    is_apart(cells, s, row)
+}
+
+// A slot of this kind holds under ξ or α: an update by the first or the third way.
+fn is_exclusive(kind: u32) -> bool
+    ensures { λ r. ⌜ r ≡ excludesKind kind ⌝ }
+{
+    is_update(kind) | is_third(kind)
+}
+
+// The slots of these kinds, one bit for each.
+fn excluding(cells: &[u32; STATE]) -> u16
+    ensures { λ r. ⌜ r ≡ maskBelow rowLength (excludes (now (cells .entry))) ⌝ }
 {
     let mut mask = 0u16;
     let mut s = 0;
     while s < SLOTS {
-        if is_update(kind_at(cells, s)) {
+        if is_exclusive(kind_at(cells, s)) {
             mask = mask | (1u16 << s);
         }
         s += 1;
@@ -342,18 +468,17 @@ fn updating(cells: &[u32; STATE]) -> u16
     mask
 }
 
-// No page is held under locks that clash. One of two such locks is ξ, so the slots that hold under ξ are looked at; they are taken
-// off the mask from the lowest on.
+// No page is held under locks that clash. One of two such locks is ξ or α, so the slots that hold under these are looked at; they are
+// taken off the mask from the lowest on.
 fn no_clashes(cells: &[u32; STATE]) -> bool
     requires { ⌜ WithinRows (now cells) ⌝ }
-    ensures { λ r. ⌜ r ≡ allBelow rowLength (xiAlone (now (cells .entry))) ⌝ }
+    ensures { λ r. ⌜ r ≡ allBelow rowLength (standsAlone (now (cells .entry))) ⌝ }
 {
     let table = lock_table();
-    let row = table[wide(XI) - 1];
-    let mut left = updating(cells);
+    let mut left = excluding(cells);
     while left != 0 {
         let s = wide(u16::trailing_zeros(left));
-        if !is_alone(cells, s, row) {
+        if !is_alone(cells, s, table) {
             return false;
         }
         left = left - (1u16 << s);

@@ -6,7 +6,7 @@ use Rattle.pool.specs.Pool.{poolLength, fresh}
 use Rattle.slots.specs.declared.Answer.the-variants.{Made}
 use Rattle.slots.specs.Parts.{idleState}
 use Rattle.lines.specs.Text.{bytes, startsWith as begins-with}
-use Rattle.lines.specs.Meaning.{digits, value, front, stepping, searching, deleting, askingNext, informing, keying, inserting, askingRegrade, askingSecond, asking, beginning, meaning}
+use Rattle.lines.specs.Meaning.{digits, value, front, stepping, searching, deleting, askingNext, informing, keying, inserting, askingRegrade, askingThird, askingSecond, asking, beginning, meaning}
 use Rattle.lines.specs.Decimal.{digitsWithin, decimal}
 use Rattle.index.specs.Step.{left}
 use Rattle.index.specs.Make.{made}
@@ -16,7 +16,7 @@ use Rattle.talk.specs.Talk.{replies, programK, programPages, blank, open
 
 -- Everything that the program unfolds to: what a call does, what a line means, how an answer is written.
 program : Unit {0}
-unfolding everyCall begins-with digits value front stepping searching deleting askingNext informing keying inserting askingRegrade askingSecond asking beginning meaning digitsWithin decimal linesOf replies blank mostBytes programWrites
+unfolding everyCall begins-with digits value front stepping searching deleting askingNext informing keying inserting askingRegrade askingThird askingSecond asking beginning meaning digitsWithin decimal linesOf replies blank mostBytes programWrites
 program = tt
 
 -- the program's pool is made, and is fresh

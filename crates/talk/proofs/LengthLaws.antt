@@ -19,11 +19,11 @@ use Rattle.talk.specs.Talk.{commanded}
 good-long : (line : List ℕ) {c : Command} → Good line c → 3 ≤ length line
 good-long line (toSearch ss ks hs hk e) = omega (arith, ap length e, hs .some, length-append ss (bytes " s " ++ ks))
 good-long line (toInsert way ss ks is hs hk hi e) =
-    omega (arith, ap length e, hs .some, length-append ss (bytes (byWay way " i " " i2 ") ++ (ks ++ (bytes " " ++ is))))
-good-long line (toDelete way ss ks hs hk e) = omega (arith, ap length e, hs .some, length-append ss (bytes (byWay way " d " " d2 ") ++ ks))
+    omega (arith, ap length e, hs .some, length-append ss (bytes (byWay way " i " " i2 " " i3 ") ++ (ks ++ (bytes " " ++ is))))
+good-long line (toDelete way ss ks hs hk e) = omega (arith, ap length e, hs .some, length-append ss (bytes (byWay way " d " " d2 " " d3 ") ++ ks))
 good-long line (toNext ss ks hs hk e) = omega (arith, ap length e, hs .some, length-append ss (bytes " n " ++ ks))
 good-long line (toRegrade way ss ks is hs hk hi e) =
-    omega (arith, ap length e, hs .some, length-append ss (bytes (byWay way " g " " g2 ") ++ (ks ++ (bytes " " ++ is))))
+    omega (arith, ap length e, hs .some, length-append ss (bytes (byWay way " g " " g2 " " g3 ") ++ (ks ++ (bytes " " ++ is))))
 good-long line (toStep ss hs e) = omega (arith, ap length e, hs .some)
 
 pub reply-short : (st : State) (ws line : List ℕ) → length (commanded st ws (meaning line) .said) ≤ 32

@@ -38,11 +38,16 @@ fn deleted(before: &Moment, slot: &Slot, after: &Moment) -> String {
     if !has_leaf(before, slot) {
         return "Deleted".to_string();
     }
-    let siblings = [slot.siblings(), &[slot.want]].concat();
+    // by the third way all of them are held before the last conversion
+    let wanted: &[u32] = if slot.converts() { &[] } else { &[slot.want] };
+    let siblings = [slot.siblings(), wanted].concat();
+    let Some(&last) = siblings.last() else {
+        return "Deleted".to_string();
+    };
     let sides: String = (0..siblings.len())
         .map(|height| side(before, slot, height, siblings[height]))
         .collect();
-    let does_move = page(before, slot.want)[1] > before.state.k;
+    let does_move = page(before, last)[1] > before.state.k;
     let last = if does_move { "move" } else { "join" };
     let root = if after.words[0] < before.words[0] {
         ", root falls"
@@ -79,12 +84,13 @@ fn stand(moment: &Moment, slot: &Slot) -> String {
     };
     let way = match slot.op.and_then(Op::way) {
         Some(Way::Second) => " by the second way",
+        Some(Way::Third) => " by the third way",
         _ => "",
     };
-    let leaf = if has_leaf(moment, slot) {
-        " at its leaf"
-    } else {
-        ""
+    let leaf = match has_leaf(moment, slot) {
+        _ if slot.converts() => " that converts",
+        true => " at its leaf",
+        false => "",
     };
     format!("{op}{way}{leaf} {}+{}", slot.depth, slot.beside)
 }

@@ -37,6 +37,7 @@ fn way(way: Way) -> &'static str {
     match way {
         Way::First => "First",
         Way::Second => "Second",
+        Way::Third => "Third",
     }
 }
 

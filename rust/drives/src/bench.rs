@@ -1,9 +1,10 @@
 //! The lots on the bench and the shortcuts that lose a lot, each as document 01 says it; and the next lot, who waits behind
-//! whom, regrading, and updates that go down like readers, as 02 does.
+//! whom, regrading, updates that go down like readers, and a lock that lets readers stay, as 02 does.
 
 mod like_readers;
+mod third_way;
 
-use twin::Way::First;
+use twin::Way::{self, First};
 use twin::{kind, Answer, Op};
 
 use crate::program::Program;
@@ -57,11 +58,39 @@ impl Case {
 
     /// Case E: 10, 20 and 30 in three pages.
     fn from_e(name: &'static str) -> Case {
-        let mut case = Case::fresh(name, 3);
+        Case::with_pages(name, 3)
+    }
+
+    /// E in a pool with a free page more.
+    fn from_e_with_room(name: &'static str) -> Case {
+        Case::with_pages(name, 4)
+    }
+
+    /// 10, 20 and 30 in a pool of so many pages.
+    fn with_pages(name: &'static str, n: u32) -> Case {
+        let mut case = Case::fresh(name, n);
         for key in [10, 20, 30] {
             case.insert(key, 1, Answer::Inserted);
         }
         case
+    }
+
+    /// Updates of E by this way of a key that is there, and of keys that are missing: answered at once, and no word changes.
+    fn at_once(way: Way, there: &'static str, missing: &'static str) -> Vec<Case> {
+        let mut there = Case::from_e(there);
+        for key in [20, 10] {
+            there.alone(Op::Insert(key, 9, way), 2, ALREADY_THERE);
+        }
+        there.words(&E);
+
+        let mut missing = Case::from_e(missing);
+        for key in [99, 11] {
+            missing.alone(Op::Delete(key, way), 2, Answer::NoSuchKey);
+            missing.alone(Op::Regrade(key, 9, way), 2, Answer::NoSuchKey);
+        }
+        missing.words(&E);
+
+        vec![there, missing]
     }
 
     /// A call, and its answer.
@@ -149,6 +178,7 @@ pub fn cases() -> Vec<Case> {
         regraded(),
         regrade_locks(),
         like_readers::cases(),
+        third_way::cases(),
     ]
     .into_iter()
     .flatten()

@@ -2,7 +2,9 @@
 //! reaches.
 
 use draw::Random;
-use moments::{built, draw, limits, next_call, operation, Call, Draw, Moment};
+use moments::{
+    built, draw, limits, next_call, operation, spoiled_state, spoiled_words, Call, Draw, Moment,
+};
 use twin::{
     at, is_sound, kind, page_words, row, state_of, Lock, Op, State, Way, FRONT, HALF, SLOTS, STATE,
 };
@@ -21,6 +23,8 @@ pub enum Kind {
     SpoiledWords,
     /// A schedule in which words of the state are changed, and mostly put back after some calls.
     SpoiledState,
+    /// Single calls in the middle of runs, where an operation holds much or converts, with one thing made wrong there.
+    Spoiled,
     /// Pages that are sound and in their place, but with drawn keys and pointers.
     Built,
     /// States near the limits of a sound one.
@@ -34,7 +38,7 @@ pub enum Kind {
 }
 
 /// All kinds, the weightier ones more than once.
-pub const KINDS: [Kind; 14] = [
+pub const KINDS: [Kind; 16] = [
     Kind::Fresh,
     Kind::Fresh,
     Kind::Fresh,
@@ -43,6 +47,8 @@ pub const KINDS: [Kind; 14] = [
     Kind::SpoiledWords,
     Kind::SpoiledState,
     Kind::SpoiledState,
+    Kind::Spoiled,
+    Kind::Spoiled,
     Kind::Built,
     Kind::Built,
     Kind::Limits,
@@ -59,6 +65,7 @@ pub fn draw_scene(kind: Kind, random: &mut Random) -> Scene {
         Kind::SpoiledState => schedule(random, Spoils::State),
         Kind::Lines => schedule(random, Spoils::Lines),
         Kind::Large => large(random),
+        Kind::Spoiled => many(random, 4, spoiled_scene),
         Kind::Built => many(random, 12, built_scene),
         Kind::Limits => many(random, 12, limits_scene),
         Kind::Raw => many(random, 12, raw_scene),
@@ -165,6 +172,7 @@ fn large(random: &mut Random) -> Scene {
         keys: random.one(&[2000, 30000, 1 << 32]),
         slots: random.one(&[1, 4, 16, 16]),
         turn: random.from(1000, 4000) as usize,
+        readers: random.one(&[0, 30]),
     };
     let mut scene = fresh(random, &draw);
     for at in 0..random.from(500, 3000) as usize {
@@ -321,6 +329,7 @@ fn changed(random: &mut Random, draw: &Draw, was: u32) -> u32 {
         9,
         10,
         11,
+        12,
         15,
         16,
         17,
@@ -357,6 +366,18 @@ fn built_scene(random: &mut Random, scene: &mut Scene) {
     put(scene, &moment, &calls);
     for _ in 0..random.below(3) {
         scene.call(calls[0]);
+    }
+}
+
+/// A call in the middle of a run, with words or cells spoiled: also around conversions.
+fn spoiled_scene(random: &mut Random, scene: &mut Scene) {
+    let drawn = if random.percent(60) {
+        Some(spoiled_state(random))
+    } else {
+        spoiled_words(random)
+    };
+    if let Some((moment, calls)) = drawn {
+        put(scene, &moment, &calls);
     }
 }
 
@@ -463,7 +484,7 @@ fn making(random: &mut Random) -> Scene {
             random.below(9)
         ));
         scene.text(&format!("m {k} {n}"));
-        let way = random.one(&Way::BOTH);
+        let way = random.one(&Way::ALL);
         for call in [
             Call::Begin(3, Op::Insert(4, 5, way)),
             Call::Step(3),

@@ -4,6 +4,8 @@
 mod kinds;
 #[path = "bugs/like_readers.rs"]
 mod like_readers;
+#[path = "bugs/third_way.rs"]
+mod third_way;
 
 use std::fmt::Debug;
 
@@ -12,6 +14,7 @@ use drive_twin::{Calls, Twin};
 use drives::{cases, compare, draw_scene, smallest, Scene, KINDS};
 use kinds::{KindBug, KIND_BUGS, KIND_STATE_BUGS};
 use like_readers::{SecondBug, SECOND_BUGS, SECOND_STATE_BUGS};
+use third_way::{ThirdBug, THIRD_BUGS, THIRD_STATE_BUGS};
 use twin::row::{BESIDE, DEPTH, INFORMATION, KEY, KIND, LOCK, PATH, WANT};
 use twin::Way::First;
 use twin::{
@@ -414,7 +417,8 @@ fn lock_anew(state: &mut [u32; STATE], slot: usize, lock: Lock) {
 
 /// Whether a slot of a sound state wants its page with ρ, plain or updater's.
 fn reads(state: &[u32; STATE], slot: usize) -> bool {
-    state[at(LOCK, slot)] != Lock::Xi.number()
+    let lock = Lock::of(state[at(LOCK, slot)]);
+    matches!(lock, Lock::Rho | Lock::UpdaterRho)
 }
 
 /// The slots of a sound state that have wanted a slot's page for longer.
@@ -504,6 +508,9 @@ fn each_bug_is_found() {
     for bug in KIND_BUGS.into_iter().chain(KIND_STATE_BUGS) {
         is_found(bug, &scenes);
     }
+    for bug in THIRD_BUGS.into_iter().chain(THIRD_STATE_BUGS) {
+        is_found(bug, &scenes);
+    }
 }
 
 #[test]
@@ -540,4 +547,5 @@ fn a_case_of_the_documents_finds_each_shortcut() {
         .for_each(is_refuted::<Bug>);
     SECOND_BUGS.into_iter().for_each(is_refuted::<SecondBug>);
     KIND_BUGS.into_iter().for_each(is_refuted::<KindBug>);
+    THIRD_BUGS.into_iter().for_each(is_refuted::<ThirdBug>);
 }

@@ -6,7 +6,7 @@ use std::fmt::{self, Display, Formatter};
 use crate::numbers;
 use crate::raw::Answer;
 
-/// How an update goes down. It does the same by both ways.
+/// How an update goes down. It does the same by each way.
 #[derive(Clone, Copy, Debug, Default, PartialEq, Eq, Hash)]
 pub enum Way {
     /// With ξ-locks from page 0 on: what it holds nobody else can read.
@@ -15,11 +15,14 @@ pub enum Way {
     /// With updater's ρ, beside all who read, and a ξ-lock on its leaf alone. Where the change would reach beyond the leaf, and where page 0
     /// is a leaf, it gives up what it holds and begins again by the first way, which is answered [`Step::Moved`].
     Second,
+    /// With α, beside those who read, and with all that it would hold by the first way. When the change is known, each page that it holds is
+    /// wanted once more, with ξ, from the top down, one a step, which is answered [`Step::Moved`]; the change comes with the last.
+    Third,
 }
 
 impl Way {
     /// Each of them once.
-    pub const BOTH: [Way; 2] = [Way::First, Way::Second];
+    pub const ALL: [Way; 3] = [Way::First, Way::Second, Way::Third];
 }
 
 /// What a buyer asks for.
@@ -30,8 +33,8 @@ impl Way {
 /// # use ghazfulit::{Op, Way};
 /// let op = Op::Insert { key: 12, information: 3, way: Way::First };
 /// assert_eq!(Op::insert(12, 3), op);
-/// let op = Op::Delete { key: 12, way: Way::Second };
-/// assert_eq!(Op::delete(12).by(Way::Second), op);
+/// let op = Op::Delete { key: 12, way: Way::Third };
+/// assert_eq!(Op::delete(12).by(Way::Third), op);
 /// ```
 #[derive(Clone, Copy, Debug, PartialEq, Eq, Hash)]
 #[non_exhaustive]
@@ -123,9 +126,10 @@ impl Op {
 
     /// Kind, key and information, as the library takes them; 0 where there is no information.
     pub fn numbers(self) -> (u32, u32, u32) {
-        let by = |way, first, second| match way {
+        let by = |way, [first, second, third]: [u32; 3]| match way {
             Way::First => first,
             Way::Second => second,
+            Way::Third => third,
         };
         match self {
             Op::Search { key } => (numbers::SEARCH, key, 0),
@@ -134,12 +138,20 @@ impl Op {
                 information,
                 way,
             } => {
-                let kind = by(way, numbers::INSERT, numbers::INSERT_SECOND);
-                (kind, key, information)
+                let kinds = [
+                    numbers::INSERT,
+                    numbers::INSERT_SECOND,
+                    numbers::INSERT_THIRD,
+                ];
+                (by(way, kinds), key, information)
             }
             Op::Delete { key, way } => {
-                let kind = by(way, numbers::DELETE, numbers::DELETE_SECOND);
-                (kind, key, 0)
+                let kinds = [
+                    numbers::DELETE,
+                    numbers::DELETE_SECOND,
+                    numbers::DELETE_THIRD,
+                ];
+                (by(way, kinds), key, 0)
             }
             Op::Next { key } => (numbers::NEXT, key, 0),
             Op::Regrade {
@@ -147,8 +159,12 @@ impl Op {
                 information,
                 way,
             } => {
-                let kind = by(way, numbers::REGRADE, numbers::REGRADE_SECOND);
-                (kind, key, information)
+                let kinds = [
+                    numbers::REGRADE,
+                    numbers::REGRADE_SECOND,
+                    numbers::REGRADE_THIRD,
+                ];
+                (by(way, kinds), key, information)
             }
         }
     }
@@ -160,7 +176,8 @@ impl Op {
 pub enum Step {
     /// The lock is not to be had yet; nothing has changed.
     Waiting,
-    /// One lock more; or an update of the second way has given up what it held, and begins again by the first.
+    /// One lock more, or by the third way a stronger one; or an update of the second way has given up what it held, and begins again by the
+    /// first.
     Moved,
     /// The key is there, with this information.
     Found(u32),
@@ -301,11 +318,11 @@ impl Error for Refusal {}
 pub enum Lock {
     /// ρ, of a search or a next: it goes with all but ξ.
     Rho,
-    /// ξ, of an update by the first way: it goes with nothing.
+    /// ξ, of an update by the first way, and by the third where the page was converted: it goes with nothing.
     Xi,
     /// Updater's ρ, of an update by the second way: it goes with ρ, and with others of its kind.
     UpdaterRho,
-    /// α: it goes with ρ alone. No operation takes it yet.
+    /// α, of an update by the third way: it goes with ρ alone.
     Alpha,
 }
 

@@ -236,7 +236,7 @@ mod tests {
     }
 
     #[test]
-    #[should_panic = "the archive is of version 1, and this crate of version 4"]
+    #[should_panic = "the archive is of version 1, and this crate of version 5"]
     fn another_version_is_refused() {
         hold_version(1);
     }

@@ -36,7 +36,7 @@
 //! # Ok::<(), ghazfulit::Refusal>(())
 //! ```
 //!
-//! An update goes one of two ways, chosen when it is begun. By the second it holds nobody out of the pages above its leaf, as long as the
+//! An update goes one of three ways, chosen when it is begun. By the second it holds nobody out of the pages above its leaf, as long as the
 //! leaf is all that has to be changed:
 //!
 //! ```
@@ -52,6 +52,29 @@
 //! assert_eq!(index.step(0)?, Step::Moved); // page 0, and the search holds it too
 //! assert_eq!(index.step(1)?, Step::Moved);
 //! assert_eq!(index.step(1)?, Step::Found(7));
+//! assert_eq!(index.step(0)?, Step::Inserted);
+//! # Ok::<(), ghazfulit::Refusal>(())
+//! ```
+//!
+//! By the third it lets readers stay on all its pages until it knows its change, and then waits for those who are still there:
+//!
+//! ```
+//! use ghazfulit::{Index, Lock, Op, Step, Way};
+//!
+//! let mut index = Index::new(1, 8)?;
+//! for key in [10, 20, 30] {
+//!     index.begin(0, Op::insert(key, 7))?;
+//!     index.finish(0)?;
+//! }
+//! index.begin(1, Op::search(10))?;
+//! index.step(1)?;
+//! index.begin(0, Op::insert(25, 7).by(Way::Third))?;
+//! assert_eq!(index.step(0)?, Step::Moved); // page 0, on which the search rests
+//! assert_eq!(index.report(0)?.held, Some((Lock::Alpha, 0)));
+//! assert_eq!(index.step(0)?, Step::Moved); // its leaf, which is full: both pages will change
+//! assert_eq!(index.step(0)?, Step::Waiting);
+//! assert_eq!(index.step(1)?, Step::Found(7));
+//! assert_eq!(index.step(0)?, Step::Moved);
 //! assert_eq!(index.step(0)?, Step::Inserted);
 //! # Ok::<(), ghazfulit::Refusal>(())
 //! ```

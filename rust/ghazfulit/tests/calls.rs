@@ -85,7 +85,7 @@ fn every_kind_of_the_header_has_a_row() {
         Some((name.trim_matches('`').to_string(), number.parse().ok()?))
     });
     assert_eq!(in_header, in_table);
-    assert_eq!(in_header.len(), 8);
+    assert_eq!(in_header.len(), 11);
 }
 
 #[test]
@@ -236,7 +236,7 @@ fn each_row_is_met_and_nothing_else() {
     let mut random = Random(1);
     for _ in 0..4000 {
         let (slot, key) = (random.below(4) as u32, random.below(9) as u32);
-        let kind = random.from(1, numbers::REGRADE_SECOND.into()) as u32;
+        let kind = random.from(1, numbers::REGRADE_THIRD.into()) as u32;
         met.call(match random.below(8) {
             0 | 1 => Call::Begin(slot, kind, key),
             2 => Call::Report(random.below(6) as u32),

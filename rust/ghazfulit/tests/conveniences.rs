@@ -134,6 +134,24 @@ fn the_lots_go_on_beside_the_second_way() {
     assert_eq!(lots.next(), Some(Ok(Lot { key, information })));
 }
 
+/// An update of the third way bars nobody who reads before it converts; then it waits for those who are there.
+#[test]
+fn the_lots_go_on_beside_the_third_way() {
+    let mut index = entered(3, &[10, 20, 30]);
+    let delete = Op::delete(10).by(Way::Third);
+    index.begin(0, delete).expect("begun");
+    for _ in 0..2 {
+        assert_eq!(index.step(0), Ok(Step::Moved));
+    }
+    assert_eq!(keys(&mut index, 3, 0), Ok(vec![10, 20, 30]));
+    // with the sibling it knows its change, and page 0 is wanted once more
+    assert_eq!(index.step(0), Ok(Step::Moved));
+    let mut lots = index.lots(3, 0);
+    assert_eq!(lots.next(), Some(Err(Stop::Waiting)));
+    assert_eq!(lots.index().finish(0), Ok(Step::Deleted(11)));
+    assert_eq!(lots.next().map(|lot| lot.map(|lot| lot.key)), Some(Ok(20)));
+}
+
 #[test]
 fn the_lots_end_where_they_are_refused() {
     let mut index = entered(3, &[10]);
@@ -176,20 +194,22 @@ fn the_kinds_of_lock() {
 
 #[test]
 fn the_way_is_chosen() {
-    let kinds = |op: Op| (op.numbers().0, op.by(Way::Second).numbers().0);
-    for (op, first, second) in [
-        (Op::insert(4, 5), numbers::INSERT, numbers::INSERT_SECOND),
-        (Op::delete(4), numbers::DELETE, numbers::DELETE_SECOND),
-        (Op::regrade(4, 5), numbers::REGRADE, numbers::REGRADE_SECOND),
+    use numbers::*;
+    for (op, kinds) in [
+        (Op::insert(4, 5), [INSERT, INSERT_SECOND, INSERT_THIRD]),
+        (Op::delete(4), [DELETE, DELETE_SECOND, DELETE_THIRD]),
+        (Op::regrade(4, 5), [REGRADE, REGRADE_SECOND, REGRADE_THIRD]),
         // who only reads has no way
-        (Op::search(4), numbers::SEARCH, numbers::SEARCH),
-        (Op::next(4), numbers::NEXT, numbers::NEXT),
+        (Op::search(4), [SEARCH; 3]),
+        (Op::next(4), [NEXT; 3]),
     ] {
-        assert_eq!(kinds(op), (first, second));
-        assert_eq!(op.by(Way::Second).by(Way::default()), op);
+        assert_eq!(Way::ALL.map(|way| op.by(way).numbers().0), kinds);
         let (_, key, information) = op.numbers();
-        let (_, same, too) = op.by(Way::Second).numbers();
-        assert_eq!((key, information), (same, too));
+        for way in Way::ALL {
+            assert_eq!(op.by(way).by(Way::default()), op);
+            let (_, same, too) = op.by(way).numbers();
+            assert_eq!((key, information), (same, too));
+        }
     }
 }
 

@@ -166,6 +166,7 @@ fn a_held_page_has_its_kind_in_its_word() {
         (Op::search(10), Lock::Rho),
         (Op::regrade(10, 7), Lock::Xi),
         (Op::regrade(10, 7).by(Way::Second), Lock::UpdaterRho),
+        (Op::regrade(10, 7).by(Way::Third), Lock::Alpha),
     ] {
         index.begin(3, op).expect("begun");
         assert_eq!(index.step(3), Ok(Step::Moved));
@@ -174,12 +175,57 @@ fn a_held_page_has_its_kind_in_its_word() {
         let top = 19 + 16 * 7 + 3;
         assert_eq!(index.state()[top], lock.number() << 16);
         let (mut state, words) = (*index.state(), index.words().to_vec());
-        for number in (0..9).filter(|&number| number != lock.number()) {
+        // by the third way a page may be converted, though this one is not: that is a matter of the pages
+        let may_hold = |number: u32| {
+            number == lock.number() || (lock == Lock::Alpha && number == Lock::Xi.number())
+        };
+        for number in (0..9).filter(|&number| !may_hold(number)) {
             state[top] = number << 16;
             let mut other = Index::from_parts(state, words.clone());
             assert_eq!(other.step(3), Err(Refusal::BadState), "{op:?} {number}");
         }
         index.finish(3).expect("it ends");
+    }
+}
+
+#[test]
+fn an_update_lets_readers_stay() {
+    let mut index = Index::new(1, 4).expect("in range");
+    for key in [10, 20, 30] {
+        index.begin(0, Op::insert(key, 7)).expect("begun");
+        assert_eq!(index.step(0), Ok(Step::Inserted));
+    }
+    let third = |op: Op| op.by(Way::Third);
+    let held = |index: &Index, page: u32| index.report(page).expect("a page").held;
+    index.begin(1, Op::search(10)).expect("begun");
+    assert_eq!(index.step(1), Ok(Step::Moved));
+    // pages 0 and 2 are to change; both are held with α, and page 0 is read meanwhile
+    index.begin(0, third(Op::insert(25, 7))).expect("begun");
+    assert_eq!(index.step(0), Ok(Step::Moved));
+    assert_eq!(index.step(0), Ok(Step::Moved));
+    assert_eq!(held(&index, 0), Some((Lock::Alpha, 0)));
+    assert_eq!(held(&index, 2), Some((Lock::Alpha, 0)));
+    // the conversion of page 0 waits for the search, and a search that comes for the conversion
+    assert_eq!(index.step(0), Ok(Step::Waiting));
+    index.begin(2, Op::search(20)).expect("begun");
+    assert_eq!(index.step(2), Ok(Step::Waiting));
+    assert_eq!(index.step(1), Ok(Step::Found(7)));
+    assert_eq!(index.step(2), Ok(Step::Waiting));
+    assert_eq!(index.step(0), Ok(Step::Moved));
+    assert_eq!(held(&index, 0), Some((Lock::Xi, 0)));
+    assert_eq!(index.step(0), Ok(Step::Inserted));
+    assert_eq!(index.finish(2), Ok(Step::Found(7)));
+    for (op, moves, answer) in [
+        (Op::insert(25, 9), 1, Step::AlreadyThere(7)),
+        (Op::regrade(25, 9), 2, Step::Regraded(7)),
+        (Op::delete(25), 2, Step::Deleted(9)),
+        (Op::delete(25), 1, Step::NoSuchKey),
+    ] {
+        index.begin(2, third(op)).expect("begun");
+        for _ in 0..moves {
+            assert_eq!(index.step(2), Ok(Step::Moved));
+        }
+        assert_eq!(index.step(2), Ok(answer));
     }
 }
 

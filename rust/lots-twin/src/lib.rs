@@ -1,6 +1,6 @@
 //! The little program of documents 01 and 02 as one function from its input to its output.
 
-use twin::Way::{First, Second};
+use twin::Way::{First, Second, Third};
 use twin::{begin, make, page_words, step, Answer, Op, State};
 
 /// The most bytes the program reads.
@@ -80,7 +80,7 @@ fn parse(line: &[u8]) -> Option<Line> {
     }
 }
 
-/// The operation that a letter asks for, with the numbers behind it; a 2 at the letter chooses the second way.
+/// The operation that a letter asks for, with the numbers behind it; a 2 at the letter chooses the second way, a 3 the third.
 fn operation(letter: &[u8], rest: &[&[u8]]) -> Option<Op> {
     let numbers: Option<Vec<u32>> = rest.iter().map(|digits| number(digits)).collect();
     Some(match (letter, &numbers?[..]) {
@@ -88,10 +88,13 @@ fn operation(letter: &[u8], rest: &[&[u8]]) -> Option<Op> {
         (b"n", &[key]) => Op::Next(key),
         (b"i", &[key, information]) => Op::Insert(key, information, First),
         (b"i2", &[key, information]) => Op::Insert(key, information, Second),
+        (b"i3", &[key, information]) => Op::Insert(key, information, Third),
         (b"d", &[key]) => Op::Delete(key, First),
         (b"d2", &[key]) => Op::Delete(key, Second),
+        (b"d3", &[key]) => Op::Delete(key, Third),
         (b"g", &[key, information]) => Op::Regrade(key, information, First),
         (b"g2", &[key, information]) => Op::Regrade(key, information, Second),
+        (b"g3", &[key, information]) => Op::Regrade(key, information, Third),
         _ => return None,
     })
 }

@@ -82,10 +82,32 @@ fn bad_lines() {
         "b 0 d2\n",
         "b 0 d2 1 2\n",
         "b 0 d2 4294967296\n",
-        "b 0 d3 1\n",
         "b 0 g2 1\n",
         "b 0 g2 1 2 3\n",
         "b 0 g21 2\n",
+        "b 0 i3\n",
+        "b 0 i3 1\n",
+        "b 0 i3 1 2 3\n",
+        "b 0 i3 1 4294967296\n",
+        "b 0 i 3 1 2\n",
+        "b 0 i03 1 2\n",
+        "b 0 i33 1 2\n",
+        "b 0 i4 1 2\n",
+        "b 0 I3 1 2\n",
+        "b 0 3i 1 2\n",
+        "b 0 i3 1 2",
+        "b 0 d3\n",
+        "b 0 d3 1 2\n",
+        "b 0 d4 1\n",
+        "b 0 d32 1\n",
+        "b 0 g3 1\n",
+        "b 0 g3 1 2 3\n",
+        "b 0 g31 2\n",
+        "b 0 g4 1 2\n",
+        "b 0 s3 1\n",
+        "b 0 n3 1\n",
+        "t3 0\n",
+        "i3 0 1 2\n",
         "b 0 s2 1\n",
         "b 0 n2 1\n",
         "t2 0\n",
@@ -189,6 +211,28 @@ fn a_search_beside_the_second_way() {
     }
     input += "b 0 d2 30\nb 1 s 30\nt 0\nt 1\nt 1\nt 0\nt 1\n";
     let told = "Begun\nBegun\nMoved\nMoved\nWaiting\nDeleted 30\nNotFound\n";
+    assert!(written(&input).ends_with(told), "{}", written(&input));
+}
+
+/// Behind the letter of an update a 3 chooses the third way. Page 0 is a leaf here, and is converted before each change.
+#[test]
+fn the_third_way() {
+    let input = "b 0 i3 12 3\nt 0\nt 0\nb 0 i3 012 4\nt 0\nb 1 g3 12 5\nt 1\nt 1\nb 1 g3 13 5\nt 1\nb 1 d3 12\nt 1\nt 1\nb 16 d3 0\n";
+    assert_eq!(
+        written(input),
+        "Begun\nMoved\nInserted\nBegun\nAlreadyThere 3\nBegun\nMoved\nRegraded 3\nBegun\nNoSuchKey\nBegun\nMoved\nDeleted 5\nBadSlot\n"
+    );
+}
+
+/// A buyer's search goes on beside the third way, and waits only while a page is converted or changed.
+#[test]
+fn a_search_beside_the_third_way() {
+    let mut input = String::new();
+    for key in [10, 20, 30, 40, 50] {
+        input += &format!("b 0 i {key} {key}\nt 0\n");
+    }
+    input += "b 0 d3 30\nb 1 s 30\nt 0\nt 1\nt 0\nt 1\nt 0\nt 1\n";
+    let told = "Begun\nBegun\nMoved\nMoved\nMoved\nWaiting\nDeleted 30\nNotFound\n";
     assert!(written(&input).ends_with(told), "{}", written(&input));
 }
 

@@ -4,6 +4,7 @@
 use draw::Random;
 use twin::{page_words, Lock, Op, Slot, State, Way};
 
+use crate::converting::{is_third, place_conversion, spoil_turn};
 use crate::moment::{ask, spoil_lock, turn, Call, Moment};
 use crate::pages::{leads, operation, path_count, places, rubbish, write, Build};
 use crate::second_way::place_next;
@@ -38,10 +39,13 @@ fn spoil(random: &mut Random, build: &mut Build, slot: &mut Slot) {
     let other = random.below(u64::from(build.n)) as u32;
     let key = slot.op.map_or(0, Op::key);
     let drawn = random.below(build.keys) as u32;
-    let way = random.one(&Way::BOTH);
+    let way = random.one(&Way::ALL);
+    if slot.op.is_some_and(is_third) && random.percent(40) {
+        return spoil_turn(random, slot);
+    }
     match random.below(19) {
         12..=15 => turn_back(random, build, slot),
-        16 => slot.lock = random.one(&[Lock::Xi, Lock::UpdaterRho, Lock::Rho]),
+        16 => slot.lock = random.one(&[Lock::Xi, Lock::UpdaterRho, Lock::Rho, Lock::Alpha]),
         17 => turn(slot, way),
         18 => spoil_lock(random, slot),
         0 => ask(
@@ -162,16 +166,20 @@ fn place_slot(random: &mut Random, build: &mut Build, op: Op) -> Option<Slot> {
 
 /// The same for an operation that holds something and is no `Next`.
 fn place_held(random: &mut Random, build: &mut Build, op: Op) -> Option<Slot> {
-    let is_beside = matches!(op, Op::Delete(_, Way::First)) && random.percent(65);
+    let converts = is_third(op) && random.percent(60);
+    let may_go_beside = matches!(op, Op::Delete(_, Way::First | Way::Third));
+    let is_beside = may_go_beside && (converts || random.percent(65));
     let held = match (op, op.way()) {
         (Op::Search(_) | Op::Regrade(..), _) | (_, Some(Way::Second)) => 1,
         _ => random.one(&[1, 1, 2, 2, 2, 3, 3, 4, 5, 7, 9]) + u32::from(is_beside),
     };
-    let last = if is_beside {
+    let last = if is_beside || converts {
         1
     } else {
         random.one(&[2, 2, 2, 2, 3, 4])
     };
+    // a leaf that is held has the key of a deletion or a regrading
+    let has_key = !matches!(op, Op::Insert(..)) ^ random.percent(3);
     let top_level = last + held - 1;
     let mut path = vec![if random.percent(50) {
         0
@@ -182,7 +190,7 @@ fn place_held(random: &mut Random, build: &mut Build, op: Op) -> Option<Slot> {
     for at in 0..held {
         let (page, level) = (path[at as usize], top_level - at);
         let count = path_count(random, build, op, at == 0, page, level);
-        let with = (level == 1 && random.percent(97)).then_some(op.key());
+        let with = (level == 1 && has_key).then_some(op.key());
         write(random, build, page, level, count, with);
         if at + 1 < held {
             let used = [&path[..], &siblings[..]].concat();
@@ -191,7 +199,9 @@ fn place_held(random: &mut Random, build: &mut Build, op: Op) -> Option<Slot> {
             siblings.extend(is_beside.then_some(beside));
         }
     }
-    if is_beside {
+    if converts {
+        place_conversion(random, build, op, &path, siblings)
+    } else if is_beside {
         place_siblings(random, build, op, &path, siblings)
     } else {
         place_want(random, build, op, &path, last)

@@ -13,6 +13,8 @@ pub struct Draw {
     pub slots: u64,
     /// How many calls until growing turns into shrinking.
     pub turn: usize,
+    /// How many operations in a hundred only read, beside those that do anyway: they rest on pages that others would convert.
+    pub readers: u64,
 }
 
 /// A pool just made.
@@ -33,6 +35,7 @@ pub fn draw(random: &mut Random) -> Draw {
         keys,
         slots: random.one(&[1, 2, 3, 4, 6, 16]),
         turn: random.from(20, 160) as usize,
+        readers: random.one(&[0, 0, 40, 60]),
     }
 }
 
@@ -49,10 +52,13 @@ pub fn next_call(random: &mut Random, draw: &Draw, moment: &Moment, at: usize) -
         return Call::Begin(slot, behind_leaf(random, moment, op));
     }
     let ready = moment.ready();
-    Call::Step(if random.percent(80) {
-        random.one(&ready)
-    } else {
-        random.one(&open)
+    let is_converting = |slot: &usize| moment.state.slots[*slot].converts();
+    let converting: Vec<usize> = open.iter().copied().filter(is_converting).collect();
+    Call::Step(match random.below(20) {
+        // whether it waits or not
+        0 | 1 if !converting.is_empty() => random.one(&converting),
+        ..16 => random.one(&ready),
+        _ => random.one(&open),
     })
 }
 
@@ -80,14 +86,17 @@ fn odd_call(random: &mut Random, draw: &Draw) -> Call {
 }
 
 /// A random operation; a deletion or a regrading is mostly of a key that is there, and a `Next` is often from just behind one. Updates go one
-/// way or the other.
+/// way or another.
 pub fn operation(random: &mut Random, draw: &Draw, grows: bool, there: &[u32]) -> Op {
     let key = match random.below(50) {
         0 => u32::MAX,
         _ => random.below(draw.keys) as u32,
     };
+    if random.percent(draw.readers) {
+        return random.one(&[Op::Search(key), Op::Next(key)]);
+    }
     let (inserts, deletes) = if grows { (70, 8) } else { (6, 68) };
-    let way = random.one(&Way::BOTH);
+    let way = random.one(&Way::ALL);
     match random.below(100) {
         drawn if drawn < inserts => Op::Insert(key, random.below(1000) as u32, way),
         drawn if drawn < inserts + deletes && !there.is_empty() && random.percent(85) => {

@@ -5,6 +5,7 @@ mod broken;
 mod built;
 #[cfg(test)]
 mod clauses;
+mod converting;
 mod fresh;
 mod limits;
 mod moment;

@@ -3,6 +3,7 @@
 use draw::Random;
 use twin::{Lock, Op, Slot, State, Way};
 
+use crate::converting::{convert, is_third, spoil_turn};
 use crate::moment::{any_lock, spoil_lock, Call, Moment};
 
 /// A report, a beginning and a step on one drawn state, with no words at all.
@@ -48,16 +49,18 @@ fn drawn_counts(random: &mut Random) -> (Op, usize, usize) {
     let both = random.one(&[1, 2, 5, 9, 10, 10]) + usize::from(random.percent(3));
     let beside = random.one(&[0, both / 2, both - 1]) + more;
     let one = random.one(&[0, 1, 1]) + usize::from(random.percent(15));
+    // these two may hold the same pages
+    let alone = random.one(&[Way::First, Way::Third]);
     match random.below(10) {
         0 => (Op::Search(key), one, 0),
-        7 => (Op::Regrade(key, 3, Way::First), one, 0),
+        7 => (Op::Regrade(key, 3, alone), one, 0),
         8 | 9 => (second(random, key), one, 0),
         1 | 2 => (
-            Op::Insert(key, 3, Way::First),
+            Op::Insert(key, 3, alone),
             random.one(&[0, 1, 5, 9, 10, 10]) + more,
             0,
         ),
-        3 | 4 => (Op::Delete(key, Way::First), both, beside),
+        3 | 4 => (Op::Delete(key, alone), both, beside),
         _ => (Op::Next(key), both, beside),
     }
 }
@@ -83,7 +86,7 @@ fn drawn_lock(random: &mut Random, op: Op) -> Lock {
 /// An open slot; its pages go on from the last slot's.
 fn drawn_slot(random: &mut Random, n: u32, next: &mut u32) -> Slot {
     let (op, depth, beside) = drawn_counts(random);
-    // some share pages with the last slot: only two that hold with ρ, plain or updater's, may
+    // some share pages with the last slot: two that hold with ρ, plain or updater's, may, and one with α beside plain ρ
     if op.holds() != Lock::Xi && random.percent(20) {
         *next = next.saturating_sub(random.below(12) as u32);
     }
@@ -113,6 +116,12 @@ fn drawn_slot(random: &mut Random, n: u32, next: &mut u32) -> Slot {
         .for_each(|cell| *cell = page(random));
     slot.want = if random.percent(50) { 0 } else { page(random) };
     slot = slot.holding(op.holds());
+    if is_third(op) && random.percent(60) {
+        convert(random, &mut slot);
+    }
+    if is_third(op) && random.percent(10) {
+        spoil_turn(random, &mut slot);
+    }
     if random.percent(2) {
         spoil_lock(random, &mut slot);
     }

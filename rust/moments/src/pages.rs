@@ -37,8 +37,8 @@ pub(crate) fn rubbish(random: &mut Random) -> Build {
 /// An operation on a key near the middle. There are enough keys below that of a `Next` to fill a page, and one above it.
 pub(crate) fn operation(random: &mut Random, build: &Build) -> Op {
     let key = random.below(build.keys) as u32;
-    // by the first way there is more to hold
-    let way = random.one(&[Way::First, Way::First, Way::Second]);
+    // by the second way there is less to hold
+    let way = random.one(&[Way::First, Way::First, Way::Second, Way::Third, Way::Third]);
     match random.below(16) {
         0 => Op::Search(key),
         14 | 15 => Op::Regrade(key, random.below(1000) as u32, way),

@@ -4,6 +4,7 @@
 use draw::Random;
 use twin::{page_words, Op, Slot, State, Way};
 
+use crate::converting::{convert, is_third, spoil_turn};
 use crate::fresh::{draw, made, next_call, operation, Draw};
 use crate::moment::{any_lock, ask, spoil_lock, turn, Call, Moment};
 
@@ -40,6 +41,7 @@ fn worth(moment: &Moment) -> u64 {
     match slots().map(|slot| slot.beside).max() {
         Some(2..) => 90,
         Some(1) => 30,
+        _ if slots().any(Slot::converts) => 5,
         _ if slots().any(|slot| has_leaf(moment, slot)) => 3,
         _ => 1,
     }
@@ -141,9 +143,10 @@ fn spoil_state(random: &mut Random, draw: &Draw, state: &mut State, number: usiz
     let odd = random.one(&[0, 1, 2, 9, 10, 11, 15, 16, 17, 1024, 1025, u32::MAX]);
     let cell = random.one(&[0, 0, 0, 1, 1, 2, 3, 9]);
     let key = random.below(draw.keys) as u32;
-    let way = random.one(&Way::BOTH);
+    let way = random.one(&Way::ALL);
+    let other = random.below(16) as usize;
     let slot = &mut state.slots[number];
-    match random.below(24) {
+    match random.below(28) {
         0 => state.k = odd,
         1 => state.n = random.one(&[odd, draw.n - 1, draw.n + 1]),
         2 => {
@@ -187,7 +190,23 @@ fn spoil_state(random: &mut Random, draw: &Draw, state: &mut State, number: usiz
         20 => slot.lock = any_lock(random),
         21 => spoil_lock(random, slot),
         22 => *slot = slot.holding(any_lock(random)),
+        23 | 24 => spoil_turn(random, slot),
+        25 if slot.op.is_some_and(is_third) => convert(random, slot),
+        26 => share(random, state, number, other),
         _ => ask(slot, Op::Search(key)),
+    }
+}
+
+/// Another slot holds a page of the slot too, mostly with the kind of its operation: α beside α, ρ beside α, and so on.
+fn share(random: &mut Random, state: &mut State, number: usize, other: usize) {
+    let page = state.slots[number].path[0];
+    let slot = &mut state.slots[other];
+    let op = slot.op.filter(|_| number != other && slot.depth <= 1);
+    if let Some(op) = op {
+        slot.path[0] = page;
+        slot.depth = 1;
+        let lock = any_lock(random);
+        *slot = slot.holding(random.one(&[op.holds(), op.holds(), lock]));
     }
 }
 

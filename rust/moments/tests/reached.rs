@@ -1,5 +1,5 @@
 //! The draws reach what they are for: long and broken second ways of a `Next`, regradings of every outcome, updates of the second way
-//! that end at their leaf or begin again, and states that are refused for the kind of a lock alone.
+//! that end at their leaf or begin again, conversions with every outcome, and states that are refused for the kind of a lock alone.
 
 use draw::Random;
 use moments::{built, draw, draw_calls, limits, made, spoiled_state, spoiled_words, Call, Moment};
@@ -71,7 +71,7 @@ fn regradings_on_built_and_spoiled_pages() {
 fn scheduled(seed: u64) -> Vec<(Slot, Answer, bool)> {
     let mut random = Random(seed);
     let mut steps = Vec::new();
-    for _ in 0..100 {
+    for _ in 0..200 {
         let draw = draw(&mut random);
         let mut moment = made(draw.k, draw.n);
         for call in draw_calls(&mut random, &draw, &moment.clone(), 0, 300) {
@@ -190,4 +190,89 @@ fn kinds_of_held_pages() {
     }
     let is_sound_mixed = |state: &&State| is_sound(state) && is_mixed(state);
     assert!(near.iter().filter(is_sound_mixed).count() > 10);
+}
+
+/// How many steps of a slot that converts are answered so.
+fn count_conversions<'a>(steps: impl Iterator<Item = (&'a Slot, Answer)>, name: &str) -> usize {
+    steps
+        .filter(|(slot, answer)| slot.converts() && answer.name() == name)
+        .count()
+}
+
+#[test]
+fn conversions_on_built_and_spoiled_pages() {
+    let mut random = Random(11);
+    let drawn = (0..8000).filter_map(|_| built(&mut random));
+    let on_built: Vec<(Slot, Answer)> = drawn.filter_map(stepped).collect();
+    let drawn = (0..2000).filter_map(|_| spoiled_words(&mut random));
+    let on_spoiled: Vec<(Slot, Answer)> = drawn.filter_map(stepped).collect();
+    let count = |steps: &[(Slot, Answer)], name: &str| {
+        let steps = steps.iter().map(|(slot, answer)| (slot, *answer));
+        count_conversions(steps, name)
+    };
+    for name in [
+        "Moved", "Inserted", "NoRoom", "Deleted", "Regraded", "Damaged", "BadState",
+    ] {
+        assert!(count(&on_built, name) > 20, "{name}");
+    }
+    assert!(count(&on_spoiled, "Damaged") > 20);
+    let deep = |(slot, answer): &&(Slot, Answer)| {
+        slot.converts() && slot.beside > 1 && answer.name() == "Deleted"
+    };
+    assert!(on_built.iter().filter(deep).count() > 20);
+}
+
+#[test]
+fn conversions_in_schedules() {
+    let steps = scheduled(12);
+    for name in [
+        "Moved", "Inserted", "NoRoom", "Deleted", "Regraded", "Waiting",
+    ] {
+        let steps = steps.iter().map(|(slot, answer, _)| (slot, *answer));
+        let count = count_conversions(steps, name);
+        assert!(count > 20, "{name} {count}");
+    }
+}
+
+/// Whether two slots hold a page, the one with α and the other with this kind.
+fn has_beside_alpha(state: &State, lock: Lock) -> bool {
+    let slots = || state.slots.iter().enumerate();
+    let fits = |slot: &Slot| slot.depth <= 10 && slot.beside <= 10;
+    slots().any(|(one, its)| {
+        let mut held = its.held_with().filter(|&(_, own)| own == Lock::Alpha);
+        held.any(|(page, _)| {
+            slots()
+                .any(|(other, slot)| one != other && fits(slot) && slot.lock_on(page) == Some(lock))
+        })
+    })
+}
+
+#[test]
+fn states_around_conversions() {
+    let mut random = Random(13);
+    let near = (0..4000).map(|_| limits(&mut random).0.state);
+    let near: Vec<State> = near.collect();
+    let spoiled = (0..2000).map(|_| spoiled_state(&mut random).0.state);
+    let states: Vec<State> = near.into_iter().chain(spoiled).collect();
+    let in_range = |state: &&State| {
+        let mut slots = state.slots.iter();
+        slots.all(|slot| slot.depth <= 10 && slot.beside <= 10)
+    };
+    let states: Vec<&State> = states.iter().filter(in_range).collect();
+    let count = |is_so: &dyn Fn(&State) -> bool| {
+        let so = states.iter().filter(|state| is_so(state));
+        so.count()
+    };
+    let converts = |state: &State| state.slots.iter().any(Slot::converts);
+    assert!(count(&|state| is_sound(state) && converts(state)) > 50);
+    assert!(count(&|state| !is_sound(state) && converts(state)) > 50);
+    let from_xi = |slot: &Slot| slot.converts() && slot.lock_on(slot.want) == Some(Lock::Xi);
+    assert!(count(&|state| state.slots.iter().any(from_xi)) > 20);
+    assert!(count(&|state| is_sound(state) && has_beside_alpha(state, Lock::Rho)) > 20);
+    for lock in [Lock::Alpha, Lock::UpdaterRho] {
+        assert!(
+            count(&|state| has_beside_alpha(state, lock)) > 5,
+            "{lock:?}"
+        );
+    }
 }

@@ -1,8 +1,9 @@
 //! The state of a rival in two layouts: one struct a slot, and in columns.
 
 use ghazfulit::numbers::{
-    self, DELETE, DELETE_SECOND, INSERT, INSERT_SECOND, LARGEST_K, LARGEST_N, LOCK_ALPHA, LOCK_RHO,
-    LOCK_UPDATER_RHO, LOCK_XI, NEXT, REGRADE, REGRADE_SECOND, SEARCH,
+    self, DELETE, DELETE_SECOND, DELETE_THIRD, INSERT, INSERT_SECOND, INSERT_THIRD, LARGEST_K,
+    LARGEST_N, LOCK_ALPHA, LOCK_RHO, LOCK_UPDATER_RHO, LOCK_XI, NEXT, REGRADE, REGRADE_SECOND,
+    REGRADE_THIRD, SEARCH,
 };
 
 /// How many slots there are.
@@ -91,7 +92,7 @@ impl Slot {
     }
 
     /// The same with the kinds of their locks.
-    fn held_with(&self) -> impl Iterator<Item = (u32, u32)> + '_ {
+    pub fn held_with(&self) -> impl Iterator<Item = (u32, u32)> + '_ {
         let path = &self.path_locks[..self.depth as usize];
         let beside = &self.sibling_locks[..self.beside as usize];
         self.held().zip(path.iter().chain(beside).copied())
@@ -154,12 +155,23 @@ pub fn is_second(kind: u32) -> bool {
     (INSERT_SECOND..=REGRADE_SECOND).contains(&kind)
 }
 
+/// Whether a kind goes the third way.
+pub fn is_third(kind: u32) -> bool {
+    (INSERT_THIRD..=REGRADE_THIRD).contains(&kind)
+}
+
+/// Whether a slot of this kind that wants with this lock converts a page that it holds: in a sound state only then ξ is wanted by the third
+/// way.
+pub fn is_converting(kind: u32, lock: u32) -> bool {
+    is_third(kind) & (lock == LOCK_XI)
+}
+
 /// The kind by the first way.
 pub fn first(kind: u32) -> u32 {
     match kind {
-        INSERT_SECOND => INSERT,
-        DELETE_SECOND => DELETE,
-        REGRADE_SECOND => REGRADE,
+        INSERT_SECOND | INSERT_THIRD => INSERT,
+        DELETE_SECOND | DELETE_THIRD => DELETE,
+        REGRADE_SECOND | REGRADE_THIRD => REGRADE,
         _ => kind,
     }
 }
@@ -167,19 +179,21 @@ pub fn first(kind: u32) -> u32 {
 /// Whether a kind may hold so many pages.
 fn holds_so_many(kind: u32, depth: u32, beside: u32) -> bool {
     let none = (kind == CLOSED) & (depth == 0) & (beside == 0);
-    let single = (kind == SEARCH) | (kind == REGRADE) | is_second(kind);
+    let single = (kind == SEARCH) | (first(kind) == REGRADE) | is_second(kind);
     let one = single & (depth <= 1) & (beside == 0);
-    let insertion = (kind == INSERT) & (depth <= 10) & (beside == 0);
+    let inserts = (kind == INSERT) | (kind == INSERT_THIRD);
+    let insertion = inserts & (depth <= 10) & (beside == 0);
     let few = (beside == 0) | (beside < depth);
-    let both = (kind == DELETE) | (kind == NEXT);
+    let both = (kind == DELETE) | (kind == DELETE_THIRD) | (kind == NEXT);
     none | one | insertion | (both & (depth <= 10) & (beside <= 9) & few)
 }
 
-/// The kind of lock that a kind holds with: searches and the next lot ρ, the second way updater's ρ. These two go together, and ξ with
-/// nothing.
+/// The kind of lock that a kind goes down with: searches and the next lot ρ, the second way updater's ρ, the third α, and the first ξ.
 pub fn lock_held(kind: u32) -> u32 {
     if is_second(kind) {
         LOCK_UPDATER_RHO
+    } else if is_third(kind) {
+        LOCK_ALPHA
     } else if (kind == SEARCH) | (kind == NEXT) {
         LOCK_RHO
     } else {
@@ -187,9 +201,69 @@ pub fn lock_held(kind: u32) -> u32 {
     }
 }
 
-/// Whether a kind can want a lock at all.
+/// Whether a kind can want a lock at all; by the third way ξ only for a page that it holds.
 fn may_want(kind: u32, lock: u32) -> bool {
-    (lock == lock_held(kind)) | (is_second(kind) & (lock == LOCK_XI)) | (kind == CLOSED)
+    let may_xi = is_second(kind) | is_third(kind);
+    (lock == lock_held(kind)) | (may_xi & (lock == LOCK_XI)) | (kind == CLOSED)
+}
+
+/// Whether a kind can hold with a lock at all.
+fn may_hold(kind: u32, lock: u32) -> bool {
+    (lock == lock_held(kind)) | is_converting(kind, lock)
+}
+
+/// The pages that are held, by the kinds of their locks.
+#[derive(Default)]
+struct Taken {
+    rho: Pages,
+    updaters: Pages,
+    alpha: Pages,
+    xi: Pages,
+}
+
+impl Taken {
+    /// Adds a page; whether it was there under the same kind, and that goes with no other.
+    fn add(&mut self, page: u32, lock: u32) -> bool {
+        match lock {
+            LOCK_RHO => {
+                put(&mut self.rho, page);
+                false
+            }
+            LOCK_UPDATER_RHO => {
+                put(&mut self.updaters, page);
+                false
+            }
+            LOCK_ALPHA => put(&mut self.alpha, page),
+            _ => put(&mut self.xi, page),
+        }
+    }
+
+    /// Whether two kinds clash on some page.
+    fn clashes(&self) -> bool {
+        (0..16).any(|i| {
+            let beside = self.rho[i] | self.updaters[i] | self.alpha[i];
+            self.xi[i] & beside != 0 || self.alpha[i] & self.updaters[i] != 0
+        })
+    }
+}
+
+/// Whether the pages of one slot are sound by themselves and beside those that are taken, which they are then too.
+fn takes(
+    taken: &mut Taken,
+    n: u32,
+    [kind, want, wanted]: [u32; 3],
+    held: impl Iterator<Item = (u32, u32)>,
+) -> bool {
+    let converting = is_converting(kind, wanted);
+    let (mut bad, mut has_want) = (false, false);
+    for (page, lock) in held {
+        bad |= (page >= n) | !may_hold(kind, lock);
+        // a page that is held is wanted only as a conversion from α
+        bad |= (page == want) & !(converting & (lock == LOCK_ALPHA));
+        has_want |= page == want;
+        bad |= taken.add(page, lock);
+    }
+    !bad && has_want == converting
 }
 
 /// Whether a page is named twice.
@@ -254,16 +328,19 @@ impl Layout for Structs {
     fn grants(&self, s: usize) -> bool {
         let (want, barred_by) = (self.slots[s].want, clashing(self.slots[s].lock));
         let is_in_the_way = |(page, lock): (u32, u32)| page == want && has(barred_by, lock);
-        let held = self
-            .slots
-            .iter()
-            .enumerate()
-            .any(|(other, slot)| other != s && slot.held_with().any(is_in_the_way));
+        let mut others = self.slots.iter().enumerate();
+        let held = others.any(|(other, slot)| {
+            let converts = slot.want == want && is_converting(slot.kind, slot.lock);
+            other != s && (converts || slot.held_with().any(is_in_the_way))
+        });
+        if held || is_converting(self.slots[s].kind, self.slots[s].lock) {
+            return !held;
+        }
         let mut older = self.order[..self.waiting]
             .iter()
             .take_while(|&&other| other as usize != s)
             .map(|&other| &self.slots[other as usize]);
-        !held && !older.any(|slot| is_in_the_way((slot.want, slot.lock)))
+        !older.any(|slot| is_in_the_way((slot.want, slot.lock)))
     }
 
     fn is_sound(&self) -> bool {
@@ -273,7 +350,7 @@ impl Layout for Structs {
         let Some(named) = named(&self.order, self.waiting) else {
             return false;
         };
-        let (mut open, mut alone, mut shared) = (0u16, [0; 16], [0; 16]);
+        let (mut open, mut taken) = (0u16, Taken::default());
         for (s, slot) in self.slots.iter().enumerate() {
             if !holds_so_many(slot.kind, slot.depth, slot.beside) {
                 return false;
@@ -285,23 +362,15 @@ impl Layout for Structs {
             if slot.want >= self.n || !may_want(slot.kind, slot.lock) {
                 return false;
             }
-            let own = lock_held(slot.kind);
-            for (page, lock) in slot.held_with() {
-                if page >= self.n || page == slot.want || lock != own {
-                    return false;
-                }
-                if lock != LOCK_XI {
-                    put(&mut shared, page);
-                } else if put(&mut alone, page) {
-                    return false;
-                }
+            let wants = [slot.kind, slot.want, slot.lock];
+            if !takes(&mut taken, self.n, wants, slot.held_with()) {
+                return false;
             }
             if slot.kind == NEXT && is_twice(slot.held()) {
                 return false;
             }
         }
-        let clashes = (0..16).any(|i| alone[i] & shared[i] != 0);
-        open == named && !clashes
+        open == named && !taken.clashes()
     }
 
     fn words(&self) -> [u32; STATE] {
@@ -444,8 +513,18 @@ impl Layout for Columns {
     }
 
     fn grants(&self, s: usize) -> bool {
-        let (wants, locks) = (self.row(WANT), self.row(LOCK));
+        let (kinds, wants, locks) = (self.row(KIND), self.row(WANT), self.row(LOCK));
         let (want, barred_by) = (wants[s], clashing(locks[s]));
+        if is_converting(kinds[s], locks[s]) {
+            return !self.is_held(s, want);
+        }
+        let mut behind = false;
+        for other in 0..SLOTS {
+            behind |= (wants[other] == want) & is_converting(kinds[other], locks[other]);
+        }
+        if behind {
+            return false;
+        }
         let mut older = self.order()[..self.waiting()]
             .iter()
             .map(|&other| other as usize)
@@ -475,7 +554,7 @@ impl Layout for Columns {
         if bad || open != named {
             return false;
         }
-        let (mut alone, mut shared) = ([0; 16], [0; 16]);
+        let mut taken = Taken::default();
         let mut left = open;
         while left != 0 {
             let s = left.trailing_zeros() as usize;
@@ -484,18 +563,11 @@ impl Layout for Columns {
             let path = (0..depths[s] as usize).map(|i| word(PATH + i));
             let held = path.chain((0..besides[s] as usize).map(|i| word(SIBLINGS + i)));
             let held = held.map(unpack);
-            let own = lock_held(kinds[s]);
-            for (page, lock) in held.clone() {
-                bad |= (page >= n) | (page == wants[s]) | (lock != own);
-                if own != LOCK_XI {
-                    put(&mut shared, page);
-                } else {
-                    bad |= put(&mut alone, page);
-                }
-            }
+            let asked = [kinds[s], wants[s], locks[s]];
+            bad |= !takes(&mut taken, n, asked, held.clone());
             bad |= kinds[s] == NEXT && is_twice(held.map(|(page, _)| page));
         }
-        !bad && (0..16).all(|i| alone[i] & shared[i] == 0)
+        !bad && !taken.clashes()
     }
 
     fn words(&self) -> [u32; STATE] {

@@ -131,7 +131,7 @@ fn main() {
     }
 }
 
-/// The next lot, regradings and both ways together: compared, and not timed. In pages of one or two lots updates of the second way often begin
+/// The next lot, regradings and all ways together: compared, and not timed. In pages of one or two lots updates of the second way often begin
 /// again, and where page 0 is the only page each one does.
 fn compare(schedule: &Schedule) {
     let count = schedule.ops.len();
@@ -141,11 +141,12 @@ fn compare(schedule: &Schedule) {
     }
 }
 
-/// The ways of updates, each alone and both in turn.
-const WAYS: [(&str, &[Way]); 3] = [
+/// The ways of updates, each alone and all in turn.
+const WAYS: [(&str, &[Way]); 4] = [
     ("first", &[Way::First]),
     ("second", &[Way::Second]),
-    ("both in turn", &Way::BOTH),
+    ("third", &[Way::Third]),
+    ("all in turn", &Way::ALL),
 ];
 
 /// What each way costs an operation: calls, steps that wait, and nanoseconds.

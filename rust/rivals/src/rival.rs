@@ -2,11 +2,14 @@
 //! none.
 
 use ghazfulit::numbers::{
-    self, DELETE, DELETE_SECOND, INSERT, INSERT_SECOND, NEXT, REGRADE, SEARCH,
+    self, DELETE, DELETE_SECOND, DELETE_THIRD, INSERT, INSERT_SECOND, INSERT_THIRD, NEXT, REGRADE,
+    SEARCH,
 };
 use ghazfulit::Op;
 
-use crate::layout::{first, is_second, lock_held, Layout, Slot, CLOSED, HELD, SLOTS};
+use crate::layout::{
+    first, is_converting, is_second, is_third, lock_held, Layout, Slot, CLOSED, HELD, SLOTS,
+};
 use crate::pages::Pool;
 use crate::schedule::{plain, with, Answer, Program};
 
@@ -69,7 +72,8 @@ impl<L: Layout, const TESTS: bool> Program for Rival<L, TESTS> {
             words: &mut self.words,
             k: k as usize,
         };
-        if TESTS && !fits(&pool, n, &slot) {
+        let converting = is_converting(slot.kind, slot.lock);
+        if TESTS && !(fits_so_far(&pool, n, &slot) && fits(&pool, &slot, converting)) {
             return plain(numbers::DAMAGED);
         }
         // cells behind a length are 0 already where nothing is tested
@@ -78,8 +82,20 @@ impl<L: Layout, const TESTS: bool> Program for Rival<L, TESTS> {
             path = HELD.min(slot.depth as usize + 1);
             siblings = HELD.min(slot.beside as usize + 1);
         }
-        take(&pool, &mut slot);
-        match judge::<TESTS>(&mut pool, n, &slot) {
+        let course = if converting {
+            convert(&mut slot);
+            over(&mut pool, n, &slot)
+        } else {
+            take(&pool, &mut slot);
+            judge::<TESTS>(&mut pool, n, &slot)
+        };
+        match course {
+            Course::Converts(next) => {
+                (slot.want, slot.lock) = (next, numbers::LOCK_XI);
+                self.state.set_slot(s, &slot, path, siblings);
+                self.state.requeue(s, true);
+                plain(numbers::MOVED)
+            }
             Course::Goes(next) => {
                 slot.lock = lock_due(&pool, &slot);
                 slot.want = next;
@@ -110,6 +126,8 @@ impl<L: Layout, const TESTS: bool> Program for Rival<L, TESTS> {
 /// What a granted step does.
 enum Course {
     Goes(u32),
+    /// By the third way: a page that is held is wanted once more, with ξ.
+    Converts(u32),
     /// By the first way.
     Again,
     Ends(Answer),
@@ -119,8 +137,8 @@ enum Course {
 /// Whether a page's ancestors are needed no more; by the second way they never are.
 fn is_safe(pool: &Pool, slot: &Slot, p: u32) -> bool {
     match slot.kind {
-        INSERT => pool.count(p) < 2 * pool.k,
-        DELETE => pool.count(p) > pool.k,
+        INSERT | INSERT_THIRD => pool.count(p) < 2 * pool.k,
+        DELETE | DELETE_THIRD => pool.count(p) > pool.k,
         NEXT => pool.right_of(p, slot.key).is_some(),
         _ => true,
     }
@@ -192,47 +210,144 @@ fn fits_second(pool: &Pool, slot: &Slot) -> bool {
     (0..beside).all(|place| is_at(place, slot.siblings[place])) && is_at(beside, slot.want)
 }
 
-/// The pages held and the wanted one are sound, and those that the rules would have.
-fn fits(pool: &Pool, n: u32, slot: &Slot) -> bool {
+/// Whether an upper page sends a key to a page one level lower.
+fn leads(pool: &Pool, key: u32, father: u32, child: u32) -> bool {
+    pool.level(father) == pool.level(child) + 1 && pool.route(father, key) == child
+}
+
+/// The pages held and the wanted one are sound, and the path is one that the rules would have.
+fn fits_so_far(pool: &Pool, n: u32, slot: &Slot) -> bool {
     let pages_sound = slot.held().all(|p| pool.is_page_sound(p, n));
     if !pages_sound || !pool.is_page_sound(slot.want, n) {
         return false;
     }
+    let path = &slot.path[..slot.depth as usize];
+    let Some((&top, below)) = path.split_first() else {
+        return true;
+    };
+    let is_way = path
+        .windows(2)
+        .all(|pair| leads(pool, slot.key, pair[0], pair[1]));
+    let is_top = slot.kind == SEARCH
+        || ((top == 0 || is_safe(pool, slot, top))
+            && !below.iter().any(|&p| is_safe(pool, slot, p)));
+    is_way && is_top
+}
+
+/// What is held and wanted is what the rules would have: a page that is held, or a new one.
+fn fits(pool: &Pool, slot: &Slot, converting: bool) -> bool {
+    if converting {
+        fits_conversion(pool, slot)
+    } else {
+        fits_new(pool, slot)
+    }
+}
+
+/// Going down, or beside the path.
+fn fits_new(pool: &Pool, slot: &Slot) -> bool {
     let depth = slot.depth as usize;
-    if slot.lock != lock_due(pool, slot) {
+    let own = lock_held(slot.kind);
+    if slot.lock != lock_due(pool, slot) || slot.held_with().any(|(_, lock)| lock != own) {
         return false;
     }
     if depth == 0 {
         return slot.want == 0;
     }
-    let path = &slot.path[..depth];
-    let leads = |father: u32, child: u32| {
-        pool.level(father) == pool.level(child) + 1 && pool.route(father, slot.key) == child
-    };
-    let is_way = path.windows(2).all(|pair| leads(pair[0], pair[1]));
-    let is_top = slot.kind == SEARCH
-        || ((path[0] == 0 || is_safe(pool, slot, path[0]))
-            && !path[1..].iter().any(|&p| is_safe(pool, slot, p)));
-    if !is_way || !is_top {
-        return false;
-    }
+    let lowest = slot.path[depth - 1];
     if !is_at_leaf(pool, slot) {
-        return slot.beside == 0 && leads(path[depth - 1], slot.want);
+        return slot.beside == 0 && leads(pool, slot.key, lowest, slot.want);
     }
     if slot.kind == NEXT {
-        return pool.first_from(path[depth - 1], slot.key).is_none() && fits_second(pool, slot);
+        return pool.first_from(lowest, slot.key).is_none() && fits_second(pool, slot);
     }
     let beside = slot.beside as usize;
-    let is_sibling = |height: usize, p: u32| {
-        sibling_at(pool, slot, height) == Some(p) && pool.level(p) as usize == height + 1
-    };
-    slot.kind == DELETE
-        && pool.find(path[depth - 1], slot.key).is_some()
-        && (0..beside).all(|height| {
-            let p = slot.siblings[height];
-            is_sibling(height, p) && pool.count(p) == pool.k
-        })
-        && is_sibling(beside, slot.want)
+    (slot.kind == DELETE || slot.kind == DELETE_THIRD)
+        && pool.find(lowest, slot.key).is_some()
+        && fits_siblings(pool, slot)
+        && next_sibling(pool, slot) == Some(slot.want)
+        && pool.level(slot.want) as usize == beside + 1
+}
+
+/// The siblings held are those that the rules took, and all but the last join.
+fn fits_siblings(pool: &Pool, slot: &Slot) -> bool {
+    let beside = slot.beside as usize;
+    (0..beside).all(|height| {
+        let p = slot.siblings[height];
+        sibling_at(pool, slot, height) == Some(p)
+            && pool.level(p) as usize == height + 1
+            && (height + 1 == beside || pool.count(p) == pool.k)
+    })
+}
+
+/// The change is known, and it is the wanted page's turn.
+fn fits_conversion(pool: &Pool, slot: &Slot) -> bool {
+    if !is_at_leaf(pool, slot) {
+        return false;
+    }
+    let is_there = pool
+        .find(slot.path[slot.depth as usize - 1], slot.key)
+        .is_some();
+    let is_known = is_there != (slot.kind == INSERT_THIRD)
+        && (slot.kind != DELETE_THIRD
+            || (fits_siblings(pool, slot) && next_sibling(pool, slot).is_none()));
+    let mut is_done = true;
+    let fits_turn = in_order(slot).all(|(p, lock)| {
+        is_done &= p != slot.want;
+        (lock == numbers::LOCK_XI) == is_done
+    });
+    is_known && fits_turn
+}
+
+/// The pages held in the order of their conversion, with their locks: down the levels, on each the path page before its sibling.
+fn in_order(slot: &Slot) -> impl Iterator<Item = (u32, u32)> + '_ {
+    let depth = slot.depth as usize;
+    (0..depth).flat_map(move |at| {
+        let height = depth - 1 - at;
+        let sibling = (height < slot.beside as usize)
+            .then(|| (slot.siblings[height], slot.sibling_locks[height]));
+        [(slot.path[at], slot.path_locks[at])]
+            .into_iter()
+            .chain(sibling)
+    })
+}
+
+/// The wanted page, which is held, has ξ from now on.
+fn convert(slot: &mut Slot) {
+    let path = slot.path.iter().zip(&mut slot.path_locks);
+    let siblings = slot.siblings.iter().zip(&mut slot.sibling_locks);
+    let path = path.take(slot.depth as usize);
+    for (&p, lock) in path.chain(siblings.take(slot.beside as usize)) {
+        if p == slot.want {
+            *lock = numbers::LOCK_XI;
+        }
+    }
+}
+
+/// The change is known: by the third way the next page is converted, and where none is left, and by any other way, the change is made.
+fn over(pool: &mut Pool, n: u32, slot: &Slot) -> Course {
+    let is_due = |&(_, lock): &(u32, u32)| lock != numbers::LOCK_XI;
+    if is_third(slot.kind) {
+        if let Some((next, _)) = in_order(slot).find(is_due) {
+            return Course::Converts(next);
+        }
+    }
+    Course::Ends(change(pool, n, slot))
+}
+
+/// Makes the whole change.
+fn change(pool: &mut Pool, n: u32, slot: &Slot) -> Answer {
+    let path = &slot.path[..slot.depth as usize];
+    let siblings = &slot.siblings[..slot.beside as usize];
+    match first(slot.kind) {
+        INSERT => insert(pool, n, slot, path),
+        REGRADE => {
+            let leaf = path[path.len() - 1];
+            let old = pool.find(leaf, slot.key).unwrap_or(0);
+            pool.regrade(leaf, slot.key, slot.information);
+            with(numbers::REGRADED, old)
+        }
+        _ => with(numbers::DELETED, pool.delete(path, siblings, slot.key)),
+    }
 }
 
 /// The wanted page is held now, under the kind with which it was wanted; a safe one gives up its ancestors.
@@ -280,19 +395,11 @@ fn judge<const TESTS: bool>(pool: &mut Pool, n: u32, slot: &Slot) -> Course {
         (SEARCH, Some(information)) => Course::Ends(with(numbers::FOUND, information)),
         (SEARCH, None) => Course::Ends(plain(numbers::NOT_FOUND)),
         (INSERT, Some(information)) => Course::Ends(with(numbers::ALREADY_THERE, information)),
-        (INSERT, None) => Course::Ends(insert(pool, n, slot, path)),
-        (REGRADE, Some(old)) => {
-            pool.regrade(lowest, slot.key, slot.information);
-            Course::Ends(with(numbers::REGRADED, old))
-        }
+        (INSERT, None) | (REGRADE, Some(_)) => over(pool, n, slot),
         (_, None) => Course::Ends(plain(numbers::NO_SUCH_KEY)),
         (_, Some(_)) => match next_sibling(pool, slot) {
-            Some(next) => goes(next),
-            None => {
-                let siblings = &slot.siblings[..slot.beside as usize];
-                let information = pool.delete(path, siblings, slot.key);
-                Course::Ends(with(numbers::DELETED, information))
-            }
+            Some(next) if !is_second(slot.kind) => goes(next),
+            _ => over(pool, n, slot),
         },
     }
 }

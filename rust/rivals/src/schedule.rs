@@ -70,7 +70,7 @@ impl Schedule {
 }
 
 /// The same operations, but of those at even places a search asks for the next lot and a deletion regrades the lot, and of every three updates
-/// about one goes the second way.
+/// about one goes the second way and one the third.
 pub fn with_others(schedule: &Schedule) -> Schedule {
     let mut other = schedule.clone();
     for (i, op) in other.ops.iter_mut().enumerate() {
@@ -79,9 +79,7 @@ pub fn with_others(schedule: &Schedule) -> Schedule {
             Op::Delete { key, .. } if i % 2 == 0 => *op = Op::regrade(key, i as u32),
             _ => {}
         }
-        if i % 3 == 0 {
-            *op = op.by(Way::Second);
-        }
+        *op = op.by(Way::ALL[i % 3]);
     }
     other
 }

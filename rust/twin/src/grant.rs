@@ -3,6 +3,7 @@
 
 use crate::answer::Answer;
 use crate::change::{delete, insert, regrade, room_is_short};
+use crate::converting::{convert, is_turn, next_conversion};
 use crate::like_readers::{begins_again, lock_due};
 use crate::lock::Lock;
 use crate::op::{Op, Way};
@@ -21,11 +22,20 @@ pub enum Outcome {
     Damaged,
 }
 
-/// Takes the wanted page and does what the rules say then; words change only when it ends.
+/// Takes the wanted page, or converts it, and does what the rules say then; words change only when it ends.
 pub fn grant(shape: Shape, words: &mut [u32], slot: &Slot, op: Op) -> Outcome {
-    let Some((reach, wanted)) = read_sound(shape, words, slot, op) else {
+    let Some(reach) = read_held(shape, words, slot) else {
         return Outcome::Damaged;
     };
+    if slot.converts() {
+        return grant_conversion(shape, words, slot, op, reach);
+    }
+    let Some(wanted) = read(shape, words, slot.want, slot.lock) else {
+        return Outcome::Damaged;
+    };
+    if !is_gathering(shape.k, op, &reach, &wanted) {
+        return Outcome::Damaged;
+    }
     let reach = take(shape.k, op, reach, wanted);
     if lowest_leaf(&reach).is_some_and(|leaf| begins_again(shape.k, op, leaf)) {
         return Outcome::BeginsAgain;
@@ -35,28 +45,86 @@ pub fn grant(shape: Shape, words: &mut [u32], slot: &Slot, op: Op) -> Outcome {
     }
     match next_want(shape.k, op, &reach) {
         Some(want) => go_on(op, want, &reach),
+        None => go_over(shape, words, op, reach),
+    }
+}
+
+/// A conversion that is granted.
+fn grant_conversion(
+    shape: Shape,
+    words: &mut [u32],
+    slot: &Slot,
+    op: Op,
+    mut reach: Reach,
+) -> Outcome {
+    if !is_converting(shape.k, op, &reach, slot.want) {
+        return Outcome::Damaged;
+    }
+    convert(&mut reach, slot.want);
+    go_over(shape, words, op, reach)
+}
+
+/// The change is known: by the third way a page that is still held with α is wanted with ξ, the next in order. Where there is none, and by
+/// any other way, the change is made.
+fn go_over(shape: Shape, words: &mut [u32], op: Op, reach: Reach) -> Outcome {
+    let due = next_conversion(&reach).filter(|_| op.way() == Some(Way::Third));
+    match due {
+        Some(want) => Outcome::GoesOn(laid(op, want, Lock::Xi, &reach)),
         None => Outcome::Ends(change(shape, words, op, reach)),
     }
 }
 
-/// The pages held and the wanted one, if they are sound for this step.
-fn read_sound(shape: Shape, words: &[u32], slot: &Slot, op: Op) -> Option<(Reach, Held)> {
-    let read = |(&number, &lock): (&u32, &Lock)| {
-        let page = read_page(words, shape.k, shape.n, number)?;
-        Some(Held { number, lock, page })
-    };
+/// A page with its number and its lock, if it is sound by itself.
+fn read(shape: Shape, words: &[u32], number: u32, lock: Lock) -> Option<Held> {
+    let page = read_page(words, shape.k, shape.n, number)?;
+    Some(Held { number, lock, page })
+}
+
+/// The pages held, if each is sound by itself.
+fn read_held(shape: Shape, words: &[u32], slot: &Slot) -> Option<Reach> {
     let all = |numbers: &[u32], locks: &[Lock]| -> Option<Vec<Held>> {
-        numbers.iter().zip(locks).map(read).collect()
+        let held = numbers.iter().zip(locks);
+        held.map(|(&number, &lock)| read(shape, words, number, lock))
+            .collect()
     };
-    let reach = Reach {
+    Some(Reach {
         path: all(slot.path(), &slot.path_locks)?,
         siblings: all(slot.siblings(), &slot.sibling_locks)?,
+    })
+}
+
+/// Whether the pages held and the wanted one, which is new, are sound for this step.
+fn is_gathering(k: u32, op: Op, reach: &Reach, wanted: &Held) -> bool {
+    let mut held = reach.path.iter().chain(&reach.siblings);
+    held.all(|held| held.lock == op.holds())
+        && is_reach_right(k, op, reach)
+        && is_want_right(k, op, reach, wanted)
+        && wanted.lock == lock_due(op, reach)
+}
+
+/// Whether the pages held are sound for a conversion of one of them: the rules would have the operation hold them with the change known, and
+/// it is this page's turn.
+fn is_converting(k: u32, op: Op, reach: &Reach, want: u32) -> bool {
+    is_way(op.key(), &reach.path)
+        && is_top_right(k, op, &reach.path)
+        && is_change_known(k, op, reach)
+        && is_turn(reach, want)
+}
+
+/// Whether nothing but the change is left: the leaf is held and does not tell the answer by itself, and no sibling is needed but those held.
+fn is_change_known(k: u32, op: Op, reach: &Reach) -> bool {
+    let Some(leaf) = lowest_leaf(reach) else {
+        return false;
     };
-    let wanted = read((&slot.want, &slot.lock))?;
-    let is_right = is_reach_right(shape.k, op, &reach)
-        && is_want_right(shape.k, op, &reach, &wanted)
-        && slot.lock == lock_due(op, &reach);
-    is_right.then_some((reach, wanted))
+    let is_there = leaf.page.find(op.key()).is_some();
+    match op {
+        Op::Insert(..) => !is_there && reach.siblings.is_empty(),
+        Op::Regrade(..) => is_there && reach.siblings.is_empty(),
+        Op::Delete(..) => {
+            is_there && are_siblings_right(k, op, reach) && next_sibling(k, op, reach).is_none()
+        }
+        Op::Search(_) | Op::Next(_) => false,
+    }
 }
 
 /// Whether the rules would have the operation hold these pages at some point before its end.
@@ -73,9 +141,10 @@ fn is_reach_right(k: u32, op: Op, reach: &Reach) -> bool {
 /// `Next` whose leaf has nothing for it, with its second way.
 fn is_beside_right(k: u32, op: Op, leaf: &Page, reach: &Reach) -> bool {
     match op {
-        Op::Delete(key, Way::First) => leaf.find(key).is_some() && are_siblings_right(k, op, reach),
+        Op::Delete(_, Way::Second) => false,
+        Op::Delete(key, _) => leaf.find(key).is_some() && are_siblings_right(k, op, reach),
         Op::Next(key) => leaf.first_from(key).is_none() && second_way::is_right(key, reach),
-        Op::Search(_) | Op::Insert(..) | Op::Delete(_, Way::Second) | Op::Regrade(..) => false,
+        Op::Search(_) | Op::Insert(..) | Op::Regrade(..) => false,
     }
 }
 
@@ -105,8 +174,8 @@ fn is_safe(k: u32, op: Op, page: &Page) -> bool {
     match op {
         Op::Search(_) | Op::Regrade(..) => true,
         Op::Insert(_, _, Way::Second) | Op::Delete(_, Way::Second) => true,
-        Op::Insert(_, _, Way::First) => page.has_room(k),
-        Op::Delete(_, Way::First) => page.can_spare(k),
+        Op::Insert(_, _, Way::First | Way::Third) => page.has_room(k),
+        Op::Delete(_, Way::First | Way::Third) => page.can_spare(k),
         Op::Next(key) => page.right_of_route(key).is_some(),
     }
 }
@@ -116,14 +185,16 @@ fn lowest_leaf(reach: &Reach) -> Option<&Held> {
     reach.path.last().filter(|lowest| lowest.page.is_leaf())
 }
 
-/// Each sibling held is the one the rules took, all of them join, and each left the father short.
+/// Each sibling held is the one the rules took: the page beside it would be short, and those below it join. Whether the last one joins is told
+/// by what is wanted then.
 fn are_siblings_right(k: u32, op: Op, reach: &Reach) -> bool {
+    let last = reach.siblings.len().saturating_sub(1);
     (0..reach.siblings.len()).all(|height| {
         let sibling = &reach.siblings[height];
         let father_level = reach.path[reach.path.len() - 2 - height].page.level;
         sibling_at(k, op, reach, height) == Some(sibling.number)
             && sibling.page.level + 1 == father_level
-            && sibling.page.count() == k as usize
+            && (height == last || !sibling.page.can_spare(k))
     })
 }
 
@@ -164,9 +235,10 @@ fn next_want(k: u32, op: Op, reach: &Reach) -> Option<u32> {
         return Some(lowest.route(op.key()));
     }
     match op {
-        Op::Delete(_, Way::First) => next_sibling(k, op, reach),
+        Op::Delete(_, Way::Second) => None,
+        Op::Delete(..) => next_sibling(k, op, reach),
         Op::Next(key) => second_way::next_want(key, reach),
-        Op::Search(_) | Op::Insert(..) | Op::Delete(_, Way::Second) | Op::Regrade(..) => None,
+        Op::Search(_) | Op::Insert(..) | Op::Regrade(..) => None,
     }
 }
 
@@ -175,7 +247,7 @@ fn next_sibling(k: u32, op: Op, reach: &Reach) -> Option<u32> {
     let do_all_join = reach
         .siblings
         .last()
-        .is_none_or(|last| last.page.count() == k as usize);
+        .is_none_or(|last| !last.page.can_spare(k));
     if !do_all_join {
         return None;
     }
@@ -227,20 +299,26 @@ fn next_entry(key: u32, leaf: &Page, reach: &Reach) -> Option<Answer> {
 
 /// Goes on with a new want, if it is none of the pages then held.
 fn go_on(op: Op, want: u32, reach: &Reach) -> Outcome {
+    let slot = laid(op, want, lock_due(op, reach), reach);
+    if slot.holds(want) {
+        return Outcome::Damaged;
+    }
+    Outcome::GoesOn(slot)
+}
+
+/// The slot that holds these pages and wants this one.
+fn laid(op: Op, want: u32, lock: Lock, reach: &Reach) -> Slot {
     let mut slot = Slot {
         op: Some(op),
         want,
-        lock: lock_due(op, reach),
+        lock,
         depth: reach.path.len(),
         beside: reach.siblings.len(),
         ..Slot::CLOSED
     };
     lay(&reach.path, &mut slot.path, &mut slot.path_locks);
     lay(&reach.siblings, &mut slot.siblings, &mut slot.sibling_locks);
-    if slot.holds(want) {
-        return Outcome::Damaged;
-    }
-    Outcome::GoesOn(slot)
+    slot
 }
 
 /// Lays pages and their kinds of lock into the cells of a slot.

@@ -17,6 +17,7 @@
 mod answer;
 mod calls;
 mod change;
+mod converting;
 mod grant;
 mod lent;
 mod like_readers;

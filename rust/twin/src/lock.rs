@@ -11,7 +11,7 @@ pub enum Lock {
     Xi,
     /// Updater's ρ, of one who reads his way down and may change the leaf.
     UpdaterRho,
-    /// α, of one who may change the page and lets readers stay until then. No operation has it yet.
+    /// α, of one who may change the page and lets readers stay until then.
     Alpha,
 }
 

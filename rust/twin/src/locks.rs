@@ -2,9 +2,10 @@
 
 use crate::answer::Answer;
 use crate::lock::Lock;
-use crate::state::{State, SLOTS};
+use crate::state::{Slot, State, SLOTS};
 
-/// Whether a want must wait: another slot holds the page with a lock that clashes, or has wanted it for longer with one that does.
+/// Whether a want must wait: another slot holds the page with a lock that clashes, or has wanted it for longer with one that does, or is
+/// converting it. A conversion comes before every other want, and waits for what is held alone.
 pub fn must_wait(state: &State, number: usize) -> bool {
     let slot = &state.slots[number];
     if slot.op.is_none() {
@@ -13,9 +14,21 @@ pub fn must_wait(state: &State, number: usize) -> bool {
     let is_held = holders(state, slot.want)
         .iter()
         .any(|&(other, lock)| other != number && slot.lock.clashes(lock));
-    let older = state.order().iter().take_while(|&&other| other != number);
-    let mut rivals = older.map(|&other| &state.slots[other]);
-    is_held || rivals.any(|its| its.want == slot.want && slot.lock.clashes(its.lock))
+    is_held || (!slot.converts() && is_behind(state, number))
+}
+
+/// Whether another slot's want of the same page comes first: it is a conversion, or it is older and clashes.
+fn is_behind(state: &State, number: usize) -> bool {
+    let slot = &state.slots[number];
+    let age = |own: usize| state.order().iter().position(|&named| named == own);
+    let comes_first = |(other, its): (usize, &Slot)| {
+        let is_older = age(other) < age(number);
+        its.converts() || (is_older && slot.lock.clashes(its.lock))
+    };
+    let others = state.slots.iter().enumerate();
+    others
+        .filter(|&(other, its)| other != number && its.op.is_some() && its.want == slot.want)
+        .any(comes_first)
 }
 
 /// The slots that hold a page, lowest first, with the kind of their locks.

@@ -15,8 +15,12 @@ pub mod kind {
     pub const INSERT_SECOND: u32 = 6;
     pub const DELETE_SECOND: u32 = 7;
     pub const REGRADE_SECOND: u32 = 8;
+    /// And by the third.
+    pub const INSERT_THIRD: u32 = 9;
+    pub const DELETE_THIRD: u32 = 10;
+    pub const REGRADE_THIRD: u32 = 11;
     /// The highest.
-    pub const LAST: u32 = REGRADE_SECOND;
+    pub const LAST: u32 = REGRADE_THIRD;
 }
 
 /// How an update goes down.
@@ -26,10 +30,12 @@ pub enum Way {
     First,
     /// Like a reader, with updater's ρ, and a ξ-lock wanted on its leaf.
     Second,
+    /// With α-locks, which are converted to ξ when the change is known.
+    Third,
 }
 
 impl Way {
-    pub const BOTH: [Way; 2] = [Way::First, Way::Second];
+    pub const ALL: [Way; 3] = [Way::First, Way::Second, Way::Third];
 }
 
 /// What a buyer asks for: a key, for an insertion or a regrading its information, and for an update its way.
@@ -56,6 +62,9 @@ impl Op {
             kind::INSERT_SECOND => Op::Insert(key, information, Way::Second),
             kind::DELETE_SECOND => Op::Delete(key, Way::Second),
             kind::REGRADE_SECOND => Op::Regrade(key, information, Way::Second),
+            kind::INSERT_THIRD => Op::Insert(key, information, Way::Third),
+            kind::DELETE_THIRD => Op::Delete(key, Way::Third),
+            kind::REGRADE_THIRD => Op::Regrade(key, information, Way::Third),
             _ => return None,
         })
     }
@@ -71,6 +80,9 @@ impl Op {
             Op::Insert(key, information, Way::Second) => (kind::INSERT_SECOND, key, information),
             Op::Delete(key, Way::Second) => (kind::DELETE_SECOND, key, 0),
             Op::Regrade(key, information, Way::Second) => (kind::REGRADE_SECOND, key, information),
+            Op::Insert(key, information, Way::Third) => (kind::INSERT_THIRD, key, information),
+            Op::Delete(key, Way::Third) => (kind::DELETE_THIRD, key, 0),
+            Op::Regrade(key, information, Way::Third) => (kind::REGRADE_THIRD, key, information),
         }
     }
 
@@ -97,18 +109,30 @@ impl Op {
         }
     }
 
-    /// The kind of lock under which it holds its pages; under any other it can hold none.
+    /// The kind of lock with which it goes down: under it every page comes to be held.
     pub fn holds(self) -> Lock {
         match self.way() {
             None => Lock::Rho,
             Some(Way::First) => Lock::Xi,
             Some(Way::Second) => Lock::UpdaterRho,
+            Some(Way::Third) => Lock::Alpha,
         }
     }
 
-    /// Whether it can want a page with a lock of this kind at all: the kind under which it holds, and by the second way also ξ, for
-    /// its leaf.
+    /// Whether it can hold a page under a lock of this kind at all: the kind with which it goes down, and by the third way also ξ, where
+    /// the page was converted.
+    pub fn may_hold(self, lock: Lock) -> bool {
+        lock == self.holds() || (self.way() == Some(Way::Third) && lock == Lock::Xi)
+    }
+
+    /// Whether it can want a page that it does not hold with a lock of this kind at all: the kind with which it goes down, and by the
+    /// second way also ξ, for its leaf.
     pub fn may_want(self, lock: Lock) -> bool {
         lock == self.holds() || (self.way() == Some(Way::Second) && lock == Lock::Xi)
+    }
+
+    /// Whether it can want a page once more that it holds under the one kind, with the other: by the third way, from α to ξ.
+    pub fn may_convert(self, from: Lock, to: Lock) -> bool {
+        self.way() == Some(Way::Third) && (from, to) == (Lock::Alpha, Lock::Xi)
     }
 }

@@ -1,4 +1,4 @@
-//! The pages that an operation holds, as they were read: what a granted step, its change and the second way of a `Next` all speak of.
+//! The pages that an operation holds, as they were read: what a granted step, its change, a conversion and the second way of a `Next` all speak of.
 
 use crate::lock::Lock;
 use crate::page::Page;

@@ -54,7 +54,7 @@ impl Slot {
         beside: 0,
     };
 
-    /// A slot that holds just these pages and wants this one, all with the kind of lock under which its operation holds.
+    /// A slot that holds just these pages and wants this one, all with the kind of lock with which its operation goes down.
     pub fn open(op: Op, want: u32, path: &[u32], siblings: &[u32]) -> Slot {
         let mut slot = Slot {
             op: Some(op),
@@ -108,6 +108,11 @@ impl Slot {
     pub fn lock_on(&self, page: u32) -> Option<Lock> {
         let mut held = self.held_with();
         held.find(|&(own, _)| own == page).map(|(_, lock)| lock)
+    }
+
+    /// Whether the slot is open and wants a page that it holds.
+    pub fn converts(&self) -> bool {
+        self.op.is_some() && self.holds(self.want)
     }
 
     /// Whether the slot holds the page.
@@ -169,11 +174,18 @@ fn is_slot_sound(slot: &Slot, n: u32) -> bool {
     let held = slot.held();
     let is_twice = (1..held.len()).any(|i| held[..i].contains(&held[i]));
     slot.want < n
-        && op.may_want(slot.lock)
         && held.iter().all(|&page| page < n)
-        && slot.held_with().all(|(_, lock)| lock == op.holds())
+        && slot.held_with().all(|(_, lock)| op.may_hold(lock))
         && !is_twice
-        && !slot.holds(slot.want)
+        && is_want_sound(slot, op)
+}
+
+/// A page that is not held is wanted with a kind of lock that the operation can want; a page that is held only as a conversion.
+fn is_want_sound(slot: &Slot, op: Op) -> bool {
+    match slot.lock_on(slot.want) {
+        None => op.may_want(slot.lock),
+        Some(held) => op.may_convert(held, slot.lock),
+    }
 }
 
 /// The most pages that a slot may hold, on its path and beside it.
@@ -182,8 +194,8 @@ fn limits(op: Option<Op>) -> (usize, usize) {
         None => (0, 0),
         Some(Op::Search(_) | Op::Regrade(..)) => (1, 0),
         Some(Op::Insert(_, _, Way::Second) | Op::Delete(_, Way::Second)) => (1, 0),
-        Some(Op::Insert(_, _, Way::First)) => (10, 0),
-        Some(Op::Delete(_, Way::First)) => (10, 9),
+        Some(Op::Insert(_, _, Way::First | Way::Third)) => (10, 0),
+        Some(Op::Delete(_, Way::First | Way::Third)) => (10, 9),
         Some(Op::Next(_)) => (10, 9),
     }
 }

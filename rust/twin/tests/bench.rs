@@ -4,7 +4,7 @@ mod common;
 
 use common::pools::two_levels;
 use common::Run;
-use twin::Way::{First, Second};
+use twin::Way::{First, Second, Third};
 use twin::{begin, make, page_words, report, step, Answer, Op};
 
 /// Runs operations one after the other in slot 0; gives each one's grants and last answer.
@@ -151,6 +151,10 @@ fn older_wants_that_clash() {
         Op::Insert(5, 7, First),
         Op::Delete(5, First),
         Op::Regrade(5, 7, First),
+        // these want it with α, which goes with plain ρ
+        Op::Insert(5, 7, Third),
+        Op::Delete(5, Third),
+        Op::Regrade(5, 7, Third),
     ];
     for (i, older) in ops.into_iter().enumerate() {
         for (j, younger) in ops.into_iter().enumerate() {
@@ -158,9 +162,12 @@ fn older_wants_that_clash() {
             run.begin(0, older);
             run.begin(1, younger);
             let both_rho = i < 5 && j < 5;
-            assert_eq!(run.step(1) != Answer::Waiting, both_rho, "{i} {j}");
-            // nobody is older than the first
-            assert_ne!(run.step(0), Answer::Waiting);
+            let beside_alpha = (i < 2 && j > 7) || (i > 7 && j < 2);
+            let goes = both_rho || beside_alpha;
+            assert_eq!(run.step(1) != Answer::Waiting, goes, "{i} {j}");
+            // nobody is older than the first; but a conversion comes before it, and here an insertion has got so far
+            let converts = goes && j == 8;
+            assert_eq!(run.step(0) == Answer::Waiting, converts, "{i} {j}");
         }
     }
 }

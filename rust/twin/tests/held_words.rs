@@ -1,6 +1,6 @@
 //! The words of pages that are held: the page in the lower half, the number of the kind of its lock in the upper.
 
-use twin::Way::{First, Second};
+use twin::Way::{First, Second, Third};
 use twin::{begin_lent, make_lent, report_lent, state_of, step_lent, Answer, Lock, Op, STATE};
 
 /// A pool of so many pages with these keys, k = 1, and slot 4 open with an operation that has so many grants behind it.
@@ -31,7 +31,7 @@ const BELOW: usize = TOP + 16;
 const ASIDE: usize = TOP + 16 * 10;
 
 /// Every operation, and the number of the kind of lock under which it holds.
-const OPERATIONS: [(Op, u32); 8] = [
+const OPERATIONS: [(Op, u32); 11] = [
     (Op::Search(15), 1),
     (Op::Next(15), 1),
     (Op::Insert(15, 7, First), 2),
@@ -40,6 +40,9 @@ const OPERATIONS: [(Op, u32); 8] = [
     (Op::Insert(15, 7, Second), 3),
     (Op::Delete(10, Second), 3),
     (Op::Regrade(10, 7, Second), 3),
+    (Op::Insert(15, 7, Third), 4),
+    (Op::Delete(10, Third), 4),
+    (Op::Regrade(10, 7, Third), 4),
 ];
 
 /// "Each held page now carries its kind": in the upper half of its word. The page that is wanted has its kind in a row of its own.
@@ -61,6 +64,7 @@ fn each_of_many_has_its_kind() {
     for (op, lock, path, beside) in [
         (Op::Next(25), 1, [0, 5, 2], 6),
         (Op::Delete(10, First), 2, [0, 5, 1], 2),
+        (Op::Delete(10, Third), 4, [0, 5, 1], 2),
     ] {
         let (state, _) = stepped(8, &[10, 20, 30, 40, 50], op, 4);
         for (row, page) in path.into_iter().enumerate() {
@@ -91,7 +95,9 @@ fn a_held_page_of_another_kind_is_no_state() {
         for upper in (0..20).chain(far) {
             let (mut state, words) = held(op);
             state[TOP] = 65_536 * upper;
-            assert_eq!(is_refused(&state, &words), upper != lock, "{op:?} {upper}");
+            // by the third way a page may be converted
+            let right = upper == lock || (lock == 4 && upper == 2);
+            assert_eq!(is_refused(&state, &words), !right, "{op:?} {upper}");
         }
     }
 }

@@ -1,7 +1,7 @@
 //! The state as lent words: both ways, and what a call leaves of them.
 
 use draw::Random;
-use twin::Way::{First, Second};
+use twin::Way::{First, Second, Third};
 use twin::{
     begin_lent, is_sound, make_lent, report_lent, state_of, step_lent, words_of, Answer, Op, STATE,
 };
@@ -46,16 +46,26 @@ fn columns_stand_where_they_are_said_to() {
     assert_eq!(state, expected);
 }
 
+/// Begins an operation in slot 2 of a fresh state: the words then, with its kind, key and information and the kind of lock that it wants.
+fn begun(state: &mut [u32; STATE], op: Op, numbers: [u32; 3], lock: u32) -> [u32; STATE] {
+    assert_eq!(begin_lent(state, 2, op), Answer::Begun);
+    let mut expected = [0; STATE];
+    expected[..4].copy_from_slice(&[1, 1, 1, 2]);
+    for (row, number) in numbers.into_iter().enumerate() {
+        expected[19 + 16 * row + 2] = number;
+    }
+    expected[19 + 64 + 2] = lock;
+    assert_eq!(*state, expected);
+    let [kind, key, information] = numbers;
+    assert_eq!(Op::of(kind, key, information), Some(op));
+    assert_eq!(op.numbers(), (kind, key, information));
+    expected
+}
+
 #[test]
 fn a_next_is_kind_4_with_no_information() {
     let (mut state, mut words) = fresh();
-    assert_eq!(begin_lent(&mut state, 2, Op::Next(10)), Answer::Begun);
-    let mut expected = [0; STATE];
-    expected[..4].copy_from_slice(&[1, 1, 1, 2]);
-    expected[19 + 2] = 4;
-    expected[19 + 16 + 2] = 10;
-    expected[19 + 64 + 2] = 1;
-    assert_eq!(state, expected);
+    begun(&mut state, Op::Next(10), [4, 10, 0], 1);
     assert_eq!(step_lent(&mut state, &mut words, 2), Answer::None);
     assert_eq!(state[..3], [1, 1, 0]);
     assert_eq!(state[3..], [0; STATE - 3]);
@@ -64,15 +74,7 @@ fn a_next_is_kind_4_with_no_information() {
 #[test]
 fn a_regrading_is_kind_5_with_its_information() {
     let (mut state, mut words) = fresh();
-    let op = Op::Regrade(10, 7, First);
-    assert_eq!(begin_lent(&mut state, 2, op), Answer::Begun);
-    let mut expected = [0; STATE];
-    expected[..4].copy_from_slice(&[1, 1, 1, 2]);
-    expected[19 + 2] = 5;
-    expected[19 + 16 + 2] = 10;
-    expected[19 + 32 + 2] = 7;
-    expected[19 + 64 + 2] = 2;
-    assert_eq!(state, expected);
+    begun(&mut state, Op::Regrade(10, 7, First), [5, 10, 7], 2);
     assert_eq!(step_lent(&mut state, &mut words, 2), Answer::NoSuchKey);
     assert_eq!(state[..3], [1, 1, 0]);
     assert_eq!(state[3..], [0; STATE - 3]);
@@ -87,22 +89,39 @@ fn the_second_way_has_kinds_of_its_own() {
         (Op::Regrade(10, 7, Second), 8, 7),
     ] {
         let (mut state, mut words) = fresh();
-        assert_eq!(begin_lent(&mut state, 2, op), Answer::Begun);
-        let mut expected = [0; STATE];
-        expected[..4].copy_from_slice(&[1, 1, 1, 2]);
-        expected[19 + 2] = kind;
-        expected[19 + 16 + 2] = 10;
-        expected[19 + 32 + 2] = information;
-        expected[19 + 64 + 2] = 3;
-        assert_eq!(state, expected);
-        assert_eq!(Op::of(kind, 10, information), Some(op));
+        let mut expected = begun(&mut state, op, [kind, 10, information], 3);
         // page 0 is a leaf: it begins again, as kind 2, 3 or 5
         assert_eq!(step_lent(&mut state, &mut words, 2), Answer::Moved);
         expected[19 + 2] = [2, 3, 5][kind as usize - 6];
         expected[19 + 64 + 2] = 2;
         assert_eq!(state, expected);
     }
-    assert_eq!(Op::of(9, 10, 7), None);
+}
+
+/// Kinds 9 to 11 want page 0 with α; 12 is no kind. A page that is converted is wanted with ξ, and keeps its kind until then.
+#[test]
+fn the_third_way_has_kinds_of_its_own() {
+    for (op, kind, information) in [
+        (Op::Insert(10, 7, Third), 9, 7),
+        (Op::Delete(10, Third), 10, 0),
+        (Op::Regrade(10, 7, Third), 11, 7),
+    ] {
+        let (mut state, mut words) = fresh();
+        let mut expected = begun(&mut state, op, [kind, 10, information], 4);
+        let answer = step_lent(&mut state, &mut words, 2);
+        if kind != 9 {
+            assert_eq!(answer, Answer::NoSuchKey);
+            continue;
+        }
+        assert_eq!(answer, Answer::Moved);
+        expected[19 + 64 + 2] = 2;
+        expected[19 + 80 + 2] = 1;
+        expected[19 + 112 + 2] = 4 * 65_536;
+        assert_eq!(state, expected);
+        assert_eq!(step_lent(&mut state, &mut words, 2), Answer::Inserted);
+        assert_eq!(state[2..], [0; STATE - 2]);
+    }
+    assert_eq!(Op::of(12, 10, 7), None);
 }
 
 #[test]
@@ -110,7 +129,7 @@ fn words_and_state_give_each_other_back() {
     let mut random = Random(1);
     for _ in 0..2000 {
         let words: [u32; STATE] = std::array::from_fn(|at| match at {
-            19..=34 => random.below(9) as u32,
+            19..=34 => random.below(12) as u32,
             83..=98 => random.below(6) as u32,
             _ => random.bits() as u32 >> random.below(32),
         });

@@ -3,10 +3,10 @@
 
 mod common;
 
-use common::pools::{entered, three_levels, two_levels, FIVE, UNSOUND_ON_TWO};
+use common::pools::{entered, says, three_levels, two_levels, FIVE, UNSOUND_ON_TWO};
 use common::Run;
 use twin::Way::{First, Second};
-use twin::{is_sound, report, step, Answer, Lock, Op, Slot};
+use twin::{is_sound, report, Answer, Lock, Op, Slot};
 
 /// What a report says of a page: its kind of lock, how many hold it, and who.
 type Report = (u32, u32, u32);
@@ -446,40 +446,6 @@ fn what_changed_before_it_comes_again() {
     assert_eq!(run.step(1), Answer::NoSuchKey);
 }
 
-/// A search finds the lot with the old information or the new, at whatever point it comes.
-#[test]
-fn a_search_never_misses_the_lot() {
-    let (search, regrade) = (Op::Search(20), Op::Regrade(20, 9, Second));
-    for before in 0..3 {
-        for (first, second) in [(search, regrade), (regrade, search)] {
-            let mut run = three_levels();
-            run.begin(0, first);
-            (0..before).for_each(|_| assert_eq!(run.step(0), Answer::Moved));
-            run.begin(1, second);
-            run.finish();
-            assert_eq!((run.tally["Found"], run.tally["Regraded"]), (1, 1));
-            assert_eq!(run.list[&20], 9);
-        }
-    }
-}
-
-/// What a step says in three levels, with a word of the pool changed, where slot 0 is so.
-fn says(slot: Slot, spoiled: Option<(usize, u32)>) -> Answer {
-    let run = three_levels();
-    let (mut state, mut words) = (run.state, run.words);
-    state.slots[0] = slot;
-    state.waiting = 1;
-    if let Some((at, word)) = spoiled {
-        words[at] = word;
-    }
-    let before = words.clone();
-    let (answer, next) = step(&state, &mut words, 0);
-    let refuses = answer.heard()[0] < 32;
-    assert!(!refuses || (next == state && words == before));
-    assert_eq!(answer == Answer::BadState, !is_sound(&state));
-    answer
-}
-
 /// Updates by the second way of keys whose leaf is page 2, and what each is answered there; one begins again.
 const UPDATES: [(Op, Answer); 4] = [
     (Op::Insert(25, 7, Second), Answer::Inserted),
@@ -492,7 +458,7 @@ const UPDATES: [(Op, Answer); 4] = [
 fn what_it_may_hold_and_want() {
     for (op, answer) in UPDATES {
         let says =
-            |path: &[u32], want, lock| says(Slot::open(op, want, path, &[]).wanting(lock), None);
+            |path: &[u32], want, lock| says(Slot::open(op, want, path, &[]).wanting(lock), &[]);
         // nothing held, page 0 wanted with updater's ρ
         assert_eq!(says(&[], 0, Lock::UpdaterRho), Answer::Moved);
         assert_eq!(says(&[], 0, Lock::Xi), Answer::Damaged);
@@ -523,7 +489,7 @@ fn what_it_may_hold_and_want() {
 fn what_is_no_sound_state() {
     for (op, _) in UPDATES {
         let says = |path: &[u32], beside: &[u32], want, lock| {
-            says(Slot::open(op, want, path, beside).wanting(lock), None)
+            says(Slot::open(op, want, path, beside).wanting(lock), &[])
         };
         assert_ne!(says(&[5], &[], 2, Lock::Xi), Answer::BadState);
         assert_eq!(says(&[0, 5], &[], 2, Lock::Xi), Answer::BadState);
@@ -547,9 +513,9 @@ fn the_kind_of_what_it_holds() {
             stands(op, 5, 2, Lock::Xi),
         );
         for (slot, right) in [(above, Answer::Moved), (next, answer)] {
-            assert_eq!(says(slot.holding(Lock::UpdaterRho), None), right);
+            assert_eq!(says(slot.holding(Lock::UpdaterRho), &[]), right);
             for lock in [Lock::None, Lock::Rho, Lock::Xi, Lock::Alpha] {
-                assert_eq!(says(slot.holding(lock), None), Answer::BadState);
+                assert_eq!(says(slot.holding(lock), &[]), Answer::BadState);
             }
         }
     }
@@ -584,7 +550,7 @@ fn who_holds_a_page_beside_it() {
 #[test]
 fn damaged_pages() {
     for (op, answer) in UPDATES {
-        let on_leaf = |spoiled| says(stands(op, 5, 2, Lock::Xi), Some(spoiled));
+        let on_leaf = |spoiled| says(stands(op, 5, 2, Lock::Xi), &[spoiled]);
         for (at, word) in UNSOUND_ON_TWO {
             assert_eq!(on_leaf((at, word)), Answer::Damaged, "{op:?} {at} {word}");
         }
@@ -592,11 +558,11 @@ fn damaged_pages() {
         assert_eq!(on_leaf((0, 9)), answer);
         assert_eq!(on_leaf((7, 9)), answer);
         // from page 5 it would want the page that it then holds
-        let back = says(stands(op, 0, 5, Lock::UpdaterRho), Some((FIVE + 4, 5)));
+        let back = says(stands(op, 0, 5, Lock::UpdaterRho), &[(FIVE + 4, 5)]);
         assert_eq!(back, Answer::Damaged);
         // page 0 as it is begun with, damaged
         for (at, word) in [(0, 0), (0, 11), (1, 3), (6, 1), (4, 5)] {
-            let begun = says(begun(op, Lock::UpdaterRho), Some((at, word)));
+            let begun = says(begun(op, Lock::UpdaterRho), &[(at, word)]);
             assert_eq!(begun, Answer::Damaged, "{op:?} {at} {word}");
         }
     }
@@ -614,7 +580,7 @@ fn the_lock_goes_by_the_level_held() {
         assert_eq!(run.state.slots[0], stands(op, 0, 2, Lock::Xi));
         // page 5 on level 3 leads to no page on level 2, whatever is wanted
         for lock in [Lock::UpdaterRho, Lock::Xi] {
-            let answer = says(stands(op, 5, 2, lock), Some((five, 3)));
+            let answer = says(stands(op, 5, 2, lock), &[(five, 3)]);
             assert_eq!(answer, Answer::Damaged);
         }
     }

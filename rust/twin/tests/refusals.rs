@@ -13,7 +13,7 @@ fn middle(random: &mut Random, k: u32, n: u32) -> Run {
     for _ in 0..200 + random.below(100) {
         let slot = random.below(16) as usize;
         let key = random.below(40) as u32;
-        let way = random.one(&Way::BOTH);
+        let way = random.one(&Way::ALL);
         match random.below(10) {
             0 | 1 => run.begin(slot, Op::Insert(key, key, way)),
             2 => run.begin(slot, Op::Delete(key, way)),
@@ -32,7 +32,7 @@ fn spoil(random: &mut Random, state: &mut State) {
     let drawn = odd[random.below(odd.len() as u64) as usize];
     let cell = random.below(10) as usize;
     let number = random.below(16) as usize;
-    let way = random.one(&Way::BOTH);
+    let way = random.one(&Way::ALL);
     let slot = &mut state.slots[number];
     let lock = random.one(&[
         Lock::None,

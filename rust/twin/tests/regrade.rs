@@ -3,10 +3,10 @@
 
 mod common;
 
-use common::pools::{entered, three_levels, two_levels, FIVE, TWO, UNSOUND_ON_TWO};
+use common::pools::{entered, says, three_levels, two_levels, FIVE, TWO, UNSOUND_ON_TWO};
 use common::Run;
-use twin::Way::First;
-use twin::{is_sound, report, step, Answer, Op, Slot};
+use twin::Way::{First, Second, Third};
+use twin::{report, Answer, Op, Slot};
 
 /// A regrading alone in slot 0: the page that it holds and the one that it wants after each grant but the last, and how it ends.
 fn judge(run: &mut Run, key: u32, information: u32, stands: &[(u32, u32)], answer: Answer) {
@@ -123,20 +123,26 @@ fn it_waits_for_a_search_above_it_and_below() {
     assert_eq!(run.step(1), Answer::Regraded(7));
 }
 
+/// A search and a regrading of lot 20, one begun when the other has taken so many steps.
+fn meet(first: Op, second: Op, steps: u32) {
+    let mut run = three_levels();
+    run.begin(0, first);
+    (0..steps).for_each(|_| assert_eq!(run.step(0), Answer::Moved));
+    run.begin(1, second);
+    run.finish();
+    assert_eq!((run.tally["Found"], run.tally["Regraded"]), (1, 1));
+    assert_eq!(run.list[&20], 9);
+}
+
 /// "During a downgrade the lot is for a moment nowhere": a search finds it with the old information or the new, at whatever
-/// point it comes.
+/// point it comes and by whatever way the regrading goes.
 #[test]
 fn a_search_never_misses_the_lot() {
-    let (search, regrade) = (Op::Search(20), Op::Regrade(20, 9, First));
-    for before in 0..3 {
-        for (first, second) in [(search, regrade), (regrade, search)] {
-            let mut run = three_levels();
-            run.begin(0, first);
-            (0..before).for_each(|_| assert_eq!(run.step(0), Answer::Moved));
-            run.begin(1, second);
-            run.finish();
-            assert_eq!((run.tally["Found"], run.tally["Regraded"]), (1, 1));
-            assert_eq!(run.list[&20], 9);
+    let search = Op::Search(20);
+    for regrade in [First, Second, Third].map(|way| Op::Regrade(20, 9, way)) {
+        for steps in 0..3 {
+            meet(search, regrade, steps);
+            meet(regrade, search, steps);
         }
     }
 }
@@ -218,52 +224,41 @@ fn the_other_operations_find_the_new_information() {
 }
 
 /// What a step says in three levels, with a word of the pool changed, where slot 0 regrades 20, holds these and wants this.
-fn says(path: &[u32], beside: &[u32], want: u32, spoiled: Option<(usize, u32)>) -> Answer {
-    let run = three_levels();
-    let (mut state, mut words) = (run.state, run.words);
-    state.slots[0] = Slot::open(Op::Regrade(20, 9, First), want, path, beside);
-    state.waiting = 1;
-    if let Some((at, word)) = spoiled {
-        words[at] = word;
-    }
-    let before = words.clone();
-    let (answer, next) = step(&state, &mut words, 0);
-    let refuses = answer.heard()[0] < 32;
-    assert!(!refuses || (next == state && words == before));
-    assert_eq!(answer == Answer::BadState, !is_sound(&state));
-    answer
+fn regrading(path: &[u32], beside: &[u32], want: u32, spoiled: &[(usize, u32)]) -> Answer {
+    let op = Op::Regrade(20, 9, First);
+    says(Slot::open(op, want, path, beside), spoiled)
 }
 
 #[test]
 fn what_it_may_hold_and_want() {
-    assert_eq!(says(&[], &[], 0, None), Answer::Moved);
-    assert_eq!(says(&[0], &[], 5, None), Answer::Moved);
-    assert_eq!(says(&[5], &[], 2, None), Answer::Regraded(7));
+    assert_eq!(regrading(&[], &[], 0, &[]), Answer::Moved);
+    assert_eq!(regrading(&[0], &[], 5, &[]), Answer::Moved);
+    assert_eq!(regrading(&[5], &[], 2, &[]), Answer::Regraded(7));
     // nothing held, and another page wanted; a page that the held one does not lead to
-    assert_eq!(says(&[], &[], 5, None), Answer::Damaged);
-    assert_eq!(says(&[0], &[], 6, None), Answer::Damaged);
-    assert_eq!(says(&[5], &[], 1, None), Answer::Damaged);
+    assert_eq!(regrading(&[], &[], 5, &[]), Answer::Damaged);
+    assert_eq!(regrading(&[0], &[], 6, &[]), Answer::Damaged);
+    assert_eq!(regrading(&[5], &[], 1, &[]), Answer::Damaged);
     // it never goes on from its leaf
     for want in [0, 1, 5, 6] {
-        assert_eq!(says(&[2], &[], want, None), Answer::Damaged);
+        assert_eq!(regrading(&[2], &[], want, &[]), Answer::Damaged);
     }
     // more than one page, or one beside its path
-    assert_eq!(says(&[0, 5], &[], 2, None), Answer::BadState);
-    assert_eq!(says(&[5], &[1], 2, None), Answer::BadState);
+    assert_eq!(regrading(&[0, 5], &[], 2, &[]), Answer::BadState);
+    assert_eq!(regrading(&[5], &[1], 2, &[]), Answer::BadState);
 }
 
 /// Each of its two pages is sound, and the levels fall by one.
 #[test]
 fn damaged_pages() {
     for (at, word) in UNSOUND_ON_TWO {
-        let answer = says(&[5], &[], 2, Some((at, word)));
+        let answer = regrading(&[5], &[], 2, &[(at, word)]);
         assert_eq!(answer, Answer::Damaged, "{at} {word}");
     }
     // what is held by nobody is not looked at
-    assert_eq!(says(&[5], &[], 2, Some((0, 9))), Answer::Regraded(7));
-    assert_eq!(says(&[5], &[], 2, Some((7, 9))), Answer::Regraded(7));
+    assert_eq!(regrading(&[5], &[], 2, &[(0, 9)]), Answer::Regraded(7));
+    assert_eq!(regrading(&[5], &[], 2, &[(7, 9)]), Answer::Regraded(7));
     // from page 5 it would want the page that it then holds
-    assert_eq!(says(&[0], &[], 5, Some((FIVE + 4, 5))), Answer::Damaged);
+    assert_eq!(regrading(&[0], &[], 5, &[(FIVE + 4, 5)]), Answer::Damaged);
     // the key is gone from its leaf
-    assert_eq!(says(&[5], &[], 2, Some((TWO + 2, 21))), Answer::NoSuchKey);
+    assert_eq!(regrading(&[5], &[], 2, &[(TWO + 2, 21)]), Answer::NoSuchKey);
 }

@@ -6,7 +6,7 @@ use std::vec::IntoIter;
 use twin::{begin, make, page_words, report, step, Answer, Lock, Op, Slot, State, Way};
 
 /// The proved tables; a name may be defined in another one than it is used in.
-const TABLES: [&str; 8] = [
+const TABLES: [&str; 9] = [
     include_str!("../../../crates/promises/specs/Bench.antt"),
     include_str!("../../../crates/promises/specs/MoreRows.antt"),
     include_str!("../../../crates/promises/specs/LongRun.antt"),
@@ -15,6 +15,7 @@ const TABLES: [&str; 8] = [
     include_str!("../../../crates/promises/specs/WideRows.antt"),
     include_str!("../../../crates/promises/specs/DamageRows.antt"),
     include_str!("../../../crates/promises/specs/SecondRows.antt"),
+    include_str!("../../../crates/promises/specs/ThirdRows.antt"),
 ];
 
 /// What an expression of a table stands for.
@@ -192,6 +193,7 @@ fn calls(name: &str, arguments: &[Value]) -> Option<Value> {
         ("Search", [Number(key)]) => Value::Op(Op::Search(*key)),
         ("First", []) => Value::Way(Way::First),
         ("Second", []) => Value::Way(Way::Second),
+        ("Third", []) => Value::Way(Way::Third),
         ("Insert", [Number(key), Number(information), way @ ..]) => {
             Value::Op(Op::Insert(*key, *information, named(way)))
         }
@@ -290,6 +292,50 @@ fn place(name: &str, arguments: &[Value]) -> Option<Value> {
             let slot = open(*op, 6, &[5], &[]);
             look_at_five(&[slot.holding(Lock::of(*lock))])
         }
+        ("meets", [Value::Op(held), Value::Op(wanted)]) => {
+            let (held, wanted) = (Value::Op(*held), Value::Op(*wanted));
+            let held = list(&applied("runs", &[Number(0), held, Number(1)]));
+            let wanted = list(&applied("runs", &[Number(1), wanted, Number(1)]));
+            applied("answers", &[read("caseE"), List([held, wanted].concat())])
+        }
+        ("follows", [Value::Op(older), Value::Op(younger)]) => {
+            let calls = [
+                Call::Begin(0, *older),
+                Call::Begin(1, *younger),
+                Call::Step(1),
+            ];
+            let calls = List(calls.map(Value::Call).to_vec());
+            applied("answers", &[read("caseE"), calls])
+        }
+        ("standsWith", [Value::Op(op), Number(want), Number(lock), held @ ..]) => {
+            let slot = holding(*op, *want, Lock::of(*lock), held);
+            let from = [List(Vec::new()), opened(7, &[slot]), read("tensWords")];
+            applied("ran", &from)
+        }
+        ("looked", [Value::Op(op), Number(want), Number(lock), held @ ..]) => {
+            look_at_five(&[holding(*op, *want, Lock::of(*lock), held)])
+        }
+        ("sharing", [Value::Op(one), Number(its), Value::Op(other), Number(theirs)]) => {
+            let slots = [(one, 1, its), (other, 2, theirs)];
+            let slots = slots.map(|(op, want, lock)| {
+                let slot = open(*op, want, &[5], &[]);
+                slot.holding(Lock::of(*lock))
+            });
+            look_at_five(&slots)
+        }
+        ("converts", [want, locks, sidelocks]) => {
+            let (op, path, beside) = (
+                read("Delete 10 Third"),
+                read("0 ∷ 5 ∷ 1 ∷ []"),
+                read("2 ∷ 6 ∷ []"),
+            );
+            let slot = [&op, want, &path, locks, &beside, sidelocks].map(Value::clone);
+            applied("turns", &slot)
+        }
+        ("turns", [op, want, held @ ..]) => {
+            let wants = [op.clone(), want.clone(), Number(2)];
+            applied("standsWith", &[&wants, held].concat())
+        }
         ("once", [from]) => applied("answers", &[from.clone(), read("step 0 ∷ []")]),
         ("damaged", [from, Number(at), Number(word)]) => with_words(from, *at, &[*word]),
         ("withPage", [from, Number(page), words]) => with_words(from, page * 7, &numbers(words)),
@@ -336,6 +382,17 @@ fn open_in(n: u32, operation: Value, [want, path, beside]: [&Value; 3], words: V
 fn open(op: Op, want: u32, path: &[u32], beside: &[u32]) -> Slot {
     let mut slot = Slot::open(op, want, &path[..path.len().min(10)], beside);
     slot.depth = path.len();
+    slot
+}
+
+/// An open slot that wants with this kind, and holds a path and what stands beside it, each page under a kind of its own.
+fn holding(op: Op, want: u32, lock: Lock, held: &[Value]) -> Slot {
+    let [path, locks, beside, sidelocks] = held else {
+        panic!("{held:?} is not held")
+    };
+    let mut slot = open(op, want, &numbers(path), &numbers(beside)).wanting(lock);
+    lay(locks, &mut slot.path_locks);
+    lay(sidelocks, &mut slot.sibling_locks);
     slot
 }
 
@@ -404,6 +461,7 @@ fn every_row_is_heard() {
         ("wideRows", 29),
         ("damageRows", 58),
         ("secondRows", 87),
+        ("thirdRows", 68),
     ] {
         let rows = list(&defined(name).expect("it is there"));
         assert_eq!(rows.len(), length, "{name}");

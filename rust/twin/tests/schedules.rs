@@ -16,12 +16,24 @@ struct Draw {
     check_every: u32,
     /// How many operations in a hundred are a `Next`.
     nexts: u64,
-    /// How many updates in a hundred go the second way.
+    /// How many updates in a hundred go the second way, and how many the third.
     seconds: u64,
+    thirds: u64,
 }
 
-/// A random operation: a `Next` so many times in a hundred; otherwise insertions and deletions prevail by turns, by one way or the
-/// other. Keys are even, so that there is always a number between two of them.
+impl Draw {
+    /// The way of an update.
+    fn way(&self, random: &mut Random) -> Way {
+        match random.below(100) {
+            drawn if drawn < self.seconds => Way::Second,
+            drawn if drawn < self.seconds + self.thirds => Way::Third,
+            _ => Way::First,
+        }
+    }
+}
+
+/// A random operation: a `Next` so many times in a hundred; otherwise insertions and deletions prevail by turns, by one way or
+/// another. Keys are even, so that there is always a number between two of them.
 fn operation(random: &mut Random, run: &Run, draw: &Draw, grows: bool) -> Op {
     let key = match random.below(60) {
         0 => 0,
@@ -32,11 +44,7 @@ fn operation(random: &mut Random, run: &Run, draw: &Draw, grows: bool) -> Op {
         return next(random, run, key);
     }
     let (inserts, deletes) = if grows { (60, 20) } else { (20, 60) };
-    let way = if random.percent(draw.seconds) {
-        Way::Second
-    } else {
-        Way::First
-    };
+    let way = draw.way(random);
     match random.below(100) {
         drawn if drawn < inserts => Op::Insert(key, random.bits() as u32, way),
         drawn if drawn < inserts + deletes => Op::Delete(key, way),
@@ -90,7 +98,7 @@ fn empty(run: &mut Run) {
     for some in keys.chunks(16) {
         for (slot, &key) in some.iter().enumerate() {
             // slots take turns in the way they go
-            let way = Way::BOTH[slot % 2];
+            let way = Way::ALL[slot % 3];
             run.begin(slot, Op::Delete(key, way));
         }
         run.finish();
@@ -109,6 +117,10 @@ struct Reached {
     at_once: u64,
     unbarred: u64,
     mixed: u64,
+    converted: u64,
+    stayed: u64,
+    behind: u64,
+    held_up: u64,
 }
 
 impl Reached {
@@ -122,6 +134,18 @@ impl Reached {
         self.at_once += run.at_once;
         self.unbarred += run.unbarred;
         self.mixed += run.mixed;
+        self.converted += run.converted;
+        self.stayed += run.stayed;
+        self.behind += run.behind;
+        self.held_up += run.held_up;
+    }
+
+    /// What the third way is there for was met often enough.
+    fn check_third(&self) {
+        assert!(self.converted > 1000, "{}", self.converted);
+        assert!(self.stayed > 500, "{}", self.stayed);
+        assert!(self.behind > 15, "{}", self.behind);
+        assert!(self.held_up > 15, "{}", self.held_up);
     }
 
     /// How often a `Next` had so many pages beside its path, or more.
@@ -138,6 +162,7 @@ fn small_pools() {
         let k = 1 + turn % 4;
         let n = 1 + random.below(40) as u32;
         let (keys, slots) = (5 + random.below(120), 1 + random.below(16));
+        let (seconds, thirds) = random.one(&[(0, 0), (50, 0), (100, 0), (0, 100), (33, 33)]);
         let draw = Draw {
             k,
             n,
@@ -146,7 +171,8 @@ fn small_pools() {
             slots,
             check_every: 1,
             nexts: random.one(&[10, 40]),
-            seconds: random.one(&[0, 50, 100]),
+            seconds,
+            thirds,
         };
         reached.add(&schedule(&mut random, &draw));
     }
@@ -154,21 +180,24 @@ fn small_pools() {
     assert!(reached.beside_from(1) > 100);
     assert!(reached.again > 1000 && reached.at_once > 1000 && reached.unbarred > 1000);
     assert!(reached.mixed > 1000);
+    reached.check_third();
 }
 
 #[test]
 fn large_pools() {
     let mut random = Random(2);
     let mut reached = Reached::default();
-    for (k, n, nexts, seconds) in [
-        (1, 1024, 10, 0),
-        (1, 1024, 40, 100),
-        (1, 300, 40, 50),
-        (2, 500, 40, 100),
-        (3, 200, 20, 50),
-        (4, 100, 20, 100),
-        (16, 40, 10, 50),
-        (16, 1024, 10, 100),
+    for (k, n, nexts, seconds, thirds) in [
+        (1, 1024, 10, 0, 0),
+        (1, 1024, 40, 100, 0),
+        (1, 1024, 40, 0, 100),
+        (1, 300, 40, 33, 33),
+        (2, 500, 40, 50, 50),
+        (3, 200, 20, 50, 0),
+        (3, 200, 20, 0, 50),
+        (4, 100, 20, 100, 0),
+        (16, 40, 10, 33, 33),
+        (16, 1024, 10, 50, 50),
     ] {
         let keys = 600 * u64::from(k);
         let draw = Draw {
@@ -180,6 +209,7 @@ fn large_pools() {
             check_every: 97,
             nexts,
             seconds,
+            thirds,
         };
         reached.add(&schedule(&mut random, &draw));
     }
@@ -187,6 +217,7 @@ fn large_pools() {
     assert!(reached.beside_from(2) > 100);
     assert!(reached.again > 1000 && reached.at_once > 1000 && reached.unbarred > 100);
     assert!(reached.mixed > 1000);
+    reached.check_third();
 }
 
 #[test]
@@ -201,7 +232,8 @@ fn every_kind_of_answer() {
         slots: 16,
         check_every: 1,
         nexts: 30,
-        seconds: 50,
+        seconds: 33,
+        thirds: 33,
     };
     for _ in 0..draw.calls {
         let slot = random.below(draw.slots) as usize;

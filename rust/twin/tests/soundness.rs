@@ -1,7 +1,7 @@
 //! When a state is sound, clause by clause of document 01 and of 02 (vi): a state that breaks one clause alone is
 //! BadState for every call, and the state beside it, just inside the limit, is not.
 
-use twin::Way::{First, Second};
+use twin::Way::{First, Second, Third};
 use twin::{begin, make, report, step, Answer, Lock, Op, Slot, State};
 
 const K: u32 = 2;
@@ -22,6 +22,7 @@ fn own(op: Op) -> Lock {
         Op::Insert(_, _, way) | Op::Delete(_, way) | Op::Regrade(_, _, way) => match way {
             First => Lock::Xi,
             Second => Lock::UpdaterRho,
+            Third => Lock::Alpha,
         },
     }
 }
@@ -71,6 +72,13 @@ const SECOND: [Op; 3] = [
     Op::Insert(5, 1, Second),
     Op::Delete(5, Second),
     Op::Regrade(5, 1, Second),
+];
+
+/// And by the third.
+const THIRD: [Op; 3] = [
+    Op::Insert(5, 1, Third),
+    Op::Delete(5, Third),
+    Op::Regrade(5, 1, Third),
 ];
 
 /// Every kind of lock, and none.
@@ -131,7 +139,7 @@ fn the_order_names_each_open_slot_once_and_no_other() {
 
 #[test]
 fn all_pages_named_are_below_n() {
-    for op in [Op::Delete(5, First), Op::Next(5)] {
+    for op in [Op::Delete(5, First), Op::Next(5), Op::Delete(5, Third)] {
         for (want, path, sibling, unsound) in [
             (63, 62, 61, false),
             (64, 62, 61, true),
@@ -146,7 +154,7 @@ fn all_pages_named_are_below_n() {
 
 #[test]
 fn no_slot_holds_a_page_twice_or_wants_one_it_holds() {
-    for op in [Op::Delete(5, First), Op::Next(5)] {
+    for op in [Op::Delete(5, First), Op::Next(5), Op::Delete(5, Third)] {
         assert!(!bad(&with(&[(0, slot(op, 4, &[1, 2], &[3]))])));
         assert!(bad(&with(&[(0, slot(op, 4, &[1, 1], &[3]))])));
         assert!(bad(&with(&[(0, slot(op, 4, &[1, 2], &[2]))])));
@@ -215,7 +223,7 @@ fn a_closed_slot_holds_nothing() {
 fn operations() -> Vec<Op> {
     let read = [Op::Search(5), Op::Next(5)];
     let first = SECOND.map(|op| op.by(First));
-    [&read[..], &first, &SECOND].concat()
+    [&read[..], &first, &SECOND, &THIRD].concat()
 }
 
 #[test]
@@ -230,12 +238,13 @@ fn a_lock_is_one_that_the_operation_can_want_at_all() {
     }
 }
 
-/// "Each held page now carries its kind": it is the one with which the operation goes down, of every page that is held.
+/// "Each held page now carries its kind": it is the one with which the operation goes down, or by the third way ξ, of every page that is held.
 #[test]
 fn a_page_is_held_under_a_kind_that_the_operation_can_hold() {
     for op in operations() {
         for lock in LOCKS {
-            let right = lock == own(op);
+            // by the third way it may be converted
+            let right = lock == own(op) || (THIRD.contains(&op) && lock == Lock::Xi);
             let mut one = slot(op, 40, &[1], &[]);
             one.path_locks[0] = lock;
             assert_eq!(bad(&with(&[(3, one)])), !right, "{op:?} {lock:?}");
@@ -253,11 +262,13 @@ fn a_page_is_held_under_a_kind_that_the_operation_can_hold() {
 
 #[test]
 fn the_kind_of_each_of_many_is_looked_at() {
-    for op in [Op::Delete(5, First), Op::Next(5)] {
+    for op in [Op::Delete(5, First), Op::Next(5), Op::Delete(5, Third)] {
         let siblings = [20, 21, 22, 23, 24, 25, 26, 27, 28];
         let many = slot(op, 40, &pages(10), &siblings);
         assert!(!bad(&with(&[(3, many)])));
-        for lock in LOCKS.into_iter().filter(|&lock| lock != own(op)) {
+        let is_wrong =
+            |lock: &Lock| *lock != own(op) && (own(op), *lock) != (Lock::Alpha, Lock::Xi);
+        for lock in LOCKS.into_iter().filter(is_wrong) {
             for at in 0..19 {
                 let mut wrong = many;
                 match at {

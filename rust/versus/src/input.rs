@@ -52,6 +52,7 @@ impl Input {
 pub fn begin_line(slot: u64, op: Op) -> String {
     let way = match op.way() {
         Some(Way::Second) => "2",
+        Some(Way::Third) => "3",
         _ => "",
     };
     match op {

@@ -80,7 +80,7 @@ fn operation(random: &mut Random, kind: &Kind, grows: bool) -> Op {
         _ => random.below(kind.keys) as u32,
     };
     let information = random.bits() as u32 >> random.below(32);
-    let way = random.one(&Way::BOTH);
+    let way = random.one(&Way::ALL);
     let weights = if grows {
         [8, 20, 30, 82]
     } else {

@@ -26,30 +26,10 @@ pub(super) fn cases() -> Vec<Case> {
         .collect()
 }
 
-/// E in a pool with a free page more.
-fn from_e_with_room(name: &'static str) -> Case {
-    let mut case = Case::fresh(name, 4);
-    for key in [10, 20, 30] {
-        case.insert(key, 1, Answer::Inserted);
-    }
-    case
-}
-
 /// "A key already there or missing is answered at once": also where the leaf is not safe.
 fn at_once() -> Vec<Case> {
-    let mut there = Case::from_e("a key is there, by the second way");
-    there.alone(Op::Insert(20, 9, Second), 2, ALREADY_THERE);
-    there.alone(Op::Insert(10, 9, Second), 2, ALREADY_THERE);
-    there.words(&E);
-
-    let mut missing = Case::from_e("a key is missing, by the second way");
-    for key in [99, 11] {
-        missing.alone(Op::Delete(key, Second), 2, Answer::NoSuchKey);
-        missing.alone(Op::Regrade(key, 9, Second), 2, Answer::NoSuchKey);
-    }
-    missing.words(&E);
-
-    vec![there, missing]
+    let there = "a key is there, by the second way";
+    Case::at_once(Second, there, "a key is missing, by the second way")
 }
 
 /// "a safe leaf is changed"
@@ -91,7 +71,7 @@ fn holds_one() -> Case {
 
 /// "otherwise all locks are given up and the operation begins again by the first way"
 fn again() -> Vec<Case> {
-    let mut full = from_e_with_room("a full leaf begins again");
+    let mut full = Case::from_e_with_room("a full leaf begins again");
     full.begin(0, Op::Insert(25, 7, Second), Answer::Begun);
     for report in [UPDATER, NOBODY, XI] {
         full.call("t 0", Answer::Moved);
@@ -230,7 +210,7 @@ fn before_search() -> Case {
 
 /// Two insertions by the second way: the younger finds the leaf full, and begins again.
 fn on_one_leaf() -> Case {
-    let mut case = from_e_with_room("two second ways on one leaf");
+    let mut case = Case::from_e_with_room("two second ways on one leaf");
     case.begin(0, SECOND, Answer::Begun);
     case.begin(1, Op::Insert(6, 7, Second), Answer::Begun);
     case.call("t 0", Answer::Moved);

@@ -66,13 +66,11 @@ impl Calls for KindBug {
 impl KindBug {
     /// The kind that is told of a page that is held.
     fn told(&self, state: &[u32; STATE], page: u32, kind: u32, lowest: u32) -> u32 {
-        let mut kinds = (0..SLOTS).filter_map(|slot| lock_on(state, slot, page));
+        let kinds = (0..SLOTS).filter_map(|slot| lock_on(state, slot, page));
         match self {
             KindBug::LowestTold => lock_on(state, lowest as usize, page).unwrap_or(kind),
             KindBug::WeakestTold => kinds.min().unwrap_or(kind),
-            KindBug::SecondHoldsRho if kinds.all(|own| own != Lock::Xi.number()) => {
-                Lock::Rho.number()
-            }
+            KindBug::SecondHoldsRho if kind == Lock::UpdaterRho.number() => Lock::Rho.number(),
             _ => kind,
         }
     }

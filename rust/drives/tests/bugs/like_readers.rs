@@ -229,7 +229,9 @@ impl SecondBug {
                 state[at(DEPTH, slot)] = 1;
             }
             SecondBug::LockNotLookedAt => {
-                let op = Op::of(kind, 0, 0).filter(|op| !op.may_want(Lock::of(lock)));
+                let is_third = |op: &Op| op.way() == Some(Way::Third);
+                let op =
+                    Op::of(kind, 0, 0).filter(|op| !is_third(op) && !op.may_want(Lock::of(lock)));
                 if let Some(op) = op {
                     state[at(LOCK, slot)] = op.holds().number();
                 }
@@ -247,7 +249,7 @@ fn asked(state: &[u32; STATE], slot: usize) -> Op {
 }
 
 /// Closes a slot that stands last in the order.
-fn close(state: &mut [u32; STATE], slot: usize) {
+pub fn close(state: &mut [u32; STATE], slot: usize) {
     for row in 0..COUNT {
         state[at(row, slot)] = 0;
     }
@@ -256,14 +258,14 @@ fn close(state: &mut [u32; STATE], slot: usize) {
 }
 
 /// The step of a slot as if no other were open; it stands last in the order then, or closes.
-fn step_alone(state: &mut [u32; STATE], words: &mut [u32], slot: usize) -> Answer {
+pub fn step_alone(state: &mut [u32; STATE], words: &mut [u32], slot: usize) -> Answer {
     let mut one = words_of(&State::empty(state[0], state[1]));
     (one[2], one[3]) = (1, slot as u32);
     for row in 0..COUNT {
         one[at(row, slot)] = state[at(row, slot)];
     }
     let answer = step_lent(&mut one, words, slot);
-    if answer == Answer::Damaged {
+    if answer.number() <= Answer::Waiting.number() {
         return answer;
     }
     let waiting = state[2] as usize;

@@ -8,9 +8,10 @@ mod ways;
 
 use std::collections::BTreeMap;
 
-use twin::Way::{self, First, Second};
+use twin::Way::{self, First, Second, Third};
 use twin::{
-    begin, free_pages, make, must_wait, page_words, read_page, report, step, Answer, Op, State,
+    begin, free_pages, make, must_wait, page_words, read_page, report, step, Answer, Lock, Op,
+    State,
 };
 
 /// The way of an open slot that updates.
@@ -19,6 +20,14 @@ fn way(state: &State, slot: usize) -> Option<Way> {
         Op::Search(_) | Op::Next(_) => None,
         Op::Insert(_, _, way) | Op::Delete(_, way) | Op::Regrade(_, _, way) => Some(way),
     }
+}
+
+/// Whether two locks on a page clash: two ρ of either kind go together, and α with plain ρ.
+fn clash(one: Lock, other: Lock) -> bool {
+    let both = |is_so: fn(&Lock) -> bool| is_so(&one) && is_so(&other);
+    let are_rho = both(|lock| matches!(lock, Lock::Rho | Lock::UpdaterRho));
+    let with_alpha = [(Lock::Rho, Lock::Alpha), (Lock::Alpha, Lock::Rho)];
+    !are_rho && !with_alpha.contains(&(one, other))
 }
 
 /// A run from a fresh pool, with the sorted list beside it.
@@ -41,6 +50,13 @@ pub struct Run {
     pub unbarred: u64,
     /// How many steps left a page that one slot reads and another one holds with updater's ρ.
     pub mixed: u64,
+    /// How many conversions were granted.
+    pub converted: u64,
+    /// How many readers were granted a page on which another slot has α.
+    pub stayed: u64,
+    /// How often a want waited for a conversion alone, and how often a conversion waited.
+    pub behind: u64,
+    pub held_up: u64,
 }
 
 impl Run {
@@ -65,6 +81,10 @@ impl Run {
             at_once: 0,
             unbarred: 0,
             mixed: 0,
+            converted: 0,
+            stayed: 0,
+            behind: 0,
+            held_up: 0,
         }
     }
 
@@ -102,6 +122,7 @@ impl Run {
         assert_eq!(answer == Answer::Waiting, waits);
         assert!(!(waits && is_unbarred));
         self.unbarred += u64::from(is_unbarred);
+        self.count_third(slot, waits);
         if waits {
             assert_eq!((&self.words, next), (&before, given));
             return answer;
@@ -119,26 +140,67 @@ impl Run {
         answer
     }
 
-    /// Whether another slot is in a slot's way, as demand 2 has it: it holds the wanted page, or wants it too and has waited longer;
-    /// and one of the two locks is for one slot alone. The others, ρ and updater's ρ, go together.
+    /// Whether another slot is in a slot's way, as demand 2 has it: it holds the wanted page with a lock that clashes, or has wanted it
+    /// for longer with one that does, or wants it converted. A conversion has only those in its way who hold the page.
     fn is_in_the_way(&self, slot: usize) -> bool {
-        let state = &self.state;
-        let waits_since = |slot| state.order().iter().position(|&own| own == slot);
-        let want = state.slots[slot].want;
-        let mut others = (0..16).filter(|&other| other != slot && state.slots[other].op.is_some());
-        others.any(|other| {
-            let its = &state.slots[other];
-            let is_older = its.want == want && waits_since(other) < waits_since(slot);
-            let holds_alone = way(state, other) == Some(First);
-            (its.holds(want) && (holds_alone || self.wants_alone(slot)))
-                || (is_older && (self.wants_alone(other) || self.wants_alone(slot)))
-        })
+        let own = &self.state.slots[slot];
+        let bars = |other| self.holds_against(other, slot) || self.comes_before(other, slot);
+        let stays = |other| self.holds_against(other, slot);
+        let mut others = self.others(slot);
+        if own.holds(own.want) {
+            others.any(stays)
+        } else {
+            others.any(bars)
+        }
     }
 
-    /// Whether a slot wants an upper page, and every open one reads or goes the second way and has not begun again.
+    /// The other open slots.
+    fn others(&self, slot: usize) -> impl Iterator<Item = usize> + '_ {
+        (0..16).filter(move |&other| other != slot && self.state.slots[other].op.is_some())
+    }
+
+    /// Whether another slot holds the page that a slot wants with a lock that clashes.
+    fn holds_against(&self, other: usize, slot: usize) -> bool {
+        let own = &self.state.slots[slot];
+        let its = self.state.slots[other].lock_on(own.want);
+        its.is_some_and(|lock| clash(lock, own.lock))
+    }
+
+    /// Whether another slot's want of the same page comes before: it is older and clashes, or is a conversion.
+    fn comes_before(&self, other: usize, slot: usize) -> bool {
+        let waits_since = |slot| self.state.order().iter().position(|&own| own == slot);
+        let (own, its) = (&self.state.slots[slot], &self.state.slots[other]);
+        let is_older = waits_since(other) < waits_since(slot);
+        its.want == own.want && (its.holds(its.want) || (is_older && clash(its.lock, own.lock)))
+    }
+
+    /// Whether nobody can be in a slot's way: it wants an upper page, and every open one reads or goes the second way and has not begun
+    /// again; or it reads, and nobody holds a page with ξ or wants one so.
     fn is_unbarred(&self, slot: usize) -> bool {
-        let nobody_first = (0..16).all(|slot| way(&self.state, slot) != Some(First));
-        nobody_first && self.page(self.state.slots[slot].want).level > 1
+        let is_light = |slot| matches!(way(&self.state, slot), None | Some(Second));
+        let has_xi = |slot: usize| {
+            let its = &self.state.slots[slot];
+            its.lock == Lock::Xi || its.held_with().any(|(_, lock)| lock == Lock::Xi)
+        };
+        let is_upper = self.page(self.state.slots[slot].want).level > 1;
+        (is_upper && (0..16).all(is_light))
+            || (way(&self.state, slot).is_none() && !(0..16).any(has_xi))
+    }
+
+    /// Counts what the third way is there for.
+    fn count_third(&mut self, slot: usize, waits: bool) {
+        let own = &self.state.slots[slot];
+        let is_conversion = own.holds(own.want);
+        let has_alpha =
+            |other: usize| self.state.slots[other].lock_on(own.want) == Some(Lock::Alpha);
+        let stays = way(&self.state, slot).is_none() && self.others(slot).any(has_alpha);
+        let is_held = self
+            .others(slot)
+            .any(|other| self.holds_against(other, slot));
+        self.converted += u64::from(is_conversion && !waits);
+        self.held_up += u64::from(is_conversion && waits);
+        self.stayed += u64::from(stays && !waits);
+        self.behind += u64::from(stays && waits && !is_held);
     }
 
     /// A granted step of the second way; whether it begins again. It does at page 0, if that is a leaf, and at a leaf beyond which the
@@ -244,7 +306,20 @@ impl Run {
                 assert!((height..=2 * height - 1).contains(&taken));
             }
             Op::Next(_) if answer != Answer::None => assert_eq!(taken, self.next_grants(slot)),
+            _ if way(&self.state, slot) == Some(Third) => {
+                assert_eq!(taken, height + self.third_grants(slot, answer));
+            }
             _ => assert_eq!(taken, height),
+        }
+    }
+
+    /// How many grants the third way takes beyond one a level: none where the leaf gives the answer, otherwise one for each sibling and
+    /// one more for each page held.
+    fn third_grants(&self, slot: usize, answer: Answer) -> u32 {
+        let its = &self.state.slots[slot];
+        match answer {
+            Answer::AlreadyThere(_) | Answer::NoSuchKey => 0,
+            _ => (its.depth + 2 * its.beside) as u32,
         }
     }
 
@@ -339,24 +414,28 @@ impl Run {
 
     /// No two locks clash, and the report agrees with the held pages.
     fn check_locks(&self) {
-        let mut holders: BTreeMap<u32, Vec<usize>> = BTreeMap::new();
+        let mut holders: BTreeMap<u32, Vec<(usize, Lock)>> = BTreeMap::new();
         for (number, slot) in self.state.slots.iter().enumerate() {
-            for page in slot.held() {
-                holders.entry(page).or_default().push(number);
+            for (page, lock) in slot.held_with() {
+                holders.entry(page).or_default().push((number, lock));
             }
         }
         for page in 0..self.n {
             let by = holders.get(&page).cloned().unwrap_or_default();
-            let goes = |its| by.iter().any(|&slot| way(&self.state, slot) == its);
-            assert!(by.len() < 2 || !goes(Some(First)));
-            let kind = if goes(Some(First)) {
+            for (at, &(_, lock)) in by.iter().enumerate() {
+                assert!(by[..at].iter().all(|&(_, its)| !clash(lock, its)));
+            }
+            let is_there = |kind| by.iter().any(|&(_, lock)| lock == kind);
+            let kind = if is_there(Lock::Xi) {
                 2
-            } else if goes(Some(Second)) {
+            } else if is_there(Lock::Alpha) {
+                4
+            } else if is_there(Lock::UpdaterRho) {
                 3
             } else {
-                u32::from(goes(None))
+                u32::from(is_there(Lock::Rho))
             };
-            let lowest = by.first().map_or(16, |&slot| slot as u32);
+            let lowest = by.first().map_or(16, |&(slot, _)| slot as u32);
             assert_eq!(
                 report(&self.state, page),
                 Answer::Reported(kind, by.len() as u32, lowest)
@@ -364,9 +443,9 @@ impl Run {
         }
     }
 
-    /// Steps every open slot in rounds until none is open; 464 rounds must do.
+    /// Steps every open slot in rounds until none is open; 608 rounds must do.
     pub fn finish(&mut self) {
-        for _ in 0..464 {
+        for _ in 0..608 {
             for slot in 0..16 {
                 if self.state.slots[slot].op.is_some() {
                     self.step(slot);

@@ -1,6 +1,6 @@
 //! Small pools that several tests begin from: k = 1, information 7.
 
-use twin::{Op, Way};
+use twin::{is_sound, step, Answer, Op, Slot, Way};
 
 use super::Run;
 
@@ -54,4 +54,22 @@ pub fn three_levels() -> Run {
     ];
     assert_eq!(run.words, pages.concat());
     run
+}
+
+/// What a step says in three levels, with words of the pool changed, where slot 0 is so. What is refused stays as given, and BadState is heard just of a
+/// state that is not sound.
+pub fn says(slot: Slot, spoiled: &[(usize, u32)]) -> Answer {
+    let run = three_levels();
+    let (mut state, mut words) = (run.state, run.words);
+    state.slots[0] = slot;
+    state.waiting = 1;
+    for &(at, word) in spoiled {
+        words[at] = word;
+    }
+    let before = words.clone();
+    let (answer, next) = step(&state, &mut words, 0);
+    let refuses = answer.heard()[0] < 32;
+    assert!(!refuses || (next == state && words == before));
+    assert_eq!(answer == Answer::BadState, !is_sound(&state));
+    answer
 }

@@ -1,6 +1,6 @@
-//! The pages that a `Next`, a regrading or an update of the second way holds and wants, told again from the tree as it stands.
+//! The pages that a `Next`, a regrading or an update of the second or third way holds and wants, told again from the tree as it stands.
 
-use twin::Way::{First, Second};
+use twin::Way::{First, Second, Third};
 use twin::{read_page, Lock, Op, Page};
 
 use super::{way, Run};
@@ -36,13 +36,15 @@ impl Run {
         leaf.keys.last().map_or(key, |last| last.saturating_add(1))
     }
 
-    /// Whether a slot wants its page for itself alone: an update does, by the second way only its leaf.
+    /// Whether a slot wants its page for itself alone: an update does, by the second way only its leaf, by the third what it converts.
     pub fn wants_alone(&self, slot: usize) -> bool {
+        let its = &self.state.slots[slot];
         let is_above_leaf = |&page: &u32| self.page(page).level == 2;
         match way(&self.state, slot) {
             None => false,
             Some(First) => true,
-            Some(Second) => self.state.slots[slot].path().iter().any(is_above_leaf),
+            Some(Second) => its.path().iter().any(is_above_leaf),
+            Some(Third) => its.holds(its.want),
         }
     }
 
@@ -70,12 +72,56 @@ impl Run {
             None => Lock::Rho,
             Some(First) => Lock::Xi,
             Some(Second) => Lock::UpdaterRho,
+            Some(Third) => Lock::Alpha,
         };
         let alone = self.wants_alone(slot);
         assert_eq!(its.lock, if alone { Lock::Xi } else { own });
-        assert!(its.held_with().all(|(_, lock)| lock == own));
+        if its.holds(its.want) {
+            self.check_conversion(slot);
+        } else {
+            assert!(its.held_with().all(|(_, lock)| lock == own));
+            self.check_one(slot);
+        }
         self.check_way(slot);
-        self.check_one(slot);
+        self.check_third(slot);
+    }
+
+    /// A slot that converts goes the third way, stands at its leaf and has the change before it; page by page down the levels, on each the
+    /// path first, it has ξ above its want and α from there on.
+    fn check_conversion(&self, slot: usize) {
+        assert_eq!(way(&self.state, slot), Some(Third));
+        let its = &self.state.slots[slot];
+        let op = its.op.expect("an open slot");
+        let is_there = self.list.contains_key(&op.key());
+        assert_eq!(is_there, !matches!(op, Op::Insert(..)));
+        let mut held: Vec<(u32, Lock)> = its.held_with().collect();
+        // the sort is stable, and the path stands first
+        held.sort_by_key(|&(page, _)| 10 - self.page(page).level);
+        assert_eq!(self.page(held[held.len() - 1].0).level, 1);
+        let turn = held.iter().position(|&(page, _)| page == its.want);
+        for (at, &(_, lock)) in held.iter().enumerate() {
+            let is_done = Some(at) < turn;
+            assert_eq!(lock, if is_done { Lock::Xi } else { Lock::Alpha });
+        }
+    }
+
+    /// An insertion or a deletion of the third way holds the way of its key from the lowest page that is safe for it, or from page 0.
+    fn check_third(&self, slot: usize) {
+        let its = &self.state.slots[slot];
+        let (key, is_safe): (u32, fn(usize, usize) -> bool) = match its.op {
+            Some(Op::Insert(key, _, Third)) => (key, |count, k| count < 2 * k),
+            Some(Op::Delete(key, Third)) => (key, |count, k| count > k),
+            _ => return,
+        };
+        let Some(&lowest) = its.path().last() else {
+            return;
+        };
+        let way = self.down(0, |page| page.route(key));
+        let end = way.iter().position(|&page| page == lowest);
+        let end = end.expect("a page on the way of the key");
+        let is_top = |&at: &usize| is_safe(self.page(way[at]).count(), self.k as usize);
+        let top = (0..=end).rev().find(is_top).unwrap_or(0);
+        assert_eq!(its.path(), &way[top..=end]);
     }
 
     /// An open `Next` that holds pages stands where the rules have it.

@@ -9,10 +9,11 @@ use Rattle.ground.specs.Limits.{pathHolds}
 use Rattle.page.specs.Words.{Page, isLeaf}
 use Rattle.pool.specs.Pool.{pageAt, freePages}
 use Rattle.slots.specs.declared.Op.{Op}
+use Rattle.footing.specs.declared.converting.Turn.the-variants.{Done}
 use Rattle.footing.specs.Standing.{SlotStanding}
 use Rattle.footing.proofs.LookLaws.{told-true, told-false}
-use Rattle.course.specs.Judged.{beginsAgain}
-use Rattle.course.proofs.JudgeLaws.{standing-needing, stand-upward, stand-known, lowest, goes-judges, again-judges, search-judges, insert-judges, regrade-judges, delete-judges}
+use Rattle.course.specs.Judged.{beginsAgain, turnCourse}
+use Rattle.course.proofs.JudgeLaws.{standing-needing, stand-upward, stand-known, lowest, goes-judges, again-judges, turn-judges, search-judges, insert-judges, regrade-judges, delete-judges}
 use Rattle.course.proofs.AgainLaws.{insert-tops}
 use Rattle.course.proofs.NextLaws.{next-does}
 use Rattle.course.proofs.judging.judge.Statement.{statement}
@@ -80,11 +81,30 @@ low c = told-true (c .before .before .before .is-leaf-of .ensures) (c .before .b
 stays : (c : tie.Else2) → beginsAgain (c .before .before .before .before .before .before .before .args .op) (c .before .before .before .before .before .before .before .args .k) (memory (c .before .before .before .before .before .before .before)) (lowest (c .before .before .before .before .before .before .before .args .stand)) ≡ false
 stays c = sym (c .before .begins-again .ensures) ∙ c .if2 .left
 
+turn-requires : tie.Need-turn-requires
+turn-requires c κs = c .before .before .before .before .before .before .before .pre
+
+enum-known-p : tie.Need-enum-known-p
+enum-known-p c = search needs
+
+returns-3 : tie.Need-returns-3
+returns-3 c =
+    let start = c .before .before .before .before .before .before .before .before .before .before .before in
+    let was = start .args in
+    turn-judges (was .k) (memory start) (free start) (was .stand) (stand-upward (start .pre)) (low (c .before .before .before .before)) (was .op) (stays (c .before .before .before .before)) (c .before .before .before .turn .ensures) (c .before .p .given .1)
+
+enum-told : tie.Need-enum-told
+enum-told c = search needs
+
+-- no page is left to convert
+none : (c : tie.After-enum-told) → turnCourse (c .before .before .before .before .before .before .before .before .before .before .args .op) (c .before .before .before .before .before .before .before .before .before .before .args .k) (memory (c .before .before .before .before .before .before .before .before .before .before)) (c .before .before .before .before .before .before .before .before .before .before .args .stand) ≡ Done
+none c = sym (c .before .before .turn .ensures) ∙ c .enum-told .given .1
+
 enum-known-op : tie.Need-enum-known-op
 enum-known-op c = search needs
 
 look-of-requires : tie.Need-look-of-requires
-look-of-requires c κs = let known = stand-known (c .before .before .before .before .before .before .before .before .before .before .pre) in (known .inPool, (known .readable, known .facts .rising))
+look-of-requires c κs = let known = stand-known (c .before .before .before .before .before .before .before .before .before .before .before .before .before .pre) in (known .inPool, (known .readable, known .facts .rising))
 
 found-requires : tie.Need-found-requires
 found-requires c κs = search needs
@@ -93,7 +113,7 @@ enum-known-op-2 : tie.Need-enum-known-op-2
 enum-known-op-2 c = search needs
 
 look-of-requires-2 : tie.Need-look-of-requires-2
-look-of-requires-2 c κs = let known = stand-known (c .before .before .before .before .before .before .before .before .before .before .pre) in (known .inPool, (known .readable, known .facts .rising))
+look-of-requires-2 c κs = let known = stand-known (c .before .before .before .before .before .before .before .before .before .before .before .before .before .pre) in (known .inPool, (known .readable, known .facts .rising))
 
 inserts-requires : tie.Need-inserts-requires
 inserts-requires c κs = search needs
@@ -102,57 +122,57 @@ enum-known-op-3 : tie.Need-enum-known-op-3
 enum-known-op-3 c = search needs
 
 look-of-requires-3 : tie.Need-look-of-requires-3
-look-of-requires-3 c κs = let known = stand-known (c .before .before .before .before .before .before .before .before .before .before .pre) in (known .inPool, (known .readable, known .facts .rising))
+look-of-requires-3 c κs = let known = stand-known (c .before .before .before .before .before .before .before .before .before .before .before .before .before .pre) in (known .inPool, (known .readable, known .facts .rising))
 
 deletes-requires : tie.Need-deletes-requires
 deletes-requires c κs =
-    let was = c .before .before .before .before .before .before .before .before .before .before .before .args in
-    subst (λ (o : Op). SlotStanding o (was .k) (was .n) (was .words .now) (was .stand)) (c .before .before .op3 .given .1) (c .before .before .before .before .before .before .before .before .before .before .before .pre)
+    let was = c .before .before .before .before .before .before .before .before .before .before .before .before .before .before .args in
+    subst (λ (o : Op). SlotStanding o (was .k) (was .n) (was .words .now) (was .stand)) (c .before .before .op3 .given .1) (c .before .before .before .before .before .before .before .before .before .before .before .before .before .before .pre)
 
 enum-known-op-4 : tie.Need-enum-known-op-4
 enum-known-op-4 c = search needs
 
 nexts-requires : tie.Need-nexts-requires
 nexts-requires c κs =
-    let was = c .before .before .before .before .before .before .before .before .before .before .args in
-    subst (λ (o : Op). SlotStanding o (was .k) (was .n) (was .words .now) (was .stand)) (c .before .op4 .given .1) (c .before .before .before .before .before .before .before .before .before .before .pre)
+    let was = c .before .before .before .before .before .before .before .before .before .before .before .before .before .args in
+    subst (λ (o : Op). SlotStanding o (was .k) (was .n) (was .words .now) (was .stand)) (c .before .op4 .given .1) (c .before .before .before .before .before .before .before .before .before .before .before .before .before .pre)
 
 enum-known-op-5 : tie.Need-enum-known-op-5
 enum-known-op-5 c = search needs
 
-returns-3 : tie.Need-returns-3
-returns-3 c =
-    let start = c .before .before .before .before .before .before .before .before .before .before .before .before in
-    let was = start .args in
-    search-judges (was .k) (memory start) (free start) (was .stand) (stand-upward (start .pre)) (low (c .before .before .before .before .before))
-    (was .op) (c .before .look-of .result) (c .found .result) (stays (c .before .before .before .before .before)) _ (c .before .look-of .ensures) (c .before .before .before .op .given .1) (c .found .ensures)
-
 returns-4 : tie.Need-returns-4
 returns-4 c =
-    let start = c .before .before .before .before .before .before .before .before .before .before .before .before in
+    let start = c .before .before .before .before .before .before .before .before .before .before .before .before .before .before .before in
     let was = start .args in
-    insert-judges (was .k) (memory start) (free start) (was .stand) (stand-upward (start .pre)) (low (c .before .before .before .before .before))
-    (was .op) (c .before .look-of2 .result) (c .inserts .result) (stays (c .before .before .before .before .before)) _ _ _ (c .before .look-of2 .ensures) (c .before .before .before .op2 .given .1) (c .inserts .ensures)
-    (insert-tops (was .op) _ (c .before .before .before .op2 .given .1) (start .pre) (stays (c .before .before .before .before .before)))
+    search-judges (was .k) (memory start) (free start) (was .stand) (stand-upward (start .pre)) (low (c .before .before .before .before .before .before .before .before))
+    (was .op) (c .before .look-of .result) (c .found .result) (stays (c .before .before .before .before .before .before .before .before)) (none (c .before .before .before .before .before)) _ (c .before .look-of .ensures) (c .before .before .before .op .given .1) (c .found .ensures)
 
 returns-5 : tie.Need-returns-5
 returns-5 c =
-    let start = c .before .before .before .before .before .before .before .before .before .before .before .before in
+    let start = c .before .before .before .before .before .before .before .before .before .before .before .before .before .before .before in
     let was = start .args in
-    delete-judges (was .k) (memory start) (free start) (was .stand) (stand-upward (start .pre)) (low (c .before .before .before .before .before))
-    (was .op) (c .before .look-of3 .result) (c .deletes .result) (stays (c .before .before .before .before .before)) _ _ (c .before .look-of3 .ensures) (c .before .before .before .op3 .given .1) (c .deletes .ensures)
+    insert-judges (was .k) (memory start) (free start) (was .stand) (stand-upward (start .pre)) (low (c .before .before .before .before .before .before .before .before))
+    (was .op) (c .before .look-of2 .result) (c .inserts .result) (stays (c .before .before .before .before .before .before .before .before)) (none (c .before .before .before .before .before)) _ _ _ (c .before .look-of2 .ensures) (c .before .before .before .op2 .given .1) (c .inserts .ensures)
+    (insert-tops (was .op) _ (c .before .before .before .op2 .given .1) (start .pre) (stays (c .before .before .before .before .before .before .before .before)))
 
 returns-6 : tie.Need-returns-6
 returns-6 c =
-    let start = c .before .before .before .before .before .before .before .before .before .before .before in
-    next-does (start .args .op) _ (memory start) (free start) (c .nexts .result) (start .pre) (low (c .before .before .before .before)) (stays (c .before .before .before .before)) (c .before .before .op4 .given .1) (c .nexts .ensures)
+    let start = c .before .before .before .before .before .before .before .before .before .before .before .before .before .before .before in
+    let was = start .args in
+    delete-judges (was .k) (memory start) (free start) (was .stand) (stand-upward (start .pre)) (low (c .before .before .before .before .before .before .before .before))
+    (was .op) (c .before .look-of3 .result) (c .deletes .result) (stays (c .before .before .before .before .before .before .before .before)) (none (c .before .before .before .before .before)) _ _ (c .before .look-of3 .ensures) (c .before .before .before .op3 .given .1) (c .deletes .ensures)
 
 returns-7 : tie.Need-returns-7
 returns-7 c =
-    let start = c .before .before .before .before .before .before .before .before .before .before in
+    let start = c .before .before .before .before .before .before .before .before .before .before .before .before .before .before in
+    next-does (start .args .op) _ (memory start) (free start) (c .nexts .result) (start .pre) (low (c .before .before .before .before .before .before .before)) (stays (c .before .before .before .before .before .before .before)) (none (c .before .before .before .before)) (c .before .before .op4 .given .1) (c .nexts .ensures)
+
+returns-8 : tie.Need-returns-8
+returns-8 c =
+    let start = c .before .before .before .before .before .before .before .before .before .before .before .before .before in
     let was = start .args in
-    regrade-judges (was .k) (memory start) (free start) (was .stand) (stand-upward (start .pre)) (low (c .before .before .before))
-    (was .op) _ _ _ _ (stays (c .before .before .before)) (c .before .op5 .given .1) refl
+    regrade-judges (was .k) (memory start) (free start) (was .stand) (stand-upward (start .pre)) (low (c .before .before .before .before .before .before))
+    (was .op) _ _ _ _ (stays (c .before .before .before .before .before .before)) (none (c .before .before .before)) (c .before .op5 .given .1) refl
 
 pub judge-spec : {M : Type 1} → statement M
 judge-spec =
@@ -169,6 +189,10 @@ judge-spec =
     returns
     begins-again-requires
     returns-2
+    turn-requires
+    enum-known-p
+    returns-3
+    enum-told
     enum-known-op
     look-of-requires
     found-requires
@@ -181,8 +205,8 @@ judge-spec =
     enum-known-op-4
     nexts-requires
     enum-known-op-5
-    returns-3
     returns-4
     returns-5
     returns-6
-    returns-7)
+    returns-7
+    returns-8)

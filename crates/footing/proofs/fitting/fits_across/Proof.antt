@@ -15,7 +15,7 @@ use Rattle.pool.specs.Pool.{pageAt}
 use Rattle.change.proofs.HeldLaws.{Known, held-front}
 use Rattle.slots.specs.declared.Op.{Op}
 use Rattle.slots.specs.declared.Op.the-variants.{Search, Insert, Delete, Next, Regrade}
-use Rattle.slots.specs.declared.Way.the-variants.{First, Second}
+use Rattle.slots.specs.declared.Way.the-variants.{First, Second, Third}
 use Rattle.slots.specs.Parts.{isNext, pathOf, besideOf, locksOf, sidelocksOf, standOf}
 use Rattle.slots.proofs.Op as op
 use Rattle.footing.proofs.KeepLaws.{cell-known, leaf-some, beside-added, beside-held}
@@ -28,12 +28,15 @@ no-next : (o : Op) → OneOf (0 ∷ 1 ∷ 2 ∷ 4 ∷ []) (tagOf op.the-type o) 
 no-next (Search x) t = refl
 no-next (Insert x v First) t = refl
 no-next (Insert x v Second) t = refl
+no-next (Insert x v Third) t = refl
 no-next (Delete x First) t = refl
 no-next (Delete x Second) t = refl
+no-next (Delete x Third) t = refl
 no-next (Next x) t =
     ⊎-elim (λ e. absurd (omega arith)) (λ r. ⊎-elim (λ e. absurd (omega arith)) (λ q. ⊎-elim (λ e. absurd (omega arith)) (λ e. absurd (omega arith)) q) r) t
 no-next (Regrade x v First) t = refl
 no-next (Regrade x v Second) t = refl
+no-next (Regrade x v Third) t = refl
 
 -- the path has a page, and its cells are there
 some : (c : tie.Start) → 1 ≤ c .args .slot .depth

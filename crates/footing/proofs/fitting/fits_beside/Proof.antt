@@ -1,9 +1,9 @@
 -- The rule for a deletion at its leaf, a test at a time: the operation and its way, the key, what is needed next, and the levels.
 use Prim.Native.Nat.{ℕ, _+_, _-_}
-use mathlib.Core.Bool.{false}
+use mathlib.Core.Bool.{true, false}
 use mathlib.Core.List.{List, [], _∷_, _++_, reverse}
 use mathlib.Core.Logic.{⊎-elim}
-use mathlib.Core.Path.{_≡_, refl, ap, _∙_}
+use mathlib.Core.Path.{_≡_, refl, sym, ap, _∙_}
 use native.Mathlib.Omega.{arith}
 use borrow.Author.Needs.{needs}
 use borrow.Author.Tests.{eq-eqb, ne-eqb}
@@ -12,6 +12,7 @@ use types.Run.{OneOf}
 use lib.ListN.{length, take}
 use Rattle.ground.specs.Limits.{pathHolds}
 use Rattle.ground.specs.Tests.{padded}
+use Rattle.ground.proofs.Bools.{not-both}
 use Rattle.pool.specs.Pool.{pageAt}
 use Rattle.change.specs.Held.{Needing, needOf}
 use Rattle.change.specs.declared.needing.Need.{Need}
@@ -21,11 +22,12 @@ use Rattle.change.proofs.needing.Need as need
 use Rattle.slots.specs.declared.Op.{Op}
 use Rattle.slots.specs.declared.Op.the-variants.{Search, Insert, Delete, Next, Regrade}
 use Rattle.slots.specs.declared.Way.{Way}
-use Rattle.slots.specs.declared.Way.the-variants.{First, Second}
-use Rattle.slots.specs.Parts.{keyOf, isDelete, pathOf, besideOf, locksOf, sidelocksOf, standOf}
+use Rattle.slots.specs.declared.Way.the-variants.{First, Second, Third}
+use Rattle.slots.specs.Parts.{keyOf, isDelete, isSecond, pathOf, besideOf, locksOf, sidelocksOf, standOf}
 use Rattle.slots.proofs.Op as op
 use Rattle.footing.specs.Fitting.{isSibling}
-use Rattle.footing.proofs.KeepLaws.{beside-needing, beside-added, beside-held, beside-idle, isThere, beside-missing, beside-other, beside-levels}
+use Rattle.footing.specs.Standing.{isThere}
+use Rattle.footing.proofs.KeepLaws.{beside-needing, beside-added, beside-held, beside-idle, beside-missing, beside-other, beside-levels}
 use Rattle.footing.proofs.fitting.fits_beside.Statement.{statement}
 use Rattle.footing.proofs.fitting.fits_beside.Tie as tie
 
@@ -34,15 +36,22 @@ no-deletion : (o : Op) → OneOf (0 ∷ 1 ∷ 3 ∷ 4 ∷ []) (tagOf op.the-type
 no-deletion (Search x) t = refl
 no-deletion (Insert x v First) t = refl
 no-deletion (Insert x v Second) t = refl
+no-deletion (Insert x v Third) t = refl
 no-deletion (Delete x way) t =
     ⊎-elim (λ e. absurd (omega arith)) (λ r. ⊎-elim (λ e. absurd (omega arith)) (λ q. ⊎-elim (λ e. absurd (omega arith)) (λ e. absurd (omega arith)) q) r) t
 no-deletion (Next x) t = refl
 no-deletion (Regrade x v First) t = refl
 no-deletion (Regrade x v Second) t = refl
+no-deletion (Regrade x v Third) t = refl
 
 -- nor is one by the second way such a one
-second-deletion : {o : Op} {x : ℕ} {way : Way} → o ≡ Delete x way → way ≡ Second → isDelete o ≡ false
-second-deletion {x = x} told second = ap isDelete (told ∙ ap (Delete x) second)
+second-deletion : {o : Op} {x : ℕ} {way : Way} → o ≡ Delete x way → isSecond (Delete x way) ≡ true → isDelete o ≡ false
+second-deletion {x = x} {way} told second = ap isDelete told ∙ by-way way second
+  where
+    by-way : (w : Way) → isSecond (Delete x w) ≡ true → isDelete (Delete x w) ≡ false
+    by-way First e = not-both e refl
+    by-way Second e = refl
+    by-way Third e = not-both e refl
 
 -- another answer asks for no sibling
 no-sibling : (r : Need) (want : ℕ) → OneOf (0 ∷ 2 ∷ []) (tagOf need.the-type r) → isSibling (needOf r) want ≡ false
@@ -77,17 +86,14 @@ returns c =
     beside-idle (was .k) (pageAt (was .k) (was .words .now)) (standOf (was .op) (was .slot)) (reverse (pathOf (was .slot)))
     (no-deletion (was .op) (c .match .keys2))
 
-enum-told : tie.Need-enum-told
-enum-told c = search needs
-
-enum-told-2 : tie.Need-enum-told-2
-enum-told-2 c = search needs
+is-second-requires : tie.Need-is-second-requires
+is-second-requires c κs = search needs
 
 returns-2 : tie.Need-returns-2
 returns-2 c =
     let was = c .before .before .before .before .before .before .args in
     beside-idle (was .k) (pageAt (was .k) (was .words .now)) (standOf (was .op) (was .slot)) (reverse (pathOf (was .slot)))
-    (second-deletion (c .before .before .before .op .given .1) (c .enum-told2 .given .1))
+    (second-deletion (c .before .before .before .op .given .1) (sym (c .before .is-second .ensures) ∙ c .if1 .taken))
 
 sub-look-of : tie.Need-sub-look-of
 sub-look-of c = stands (c .before .before .before .before .before .before .before) .some
@@ -107,19 +113,19 @@ look-of-requires c κs =
     let known = path-known (keyOf (was .op)) (stands start) (was .slot .depth - 1) (omega (arith, stands start .some)) in
     (known .inPool, (known .readable, known .facts .rising))
 
-enum-told-3 : tie.Need-enum-told-3
-enum-told-3 c = search needs
+enum-told : tie.Need-enum-told
+enum-told c = search needs
 
-enum-told-4 : tie.Need-enum-told-4
-enum-told-4 c = search needs
+enum-told-2 : tie.Need-enum-told-2
+enum-told-2 c = search needs
 
 returns-3 : tie.Need-returns-3
 unfolding pathOf besideOf
 returns-3 c =
     let start = c .before .before .before .before .before .before .before .before .before .before in
     let slot = start .args .slot in
-    beside-missing (stands start) (locksOf slot) (sidelocksOf slot) (slot .want) (slot .lock) (c .before .before .before .before .before .before .before .op .given .1) (c .before .before .before .before .enum-told .given .1) (c .before .before .look-of .ensures)
-    (ap isThere (c .enum-told4 .given .1))
+    beside-missing (stands start) (locksOf slot) (sidelocksOf slot) (slot .want) (slot .lock) (c .before .before .before .before .before .before .before .op .given .1) (sym (c .before .before .before .before .before .is-second .ensures) ∙ c .before .before .before .before .if1 .left) (c .before .before .look-of .ensures)
+    (ap isThere (c .enum-told2 .given .1))
 
 needs-requires : tie.Need-needs-requires
 needs-requires c κs = stands (c .before .before .before .before .before .before .before .before .before .before .before .before .before)
@@ -132,15 +138,15 @@ unfolding pathOf besideOf
 returns-4 c =
     let start = c .before .before .before .before .before .before .before .before .before .before .before .before .before .before .before in
     let slot = start .args .slot in
-    beside-other (stands start) (locksOf slot) (sidelocksOf slot) (slot .want) (slot .lock) (c .before .before .before .before .before .before .before .before .before .before .before .before .op .given .1) (c .before .before .before .before .before .before .before .before .before .enum-told .given .1) (c .before .needs .ensures) (no-sibling (c .before .needs .result) (slot .want) (c .match4 .keys2))
+    beside-other (stands start) (locksOf slot) (sidelocksOf slot) (slot .want) (slot .lock) (c .before .before .before .before .before .before .before .before .before .before .before .before .op .given .1) (sym (c .before .before .before .before .before .before .before .before .before .before .is-second .ensures) ∙ c .before .before .before .before .before .before .before .before .before .if1 .left) (c .before .needs .ensures) (no-sibling (c .before .needs .result) (slot .want) (c .match3 .keys2))
 
 returns-5 : tie.Need-returns-5
 unfolding pathOf besideOf
 returns-5 c =
     let start = c .before .before .before .before .before .before .before .before .before .before .before .before .before .before .before .before .before .before in
     let slot = start .args .slot in
-    beside-other (stands start) (locksOf slot) (sidelocksOf slot) (slot .want) (slot .lock) (c .before .before .before .before .before .before .before .before .before .before .before .before .before .before .before .op .given .1) (c .before .before .before .before .before .before .before .before .before .before .before .before .enum-told .given .1) (c .before .before .before .before .needs .ensures)
-    (ap (λ (r : Need). isSibling (needOf r) (slot .want)) (c .before .before .next .given .1) ∙ ne-eqb _ _ (c .if1 .taken))
+    beside-other (stands start) (locksOf slot) (sidelocksOf slot) (slot .want) (slot .lock) (c .before .before .before .before .before .before .before .before .before .before .before .before .before .before .before .op .given .1) (sym (c .before .before .before .before .before .before .before .before .before .before .before .before .before .is-second .ensures) ∙ c .before .before .before .before .before .before .before .before .before .before .before .before .if1 .left) (c .before .before .before .before .needs .ensures)
+    (ap (λ (r : Need). isSibling (needOf r) (slot .want)) (c .before .before .next .given .1) ∙ ne-eqb _ _ (c .if2 .taken))
 
 with-page-requires : tie.Need-with-page-requires
 with-page-requires c κs = c .before .before .before .before .before .before .before .before .before .before .before .before .before .before .before .before .before .before .pre .0 .1
@@ -162,9 +168,9 @@ unfolding pathOf besideOf
 returns-6 c =
     let start = c .before .before .before .before .before .before .before .before .before .before .before .before .before .before .before .before .before .before .before .before in
     let slot = start .args .slot in
-    beside-levels (stands start) (locksOf slot) (sidelocksOf slot) (slot .want) (slot .lock) (c .before .before .before .before .before .before .before .before .before .before .before .before .before .before .before .before .before .op .given .1) (c .before .before .before .before .before .before .before .before .before .before .before .before .before .before .enum-told .given .1) (c .before .before .before .before .before .before .needs .ensures) (c .before .before .before .before .before .before .before .before .before .before .before .before .look-of .ensures)
-    (ap isThere (c .before .before .before .before .before .before .before .before .before .before .enum-told3 .given .1))
-    (ap (λ (r : Need). isSibling (needOf r) (slot .want)) (c .before .before .before .before .next .given .1) ∙ eq-eqb _ _ (c .before .before .if1 .left))
+    beside-levels (stands start) (locksOf slot) (sidelocksOf slot) (slot .want) (slot .lock) (c .before .before .before .before .before .before .before .before .before .before .before .before .before .before .before .before .before .op .given .1) (sym (c .before .before .before .before .before .before .before .before .before .before .before .before .before .before .before .is-second .ensures) ∙ c .before .before .before .before .before .before .before .before .before .before .before .before .before .before .if1 .left) (c .before .before .before .before .before .before .needs .ensures) (c .before .before .before .before .before .before .before .before .before .before .before .before .look-of .ensures)
+    (ap isThere (c .before .before .before .before .before .before .before .before .before .before .enum-told .given .1))
+    (ap (λ (r : Need). isSibling (needOf r) (slot .want)) (c .before .before .before .before .next .given .1) ∙ eq-eqb _ _ (c .before .before .if2 .left))
     (c .same-levels .ensures)
     (added start (c .before .with-page .ensures))
 
@@ -174,15 +180,14 @@ fits-beside-spec =
     (tie.spec
     enum-known-op
     returns
-    enum-told
-    enum-told-2
+    is-second-requires
     returns-2
     sub-look-of
     mul-look-of
     array-read-look-of
     look-of-requires
-    enum-told-3
-    enum-told-4
+    enum-told
+    enum-told-2
     returns-3
     needs-requires
     enum-known-next

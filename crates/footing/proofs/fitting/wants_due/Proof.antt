@@ -1,6 +1,4 @@
--- Who does not go by the second way wants what is due, because the slot is sound. For who does the kinds are compared.
-use Prim.Native.Nat.{ℕ}
-use mathlib.Core.Bool.{Bool}
+-- Who does not go by the second way wants its new page with what is due, because the slot is sound. For who does the kinds are compared.
 use mathlib.Core.List.{reverse}
 use mathlib.Core.Path.{ap, ap₂, _∙_}
 use lib.Dec.{eqb}
@@ -8,7 +6,8 @@ use borrow.Author.Needs.{needs}
 use Rattle.pool.specs.Pool.{pageAt}
 use Rattle.slots.specs.Heard.{lockNumber}
 use Rattle.slots.specs.Parts.{pathOf}
-use Rattle.footing.proofs.LookLaws.{asks-deep, first-wants}
+use Rattle.footing.proofs.LookLaws.{asks-deep}
+use Rattle.footing.proofs.ConvertLaws.{first-wants}
 use Rattle.footing.proofs.fitting.wants_due.Statement.{statement}
 use Rattle.footing.proofs.fitting.wants_due.Tie as tie
 
@@ -17,8 +16,10 @@ is-second-requires c κs = search needs
 
 returns : tie.Need-returns
 returns c =
-    let was = c .before .before .before .args in
-    first-wants (c .before .before .before .pre .0) (pageAt (was .k) (was .words .now)) (reverse (pathOf (was .slot))) (c .before .is-second .ensures) (c .if1 .taken)
+    let start = c .before .before .before in
+    let was = start .args in
+    let asks = start .pre .0 in
+    first-wants (was .n) (was .slot) (asks .task) (asks .sound) (pageAt (was .k) (was .words .now)) (reverse (pathOf (was .slot))) (c .before .is-second .ensures) (c .if1 .taken) (start .pre .2)
 
 lock-number-requires : tie.Need-lock-number-requires
 lock-number-requires c κs = search needs

@@ -1,5 +1,4 @@
 -- Where the levels are wrong the page does not lead there; where they are right it is no leaf, and its route tells.
-use Prim.Native.Nat.{ℕ}
 use borrow.Author.Tests.{eqb-true}
 use Rattle.page.specs.Place.{route}
 use Rattle.pool.specs.Pool.{pageAt}

@@ -1,5 +1,4 @@
 -- Where the levels are wrong the page does not name the other; where they are right it is no leaf, has a reference key, and the neighbour that it names tells.
-use Prim.Native.Nat.{ℕ}
 use borrow.Author.Tests.{eqb-true}
 use Rattle.page.specs.Short.{neighbour}
 use Rattle.pool.specs.Pool.{pageAt}

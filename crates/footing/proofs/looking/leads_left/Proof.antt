@@ -1,5 +1,5 @@
 -- Where the levels are wrong the page does not name the other; where they are right it is no leaf, and its p0 tells.
-use Prim.Native.Nat.{ℕ, zero-le}
+use Prim.Native.Nat.{zero-le}
 use borrow.Author.Tests.{eqb-true}
 use Rattle.page.specs.Place.{pointer}
 use Rattle.pool.specs.Pool.{pageAt}

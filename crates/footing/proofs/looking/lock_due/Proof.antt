@@ -1,6 +1,5 @@
 -- The last page of the path begins the path upward.
 use Prim.Native.Nat.{_-_}
-use mathlib.Core.List.{List}
 use mathlib.Core.Path.{_≡_, sym, ap, _∙_}
 use native.Mathlib.Omega.{arith}
 use lib.ListN.{length}

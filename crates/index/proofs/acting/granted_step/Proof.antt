@@ -1,8 +1,7 @@
 -- The pages fit, or the step is answered Damaged. Where they fit, the operation stands as the rule has it, and the course that is found there is the rule's.
 use Rattle.ground.specs.Limits.{largestK, largestN}
 use Rattle.index.proofs.StepLaws.{granted-damaged, granted-fits, granted-stands, granted-acts, granted-leaves}
-use Rattle.course.proofs.StandLaws.{slot-paired}
-use Rattle.slots.proofs.Keeping.{Paired}
+use Rattle.slots.proofs.Keeping.{Paired, slot-paired}
 use Rattle.slots.specs.Parts.{standOf}
 use lib.ListN.{length, length-map}
 use mathlib.Core.List.{List, map}

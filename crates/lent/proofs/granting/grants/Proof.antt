@@ -22,15 +22,15 @@ row-of-requires c κs = search needs
 own-row : (c : tie.After-row-of) → RowOf (cell (c .before .before .args .cells .now) lockRow (c .before .before .args .s)) (c .row-of .result)
 own-row c = subst (λ (number : ℕ). RowOf number (c .row-of .result)) (c .before .wanted-lock-at .ensures) (c .row-of .ensures)
 
-no-older-requires : tie.Need-no-older-requires
-no-older-requires c κs =
+comes-first-requires : tie.Need-comes-first-requires
+comes-first-requires c κs =
     let was = c .before .before in
-    (was .pre .0, was .pre .2, own-row c)
+    (was .pre .0, was .pre .1, was .pre .2, own-row c)
 
 returns : tie.Need-returns
 returns c =
     let was = c .before .before .before .before .args in
-    let said = c .before .no-older in
+    let said = c .before .comes-first in
     sym (and-second-fails (noClash (asRead (was .cells .now)) (was .s)) (sym (said .ensures) ∙ not-true (said .result) (c .if1 .taken)))
 
 no-clash-requires : tie.Need-no-clash-requires
@@ -41,9 +41,9 @@ no-clash-requires c κs =
 returns-2 : tie.Need-returns-2
 returns-2 c =
     let was = c .before .before .before .before .before .args in
-    let said = c .before .before .no-older in
+    let said = c .before .before .comes-first in
     let clear : Bool = noClash (asRead (was .cells .now)) (was .s) in
     c .no-clash .ensures ∙ sym (and-true clear) ∙ ap (λ (b : Bool). clear && b) (sym (sym (said .ensures) ∙ not-false (said .result) (c .before .if1 .left)))
 
 pub grants-spec : {M : Type 1} → statement M
-grants-spec = tie.close (tie.spec wanted-lock-at-requires row-of-requires no-older-requires returns no-clash-requires returns-2)
+grants-spec = tie.close (tie.spec wanted-lock-at-requires row-of-requires comes-first-requires returns no-clash-requires returns-2)

@@ -58,10 +58,13 @@ unfolding askingSecond
 returns-3 c =
     rw (sym (c .before .before .before .before .before .before .before .before .goes-on .ensures) ∙ c .before .before .before .before .before .before .before .if1 .left, sym (c .before .before .before .before .before .goes-on2 .ensures) ∙ c .before .before .before .before .if2 .left, sym (c .before .before .goes-on3 .ensures) ∙ c .before .if3 .taken, drop-drop 4 (c .before .before .before .before .before .before .before .before .before .before .before .args .at) (c .before .before .before .before .before .before .before .before .before .before .before .args .line .now)) (c .read-regrade .ensures)
 
+read-third-requires : tie.Need-read-third-requires
+read-third-requires c κs = search needs
+
 returns-4 : tie.Need-returns-4
 unfolding askingSecond
 returns-4 c =
-    rw (sym (c .before .before .before .before .before .before .before .goes-on .ensures) ∙ c .before .before .before .before .before .before .if1 .left, sym (c .before .before .before .before .goes-on2 .ensures) ∙ c .before .before .before .if2 .left, sym (c .before .goes-on3 .ensures) ∙ c .if3 .left)
+    rw (sym (c .before .before .before .before .before .before .before .before .goes-on .ensures) ∙ c .before .before .before .before .before .before .before .if1 .left, sym (c .before .before .before .before .before .goes-on2 .ensures) ∙ c .before .before .before .before .if2 .left, sym (c .before .before .goes-on3 .ensures) ∙ c .before .if3 .left) (c .read-third .ensures)
 
 pub read-second-spec : {M : Type 1} → statement M
 read-second-spec =
@@ -82,4 +85,5 @@ read-second-spec =
     add-read-regrade
     read-regrade-requires
     returns-3
+    read-third-requires
     returns-4)

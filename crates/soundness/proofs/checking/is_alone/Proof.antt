@@ -1,79 +1,71 @@
--- The path, then the siblings.
-use Rattle.soundness.proofs.CheckingLawsAlone.{alone-parts}
-use Rattle.lent.specs.Layout.{breadthRow, pathRow, besideRow}
-use Rattle.lent.specs.Holds.{othersHold}
-use Rattle.lent.specs.Words.{column, cell}
-use Rattle.ground.proofs.Bools.{and-first-fails}
-use Rattle.ground.specs.Tests.{all}
-use borrow.Author.Tests.{not-true, not-false}
-use lib.ListN.{take}
-use native.Mathlib.Omega.{arith}
-use mathlib.Core.Path.{sym, ap, _∙_}
-use mathlib.Core.Bool.{Bool, not, _&&_}
-use Prim.Native.Nat.{ℕ}
+-- By the third way each page by its own lock, by the first all by ξ.
+use Rattle.soundness.specs.Checking.{thirdKind, apartIn, eachAlone, xiRow}
+use Rattle.lent.specs.Layout.{kindRow}
+use Rattle.lent.specs.Words.{cell}
+use Rattle.ground.proofs.Choice.{cond-true, cond-false}
+use lib.ListN.{getD}
+use mathlib.Core.Path.{_≡_, sym, ap, ap₂, _∙_}
+use mathlib.Core.List.{List, []}
+use mathlib.Core.Bool.{Bool}
+use Prim.Native.Nat.{ℕ, _-_}
 use borrow.Author.Needs.{needs}
 use Rattle.soundness.proofs.checking.is_alone.Statement.{statement}
 use Rattle.soundness.proofs.checking.is_alone.Tie as tie
 
-depth-at-requires : tie.Need-depth-at-requires
-depth-at-requires c κs = search needs
+kind-at-requires : tie.Need-kind-at-requires
+kind-at-requires c κs = search needs
 
-wide-requires : tie.Need-wide-requires
-wide-requires c κs = search needs
+is-third-requires : tie.Need-is-third-requires
+is-third-requires c κs = search needs
 
-column-alone-requires : tie.Need-column-alone-requires
-column-alone-requires c κs =
-    let was = c .before .before in
-    (was .pre .0, omega arith, omega (arith, c .wide .ensures, c .before .depth-at .ensures, was .pre .1 .path (was .args .s) (was .pre .0)), was .pre .1)
+-- whether slot s goes by the third way
+third-said : (c : tie.After-is-third) → c .is-third .result ≡ thirdKind (cell (c .before .before .args .cells .now) kindRow (c .before .before .args .s))
+third-said c = c .is-third .ensures ∙ ap thirdKind (c .before .kind-at .ensures)
+
+each-alone-requires : tie.Need-each-alone-requires
+each-alone-requires c κs = search needs
 
 returns : tie.Need-returns
 returns c =
     let was = c .before .before .before .before .args in
     let ws = was .cells .now in
-    let s = was .s in
-    let row = was .row in
-    sym
-    (alone-parts ws s row
-    ∙ and-first-fails (all (λ (p : ℕ). not (othersHold ws s row p)) (take (cell ws breadthRow s) (column ws besideRow s)))
-    (ap (λ (m : ℕ). all (λ (p : ℕ). not (othersHold ws s row p)) (take m (column ws pathRow s))) (sym (c .before .before .wide .ensures ∙ c .before .before .before .depth-at .ensures))
-    ∙ sym (c .before .column-alone .ensures)
-    ∙ not-true (c .before .column-alone .result) (c .if1 .taken)))
+    c .each-alone .ensures ∙ sym (cond-true (eachAlone ws (was .s)) (apartIn ws (was .s) xiRow) (sym (third-said (c .before .before)) ∙ c .before .if1 .taken))
 
-breadth-at-requires : tie.Need-breadth-at-requires
-breadth-at-requires c κs = search needs
+wide-requires : tie.Need-wide-requires
+wide-requires c κs = search needs
 
-wide-requires-2 : tie.Need-wide-requires-2
-wide-requires-2 c κs = search needs
+sub-row : tie.Need-sub-row
+sub-row c = search needs
 
-column-alone-requires-2 : tie.Need-column-alone-requires-2
-column-alone-requires-2 c κs =
-    let was = c .before .before .before .before .before .before in
-    (was .pre .0, omega arith, omega (arith, c .wide2 .ensures, c .before .breadth-at .ensures, was .pre .1 .beside (was .args .s) (was .pre .0)), was .pre .1)
+mul-row : tie.Need-mul-row
+mul-row c = search needs
+
+array-copy-out-row : tie.Need-array-copy-out-row
+array-copy-out-row c = search needs
+
+is-apart-requires : tie.Need-is-apart-requires
+is-apart-requires c κs = search needs
 
 returns-2 : tie.Need-returns-2
 returns-2 c =
-    let was = c .before .before .before .before .before .before .before .args in
-    let ws = was .cells .now in
-    let s = was .s in
-    let row = was .row in
-    c .column-alone2 .ensures
-    ∙ ap (λ (m : ℕ). all (λ (p : ℕ). not (othersHold ws s row p)) (take m (column ws besideRow s))) (c .before .wide2 .ensures ∙ c .before .before .breadth-at .ensures)
-    ∙ sym
-    (alone-parts ws s row
-    ∙ ap (λ (b : Bool). b && all (λ (p : ℕ). not (othersHold ws s row p)) (take (cell ws breadthRow s) (column ws besideRow s)))
-    (ap (λ (m : ℕ). all (λ (p : ℕ). not (othersHold ws s row p)) (take m (column ws pathRow s))) (sym (c .before .before .before .before .before .wide .ensures ∙ c .before .before .before .before .before .before .depth-at .ensures))
-    ∙ sym (c .before .before .before .before .column-alone .ensures)
-    ∙ not-false (c .before .before .before .before .column-alone .result) (c .before .before .before .if1 .left)))
+    let was = c .before .before .before .before .before .before in
+    let ws = was .args .cells .now in
+    let s = was .args .s in
+    c .is-apart .ensures
+    ∙ ap (apartIn ws s) (ap₂ (λ (table : List (List Bool)) (i : ℕ). getD table (i - 1) []) (was .pre .2) (c .before .before .wide .ensures))
+    ∙ sym (cond-false (eachAlone ws s) (apartIn ws s xiRow) (sym (third-said (c .before .before .before .before)) ∙ c .before .before .before .if1 .left))
 
 pub is-alone-spec : {M : Type 1} → statement M
 is-alone-spec =
     tie.close
     (tie.spec
-    depth-at-requires
-    wide-requires
-    column-alone-requires
+    kind-at-requires
+    is-third-requires
+    each-alone-requires
     returns
-    breadth-at-requires
-    wide-requires-2
-    column-alone-requires-2
+    wide-requires
+    sub-row
+    mul-row
+    array-copy-out-row
+    is-apart-requires
     returns-2)

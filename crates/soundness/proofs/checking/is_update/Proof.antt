@@ -28,7 +28,7 @@ told-above kind high = rw (ne-eqb (kind / 2) 1 (λ e. absurd (omega arith)), oth
 rule : (kind : ℕ) → told kind ≡ updatesKind kind
 rule kind =
     by-test (leb kind highestKind)
-    (λ t. by-kind (λ (k : ℕ). told k ≡ updatesKind k) refl refl refl refl refl refl refl refl refl kind (leb-true kind highestKind t))
+    (λ t. by-kind (λ (k : ℕ). told k ≡ updatesKind k) refl refl refl refl refl refl refl refl refl refl refl refl kind (leb-true kind highestKind t))
     (λ f. told-above kind (leb-false kind highestKind f) ∙ sym (above kind (leb-false kind highestKind f)))
 
 returns : tie.Need-returns

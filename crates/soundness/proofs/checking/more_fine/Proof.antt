@@ -1,8 +1,7 @@
 -- The kind, then the pages, then their locks.
-use Rattle.soundness.specs.Checking.{mayHoldMore, underKind}
+use Rattle.soundness.specs.Checking.{mayHoldMore, pagesFine, underKind}
 use Rattle.lent.specs.Layout.{kindRow, breadthRow}
-use Rattle.lent.specs.Words.{cell, slotIn}
-use Rattle.slots.specs.Sound.{belowAndOnce}
+use Rattle.lent.specs.Words.{cell}
 use Rattle.ground.proofs.Bools.{and-first-fails, and-second-fails}
 use borrow.Author.Tests.{not-true, not-false}
 use mathlib.Core.Path.{_≡_, sym, ap₂, _∙_}
@@ -31,7 +30,7 @@ returns c =
     let ws = was .cells .now in
     sym
     (and-first-fails (underKind ws (was .s))
-    (and-first-fails (belowAndOnce (was .n) (slotIn ws (was .s)))
+    (and-first-fails (pagesFine ws (was .n) (was .s))
     (sym (kind-said (c .before)) ∙ not-true (c .before .may-hold-more .result) (c .if1 .taken))))
 
 pages-fine-requires : tie.Need-pages-fine-requires

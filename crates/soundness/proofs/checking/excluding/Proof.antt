@@ -1,6 +1,6 @@
--- The mask has a bit for each of the slots passed that updates.
+-- The mask has a bit for each of the slots passed that holds under ξ or α.
 use Rattle.soundness.proofs.MaskLaws.{mask-none, mask-sets, mask-keeps}
-use Rattle.soundness.specs.Checking.{updatesKind, updates}
+use Rattle.soundness.specs.Checking.{excludesKind, excludes}
 use Rattle.slots.specs.Report.{maskBelow}
 use lib.Bits.{bitOr}
 use Rattle.lent.specs.Layout.{rowLength}
@@ -9,23 +9,23 @@ use mathlib.Core.Logic.{⊎-elim}
 use mathlib.Core.Path.{_≡_, sym, ap, _∙_}
 use Prim.Native.Nat.{ℕ, _*_, _%_, _^_, _≤_, _-_}
 use borrow.Author.Needs.{needs}
-use Rattle.soundness.proofs.checking.updating.Statement.{statement}
-use Rattle.soundness.proofs.checking.updating.Tie as tie
+use Rattle.soundness.proofs.checking.excluding.Statement.{statement}
+use Rattle.soundness.proofs.checking.excluding.Tie as tie
 
 abbrev Inv-loop : tie.InvT-loop
-Inv-loop cells mask₀ s₀ mask s = (s ≤ rowLength) × (mask ≡ maskBelow s (updates cells))
+Inv-loop cells mask₀ s₀ mask s = (s ≤ rowLength) × (mask ≡ maskBelow s (excludes cells))
 
 abbrev μ-loop : tie.MeasureT-loop
 μ-loop cells mask₀ s₀ mask s = rowLength - s
 
 loop-holds : tie.Need-loop-holds Inv-loop μ-loop
-loop-holds c = (omega arith, sym (mask-none (updates (c .args .cells .now))))
+loop-holds c = (omega arith, sym (mask-none (excludes (c .args .cells .now))))
 
 kind-at-requires : tie.Need-kind-at-requires Inv-loop μ-loop
 kind-at-requires c κs = omega arith
 
-is-update-requires : tie.Need-is-update-requires Inv-loop μ-loop
-is-update-requires c κs = search needs
+is-exclusive-requires : tie.Need-is-exclusive-requires Inv-loop μ-loop
+is-exclusive-requires c κs = search needs
 
 cast-mask : tie.Need-cast-mask Inv-loop μ-loop
 cast-mask c = search needs
@@ -43,11 +43,11 @@ loop-again : tie.Need-loop-again Inv-loop μ-loop
 loop-again c =
     let ws = c .before .before .before .before .before .args .cells .now in
     let l = c .before .before .before .before .loop in
-    let said = c .before .is-update .ensures ∙ ap updatesKind (c .before .before .kind-at .ensures) in (
+    let said = c .before .is-exclusive .ensures ∙ ap excludesKind (c .before .before .kind-at .ensures) in (
       omega arith,
       ⊎-elim
-          (λ w. w .1 ∙ ap (λ (m : ℕ). bitOr m (1 * 2 ^ l .s % 2 ^ 16)) (l .inv .1) ∙ mask-sets (updates ws) 16 (l .s) (omega arith) (sym said ∙ w .0 .taken))
-          (λ w. w .1 ∙ l .inv .1 ∙ mask-keeps (updates ws) (l .s) (sym said ∙ w .0 .left))
+          (λ w. w .1 ∙ ap (λ (m : ℕ). bitOr m (1 * 2 ^ l .s % 2 ^ 16)) (l .inv .1) ∙ mask-sets (excludes ws) 16 (l .s) (omega arith) (sym said ∙ w .0 .taken))
+          (λ w. w .1 ∙ l .inv .1 ∙ mask-keeps (excludes ws) (l .s) (sym said ∙ w .0 .left))
           (c .if1 .came),
     )
 
@@ -55,8 +55,8 @@ returns : tie.Need-returns Inv-loop μ-loop
 returns c =
     let ws = c .before .before .args .cells .now in
     let end : c .before .loop .s ≡ rowLength = omega arith in
-    c .before .loop .inv .1 ∙ ap (λ (n : ℕ). maskBelow n (updates ws)) end
+    c .before .loop .inv .1 ∙ ap (λ (n : ℕ). maskBelow n (excludes ws)) end
 
-pub updating-spec : {M : Type 1} → statement M
-updating-spec =
-    tie.close (tie.spec Inv-loop μ-loop loop-holds kind-at-requires is-update-requires cast-mask shl-mask add-s loop-less loop-again returns)
+pub excluding-spec : {M : Type 1} → statement M
+excluding-spec =
+    tie.close (tie.spec Inv-loop μ-loop loop-holds kind-at-requires is-exclusive-requires cast-mask shl-mask add-s loop-less loop-again returns)
