@@ -47,7 +47,7 @@ use Rattle.footing.specs.Fitting.{descends, rightlyKept, rightlyBeside, sameLev
 use Rattle.footing.specs.Standing.{SlotStanding, stood, turnOf}
 use Rattle.footing.proofs.LookLaws.{below-first}
 use Rattle.footing.proofs.AcrossLaws.{across-idle}
-use Rattle.footing.proofs.ConvertLaws.{converts-facts}
+use Rattle.footing.proofs.OnTurn.{converts-facts}
 use Rattle.course.specs.Judged.{onSecond, judgedAt, beginsAgain, turnCourse, judged, ifNew, courseOf, ready, nextCourse, searchCourse, insertCourse, needCourse, deleteCourse, standsLast}
 use Rattle.course.proofs.StandLaws.{Topped, cond-both, stood-ind}
 

@@ -40,7 +40,7 @@ use Rattle.footing.specs.Fitting.{descends, pagesSound, rightlyKept, sameLevels
 use Rattle.footing.specs.Standing.{Asks, fits, stood, Standing, SlotStanding}
 use Rattle.footing.proofs.LookLaws.{descends-levels, leftmost-levels, pagesOf, asks-held}
 use Rattle.footing.proofs.KeepLaws.{second-safe}
-use Rattle.footing.proofs.ConvertLaws.{Converts, converts-facts}
+use Rattle.footing.proofs.OnTurn.{Converts, converts-facts}
 
 -- what holds of both branches of two choices by one test holds of the choices
 pub cond-both : {A B : Type 0} (P : A → B → Type 0) (b : Bool) {x y : A} {u v : B} → (b ≡ true → P x u) → (b ≡ false → P y v)

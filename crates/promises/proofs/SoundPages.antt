@@ -27,12 +27,13 @@ use Rattle.slots.specs.declared.Op.the-variants.{Search, Insert, Delete, Next, 
 use Rattle.slots.specs.declared.Lock.{Lock}
 use Rattle.slots.specs.declared.Lock.the-variants.{None, Xi, Alpha}
 use Rattle.slots.specs.declared.Under.{Under}
-use Rattle.slots.specs.Parts.{keyOf, isDelete, isNext, isThird, heldLock, under, Stand, stand, holding, holdingLocks, converting}
+use Rattle.slots.specs.Parts.{keyOf, isDelete, isNext, heldLock, under, Stand, stand, holding, holdingLocks, converting}
 use Rattle.slots.specs.Locks.{sameLock}
 use Rattle.slots.proofs.Keeping.{Paired, kinds-long}
 use Rattle.slots.proofs.LockLaws.{same-lock, lock-same}
-use Rattle.footing.specs.Granted.{isSafe, changeKnown, pagesInTurn, locksInTurn, unconverted, toConvert, atItsLeaf}
+use Rattle.footing.specs.Granted.{isSafe, pagesInTurn, locksInTurn, unconverted, toConvert, atItsLeaf}
 use Rattle.footing.specs.Fitting.{pagesSound, leads, descends, rightlyKept, sameLevels, isSibling, rightlyBeside, isNone, leftmost, turnsRight, rightlyAcross, lockDue, holdsDue, fittingNew, xiThenAlpha, isFirst, rightlyConverting, fitting}
+use Rattle.footing.proofs.OnTurn.{converts-facts}
 use Rattle.tree.proofs.DeletionRule.{needs-length}
 use Rattle.runs.specs.Stance.{StandsAtLeaf}
 use Rattle.runs.proofs.PlainLaws.{none-below, below-none}
@@ -476,39 +477,25 @@ module _ (k : ℕ) (memory : ℕ → Page) (z : Stand) (sized : Sized z) where
       → (z .lock ≡ Xi) × ConvertsRightly k memory z
   converts-told r [] e h = absurd (false≢true h)
   converts-told r (leaf ∷ fathers) e h =
-      let third = isThird (z .op) in
-      let bottom = isLeaf (memory leaf) in
-      let leading = descends memory (keyOf (z .op)) (z .path) in
-      let known = changeKnown k memory z leaf fathers in
-      let level = sameLevels memory (leaf ∷ fathers) (z .beside) in
-      let xi = sameLock (z .lock) Xi in
-      let order = xiThenAlpha (locksInTurn z) in
-      let first = isFirst (z .want) (toConvert z) in
-      let h7 = and-first (third && bottom && leading && known && level && xi && order) first h in
-      let h6 = and-first (third && bottom && leading && known && level && xi) order h7 in
-      let h5 = and-first (third && bottom && leading && known && level) xi h6 in
-      let h4 = and-first (third && bottom && leading && known) level h5 in
-      let h3 = and-first (third && bottom && leading) known h4 in
-      let h2 = and-first (third && bottom) leading h3 in
-      let (unanswered, more) = known-told k memory z leaf fathers (and-second (third && bottom && leading) known h4) in
-      let parted = parted-told (and-second (third && bottom && leading && known && level && xi) order h7)
-      (and-second (third && bottom && leading && known && level && xi && order) first h) in
+      let c = converts-facts k memory z leaf fathers h in
+      let (unanswered, more) = known-told k memory z leaf fathers (c .known) in
+      let parted = parted-told (c .kinds) (c .first) in
       let few : length (z .beside) ≤ length (z .path)
       = omega (arith, few-done (z .op) k memory (leaf ∷ fathers) (z .beside) more, ap length e, length-reverse (z .path)) in
       let held : (p : ℕ) → member p (parted .done ++ z .want ∷ parted .rest) ≡ true → member p (holding z) ≡ true
       = λ p m. sym (held-turn (z .path) (z .beside) few p) ∙ ap (member p) (parted .turns) ∙ m in (
-        same-lock (z .lock) Xi (and-second (third && bottom && leading && known && level) xi h6),
+        same-lock (z .lock) Xi (c .wants),
         record {
-          third = third-named (z .op) (and-first third bottom h2);
+          third = third-named (z .op) (c .third);
           leaf = leaf;
           fathers = fathers;
           upward = e;
-          atLeaf = test-at-leaf memory (z .path) (ap (atItsLeaf memory) e ∙ and-second third bottom h2);
-          way = way-told memory (keyOf (z .op)) (z .path) r (and-second (third && bottom) leading h3);
+          atLeaf = test-at-leaf memory (z .path) (ap (atItsLeaf memory) e ∙ c .low);
+          way = way-told memory (keyOf (z .op)) (z .path) r (c .way);
           unanswered = unanswered;
           noMore = more;
           levels = λ j b. ap (λ (up : List ℕ). memory (getD up j 0) .level) e
-              ∙ same-levels-told memory (leaf ∷ fathers) (z .beside) (and-second (third && bottom && leading && known) level h5) j b;
+              ∙ same-levels-told memory (leaf ∷ fathers) (z .beside) (c .levels) j b;
           done = parted .done;
           rest = parted .rest;
           turns = parted .turns;

@@ -20,16 +20,14 @@ use Rattle.change.specs.Deletion.{Need, nothing, sibling, astray, needs, deleti
 use Rattle.slots.specs.declared.Op.{Op}
 use Rattle.slots.specs.declared.Op.the-variants.{Search, Insert, Delete, Next, Regrade}
 use Rattle.slots.specs.declared.Way.the-variants.{First, Second, Third}
-use Rattle.slots.specs.declared.Lock.the-variants.{Xi}
 use Rattle.slots.specs.declared.Answer.{Answer}
 use Rattle.slots.specs.declared.Answer.the-variants.{Inserted, AlreadyThere, Deleted, NoSuchKey, NoRoom, Regraded}
 use Rattle.slots.specs.Heard.{numberOf}
-use Rattle.slots.specs.Locks.{sameLock}
 use Rattle.slots.specs.declared.Under.{Under}
-use Rattle.slots.specs.Parts.{keyOf, isSecond, isThird, Stand, holding, converting, onPages}
-use Rattle.footing.specs.Granted.{Verdict, broken, goes, ends, isSafe, keptLocks, byNeed, deletes, staysSecond, changeKnown, locksInTurn, toConvert, convertedFirst, atLeaf, fromLeaf, byWayAtLeaf, comesDown, besides, converts, atItsLeaf, granted}
-use Rattle.footing.specs.Fitting.{pagesSound, descends, rightlyKept, sameLevels, xiThenAlpha, isFirst, rightlyConverting, fittingNew, fitting, nextIsNew, soundForStep, verdict}
-use Rattle.footing.proofs.OnTurn.{converted-by}
+use Rattle.slots.specs.Parts.{isSecond, isThird, Stand, holding, converting, onPages}
+use Rattle.footing.specs.Granted.{Verdict, broken, goes, ends, isSafe, keptLocks, byNeed, deletes, staysSecond, convertedFirst, atLeaf, fromLeaf, byWayAtLeaf, comesDown, besides, converts, atItsLeaf, granted}
+use Rattle.footing.specs.Fitting.{pagesSound, rightlyKept, rightlyConverting, fittingNew, fitting, nextIsNew, soundForStep, verdict}
+use Rattle.footing.proofs.OnTurn.{converted-by, converts-facts}
 use Rattle.runs.proofs.PlainLaws.{clashes}
 
 -- an operation ends only if this test holds
@@ -161,21 +159,7 @@ comes-down-lacks k memory free z =
 pub turn-parts : (k : ℕ) (memory : ℕ → Page) (z : Stand) (up : List ℕ) → rightlyConverting k memory z up ≡ true
     → (isThird (z .op) ≡ true) × (atItsLeaf memory up ≡ true)
 turn-parts k memory z [] e = not-both e refl
-turn-parts k memory z (leaf ∷ fathers) e =
-    let third : Bool = isThird (z .op) in
-    let here : Bool = isLeaf (memory leaf) in
-    let goes-down : Bool = descends memory (keyOf (z .op)) (z .path) in
-    let known : Bool = changeKnown k memory z leaf fathers in
-    let levels : Bool = sameLevels memory (leaf ∷ fathers) (z .beside) in
-    let xi : Bool = sameLock (z .lock) Xi in
-    let kinds : Bool = xiThenAlpha (locksInTurn z) in
-    let a₁ = and-first (third && here && goes-down && known && levels && xi && kinds) (isFirst (z .want) (toConvert z)) e in
-    let a₂ = and-first (third && here && goes-down && known && levels && xi) kinds a₁ in
-    let a₃ = and-first (third && here && goes-down && known && levels) xi a₂ in
-    let a₄ = and-first (third && here && goes-down && known) levels a₃ in
-    let a₅ = and-first (third && here && goes-down) known a₄ in
-    let a₆ = and-first (third && here) goes-down a₅ in
-    (and-first third here a₆, and-second third here a₆)
+turn-parts k memory z (leaf ∷ fathers) e = let c = converts-facts k memory z leaf fathers e in (c .third, c .low)
 
 -- What the step comes to in these words.
 module _ (k n : ℕ) (ws : List ℕ) (z : Stand) where

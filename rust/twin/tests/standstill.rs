@@ -189,7 +189,7 @@ fn three_levels() {
 
 /// Every operation on every key that is there, and on one behind each of them, in pools with and without free pages.
 #[test]
-#[ignore = "it takes some five minutes"]
+#[ignore = "it takes many minutes"]
 fn every_key() {
     let keys = [10, 20, 30, 40, 50];
     for (n, many) in [

@@ -364,6 +364,11 @@ fn stands(op: Op, want: (u32, Lock), path: &[(u32, Lock)], beside: &[(u32, Lock)
 const A: Lock = Lock::Alpha;
 const X: Lock = Lock::Xi;
 
+/// An update of each kind, in the three levels.
+const INSERT: Op = Op::Insert(15, 7, Third);
+const DELETE: Op = Op::Delete(10, Third);
+const REGRADE: Op = Op::Regrade(20, 9, Third);
+
 /// The deletion of 10 in three levels, with the first so many of its pages converted, and what it wants then.
 fn converted(many: usize, want: u32) -> Slot {
     let order = [0, 5, 6, 1, 2];
@@ -417,11 +422,7 @@ fn whose_turn_it_is() {
 /// Gathering: all that is held has α, and what is wanted too.
 #[test]
 fn while_it_goes_down_all_is_alpha() {
-    for op in [
-        Op::Insert(15, 7, Third),
-        Op::Delete(20, Third),
-        Op::Regrade(20, 9, Third),
-    ] {
+    for op in [INSERT, Op::Delete(20, Third), REGRADE] {
         let leaf = if op.key() == 15 { 1 } else { 2 };
         let from = |lock| stands(op, (5, lock), &[(0, A)], &[]);
         assert_eq!(says(from(A), &[]), Answer::Moved);
@@ -439,8 +440,13 @@ fn while_it_goes_down_all_is_alpha() {
             assert_eq!(says(first, &[]), Answer::Damaged);
         }
     }
+}
+
+/// What is given up on the way, and what is wanted from the leaf.
+#[test]
+fn what_it_holds_at_its_leaf_is_alpha() {
     // an insertion gives page 0 up at page 5, which has room; then page 0 is too much
-    let op = Op::Insert(15, 7, Third);
+    let op = INSERT;
     assert_eq!(says(Slot::open(op, 1, &[5], &[]), &[]), Answer::Moved);
     assert_eq!(says(Slot::open(op, 1, &[0, 5], &[]), &[]), Answer::Damaged);
     // a deletion may not, as long as no page below can spare
@@ -452,10 +458,7 @@ fn while_it_goes_down_all_is_alpha() {
     assert_eq!(says(beside(A), &[]), Answer::Moved);
     assert_eq!(says(beside(X), &[]), Answer::Damaged);
     // at their leaf the others want nothing new
-    for (op, leaf) in [
-        (Op::Insert(15, 7, Third), 1),
-        (Op::Regrade(20, 9, Third), 2),
-    ] {
+    for (op, leaf) in [(INSERT, 1), (REGRADE, 2)] {
         for want in [0, 3, 6] {
             let slot = Slot::open(op, want, &[leaf], &[]);
             assert_eq!(says(slot, &[]), Answer::Damaged);
@@ -463,85 +466,66 @@ fn while_it_goes_down_all_is_alpha() {
     }
 }
 
-/// "at its leaf", "key's way right", "change known": each clause of a conversion that does not go by the kinds of lock.
+/// What a step says of an update that holds these pages with α and is about to convert the top one, with words of the pool changed.
+fn converting(op: Op, path: &[u32], beside: &[u32], spoiled: &[(usize, u32)]) -> Answer {
+    says(Slot::open(op, path[0], path, beside).wanting(X), spoiled)
+}
+
+/// "When the change is known": at its leaf, and not where the leaf gives the answer by itself.
 #[test]
-fn when_a_conversion_is_due() {
-    let convert =
-        |op, path: &[u32], beside: &[u32]| Slot::open(op, path[0], path, beside).wanting(X);
-    let (insert, regrade) = (Op::Insert(15, 7, Third), Op::Regrade(20, 9, Third));
-    let delete = Op::Delete(10, Third);
-    assert_eq!(says(convert(insert, &[1], &[]), &[]), Answer::Inserted);
-    assert_eq!(says(convert(regrade, &[2], &[]), &[]), Answer::Regraded(7));
-    assert_eq!(
-        says(convert(delete, &[0, 5, 1], &[2, 6]), &[]),
-        Answer::Moved
-    );
-    // above its leaf
-    assert_eq!(says(convert(insert, &[5], &[]), &[]), Answer::Damaged);
-    assert_eq!(says(convert(regrade, &[5], &[]), &[]), Answer::Damaged);
-    assert_eq!(says(convert(delete, &[0, 5], &[]), &[]), Answer::Damaged);
-    // the leaf gives the answer by itself
-    for op in [
-        Op::Insert(10, 7, Third),
-        Op::Delete(11, Third),
-        Op::Regrade(11, 7, Third),
+fn a_conversion_begins_at_the_leaf() {
+    assert_eq!(converting(INSERT, &[1], &[], &[]), Answer::Inserted);
+    assert_eq!(converting(REGRADE, &[2], &[], &[]), Answer::Regraded(7));
+    for (op, path) in [
+        (INSERT, vec![5]),
+        (REGRADE, vec![5]),
+        (DELETE, vec![0, 5]),
+        (Op::Insert(10, 7, Third), vec![1]),
+        (Op::Delete(11, Third), vec![0, 5, 1]),
+        (Op::Regrade(11, 7, Third), vec![1]),
     ] {
-        let path: &[u32] = if matches!(op, Op::Delete(..)) {
-            &[0, 5, 1]
-        } else {
-            &[1]
-        };
-        assert_eq!(says(convert(op, path, &[]), &[]), Answer::Damaged, "{op:?}");
+        let answer = converting(op, &path, &[], &[]);
+        assert_eq!(answer, Answer::Damaged, "{op:?} {path:?}");
     }
-    // a sibling is needed yet, or one is there that is not needed
-    assert_eq!(says(convert(delete, &[0, 5, 1], &[]), &[]), Answer::Damaged);
-    assert_eq!(
-        says(convert(delete, &[0, 5, 1], &[2]), &[]),
-        Answer::Damaged
-    );
-    let spare = [TWO + 1, TWO + 4, TWO + 5].into_iter().zip([2, 25, 7]);
-    let spare: Vec<(usize, u32)> = spare.collect();
-    assert_eq!(
-        says(convert(delete, &[0, 5, 1], &[2]), &spare),
-        Answer::Moved
-    );
-    assert_eq!(
-        says(convert(delete, &[0, 5, 1], &[2, 6]), &spare),
-        Answer::Damaged
-    );
-    // the siblings are those of the rules, one level below their fathers
-    assert_eq!(
-        says(convert(delete, &[0, 5, 1], &[6, 2]), &[]),
-        Answer::Damaged
-    );
-    assert_eq!(
-        says(convert(delete, &[0, 5, 1], &[3, 6]), &[]),
-        Answer::Damaged
-    );
+}
+
+/// A sibling for each page that will be short, and no other: the one that the rules take, on the level of the page beside it.
+#[test]
+fn a_conversion_begins_with_all_siblings() {
+    let path = [0, 5, 1];
+    for (siblings, answer) in [
+        (vec![2, 6], Answer::Moved),
+        (vec![], Answer::Damaged),
+        (vec![2], Answer::Damaged),
+        (vec![6, 2], Answer::Damaged),
+        (vec![3, 6], Answer::Damaged),
+    ] {
+        let said = converting(DELETE, &path, &siblings, &[]);
+        assert_eq!(said, answer, "{siblings:?}");
+    }
+    // page 2 can spare an entry: then page 5 will not be short
+    let spare = [(TWO + 1, 2), (TWO + 4, 25), (TWO + 5, 7)];
+    assert_eq!(converting(DELETE, &path, &[2], &spare), Answer::Moved);
+    assert_eq!(converting(DELETE, &path, &[2, 6], &spare), Answer::Damaged);
     let high = [(TWO, 2), (TWO + 2, 3), (TWO + 3, 20), (TWO + 4, 4)];
-    assert_eq!(
-        says(convert(delete, &[0, 5, 1], &[2, 6]), &high),
-        Answer::Damaged
-    );
-    // the path is the way of the key, from page 0 or a safe page, and none below is safe
-    assert_eq!(says(convert(delete, &[5, 1], &[2]), &[]), Answer::Damaged);
-    assert_eq!(
-        says(convert(delete, &[0, 5, 2], &[1, 6]), &[]),
-        Answer::Damaged
-    );
-    assert_eq!(
-        says(convert(delete, &[0, 6, 1], &[2, 5]), &[]),
-        Answer::Damaged
-    );
-    assert_eq!(says(convert(insert, &[5, 1], &[]), &[]), Answer::Damaged);
-    assert_eq!(
-        says(convert(Op::Insert(45, 7, Third), &[4], &[]), &[]),
-        Answer::Damaged
-    );
-    assert_eq!(
-        says(convert(Op::Insert(45, 7, Third), &[6, 4], &[]), &[]),
-        Answer::Moved
-    );
+    assert_eq!(converting(DELETE, &path, &[2, 6], &high), Answer::Damaged);
+}
+
+/// The path is the way of the key, from page 0 or a safe page on, and none below that is safe.
+#[test]
+fn a_conversion_begins_on_the_keys_way() {
+    let full = Op::Insert(45, 7, Third);
+    assert_eq!(converting(full, &[6, 4], &[], &[]), Answer::Moved);
+    for (op, path, siblings) in [
+        (full, vec![4], vec![]),
+        (INSERT, vec![5, 1], vec![]),
+        (DELETE, vec![5, 1], vec![2]),
+        (DELETE, vec![0, 5, 2], vec![1, 6]),
+        (DELETE, vec![0, 6, 1], vec![2, 5]),
+    ] {
+        let answer = converting(op, &path, &siblings, &[]);
+        assert_eq!(answer, Answer::Damaged, "{op:?} {path:?}");
+    }
 }
 
 /// Each page that is held is sound by itself; of any other nothing is asked.
@@ -580,7 +564,7 @@ fn sound(slots: &[Slot]) -> bool {
 /// "a sound state has no clashing kinds on a page": ρ beside α, and nothing else beside α or ξ.
 #[test]
 fn who_holds_a_page_beside_it() {
-    let third = |lock| stands(Op::Insert(15, 7, Third), (1, A), &[(5, lock)], &[]);
+    let third = |lock| stands(INSERT, (1, A), &[(5, lock)], &[]);
     for (other, beside_alpha) in [
         (Op::Search(20), true),
         (Op::Next(20), true),
@@ -594,7 +578,7 @@ fn who_holds_a_page_beside_it() {
         assert!(!sound(&[third(X), its]), "{other:?}");
     }
     // one that converts has α on its page until then
-    let converts = stands(Op::Insert(15, 7, Third), (1, X), &[(1, A)], &[]);
+    let converts = stands(INSERT, (1, X), &[(1, A)], &[]);
     let reads = Slot::open(Op::Next(15), 2, &[5, 1], &[]);
     assert!(sound(&[converts, reads]) && sound(&[reads, converts]));
 }
@@ -602,11 +586,7 @@ fn who_holds_a_page_beside_it() {
 /// "wants a held page only as such a conversion from α"; ξ is wanted for no other page.
 #[test]
 fn what_may_be_wanted() {
-    for op in [
-        Op::Insert(15, 7, Third),
-        Op::Delete(10, Third),
-        Op::Regrade(10, 7, Third),
-    ] {
+    for op in [INSERT, Op::Delete(10, Third), Op::Regrade(10, 7, Third)] {
         for wanted in [Lock::None, Lock::Rho, Lock::UpdaterRho, A, X] {
             let wants = |page, held| sound(&[stands(op, (page, wanted), &[(5, held)], &[])]);
             assert_eq!(wants(1, A), wanted == A, "{op:?} {wanted:?}");
