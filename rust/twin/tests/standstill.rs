@@ -189,7 +189,7 @@ fn three_levels() {
 
 /// Every operation on every key that is there, and on one behind each of them, in pools with and without free pages.
 #[test]
-#[ignore = "it takes many minutes"]
+#[ignore = "it takes four minutes, built for release"]
 fn every_key() {
     let keys = [10, 20, 30, 40, 50];
     for (n, many) in [
