@@ -1,7 +1,9 @@
 /* Two buyers on one list: the house enters a lot while a buyer looks for it, and then downgrades it while one does. Then all lots are listed,
  * each by a question of its own. At the end the house enters a lot by the second way, and a buyer is on the top page with it; then one by
- * the third, and waits only to change what a buyer still reads. Writes each answer by its number. */
+ * the third, and waits only to change what a buyer still reads. Last, the words of the pool are kept and opened again, as they are and with one
+ * of them changed. Writes each answer by its number. */
 #include <stdio.h>
+#include <string.h>
 
 #include "ghazfulit.h"
 
@@ -20,6 +22,8 @@ static void say(const char *what, const uint32_t *answer) {
     case GHAZFULIT_INSERTED: printf("%s: Inserted\n", what); break;
     case GHAZFULIT_FOUND: printf("%s: Found %u\n", what, (unsigned)answer[1]); break;
     case GHAZFULIT_REGRADED: printf("%s: Regraded %u\n", what, (unsigned)answer[1]); break;
+    case GHAZFULIT_OPENED: printf("%s: Opened\n", what); break;
+    case GHAZFULIT_BAD_PAGE_IN_POOL: printf("%s: BadPageInPool %u\n", what, (unsigned)answer[1]); break;
     case GHAZFULIT_NEXT_LOT: printf("%s: Next %u %u\n", what, (unsigned)answer[1], (unsigned)answer[2]); break;
     case GHAZFULIT_REPORTED:
         printf("%s: lock %u, holders %u, lowest %u\n", what, (unsigned)answer[1], (unsigned)answer[2],
@@ -76,6 +80,18 @@ static void list(uint32_t key) {
     }
 }
 
+/* Keeps the words of the pool, and opens what was kept. It could have been a file: what is there is tested before it is used. */
+static void keep_and_open(void) {
+    static uint32_t kept[GHAZFULIT_WORDS(K, N)];
+    uint32_t answer[GHAZFULIT_ANSWER];
+    memcpy(kept, words, sizeof kept);
+    ghazfulit_open(K, N, state, kept, GHAZFULIT_WORDS(K, N), answer);
+    say("the lots that were kept", answer);
+    kept[1] = 9;
+    ghazfulit_open(K, N, state, kept, GHAZFULIT_WORDS(K, N), answer);
+    say("with one word changed", answer);
+}
+
 int main(void) {
     uint32_t answer[GHAZFULIT_ANSWER];
     if (ghazfulit_version() != GHAZFULIT_VERSION) {
@@ -130,5 +146,6 @@ int main(void) {
     step(1);
     step(0);
     step(0);
+    keep_and_open();
     return 0;
 }

@@ -3,7 +3,7 @@
  * The caller lends two stretches of 32-bit words, and keeps them between calls: GHAZFULIT_STATE words for the state and
  * GHAZFULIT_WORDS(k, n) for the pool. A call writes its answer into GHAZFULIT_ANSWER words: its number, and behind it its
  * values, or 0. Whatever the words hold, every call ends, stays within them and answers; a refused call leaves them as they
- * were (but for a refused making, which clears the state). docs/CALLS.md has each call with all its answers.
+ * were (but for a refused making or opening, which clears the state). docs/CALLS.md has each call with all its answers.
  *
  * What the caller owes is only this: each pointer leads to as many words as are named here; they do not overlap; and while a call
  * runs nobody else writes them. A call tests pages first and then reads them again, so what another thread writes meanwhile is
@@ -22,9 +22,10 @@ extern "C" {
 /* Raised with every change of a number, of an answer's values or of what the words of the state mean. 2: AlreadyThere has a value,
  * and Next never tells a key below the one asked for. 3: updates by the second way, and for them a row more of the state. 4: four kinds
  * of lock; updates by the second way hold with updater's rho, and a page that is held has the kind of its lock in its word. 5: updates
- * by the third way, which hold with alpha and want a page that they hold once more, with xi.
+ * by the third way, which hold with alpha and want a page that they hold once more, with xi. 6: a pool that is handed in is opened, and
+ * three answers more.
  * ghazfulit_version() gives the archive's own. */
-#define GHAZFULIT_VERSION 5
+#define GHAZFULIT_VERSION 6
 
 /* Words of a state, words of an answer, slots, and the largest k and n. A state's words are the library's own; docs/DECISIONS.md has
  * how they lie ("Layout"). The word of a page that a slot holds is the page and 65,536 times the number of the kind of its lock, as the
@@ -67,6 +68,8 @@ enum {
     GHAZFULIT_SLOT_IDLE = 5,      /* step on a closed slot */
     GHAZFULIT_DAMAGED = 6,        /* a granted step would meet pages that are not sound */
     GHAZFULIT_BAD_PAGE = 7,       /* a report for a page n or above */
+    GHAZFULIT_BAD_PAGE_IN_POOL = 9, /* opening: with the lowest page that is not sound by itself */
+    GHAZFULIT_BAD_TREE = 10,      /* opening: each page is sound by itself, but they are not the tree from page 0 */
     GHAZFULIT_BAD_KIND = 31,      /* a kind of operation that does not exist */
     GHAZFULIT_WAITING = 32,       /* the lock is not to be had yet */
     GHAZFULIT_MOVED = 33,         /* one lock more, or a stronger one; or all given up, and the update begins again */
@@ -82,7 +85,8 @@ enum {
     GHAZFULIT_REPORTED = 43,      /* with the strongest kind of lock, the number of holders, the lowest holder (16 for none) */
     GHAZFULIT_NEXT_LOT = 44,      /* Next, with the key and the information */
     GHAZFULIT_NO_LOT = 45,        /* None: no lot at or above the key */
-    GHAZFULIT_REGRADED = 46       /* with the old information */
+    GHAZFULIT_REGRADED = 46,      /* with the old information */
+    GHAZFULIT_OPENED = 47
 };
 
 /* Whether an answer, by its number, is a refusal; whether a step's answer ends the operation, so that its slot is closed. The number
@@ -105,6 +109,12 @@ enum {
 
 /* Makes a fresh pool of n pages of width k, and writes every word of the state: Made or BadPool. */
 void ghazfulit_make(uint32_t k, uint32_t n, uint32_t *state, uint32_t *words, size_t length, uint32_t *answer);
+
+/* Opens the words as a pool of n pages of width k, which may come from anywhere, and writes every word of the state: Opened, or BadPool,
+ * BadPageInPool, BadTree in this order. It is Opened exactly if the pages form the tree from page 0, no page hangs in two places, and
+ * every other page is all zeros. Then every slot is closed, and operations are begun as in a pool that was made; else every word of the
+ * state is 0. The pool is only read. */
+void ghazfulit_open(uint32_t k, uint32_t n, uint32_t *state, const uint32_t *words, size_t length, uint32_t *answer);
 
 /* Begins an operation in a closed slot: Begun, or BadKind, BadState, BadSlot, SlotBusy in this order. The information
  * counts for an insertion and a regrading only. */

@@ -1,5 +1,5 @@
 // How an answer is written: its name, for Found, AlreadyThere, Deleted and Regraded a space and the information, for Next the key
-// in front of it, and a line feed.
+// in front of it, for BadPageInPool a space and the page, and a line feed.
 use slots::Answer;
 ghost use mathlib.Core.List.{_++_};
 ghost use mathlib.Core.Path.{_≡_};
@@ -100,6 +100,9 @@ pub fn write_answer(out: &mut [u8], at: usize, a: Answer) -> usize
         Answer::Next(key, information) => write_lot(out, at, b"Next ", key, information),
         Answer::None => write_word(out, at, b"None\n"),
         Answer::Regraded(information) => write_value(out, at, b"Regraded ", information),
+        Answer::Opened => write_word(out, at, b"Opened\n"),
+        Answer::BadPageInPool(page) => write_value(out, at, b"BadPageInPool ", page),
+        Answer::BadTree => write_word(out, at, b"BadTree\n"),
     }
 }
 

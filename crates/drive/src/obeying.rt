@@ -1,6 +1,7 @@
 // What a line asks for, and what it is answered.
 use embed::calls::ghazfulit_begin;
 use embed::calls::ghazfulit_make;
+use embed::calls::ghazfulit_open;
 use embed::calls::ghazfulit_report;
 use embed::calls::ghazfulit_step;
 use lent::STATE;
@@ -138,6 +139,20 @@ fn make(
         &mut answer,
     );
     let length = within(given.length, words);
+    outcome(given, answer, state, &words[..length], out)
+}
+
+// `o K N`
+fn open(
+    given: Setting,
+    numbers: &[u32; MOST],
+    state: &mut [u32; STATE],
+    words: &[u32],
+    out: &mut [u8; OUT],
+) -> Setting {
+    let length = within(given.length, words);
+    let mut answer = [0u32; 4];
+    ghazfulit_open(numbers[0], numbers[1], state, &words[..length], &mut answer);
     outcome(given, answer, state, &words[..length], out)
 }
 
@@ -285,6 +300,9 @@ pub fn obey(
     }
     if letter == b'm' && count == 2 {
         return make(given, numbers, state, words, out);
+    }
+    if letter == b'o' && count == 2 {
+        return open(given, numbers, state, words, out);
     }
     change(given, letter, count, numbers, state, words, out)
 }

@@ -1,5 +1,5 @@
 -- "A refused call leaves every lent word as given", and so does one that is answered Waiting. A refused making leaves the
--- pool's words as given and clears the state.
+-- pool's words as given and clears the state; so does a refused opening.
 use Prim.Native.Nat.{ℕ}
 use mathlib.Core.Bool.{true, false≢true, _&&_}
 use mathlib.Core.List.{List}
@@ -19,7 +19,8 @@ use Rattle.slots.specs.Begin.{begun}
 use Rattle.lent.specs.Words.{stateOf, stateWords, laidInto, lentAfter}
 use Rattle.index.specs.Step.{Left, stepped}
 use Rattle.index.specs.Make.{made}
-use Rattle.index.proofs.Refusals.{AsGiven, step-refused}
+use Rattle.index.specs.Open.{opened}
+use Rattle.index.proofs.Refusals.{AsGiven, step-refused, opened-ind}
 use Rattle.embed.specs.Told.{told, leavesAll}
 use Rattle.embed.specs.Statements.{beginTold, beginLeaves}
 
@@ -58,3 +59,16 @@ pub make-stays : (k n : ℕ) (ws heard′ : List ℕ) → heard′ ≡ told (mad
 make-stays k n ws heard′ e h =
     let given = make-still k n ws (still heard′ (made k n ws .answer) e h) in
     (ap stateWords (given .state), given .words)
+
+-- the answers of an opening that change nothing are its refusals
+open-still : (k n : ℕ) (ws : List ℕ) → changesNothing (opened k n ws .answer) ≡ true → opened k n ws .state ≡ idleState 0 0
+open-still k n ws =
+    opened-ind k n ws (λ (after : Left). changesNothing (after .answer) ≡ true → after .state ≡ idleState 0 0)
+    (λ _ e. absurd (false≢true e))
+    (λ _. refl)
+    (λ _ _. refl)
+    (λ _. refl)
+
+pub open-stays : (k n : ℕ) (ws heard′ : List ℕ) → heard′ ≡ told (opened k n ws .answer) → leavesAll heard′ ≡ true
+    → stateWords (opened k n ws .state) ≡ stateWords (idleState 0 0)
+open-stays k n ws heard′ e h = ap stateWords (open-still k n ws (still heard′ (opened k n ws .answer) e h))

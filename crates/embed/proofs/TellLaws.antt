@@ -14,10 +14,11 @@ use Rattle.slots.specs.Report.{reported}
 use Rattle.lent.specs.Words.{stateOf}
 use Rattle.index.specs.Step.{stepped}
 use Rattle.index.specs.Make.{made}
-use Rattle.index.specs.Statements.{MakeSays, BeginSays, StepSays, ReportSays}
+use Rattle.index.specs.Open.{opened}
+use Rattle.index.specs.Statements.{MakeSays, OpenSays, BeginSays, StepSays, ReportSays}
 use Rattle.embed.specs.Told.{told, badKind}
-use Rattle.embed.proofs.Refusals.{make-stays, step-stays, begin-stays}
-use Rattle.embed.specs.Statements.{beginTold, beginLeaves, beginNext, MakeTells, BeginTells, StepTells, ReportTells}
+use Rattle.embed.proofs.Refusals.{make-stays, open-stays, step-stays, begin-stays}
+use Rattle.embed.specs.Statements.{beginTold, beginLeaves, beginNext, MakeTells, OpenTells, BeginTells, StepTells, ReportTells}
 
 -- answers that are heard alike are told alike
 pub told-heard : (a b : Answer) → heard a ≡ heard b → told a ≡ told b
@@ -33,6 +34,17 @@ make-tells k n ws r cells′ after heard′ says e =
       all = says .all;
       words = says .words;
       kept = λ h. let both = make-stays k n ws heard′ t h in (says .all ∙ both .0, says .words ∙ both .1);
+    }
+
+pub open-tells : (k n : ℕ) (ws : List ℕ) (r : Answer) (cells′ heard′ : List ℕ) → OpenSays k n ws r cells′ → heard′ ≡ told r → OpenTells k n ws cells′ heard′
+open-tells k n ws r cells′ heard′ says e =
+    let t : heard′ ≡ told (opened k n ws .answer) = e ∙ told-heard r (opened k n ws .answer) (says .answer) in
+    record {
+      answer = t;
+      state = says .state;
+      all = says .all;
+      words = says .words;
+      kept = λ h. says .all ∙ open-stays k n ws heard′ t h;
     }
 
 pub step-tells : (cells ws : List ℕ) (s : ℕ) (r : Answer) (cells′ after heard′ : List ℕ) → StepSays cells ws s r cells′ after → heard′ ≡ told r

@@ -3,11 +3,15 @@
 use Prim.Native.Nat.{ℕ}
 use mathlib.Core.List.{List}
 use mathlib.Core.Path.{_≡_, sym, _∙_}
-use Rattle.embed.specs.Statements.{MakeTells, BeginTells, StepTells, ReportTells}
+use Rattle.embed.specs.Statements.{MakeTells, OpenTells, BeginTells, StepTells, ReportTells}
 
 pub make-told-once : (k n : ℕ) (ws cells′ cells″ after after′ heard′ heard″ : List ℕ) → MakeTells k n ws cells′ after heard′ → MakeTells k n ws cells″ after′ heard″
     → (heard′ ≡ heard″) × (cells′ ≡ cells″) × (after ≡ after′)
 make-told-once k n ws cells′ cells″ after after′ heard′ heard″ h h′ = (h .answer ∙ sym (h′ .answer), h .all ∙ sym (h′ .all), h .words ∙ sym (h′ .words))
+
+pub open-told-once : (k n : ℕ) (ws cells′ cells″ heard′ heard″ : List ℕ) → OpenTells k n ws cells′ heard′ → OpenTells k n ws cells″ heard″
+    → (heard′ ≡ heard″) × (cells′ ≡ cells″)
+open-told-once k n ws cells′ cells″ heard′ heard″ h h′ = (h .answer ∙ sym (h′ .answer), h .all ∙ sym (h′ .all))
 
 pub begin-told-once : (cells : List ℕ) (s kind key information : ℕ) (cells′ cells″ heard′ heard″ : List ℕ) → BeginTells cells s kind key information cells′ heard′
     → BeginTells cells s kind key information cells″ heard″ → (heard′ ≡ heard″) × (cells′ ≡ cells″)

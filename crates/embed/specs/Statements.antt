@@ -1,7 +1,7 @@
 -- What the exported calls promise, for every argument: the four numbers of the answer, the rules' next state as the words left
 -- read, every word of the state and every word of the pool. `cells′`, `after` and `heard′` are the lent words that a call leaves.
--- "A refused call leaves pages, locks and waiting order exactly as found." (demand 1) follows, and is said of making, begin and step
--- (`kept`): a refused making, by 01, "returns an empty state".
+-- "A refused call leaves pages, locks and waiting order exactly as found." (demand 1) follows, and is said of making, opening, begin and
+-- step (`kept`): a refused making, by 01, "returns an empty state", and so does a refused opening, by 02 (vii).
 use Prim.Native.Nat.{ℕ}
 use mathlib.Core.Bool.{true}
 use mathlib.Core.List.{List}
@@ -16,6 +16,7 @@ use Rattle.slots.specs.Report.{reported}
 use Rattle.lent.specs.Words.{stateOf, stateWords, lentAfter}
 use Rattle.index.specs.Step.{stepped}
 use Rattle.index.specs.Make.{made}
+use Rattle.index.specs.Open.{opened}
 use Rattle.embed.specs.Told.{told, badKind, leavesAll}
 
 pub record MakeTells (k n : ℕ) (ws cells′ after heard′ : List ℕ) : Type 0 where
@@ -24,6 +25,14 @@ pub record MakeTells (k n : ℕ) (ws cells′ after heard′ : List ℕ) : Type 
   pub all : cells′ ≡ stateWords (made k n ws .state)
   pub words : after ≡ made k n ws .words
   pub kept : leavesAll heard′ ≡ true → (cells′ ≡ stateWords (idleState 0 0)) × (after ≡ ws)
+
+-- Opening is handed the pool's words to read, so it changes none.
+pub record OpenTells (k n : ℕ) (ws cells′ heard′ : List ℕ) : Type 0 where
+  pub answer : heard′ ≡ told (opened k n ws .answer)
+  pub state : stateOf cells′ ≡ opened k n ws .state
+  pub all : cells′ ≡ stateWords (opened k n ws .state)
+  pub words : opened k n ws .words ≡ ws
+  pub kept : leavesAll heard′ ≡ true → cells′ ≡ stateWords (idleState 0 0)
 
 -- A kind that does not exist is refused before the state is looked at, and leaves all as given.
 abbrev pub beginTold : List ℕ → ℕ → Asked → List ℕ

@@ -3,17 +3,18 @@ use crate::telling::tell;
 use crate::telling::tell_bad_kind;
 use index::calls::begin;
 use index::calls::make;
+use index::calls::open;
 use index::calls::report;
 use index::calls::step;
 use lent::STATE;
 use slots::operations::Asked;
 use slots::operations::asked_by;
 ghost use mathlib.Core.Path.{_≡_};
-ghost use Rattle.embed.specs.Statements.{MakeTells, BeginTells, StepTells, ReportTells};
+ghost use Rattle.embed.specs.Statements.{MakeTells, OpenTells, BeginTells, StepTells, ReportTells};
 ghost use Rattle.embed.specs.Version.{libraryVersion};
 
 // The version of these calls.
-const VERSION: u32 = 5;
+const VERSION: u32 = 6;
 
 // Makes a fresh pool of n pages of width k in the lent words, and an idle state beside it.
 #[no_mangle]
@@ -27,6 +28,21 @@ pub extern "C" fn ghazfulit_make(
     ensures { λ _. ⌜ MakeTells k n (now (words .entry)) (now (state .exit)) (now (words .exit)) (now (answer .exit)) ⌝ }
 {
     let heard = make(k as usize, n as usize, state, words);
+    tell(heard, answer);
+}
+
+// Opens the words that are handed in as a pool of n pages of width k, with an idle state beside them.
+#[no_mangle]
+pub extern "C" fn ghazfulit_open(
+    k: u32,
+    n: u32,
+    state: &mut [u32; STATE],
+    words: &[u32],
+    answer: &mut [u32; 4],
+)
+    ensures { λ _. ⌜ OpenTells k n (now (words .entry)) (now (state .exit)) (now (answer .exit)) ⌝ }
+{
+    let heard = open(k as usize, n as usize, state, words);
     tell(heard, answer);
 }
 

@@ -1,7 +1,7 @@
--- A refused call, and one answered Waiting, leaves state and words as given, and no call changes the pool's length.
+-- A refused call, and one answered Waiting, leaves state and words as given, and no call changes the pool's length. Opening changes no word.
 use Prim.Native.Nat.{ℕ}
-use mathlib.Core.Bool.{true, false, not, _&&_, false≢true}
-use mathlib.Core.Path.{_≡_, refl, sym, _∙_}
+use mathlib.Core.Bool.{true, false, not, _&&_, true≢false, false≢true}
+use mathlib.Core.Path.{_≡_, refl, sym, ap, _∙_}
 use mathlib.Core.List.{List, [], _∷_, map, reverse}
 use lib.Dec.{leb, ltb, eqb}
 use lib.ListN.{length}
@@ -16,6 +16,9 @@ use Rattle.pool.proofs.FreshLaws.{length-fresh}
 use Rattle.page.specs.Words.{Entry, Page, isLeaf}
 use Rattle.page.specs.Place.{has, atOrAbove}
 use Rattle.pool.specs.Pool.{poolLength, pageAt, freePages}
+use Rattle.opening.specs.declared.checking.Checked.{Checked}
+use Rattle.opening.specs.declared.checking.Checked.the-variants.{Unsound, Tree, NoTree}
+use Rattle.opening.specs.Opening.{checked}
 use Rattle.change.specs.Insertion.{room}
 use Rattle.change.specs.Deletion.{Need, nothing, sibling, astray, needs}
 use Rattle.slots.specs.declared.Op.{Op}
@@ -25,7 +28,7 @@ use Rattle.slots.specs.declared.Task.the-variants.{Closed, Open}
 use Rattle.slots.specs.declared.Slot.{Slot}
 use Rattle.slots.specs.declared.State.{State}
 use Rattle.slots.specs.declared.Answer.{Answer}
-use Rattle.slots.specs.declared.Answer.the-variants.{Waiting, Moved}
+use Rattle.slots.specs.declared.Answer.the-variants.{Waiting, Moved, BadPool, Opened, BadPageInPool, BadTree}
 use Rattle.slots.specs.Heard.{numberOf, refuses, changesNothing, ending}
 use Rattle.slots.specs.Begin.{begun}
 use Rattle.slots.specs.Parts.{keyOf, isNext, isSecond, slotAt, idleState, Stand, onPages, wantBeside, wantConverted, converting, standOf}
@@ -37,6 +40,7 @@ use Rattle.footing.proofs.OnTurn.{converted-by}
 use Rattle.footing.specs.Fitting.{soundForStep, verdict}
 use Rattle.index.specs.Step.{Left, left, ofGranted, acted, steppedTask, stepped}
 use Rattle.index.specs.Make.{made}
+use Rattle.index.specs.Open.{openedAs, opened}
 use Rattle.index.specs.Statements.{BeginSays, StepSays}
 
 -- an operation ends with an answer of a granted step: with no refusal, and not with Waiting
@@ -163,6 +167,50 @@ make-refused k n ws =
     (kInRange k && nInRange n && eqb (length ws) (poolLength k n))
     (λ _ e. absurd (false≢true e))
     (λ _ _. record { state = refl; words = refl })
+
+-- What an opening can come to: refused it leaves the words and the empty state, accepted the words and every slot closed.
+module _ (k n : ℕ) (ws : List ℕ) (P : Left → Type 0) where
+  opened-as : P (left Opened (idleState k n) ws) → ((p : ℕ) → P (left (BadPageInPool p) (idleState 0 0) ws)) → P (left BadTree (idleState 0 0) ws)
+      → (c : Checked) → P (openedAs k n ws c)
+  opened-as accepted page tree (Unsound p) = page p
+  opened-as accepted page tree Tree = accepted
+  opened-as accepted page tree NoTree = tree
+
+  pub opened-ind : (kInRange k && nInRange n && eqb (length ws) (poolLength k n) ≡ true → P (left Opened (idleState k n) ws))
+      → P (left BadPool (idleState 0 0) ws) → ((p : ℕ) → P (left (BadPageInPool p) (idleState 0 0) ws)) → P (left BadTree (idleState 0 0) ws)
+      → P (opened k n ws)
+  unfolding opened
+  opened-ind accepted pool page tree =
+      cond-ind P (kInRange k && nInRange n && eqb (length ws) (poolLength k n))
+      (λ e. opened-as (accepted e) page tree (checked k n ws))
+      (λ _. pool)
+
+-- "A refusal leaves the words as given, returns the empty state"
+pub open-refused : (k n : ℕ) (ws : List ℕ) → refuses (opened k n ws .answer) ≡ true → AsGiven (idleState 0 0) ws (opened k n ws)
+open-refused k n ws =
+    opened-ind k n ws (λ (after : Left). refuses (after .answer) ≡ true → AsGiven (idleState 0 0) ws after)
+    (λ _ e. absurd (false≢true e))
+    (λ _. empty)
+    (λ _ _. empty)
+    (λ _. empty)
+  where
+    empty : {a : Answer} → AsGiven (idleState 0 0) ws (left a (idleState 0 0) ws)
+    empty = record { state = refl; words = refl }
+
+-- Accepted or refused, the words are as given.
+pub open-words : (k n : ℕ) (ws : List ℕ) → opened k n ws .words ≡ ws
+open-words k n ws = opened-ind k n ws (λ (after : Left). after .words ≡ ws) (λ _. refl) refl (λ _. refl) refl
+
+-- "Acceptance gives a state with all slots closed.": and then k, N and the words' number are in range.
+pub opened-told : (k n : ℕ) (ws : List ℕ) → opened k n ws .answer ≡ Opened
+    → (kInRange k && nInRange n && eqb (length ws) (poolLength k n) ≡ true) × (opened k n ws ≡ left Opened (idleState k n) ws)
+opened-told k n ws =
+    opened-ind k n ws
+    (λ (after : Left). after .answer ≡ Opened → (kInRange k && nInRange n && eqb (length ws) (poolLength k n) ≡ true) × (after ≡ left Opened (idleState k n) ws))
+    (λ range _. (range, refl))
+    (λ e. absurd (true≢false (ap refuses e)))
+    (λ p e. absurd (true≢false (ap refuses e)))
+    (λ e. absurd (true≢false (ap refuses e)))
 
 abbrev SameLength : List ℕ → Left → Type 0
 SameLength ws after = length (after .words) ≡ length ws

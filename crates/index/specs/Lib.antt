@@ -3,3 +3,4 @@ pub mod Make
 pub mod Acting
 pub mod Statements
 pub mod Unfolded
+pub mod Open

@@ -11,6 +11,7 @@ use Rattle.slots.specs.Report.{reported}
 use Rattle.lent.specs.Words.{stateOf, stateWords, lentAfter}
 use Rattle.index.specs.Step.{stepped}
 use Rattle.index.specs.Make.{made}
+use Rattle.index.specs.Open.{opened}
 
 -- Making writes every word of the state, also when it refuses.
 pub record MakeSays (k n : ℕ) (ws : List ℕ) (r : Answer) (cells′ after : List ℕ) : Type 0 where
@@ -18,6 +19,13 @@ pub record MakeSays (k n : ℕ) (ws : List ℕ) (r : Answer) (cells′ after : L
   pub state : stateOf cells′ ≡ made k n ws .state
   pub all : cells′ ≡ stateWords (made k n ws .state)
   pub words : after ≡ made k n ws .words
+
+-- So does opening. It is handed the pool's words to read, so it changes none.
+pub record OpenSays (k n : ℕ) (ws : List ℕ) (r : Answer) (cells′ : List ℕ) : Type 0 where
+  pub answer : heard r ≡ heard (opened k n ws .answer)
+  pub state : stateOf cells′ ≡ opened k n ws .state
+  pub all : cells′ ≡ stateWords (opened k n ws .state)
+  pub words : opened k n ws .words ≡ ws
 
 -- Begin answers and leaves what the rules say. It is handed no pool.
 pub record BeginSays (cells : List ℕ) (s : ℕ) (op : Op) (r : Answer) (cells′ : List ℕ) : Type 0 where

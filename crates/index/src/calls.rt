@@ -10,6 +10,8 @@ use lent::book::clear;
 use lent::cells::sized;
 use lent::granting::grants;
 use lent::lifting::slot_at;
+use opening::checking::Checked;
+use opening::checking::check;
 use pool::lying::make_fresh;
 use pool::lying::start_of;
 use slots::Answer;
@@ -23,7 +25,7 @@ ghost use lib.Dec.{eqb};
 ghost use lib.ListN.{length};
 ghost use Rattle.ground.specs.Limits.{kInRange, nInRange};
 ghost use Rattle.pool.specs.Pool.{poolLength};
-ghost use Rattle.index.specs.Statements.{MakeSays, StepSays};
+ghost use Rattle.index.specs.Statements.{MakeSays, OpenSays, StepSays};
 
 // k and n are in range, and the words are as many as n pages of width k have.
 fn is_pool(words: &[u32], k: usize, n: usize) -> bool
@@ -48,6 +50,27 @@ pub fn make(k: usize, n: usize, state: &mut [u32; STATE], words: &mut [u32]) -> 
     state[PAGES] = n as u32;
     make_fresh(words);
     Answer::Made
+}
+
+// Opens the words that are handed in as a pool of n pages of width k, with an idle state beside them. The words are read, never written.
+pub fn open(k: usize, n: usize, state: &mut [u32; STATE], words: &[u32]) -> Answer
+    ensures { λ r. ⌜ OpenSays k n (now (words .entry)) r (now (state .exit)) ⌝ }
+{
+    sized(state);
+    clear(state);
+    if !is_pool(words, k, n) {
+        return Answer::BadPool;
+    }
+    let found = check(words, k, n);
+    match found {
+        Checked::Unsound(p) => Answer::BadPageInPool(p),
+        Checked::NoTree => Answer::BadTree,
+        Checked::Tree => {
+            state[WIDTH] = k as u32;
+            state[PAGES] = n as u32;
+            Answer::Opened
+        }
+    }
 }
 
 // Steps slot s.

@@ -1,6 +1,6 @@
 -- Calls of the library, one after the other, are a run; so the demands hold of them.
 use Prim.Native.Nat.{ℕ, _<_}
-use mathlib.Core.Bool.{true, _&&_}
+use mathlib.Core.Bool.{true, _&&_, true≢false}
 use mathlib.Core.List.{List, [], _∷_, _++_, map, append-nil}
 use mathlib.Core.Logic.{⊎-elim}
 use mathlib.Core.Path.{_≡_, refl, sym, ap, subst, _∙_}
@@ -14,10 +14,11 @@ use Rattle.ground.proofs.Bools.{and-first, and-both}
 use Rattle.ground.proofs.Choice.{cond-ind, by-test}
 use Rattle.ground.proofs.Tests.{all-member}
 use Rattle.pool.specs.Pool.{poolLength}
+use Rattle.page.specs.Words.{Entry}
 use Rattle.slots.specs.declared.Op.{Op}
 use Rattle.slots.specs.declared.State.{State}
 use Rattle.slots.specs.declared.Answer.{Answer}
-use Rattle.slots.specs.declared.Answer.the-variants.{Made}
+use Rattle.slots.specs.declared.Answer.the-variants.{Made, Opened}
 use Rattle.slots.specs.declared.operations.Asked.{Asked}
 use Rattle.slots.specs.declared.operations.Asked.the-variants.{Known, Unknown}
 use Rattle.slots.specs.Heard.{numberOf, isOneOf}
@@ -29,22 +30,27 @@ use Rattle.lent.specs.Words.{listOf, slotIn, known, stateOf}
 use Rattle.lent.proofs.ListLaws.{length-listOf}
 use Rattle.lent.proofs.StateLaws.{slot-read, length-column, length-locks, closed-layable}
 use Rattle.index.specs.Make.{made}
-use Rattle.embed.specs.Told.{told}
+use Rattle.index.specs.Step.{Left}
+use Rattle.index.specs.Open.{opened}
+use Rattle.index.proofs.Refusals.{opened-ind}
+use Rattle.embed.specs.Told.{told, leavesAll}
 use Rattle.embed.specs.Statements.{beginTold, beginNext}
+use Rattle.tree.specs.Tree.{PoolForms}
 use Rattle.runs.specs.Calls.{Call, begin, step, report, called, answersOf}
-use Rattle.runs.specs.Run.{run, Start, IsStart, freshPool, runFrom, InWords, Run}
+use Rattle.runs.specs.Run.{run, Start, IsStart, freshPool, acceptedPool, openedStart, runFrom, InWords, Run}
 use Rattle.runs.proofs.Invariant.{Invariant}
 use Rattle.runs.proofs.Runs.{call-keeps, words-append, start-ready}
 use Rattle.promises.specs.Demand1.{MakingInRange, Celled}
 use Rattle.promises.specs.Demand2.{AfterEveryCall}
 use Rattle.promises.specs.TopOpen.{TopOpen}
 use Rattle.promises.specs.Regrading.{IsThere, NotDeleted, NeverNowhere}
-use Rattle.promises.proofs.Demand1.{range-tested, make-demand, step-demand}
+use Rattle.promises.proofs.Demand1.{range-tested, make-demand, open-demand, step-demand}
 use Rattle.promises.proofs.Demand2.{call-heard, demand2}
 use Rattle.promises.proofs.Demand3.{demand3}
 use Rattle.promises.proofs.TopOpen.{top-open-holds}
 use Rattle.promises.proofs.Regrading.{regrading-holds}
-use Rattle.library.specs.Promises.{Went, begins, steps, reports, Follow, OpenedBy, making, beginsWith, callsIn, toldFirst, toldIn, quietNumber, quietFour, LibraryRuns, LibrarySteps, LibraryPromises, LibraryKeepsLots}
+use Rattle.promises.proofs.Reopening.{reopening-holds}
+use Rattle.library.specs.Promises.{Went, begins, steps, reports, Follow, OpenedBy, making, opening, beginsWith, callsIn, toldFirst, toldIn, quietNumber, quietFour, LibraryRuns, LibraryOpens, LibraryReopens, LibrarySteps, LibraryPromises, LibraryKeepsLots}
 
 -- ---- what is left and told
 
@@ -123,6 +129,15 @@ made-in-range k n ws e =
     (make-demand k n ws .makes .0)
     (make-demand k n ws .noOther)
 
+-- an opening that is told as Opened is one
+opened-so : (k n : ℕ) (ws : List ℕ) → told (opened k n ws .answer) ≡ told Opened → opened k n ws .answer ≡ Opened
+opened-so k n ws =
+    opened-ind k n ws (λ (after : Left). told (after .answer) ≡ told Opened → after .answer ≡ Opened)
+    (λ _ _. refl)
+    (λ e. absurd (true≢false (ap leavesAll e)))
+    (λ p e. absurd (true≢false (ap leavesAll e)))
+    (λ e. absurd (true≢false (ap leavesAll e)))
+
 -- The words that the first call is lent are those of a start.
 record Lends (start : Start) (cells ws : List ℕ) : Type 0 where
   starts : IsStart start
@@ -137,6 +152,11 @@ opened-lends start cells ws (making k n given four tells made-so) =
       state = tells .state;
       words = tells .words;
     }
+opened-lends start cells ws (opening k n four l t tells so forms) = record {
+  starts = acceptedPool k n ws l t (opened-so k n ws (sym (tells .answer) ∙ so)) forms;
+  state = tells .state;
+  words = sym (tells .words);
+}
 
 pub library-runs : LibraryRuns
 unfolding runFrom
@@ -150,6 +170,25 @@ library-runs start calls last lastWs h =
       words = g .words;
       answers = g .answers;
     }
+
+pub library-opens : LibraryOpens
+library-opens k n ws cells four tells so =
+    let (_, f) = open-demand k n ws .opens .0 (opened-so k n ws (sym (tells .answer) ∙ so)) in
+    (f .height, f .tree, f .forms, opening k n four (f .height) (f .tree) tells so (f .forms))
+
+pub library-reopens : LibraryReopens
+library-reopens start calls last lastWs cells four h tells =
+    let k : ℕ = start .state .k in
+    let n : ℕ = start .state .n in
+    let is = library-runs start calls last lastWs h in
+    let a = demand3 start (callsIn calls) (is .run) .agreement in
+    let so : four ≡ told Opened
+    = tells .answer ∙ ap (λ (ws : List ℕ). told (opened k n ws .answer)) (is .words) ∙ ap told (reopening-holds start (callsIn calls) (is .run) .answer) in (
+      so,
+      subst (λ (es : List Entry). OpenedBy cells lastWs (openedStart k n lastWs es)) (a .entries)
+          (opening k n four (a .height) (a .tree) tells so
+          (subst (λ (ws : List ℕ). PoolForms k n ws (a .height) (a .tree)) (sym (is .words)) (a .forms))),
+    )
 
 -- ---- the demands
 

@@ -7,18 +7,21 @@ use mathlib.Core.Path.{_≡_}
 use lib.ListN.{getD}
 use Rattle.ground.specs.Limits.{wordRange}
 use Rattle.ground.specs.Tests.{all, member}
-use Rattle.slots.specs.declared.Answer.the-variants.{Made, BadState, BadPool, Damaged}
+use Rattle.page.specs.Words.{Entry}
+use Rattle.slots.specs.declared.Answer.the-variants.{Made, Opened, BadState, BadPool, Damaged}
 use Rattle.slots.specs.declared.operations.Asked.{Asked}
 use Rattle.slots.specs.declared.operations.Asked.the-variants.{Known, Unknown}
 use Rattle.slots.specs.Heard.{numberOf}
 use Rattle.slots.specs.Operations.{askedBy}
 use Rattle.lent.specs.Words.{stateOf}
 use Rattle.embed.specs.Told.{told}
-use Rattle.embed.specs.Statements.{MakeTells, BeginTells, StepTells, ReportTells}
-use Rattle.runs.specs.Run.{Call, begin, step, report, Start, freshStart, runFrom, Run}
+use Rattle.embed.specs.Statements.{MakeTells, OpenTells, BeginTells, StepTells, ReportTells}
+use Rattle.tree.specs.Tree.{Tr, entriesOf, PoolForms}
+use Rattle.runs.specs.Run.{Call, begin, step, report, Start, freshStart, openedStart, runFrom, Run}
+use Rattle.runs.specs.Done.{plainEntries, opsOf}
 use Rattle.promises.specs.Demand1.{StepDemand}
 use Rattle.promises.specs.Demand2.{AfterEveryCall, Demand2}
-use Rattle.promises.specs.Demand3.{Demand3}
+use Rattle.promises.specs.Demand3.{doneIn, Demand3}
 use Rattle.promises.specs.TopOpen.{TopOpen}
 use Rattle.promises.specs.Regrading.{IsThere, NotDeleted, NeverNowhere}
 
@@ -40,9 +43,12 @@ Follow cells ws (steps s cells′ ws′ four ∷ rest) last lastWs = StepTells c
 Follow cells ws (reports p four ∷ rest) last lastWs = ReportTells cells p four × Follow cells ws rest last lastWs
 
 -- How the library gave the words that the first call is lent, and what the run starts with then. "From a fresh pool": a making that
--- succeeds, in words of any content.
+-- succeeds, in words of any content. 02 (vii): "also start from an accepted pool, the sorted list beginning with its entries": an opening that is told as
+-- Opened, with the entries of the tree that its words form.
 pub data OpenedBy (cells ws : List ℕ) : Start → Type 0 where
   making : (k n : ℕ) (given four : List ℕ) → MakeTells k n given cells ws four → four ≡ told Made → OpenedBy cells ws (freshStart k n given)
+  opening : (k n : ℕ) (four : List ℕ) (l : ℕ) (t : Tr l) → OpenTells k n ws cells four → four ≡ told Opened → PoolForms k n ws l t
+      → OpenedBy cells ws (openedStart k n ws (entriesOf l t))
 
 -- Calls of the library from this start on.
 pub record Served (start : Start) (calls : List Went) (last lastWs : List ℕ) : Type 0 where
@@ -85,6 +91,24 @@ pub record IsRun (start : Start) (calls : List Went) (last lastWs : List ℕ) : 
 
 abbrev pub LibraryRuns : Type 0
 LibraryRuns = (start : Start) (calls : List Went) (last lastWs : List ℕ) → Served start calls last lastWs → IsRun start calls last lastWs
+
+-- Whatever words are told as Opened, there is such a tree: so every accepted pool is a start.
+abbrev pub LibraryOpens : Type 0
+LibraryOpens =
+    (k n : ℕ) (ws cells four : List ℕ) → OpenTells k n ws cells four → four ≡ told Opened
+    → (l : ℕ) × (t : Tr l) × PoolForms k n ws l t × OpenedBy cells ws (openedStart k n ws (entriesOf l t))
+
+-- what the plain list has after these calls
+abbrev pub listAfter : Start → List Went → List Entry
+listAfter start calls = plainEntries (opsOf (doneIn (callsIn calls) (runFrom start (callsIn calls)))) (start .entries)
+
+-- The round trip: whoever opens the words that calls of the library have left, with the k and N of their start, is told Opened, and goes on from
+-- there with that list.
+abbrev pub LibraryReopens : Type 0
+LibraryReopens =
+    (start : Start) (calls : List Went) (last lastWs cells four : List ℕ) → Served start calls last lastWs
+    → OpenTells (start .state .k) (start .state .n) lastWs cells four
+    → (four ≡ told Opened) × OpenedBy cells lastWs (openedStart (start .state .k) (start .state .n) lastWs (listAfter start calls))
 
 -- ---- the demands
 

@@ -7,7 +7,7 @@ use mathlib.Core.Path.{_≡_, refl}
 use Rattle.slots.specs.declared.Op.the-variants.{Search, Insert, Delete, Next, Regrade}
 use Rattle.slots.specs.declared.Way.the-variants.{First, Second, Third}
 use Rattle.slots.specs.declared.Answer.{Answer}
-use Rattle.slots.specs.declared.Answer.the-variants.{Begun, Waiting, Inserted, Found, SlotIdle, AlreadyThere, Deleted, Next as NextLot, None as NoLot, Regraded}
+use Rattle.slots.specs.declared.Answer.the-variants.{Begun, Waiting, Inserted, Found, SlotIdle, AlreadyThere, Deleted, Next as NextLot, None as NoLot, Regraded, Opened, BadPageInPool, BadTree}
 use Rattle.lines.specs.declared.Command.{Command}
 use Rattle.lines.specs.declared.Command.the-variants.{Begin, Step, Bad}
 use Rattle.lines.specs.Text.{bytes, startsWith}
@@ -102,7 +102,7 @@ lines-written : List Answer → List (List ℕ)
 lines-written = map answerLine
 
 answers :
-    lines-written (Begun ∷ Waiting ∷ Inserted ∷ Found 3 ∷ SlotIdle ∷ Found 0 ∷ Deleted 4294967295 ∷ NextLot 4294967295 0 ∷ NoLot ∷ AlreadyThere 7 ∷ Regraded 4294967295 ∷ [])
-    ≡ map bytes ("Begun\n" ∷ "Waiting\n" ∷ "Inserted\n" ∷ "Found 3\n" ∷ "SlotIdle\n" ∷ "Found 0\n" ∷ "Deleted 4294967295\n" ∷ "Next 4294967295 0\n" ∷ "None\n" ∷ "AlreadyThere 7\n" ∷ "Regraded 4294967295\n" ∷ [])
+    lines-written (Begun ∷ Waiting ∷ Inserted ∷ Found 3 ∷ SlotIdle ∷ Found 0 ∷ Deleted 4294967295 ∷ NextLot 4294967295 0 ∷ NoLot ∷ AlreadyThere 7 ∷ Regraded 4294967295 ∷ Opened ∷ BadPageInPool 7 ∷ BadTree ∷ [])
+    ≡ map bytes ("Begun\n" ∷ "Waiting\n" ∷ "Inserted\n" ∷ "Found 3\n" ∷ "SlotIdle\n" ∷ "Found 0\n" ∷ "Deleted 4294967295\n" ∷ "Next 4294967295 0\n" ∷ "None\n" ∷ "AlreadyThere 7\n" ∷ "Regraded 4294967295\n" ∷ "Opened\n" ∷ "BadPageInPool 7\n" ∷ "BadTree\n" ∷ [])
 unfolding lines-written digitsWithin decimal
 answers = refl

@@ -133,7 +133,7 @@ fn pointers_sound(w: &[u32], n: usize) -> bool
 }
 
 // All words from a place on are 0.
-fn unused(w: &[u32], from: usize) -> bool
+pub fn unused(w: &[u32], from: usize) -> bool
     ensures { λ r. ⌜ r ≡ all (λ (x : ℕ). eqb x 0) (drop from (now (w .entry))) ⌝ }
 {
     let mut good = true;

@@ -11,8 +11,10 @@ use sheet::writing;
 ghost use mathlib.Core.Path.{_≡_};
 ghost use mathlib.Core.List.{[], _∷_};
 ghost use mathlib.Core.Bool.{true, false};
-ghost use Prim.Native.Nat.{_+_, _*_, _≤_, _<_};
+ghost use Prim.Native.Nat.{ℕ, _+_, _*_, _≤_, _<_};
+ghost use lib.Dec.{eqb};
 ghost use Rattle.ground.specs.Limits.{largestK, largestN, wordRange};
+ghost use Rattle.ground.specs.Tests.{all};
 ghost use Rattle.page.specs.Words.{entry, page, μ, isLeaf, freePage};
 ghost use Rattle.page.specs.Place.{place, pointer, route, atOrAbove, regraded};
 ghost use Rattle.page.specs.Sound.{rises, soundByItself};
@@ -181,6 +183,14 @@ pub fn sound_of(words: &[u32], k: usize, n: usize, p: u32) -> bool
     ensures { λ r. ⌜ r ≡ soundByItself k n p (wordsOf k p (now (words .entry))) ⌝ }
 {
     checking::sound_page(page_words(words, k, n, p), k, n, p)
+}
+
+// All its words are 0.
+pub fn zero_of(words: &[u32], k: usize, n: usize, p: u32) -> bool
+    requires { ⌜ InPool k n p (now words) ⌝ }
+    ensures { λ r. ⌜ r ≡ all (λ (w : ℕ). eqb w 0) (wordsOf k p (now (words .entry))) ⌝ }
+{
+    checking::unused(page_words(words, k, n, p), 0)
 }
 
 // The page with one pair more, put in at place i, in a buffer.

@@ -16,6 +16,7 @@ use Rattle.promises.specs.WideRows.{wideRows}
 use Rattle.promises.specs.DamageRows.{damageRows}
 use Rattle.promises.specs.SecondRows.{secondRows}
 use Rattle.promises.specs.ThirdRows.{thirdRows}
+use Rattle.promises.specs.OpenRows.{openRows}
 
 -- Everything that a run unfolds to: who unfolds this unfolds all of it.
 calls : Unit {0}
@@ -103,3 +104,7 @@ second-holds = agree-holds secondRows refl
 pub third-holds : RowsHold thirdRows
 unfolding calls same sames agree
 third-holds = agree-holds thirdRows refl
+
+pub open-holds : RowsHold openRows
+unfolding calls same sames agree
+open-holds = agree-holds openRows refl

@@ -4,6 +4,7 @@ use mathlib.Core.Bool.{Bool, true, false, cond, _&&_, true≢false, false≢true
 use mathlib.Core.List.{List, [], _∷_, _++_}
 use mathlib.Core.Logic.{_⊎_, inl, inr, _≢_}
 use mathlib.Core.Path.{_≡_, refl, sym, ap, _∙_, subst, transport, transport⁻¹}
+use native.Mathlib.Omega.{arith}
 use lib.Dec.{leb, ltb, eqb}
 use lib.ListN.{length}
 use borrow.Author.Tests.{ltb-true, ltb-false, leb-true, eqb-true, eqb-false, lt-ltb, le-ltb, le-leb, eq-eqb, ne-eqb}
@@ -12,6 +13,7 @@ use Rattle.ground.specs.Tests.{member}
 use Rattle.ground.proofs.Bools.{not-both, false-if-not-true, and-first, and-second, and-both}
 use Rattle.ground.proofs.Choice.{cond-false}
 use Rattle.pool.specs.Pool.{poolLength, pageAt, freePages}
+use Rattle.opening.specs.Opening.{lowestUnsound, isTree, checked}
 use Rattle.slots.specs.declared.Op.{Op}
 use Rattle.slots.specs.declared.Task.{Task}
 use Rattle.slots.specs.declared.Task.the-variants.{Closed, Open}
@@ -19,8 +21,8 @@ use Rattle.slots.specs.declared.Slot.{Slot}
 use Rattle.slots.specs.declared.State.{State}
 use Rattle.slots.specs.declared.Lock.{Lock}
 use Rattle.slots.specs.declared.Answer.{Answer}
-use Rattle.slots.specs.declared.Answer.the-variants.{Waiting, Begun, Made, Reported, BadState, BadPool, BadSlot, SlotBusy, SlotIdle, Damaged, BadPage}
-use Rattle.slots.specs.Heard.{numberOf, refuses, changesNothing}
+use Rattle.slots.specs.declared.Answer.the-variants.{Waiting, Begun, Made, Reported, BadState, BadPool, BadSlot, SlotBusy, SlotIdle, Damaged, BadPage, Opened, BadPageInPool, BadTree}
+use Rattle.slots.specs.Heard.{numberOf, valueOf, refuses, changesNothing}
 use Rattle.slots.specs.Parts.{isOpen, slotAt, openAt, holding, standOf}
 use Rattle.slots.specs.Sound.{sound}
 use Rattle.slots.specs.Grant.{grants}
@@ -32,16 +34,18 @@ use Rattle.slots.proofs.Keeping.{slot-paired}
 use Rattle.footing.specs.Granted.{Verdict, broken, goes, ends, granted}
 use Rattle.footing.specs.Fitting.{pagesSound, fitting, nextIsNew, soundForStep, verdict}
 use Rattle.ground.proofs.Choice.{by-test}
-use Rattle.index.specs.Step.{ofGranted, acted, steppedTask, stepped}
+use Rattle.index.specs.Step.{Left, ofGranted, acted, steppedTask, stepped}
 use Rattle.index.specs.Make.{made}
-use Rattle.index.proofs.Refusals.{Answers, granted-answers, changes, step-refused, make-refused, step-length, make-length}
+use Rattle.index.specs.Open.{opened}
+use Rattle.index.proofs.Refusals.{Answers, granted-answers, changes, step-refused, make-refused, step-length, make-length, open-refused, open-words, opened-told}
 use Rattle.promises.specs.Terms.{Exactly}
 use Rattle.promises.specs.Report.{Reports}
-use Rattle.promises.specs.Demand1.{BeginDemand, WordsFit, PagesSound, PagesSoundAt, Celled, StepDemand, ReportDemand, MakingInRange, MakeDemand, Demand1}
+use Rattle.promises.specs.Demand1.{BeginDemand, WordsFit, PagesSound, PagesSoundAt, Celled, StepDemand, ReportDemand, MakingInRange, MakeDemand, AloneSound, LowestUnsound, FormsTree, OpenDemand, Demand1}
 use Rattle.promises.proofs.SoundState.{numbers, sound-is}
 use Rattle.promises.proofs.Report.{reports-so, reports-once}
 use Rattle.promises.proofs.SoundPages.{Sized}
 use Rattle.promises.proofs.NextWant.{sound-for-step}
+use Rattle.promises.proofs.Opening.{lowest-told, lowest-is, none-told, none-is, none-found, tree-told, tree-is}
 
 -- A row of a table: an answer, and what it tells. By its number an answer tells what stands beside it; one with no row tells `other`.
 record Row : Type 1 where
@@ -365,5 +369,67 @@ make-demand k n ws = record {
     told : {a : Answer} → made k n ws .answer ≡ a → MakeTells k n ws a
     told e = subst (MakeTells k n ws) e (make-tells k n ws)
 
+-- what opening's answers tell
+abbrev OpenTells : ℕ → ℕ → List ℕ → Answer → Type 0
+OpenTells k n ws a =
+    Tells
+    (row BadPool (MakingInRange k n ws → ⊥)
+    ∷ row (BadPageInPool 0) (MakingInRange k n ws × LowestUnsound k n ws (valueOf a 0))
+    ∷ row BadTree (MakingInRange k n ws × ((q : ℕ) → q < n → AloneSound k n ws q) × (FormsTree k n ws → ⊥))
+    ∷ row Opened (MakingInRange k n ws × FormsTree k n ws)
+    ∷ [])
+    ⊥ a
+
+open-tells : (k n : ℕ) (ws : List ℕ) → OpenTells k n ws (opened k n ws .answer)
+unfolding opened checked
+open-tells k n ws =
+    by-test (kInRange k && nInRange n && eqb (length ws) (poolLength k n))
+    (λ a.
+    let range = in-range k n ws a in
+    by-test (ltb (lowestUnsound k n ws) n)
+    (λ b. rw (a, b) (range, lowest-told k n ws range (ltb-true (lowestUnsound k n ws) n b)))
+    (λ b.
+    let none = none-found k n ws range b in
+    by-test (isTree k n ws)
+    (λ c. rw (a, b, c) (range, tree-told k n ws range none c))
+    (λ c. rw (a, b, c) (range, none-told k n ws range none, λ f. not-both (tree-is k n ws range f .1) c))))
+    (λ a. rw a (λ h. not-both (range-tested k n ws h) a))
+
+pub open-demand : (k n : ℕ) (ws : List ℕ) → OpenDemand k n ws
+unfolding opened checked
+open-demand k n ws = record {
+  badPool = (told, λ h. rw (false-if-not-true _ (λ t. h (in-range k n ws t))));
+  badPage = λ p. (
+    told,
+    (λ h.
+        let low = lowest-is k n ws (h .0) p (h .1) in
+        rw (range-tested k n ws (h .0), low, lt-ltb p n (h .1 .inPool))),
+  );
+  badTree = (
+    told,
+    (λ h.
+        let none = none-is k n ws (h .0) (h .1) in
+        rw (range-tested k n ws (h .0), none, le-ltb n n (omega arith), false-if-not-true (isTree k n ws) (λ t. h .2 (tree-told k n ws (h .0) none t)))),
+  );
+  opens = (
+    told,
+    (λ h.
+        let (none, tree) = tree-is k n ws (h .0) (h .1) in
+        rw (range-tested k n ws (h .0), none, le-ltb n n (omega arith), tree)),
+  );
+  noOther =
+      by-test (kInRange k && nInRange n && eqb (length ws) (poolLength k n))
+      (λ a. by-test (ltb (lowestUnsound k n ws) n)
+      (λ b. inr (inl (lowestUnsound k n ws, rw (a, b))))
+      (λ b. by-test (isTree k n ws) (λ c. inr (inr (inr (rw (a, b, c))))) (λ c. inr (inr (inl (rw (a, b, c)))))))
+      (λ a. inl (rw a));
+  refused = λ e. open-refused k n ws e .state;
+  accepted = λ e. ap (λ (after : Left). after .state) (opened-told k n ws e .1);
+  asGiven = open-words k n ws;
+}
+  where
+    told : {a : Answer} → opened k n ws .answer ≡ a → OpenTells k n ws a
+    told e = subst (OpenTells k n ws) e (open-tells k n ws)
+
 pub demand1 : Demand1
-demand1 = record { begin = begin-demand; step = step-demand; report = report-demand; make = make-demand; soundState = sound-is; numbers = numbers }
+demand1 = record { begin = begin-demand; step = step-demand; report = report-demand; make = make-demand; opening = open-demand; soundState = sound-is; numbers = numbers }

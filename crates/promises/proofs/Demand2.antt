@@ -13,10 +13,9 @@ use Rattle.ground.specs.Tests.{member, distinct, filled}
 use Rattle.ground.proofs.Bools.{not-both, false-if-not-true, and-first, and-second, and-both, not-of-false, or-first, or-second, or-cases}
 use Rattle.ground.proofs.Choice.{cond-true, cond-false}
 use Rattle.ground.proofs.Tests.{member-here, member-none, member-append, member-inside, member-at}
-use Rattle.page.specs.Words.{Page, μ, isLeaf, encode}
+use Rattle.page.specs.Words.{Page, μ, isLeaf}
 use Rattle.page.specs.Place.{place, pointer}
 use Rattle.page.specs.Short.{hasRight, neighbour}
-use Rattle.page.proofs.WordLaws.{encode-free}
 use Rattle.pool.specs.Pool.{Write, wordsOf, applied, pageAt}
 use Rattle.pool.proofs.WriteLaws.{wordsOf-applied-other}
 use Rattle.slots.specs.declared.Op.{Op}
@@ -49,7 +48,7 @@ use Rattle.footing.proofs.KeepLaws.{second-safe, regrade-safe}
 use Rattle.index.specs.Step.{Left, left, acted, stepped}
 use Rattle.tree.specs.Tree.{Tr, entriesOf}
 use Rattle.tree.specs.Change.{writtenPages}
-use Rattle.tree.proofs.Words.{fit-writes}
+use Rattle.tree.proofs.Words.{fit-writes, outside-words}
 use Rattle.runs.specs.Calls.{Call, begin, step, report, called, answersOf}
 use Rattle.runs.specs.Run.{runFrom}
 use Rattle.runs.specs.Stance.{Safe, Converting, Stance, Takes, heldDue}
@@ -206,7 +205,7 @@ after-call st ws inv = record {
   height = inv .height;
   tree = inv .tree;
   forms = inv .forms;
-  free = λ q b none. inv .forms .exact q b ∙ ap (encode (st .k)) (inv .forms .forms .others q b none) ∙ encode-free (st .k);
+  free = outside-words (st .k) (st .n) ws (inv .height) (inv .tree) (inv .forms);
   soundState = facts-sound st (inv .sound);
   locks = λ s u p x y b c n h g. sound-is st .0 (facts-sound st (inv .sound)) .together s u p x y b c n h g;
   stands = inv .stands;

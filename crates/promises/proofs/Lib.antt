@@ -8,6 +8,7 @@ pub mod Demand2
 pub mod Turned
 pub mod SoundPages
 pub mod NextWant
+pub mod Opening
 pub mod Demand1
 pub mod Room
 pub mod Demand3
@@ -15,3 +16,4 @@ pub mod TopOpen
 pub mod Regrading
 pub mod OneWord
 pub mod NextAbove
+pub mod Reopening

@@ -69,7 +69,7 @@ pairs-in-leaf level e = cond-true 2 3 (eq-eqb level 1 e)
 pairs-above : (level : ℕ) → level ≢ 1 → pairsFrom level ≡ 3
 pairs-above level n = cond-false 2 3 (ne-eqb level 1 n)
 
-page-told : (k n p : ℕ) (ws : List ℕ) → soundByItself k n p ws ≡ true → PageSound k n p ws (view ws)
+pub page-told : (k n p : ℕ) (ws : List ℕ) → soundByItself k n p ws ≡ true → PageSound k n p ws (view ws)
 unfolding soundByItself
 page-told k n p ws h =
     let P : Page = view ws in
@@ -112,7 +112,7 @@ least-from k p leaf m above root =
     (λ e. cond-ind (λ (l : ℕ). l ≤ m) leaf (λ _. omega arith) (λ f. root (eqb-true p 0 e) f))
     (λ e. above (eqb-false p 0 e))
 
-page-from : (k n p : ℕ) (ws : List ℕ) → PageSound k n p ws (view ws) → soundByItself k n p ws ≡ true
+pub page-from : (k n p : ℕ) (ws : List ℕ) → PageSound k n p ws (view ws) → soundByItself k n p ws ≡ true
 unfolding soundByItself
 page-from k n p ws s =
     let P : Page = view ws in

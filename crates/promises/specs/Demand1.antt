@@ -3,7 +3,7 @@
 -- is left for the caller to check first. A refused call leaves pages, locks and waiting order exactly as found."
 -- State, words and numbers are any here: no record asks anything of them but, of a step, that the slot has the cells
 -- that its type says. That a call ends and strays nowhere, and that it
--- answers and leaves what `begun`, `stepped`, `reported` and `made` say, is proved of the code, where no public call has a
+-- answers and leaves what `begun`, `stepped`, `reported`, `made` and `opened` say, is proved of the code, where no public call has a
 -- `requires`.
 -- Each record has 01's table for its call, row by row in 01's order. A row is heard exactly if it applies and none before it does.
 use Prim.Native.Nat.{ℕ, _≤_, _<_}
@@ -11,16 +11,17 @@ use mathlib.Core.Bool.{true, false}
 use mathlib.Core.List.{List}
 use mathlib.Core.Logic.{_⊎_, _≢_}
 use mathlib.Core.Path.{_≡_}
-use lib.ListN.{length}
+use lib.ListN.{length, replicate}
 use Rattle.ground.specs.Limits.{largestK, largestN, slotCount}
-use Rattle.pool.specs.Pool.{poolLength, fresh}
+use Rattle.page.specs.Words.{size}
+use Rattle.pool.specs.Pool.{poolLength, wordsOf, pageAt, fresh}
 use Rattle.slots.specs.declared.Op.{Op}
 use Rattle.slots.specs.declared.Task.{Task}
 use Rattle.slots.specs.declared.Task.the-variants.{Closed, Open}
 use Rattle.slots.specs.declared.Slot.{Slot}
 use Rattle.slots.specs.declared.State.{State}
 use Rattle.slots.specs.declared.Lock.{Lock}
-use Rattle.slots.specs.declared.Answer.the-variants.{Waiting, Begun, Made, Reported, BadState, BadPool, BadSlot, SlotBusy, SlotIdle, Damaged, BadPage}
+use Rattle.slots.specs.declared.Answer.the-variants.{Waiting, Begun, Made, Reported, BadState, BadPool, BadSlot, SlotBusy, SlotIdle, Damaged, BadPage, Opened, BadPageInPool, BadTree}
 use Rattle.slots.specs.Heard.{refuses, changesNothing}
 use Rattle.slots.specs.Parts.{standOf, slotAt, openAt, idleState}
 use Rattle.slots.specs.Sound.{sound}
@@ -29,10 +30,12 @@ use Rattle.slots.specs.Begin.{begun}
 use Rattle.slots.specs.Report.{reported}
 use Rattle.index.specs.Step.{ofGranted, stepped}
 use Rattle.index.specs.Make.{made}
+use Rattle.index.specs.Open.{opened}
+use Rattle.tree.specs.Tree.{Tr, occurs, PoolForms}
 use Rattle.promises.specs.Terms.{Exactly}
 use Rattle.promises.specs.SoundState.{Numbers, IsSound}
 use Rattle.promises.specs.Report.{Reports}
-use Rattle.promises.specs.SoundPages.{SoundForStep}
+use Rattle.promises.specs.SoundPages.{PageSound, SoundForStep}
 
 -- "Order. Begin: 1, 3, 4." Begin is handed no words, so it leaves them.
 pub record BeginDemand (st : State) (s : ℕ) (op : Op) : Type 0 where
@@ -119,6 +122,44 @@ pub record MakeDemand (k n : ℕ) (ws : List ℕ) : Type 0 where
   pub freshPool : made k n ws .answer ≡ Made → (made k n ws .words ≡ fresh k n) × (made k n ws .state ≡ idleState k n)
   pub sameLength : length (made k n ws .words) ≡ length ws
 
+-- ---- opening a pool that somebody hands us, 02 (vii)
+
+-- "sound by itself (all zeros and not page 0, or its level, μ, keys, pointers and unused words as 01 has them)": page p
+abbrev pub AloneSound : ℕ → ℕ → List ℕ → ℕ → Type 0
+AloneSound k n ws p = ((p ≢ 0) × (wordsOf k p ws ≡ replicate (size k) 0)) ⊎ PageSound k n p (wordsOf k p ws) (pageAt k ws p)
+
+-- "the lowest-numbered page that is not sound by itself" is page p
+pub record LowestUnsound (k n : ℕ) (ws : List ℕ) (p : ℕ) : Type 0 where
+  pub inPool : p < n
+  pub unsound : AloneSound k n ws p → ⊥
+  pub lower : (q : ℕ) → q < p → AloneSound k n ws q
+
+-- "they form the B*-tree of document 01 from page 0, every other page is all zeros, and no page hangs in two places": the tree is demand 2's,
+-- which has page 0 for its root and no page twice (`Forms`, its fields root and different).
+pub record FormsTree (k n : ℕ) (ws : List ℕ) : Type 0 where
+  pub height : ℕ
+  pub tree : Tr height
+  pub forms : PoolForms k n ws height tree
+  pub free : (q : ℕ) → q < n → occurs q height tree ≡ 0 → wordsOf k q ws ≡ replicate (size k) 0
+
+-- Opening. "These are refusals 9 (BadPageInPool, with the page) and 10 (BadTree), after BadPool."
+pub record OpenDemand (k n : ℕ) (ws : List ℕ) : Type 0 where
+  -- 2: k, N or length out of range, as when making a pool
+  pub badPool : Exactly (opened k n ws .answer ≡ BadPool) (MakingInRange k n ws → ⊥)
+  -- 9, "gives the lowest-numbered page that is not sound by itself"
+  pub badPage : (p : ℕ) → Exactly (opened k n ws .answer ≡ BadPageInPool p) (MakingInRange k n ws × LowestUnsound k n ws p)
+  -- 10, "if all are, it says BadTree"
+  pub badTree : Exactly (opened k n ws .answer ≡ BadTree) (MakingInRange k n ws × ((q : ℕ) → q < n → AloneSound k n ws q) × (FormsTree k n ws → ⊥))
+  -- "accepts words with k and N exactly if they form the B*-tree"
+  pub opens : Exactly (opened k n ws .answer ≡ Opened) (MakingInRange k n ws × FormsTree k n ws)
+  pub noOther : (opened k n ws .answer ≡ BadPool) ⊎ ((p : ℕ) × (opened k n ws .answer ≡ BadPageInPool p)) ⊎ (opened k n ws .answer ≡ BadTree) ⊎ (opened k n ws .answer ≡ Opened)
+  -- "A refusal .. returns the empty state", which is itself BadState (`MakeDemand`, its field emptyRefused)
+  pub refused : refuses (opened k n ws .answer) ≡ true → opened k n ws .state ≡ idleState 0 0
+  -- "Acceptance gives a state with all slots closed."
+  pub accepted : opened k n ws .answer ≡ Opened → opened k n ws .state ≡ idleState k n
+  -- "A refusal leaves the words as given", and so does acceptance
+  pub asGiven : opened k n ws .words ≡ ws
+
 -- ---- the demand
 
 pub record Demand1 : Type 0 where
@@ -126,6 +167,7 @@ pub record Demand1 : Type 0 where
   pub step : (st : State) (ws : List ℕ) (s : ℕ) → Celled (slotAt st s) → StepDemand st ws s
   pub report : (st : State) (p : ℕ) → ReportDemand st p
   pub make : (k n : ℕ) (ws : List ℕ) → MakeDemand k n ws
+  pub opening : (k n : ℕ) (ws : List ℕ) → OpenDemand k n ws
   -- a sound state, of which they speak by the rule's test, in plain terms
   pub soundState : (st : State) → Exactly (sound st ≡ true) (IsSound st)
   pub numbers : Numbers

@@ -5,6 +5,7 @@
 -- 02 (iii): "Demands 2 and 3 stand, with Waiting given exactly by the new rule.": `StepLocks`, its fields waits and waitsFor.
 -- 02 (vi), kinds of lock: `AfterEveryCall`, its fields locks and heldAs; the third way: `MovesOn`, its field takes; `Ends`, its fields turned and allXi;
 -- `InTheWay`, conversions.
+-- 02 (vii): "Demands 2 and 3 then also start from an accepted pool": what is said here is said of every start (`IsStart`).
 -- 02 (v), updates by the second way: `AfterEveryCall`, its fields wantsAs, secondHeld and secondAbove; `MovesOn`, its field taken; `Ends`, its
 -- fields writes and stays.
 use Prim.Native.Nat.{ℕ, suc, _-_, _≤_, _<_}

@@ -5,7 +5,8 @@
 -- its step, and if none is begun, 304 rounds that each step every open slot end them all."
 -- Next of 02 (i) is among the operations: "Demand 3's sorted list learns this question." So is the regrading of 02 (iv): "Demand 3's
 -- list learns the operation." 02 (v): an update by the second way ends once, whether it began again or not. 02 (vi): "A deletion takes at most 19 grants
--- and 19 conversions: 16 × 38 = 608 rounds."
+-- and 19 conversions: 16 × 38 = 608 rounds." 02 (vii): "Demands 2 and 3 then also start from an accepted pool, the sorted list beginning with its
+-- entries.": what is said here is said of every start (`IsStart`).
 use Prim.Native.Nat.{ℕ, _+_, _*_, _≤_, _<_}
 use mathlib.Core.Bool.{true, false}
 use mathlib.Core.List.{List, _++_}
@@ -44,7 +45,7 @@ doneIn cs r = done cs (r .answers) nobody
 
 -- "A plain sorted list, worked through one operation after another, gives the same answers, and the tree holds its entries at
 -- every moment." The tree: the one that the words form, and there is just one (`pool-determined`). The list begins with the
--- start's entries: from a fresh pool, with none.
+-- start's entries: from a fresh pool, with none; from an accepted one, with those of its tree.
 pub record Agreement (start : Start) (cs : List Call) (r : Told) : Type 0 where
   pub answers : answersIn (doneIn cs r) ≡ plainAnswers (opsOf (doneIn cs r)) (start .entries)
   pub height : ℕ

@@ -16,4 +16,6 @@ pub mod WideRows
 pub mod DamageRows
 pub mod SecondRows
 pub mod ThirdRows
+pub mod OpenRows
 pub mod Regrading
+pub mod Reopening

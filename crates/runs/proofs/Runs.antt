@@ -4,7 +4,7 @@ use mathlib.Core.Bool.{true, false, cond, not, _&&_, false≢true}
 use mathlib.Core.Logic.{⊎-elim}
 use mathlib.Core.List.{List, [], _∷_, _++_}
 use mathlib.Core.Path.{_≡_, refl, sym, ap, subst, _∙_}
-use lib.Dec.{ltb, leb}
+use lib.Dec.{ltb, leb, eqb}
 use lib.ListN.{length}
 use borrow.Author.Tests.{leb-true, ltb-true, ltb-false, eq-eqb}
 use Rattle.ground.specs.Limits.{largestK, kInRange, largestN, nInRange, slotCount, wordRange}
@@ -25,10 +25,11 @@ use Rattle.slots.proofs.SoundFacts.{facts-sound}
 use Rattle.slots.proofs.Keeping.{same-everywhere, idle-sound, idle-shaped}
 use Rattle.index.specs.Step.{Left, left, stepped}
 use Rattle.index.specs.Make.{made}
+use Rattle.index.proofs.Refusals.{opened-told}
 use Rattle.tree.specs.Tree.{Tr, entriesOf, PoolForms}
 use Rattle.tree.specs.Facts.{emptyTree}
 use Rattle.tree.proofs.Words.{fresh-forms}
-use Rattle.runs.specs.Run.{Call, begin, step, report, called, run, Start, IsStart, freshPool, runFrom, CallInWords, InWords, Run}
+use Rattle.runs.specs.Run.{Call, begin, step, report, called, run, Start, IsStart, freshPool, acceptedPool, runFrom, CallInWords, InWords, Run}
 use Rattle.runs.proofs.Invariant.{Invariant}
 use Rattle.runs.proofs.Calls.{StepOf, noSlot, idle, waits, onward, over, step-of, step-keeps, begin-keeps}
 
@@ -183,12 +184,16 @@ made-told : (k n : ℕ) (ws : List ℕ) → kInRange k && nInRange n ≡ true �
 unfolding made
 made-told k n ws h w = cond-true _ (left BadPool (idleState 0 0) ws) (and-both h (eq-eqb (length ws) (poolLength k n) w))
 
--- Every start is such a one. "From a fresh pool": its tree is an empty leaf.
+-- Every start is such a one. "From a fresh pool": its tree is an empty leaf; "from an accepted pool": the tree that its words form.
 pub start-ready : (start : Start) → IsStart start → Ready start
 start-ready start (freshPool k n ws h w) =
     subst (λ (m : Left). Ready (record { state = m .state; words = m .words; entries = [] })) (sym (made-told k n ws h w))
     (idle-ready k n (fresh k n) 0 emptyTree h
     (fresh-forms k n (leb-true 1 n (and-first (leb 1 n) (leb n largestN) (and-second (kInRange k) (nInRange n) h)))))
+start-ready start (acceptedPool k n ws l t a forms) =
+    let (range, told) = opened-told k n ws a in
+    subst (λ (m : Left). Ready (record { state = m .state; words = m .words; entries = entriesOf l t })) (sym told)
+    (idle-ready k n ws l t (and-first (kInRange k && nInRange n) (eqb (length ws) (poolLength k n)) range) forms)
 
 -- After every run, whatever was called.
 pub holds-after : (start : Start) (cs : List Call) → Run start cs → Invariant (runFrom start cs .state) (runFrom start cs .words)

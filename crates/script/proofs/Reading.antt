@@ -16,7 +16,7 @@ use Rattle.ground.proofs.Tests.{all-member}
 use Rattle.slots.specs.declared.State.{State}
 use Rattle.slots.specs.declared.Lock.the-variants.{None}
 use Rattle.slots.specs.declared.Answer.{Answer}
-use Rattle.slots.specs.declared.Answer.the-variants.{Waiting, Moved, Found, NotFound, Inserted, AlreadyThere, Deleted, NoSuchKey, NoRoom, Begun, Made, Reported, Next, None as NoLot, Regraded, BadState, BadPool, BadSlot, SlotBusy, SlotIdle, Damaged, BadPage}
+use Rattle.slots.specs.declared.Answer.the-variants.{Waiting, Moved, Found, NotFound, Inserted, AlreadyThere, Deleted, NoSuchKey, NoRoom, Begun, Made, Reported, Next, None as NoLot, Regraded, BadState, BadPool, BadSlot, SlotBusy, SlotIdle, Damaged, BadPage, Opened, BadPageInPool, BadTree}
 use Rattle.slots.specs.Heard.{numberOf}
 use Rattle.lines.specs.declared.Command.{Command}
 use Rattle.lines.specs.declared.Command.the-variants.{Begin, Step, Bad}
@@ -64,8 +64,12 @@ readBack line =
     (cond (startsWith (bytes "SlotBusy") line) SlotBusy
     (cond (startsWith (bytes "SlotIdle") line) SlotIdle
     (cond (startsWith (bytes "Damaged") line) Damaged
+    -- in front of BadPage, with which it begins
+    (cond (startsWith (bytes "BadPageInPool ") line) (BadPageInPool (value (drop (length (bytes "BadPageInPool ")) line)))
     (cond (startsWith (bytes "BadPage") line) BadPage
-    (Reported None 0 0)))))))))))))))))))))
+    (cond (startsWith (bytes "Opened") line) Opened
+    (cond (startsWith (bytes "BadTree") line) BadTree
+    (Reported None 0 0))))))))))))))))))))))))
 
 isReport : Answer → Bool
 isReport a = eqb (numberOf a) (numberOf (Reported None 0 0))
@@ -111,6 +115,9 @@ reads-back SlotBusy = refl
 reads-back SlotIdle = refl
 reads-back Damaged = refl
 reads-back BadPage = refl
+reads-back Opened = refl
+reads-back (BadPageInPool p) = ap BadPageInPool (number-back p)
+reads-back BadTree = refl
 
 -- beginning and stepping hear no report
 spoken-plain : (a : Answer) → isSpoken a ≡ true → isReport a ≡ false

@@ -13,7 +13,7 @@ use Rattle.slots.specs.declared.Lock.{Lock}
 use Rattle.slots.specs.declared.Lock.the-variants.{None, Rho, Xi, UpdaterRho, Alpha}
 use Rattle.slots.specs.declared.hearing.Heard.{Heard}
 use Rattle.slots.specs.declared.Answer.{Answer}
-use Rattle.slots.specs.declared.Answer.the-variants.{Waiting, Moved, Found, NotFound, Inserted, AlreadyThere, Deleted, NoSuchKey, NoRoom, Begun, Made, Reported, BadState, BadPool, BadSlot, SlotBusy, SlotIdle, Damaged, BadPage, Next, None as NoLot, Regraded}
+use Rattle.slots.specs.declared.Answer.the-variants.{Waiting, Moved, Found, NotFound, Inserted, AlreadyThere, Deleted, NoSuchKey, NoRoom, Begun, Made, Reported, BadState, BadPool, BadSlot, SlotBusy, SlotIdle, Damaged, BadPage, Next, None as NoLot, Regraded, Opened, BadPageInPool, BadTree}
 
 -- none, ρ, ξ; and those of 02 (vi) behind them
 abbrev pub lockNumber : Lock → ℕ
@@ -40,8 +40,12 @@ pub record Said : Type 0 where
   -- pages were written
   pub writes : Bool
 
+-- a refusal that names something
+abbrev refusalOf : ℕ → String → List ℕ → Said
+refusalOf number name values = record { number = number; name = name; values = values; ends = false; writes = false }
+
 abbrev refusal : ℕ → String → Said
-refusal number name = record { number = number; name = name; values = []; ends = false; writes = false }
+refusal number name = refusalOf number name []
 
 -- an answer after which nothing has ended
 abbrev notice : ℕ → String → List ℕ → Said
@@ -78,6 +82,9 @@ said (Reported kind holders lowest) = notice 43 "Reported" (lockNumber kind ∷ 
 said (Next x v) = result 44 "Next" (x ∷ v ∷ [])
 said NoLot = result 45 "None" []
 said (Regraded v) = change 46 "Regraded" (v ∷ [])
+said Opened = notice 47 "Opened" []
+said (BadPageInPool p) = refusalOf 9 "BadPageInPool" (p ∷ [])
+said BadTree = refusal 10 "BadTree"
 
 -- all answers, each with as many of these values as it has
 abbrev pub answersWith : List ℕ → List Answer
@@ -104,6 +111,9 @@ answersWith vs =
     ∷ Next (getD vs 0 0) (getD vs 1 0)
     ∷ NoLot
     ∷ Regraded (getD vs 0 0)
+    ∷ Opened
+    ∷ BadPageInPool (getD vs 0 0)
+    ∷ BadTree
     ∷ []
 
 -- ---- the columns

@@ -47,5 +47,8 @@ pub fn numbers(answer: Answer) -> Heard
         Answer::Next(key, information) => Heard(44, 2, key, information, 0),
         Answer::None => Heard(45, 0, 0, 0, 0),
         Answer::Regraded(information) => Heard(46, 1, information, 0, 0),
+        Answer::Opened => Heard(47, 0, 0, 0, 0),
+        Answer::BadPageInPool(page) => Heard(9, 1, page, 0, 0),
+        Answer::BadTree => Heard(10, 0, 0, 0, 0),
     }
 }

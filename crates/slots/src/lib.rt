@@ -103,6 +103,10 @@ pub enum Answer {
     None,
     // the old information
     Regraded(u32),
+    Opened,
+    // the lowest-numbered page that is not sound by itself
+    BadPageInPool(u32),
+    BadTree,
 }
 
 // What beginning an operation gives, as the rules have it. In the code a state lies in lent words (crate lent).

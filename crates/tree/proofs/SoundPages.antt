@@ -28,7 +28,7 @@ use Rattle.tree.proofs.Ways.{total-found, row-μ}
 use Rattle.tree.proofs.Height.{height-facts}
 
 -- the page numbers of a row of trees
-abbrev numbers : (l : ℕ) → List (Keyed (Tr l)) → List ℕ
+abbrev pub numbers : (l : ℕ) → List (Keyed (Tr l)) → List ℕ
 numbers l row = map (λ (d : Keyed (Tr l)). pageNumber l (d .value)) row
 
 -- each is a page of its tree
@@ -37,7 +37,7 @@ numbers-occur q l [] = omega arith
 numbers-occur q l (d ∷ ds) = let ih = numbers-occur q l ds in omega (arith, root-occurs q l (d .value))
 
 -- what an upper page points to, as page numbers of its children
-row-pointers : (level l : ℕ) (row : List (Keyed (Tr l))) → 1 ≤ length row → pointers (rowPage level (pageNumber l) row) ≡ numbers l row
+pub row-pointers : (level l : ℕ) (row : List (Keyed (Tr l))) → 1 ≤ length row → pointers (rowPage level (pageNumber l) row) ≡ numbers l row
 row-pointers level l [] h = absurd (omega arith)
 row-pointers level l (d ∷ ds) h = rowPage-pointers level (pageNumber l) d ds
 

@@ -8,12 +8,12 @@ use mathlib.Core.List.{List, [], _∷_}
 use native.Mathlib.Omega.{arith}
 use borrow.Author.Tests.{leb-true, leb-false, eqb-true, eqb-false, eq-eqb}
 use lib.Dec.{leb, eqb}
-use lib.ListN.{length}
+use lib.ListN.{length, replicate}
 use Rattle.ground.specs.Tests.{member, countBelow}
 use Rattle.ground.proofs.Bools.{or-first, or-second, not-both, same-if-true-together}
 use Rattle.ground.proofs.Choice.{by-test, cond-true, cond-false, cond-ind}
 use Rattle.ground.proofs.Tests.{listBelow-distinct, length-listBelow, countBelow-none, countBelow-passes, countBelow-skips}
-use Rattle.page.specs.Words.{Entry, Page, freePage, encode}
+use Rattle.page.specs.Words.{Entry, Page, freePage, encode, size}
 use Rattle.page.proofs.WordLaws.{length-encode, encode-free}
 use Rattle.pool.specs.Pool.{poolLength, wordsOf, pageAt, Write, written, applied, isFree, freePages, fresh}
 use Rattle.pool.proofs.WriteLaws.{FitWrite, AllFit, length-written, length-applied, wordsOf-written-same, wordsOf-written-other, pageAt-written-same, pageAt-written-other}
@@ -211,6 +211,10 @@ module _ (k n : ℕ) (ws : List ℕ) (l : ℕ) (t : Tr l) (pool : PoolForms k n 
             absurd (omega (arith, root-occurs 0 l t));
         level = ap (λ (Q : Page). Q .level) (pool .forms .others q inPool none);
       }
+
+  -- and all its words are 0
+  pub outside-words : (q : ℕ) → q < n → occurs q l t ≡ 0 → wordsOf k q ws ≡ replicate (size k) 0
+  outside-words q inPool none = pool .exact q inPool ∙ ap (encode k) (pool .forms .others q inPool none) ∙ encode-free k
 
   pub free-facts : FreeFacts k n ws l t
   unfolding freePages

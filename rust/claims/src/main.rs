@@ -5,6 +5,7 @@
 mod fresh;
 mod kinds;
 mod making;
+mod opening;
 mod text;
 mod told;
 
@@ -59,6 +60,7 @@ fn drawn(kind: &str, name: &str, random: &mut Random, more: &[String]) -> (Vec<S
             "built" => built(random).map(told),
             "limits" => Some(told(limits(random))),
             "making" => Some(making::claim(name, random)),
+            "opening" => Some(opening::claim(name, random)),
             _ => panic!("{kind} is no kind of claim"),
         };
         if let Some(claim) = claim {

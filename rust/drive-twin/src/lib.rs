@@ -1,6 +1,6 @@
 //! The program `drive` as a machine that is given one line after another. `docs/DRIVE.md` has the lines.
 
-use twin::{begin_lent, make_lent, report_lent, step_lent, Answer, Op, STATE};
+use twin::{begin_lent, make_lent, open_lent, report_lent, step_lent, Answer, Op, STATE};
 
 /// The most words a pool may be given.
 pub const ROOM: usize = 70_000;
@@ -9,11 +9,16 @@ const MOST: usize = 17;
 /// The line that answers what is no line.
 const BAD_LINE: &[u8] = b"BadLine\n";
 
-/// The four calls, as they are or with something wrong.
+/// The five calls, as they are or with something wrong.
 pub trait Calls {
     /// Makes a fresh pool.
     fn make(&self, k: u32, n: u32, state: &mut [u32; STATE], words: &mut [u32]) -> Answer {
         make_lent(k, n, state, words)
+    }
+
+    /// Opens the words as a pool. They can be written, so that a call with something wrong can do so.
+    fn open(&self, k: u32, n: u32, state: &mut [u32; STATE], words: &mut [u32]) -> Answer {
+        open_lent(k, n, state, words)
     }
 
     /// Begins an operation.
@@ -86,28 +91,32 @@ impl<C: Calls> Drive<C> {
     /// Does what a line asks for, if it is one.
     fn obey(&mut self, line: &[u8], out: &mut Vec<u8>) -> Option<()> {
         let (letter, numbers) = parse(line)?;
-        match (letter, &numbers[..]) {
-            (b'm', &[k, n]) => {
-                let answer = self.calls.make(k, n, &mut self.state, &mut self.words);
-                self.outcome(answer, out);
-            }
-            (b'b', &[slot, kind, key, information]) => {
-                let answer = match Op::of(kind, key, information) {
-                    Some(op) => self.calls.begin(&mut self.state, slot as usize, op),
-                    None => Answer::BadKind,
-                };
-                self.outcome(answer, out);
-            }
-            (b't', &[slot]) => {
-                let answer = self
-                    .calls
-                    .step(&mut self.state, &mut self.words, slot as usize);
-                self.outcome(answer, out);
-            }
-            (b'r', &[page]) => {
-                let answer = self.calls.report(&self.state, page);
-                self.outcome(answer, out);
-            }
+        match self.call(letter, &numbers) {
+            Some(answer) => self.outcome(answer, out),
+            None => self.put(letter, &numbers)?,
+        }
+        Some(())
+    }
+
+    /// Makes the call that a line asks for, if it is one.
+    fn call(&mut self, letter: u8, numbers: &[u32]) -> Option<Answer> {
+        let (state, words) = (&mut self.state, &mut self.words);
+        Some(match (letter, numbers) {
+            (b'm', &[k, n]) => self.calls.make(k, n, state, words),
+            (b'o', &[k, n]) => self.calls.open(k, n, state, words),
+            (b'b', &[slot, kind, key, information]) => match Op::of(kind, key, information) {
+                Some(op) => self.calls.begin(state, slot as usize, op),
+                None => Answer::BadKind,
+            },
+            (b't', &[slot]) => self.calls.step(state, words, slot as usize),
+            (b'r', &[page]) => self.calls.report(state, page),
+            _ => return None,
+        })
+    }
+
+    /// Puts words, or what is written, as a line says, if it is one that does.
+    fn put(&mut self, letter: u8, numbers: &[u32]) -> Option<()> {
+        match (letter, numbers) {
             (b's', [at, words @ ..]) => lay(&mut self.state, *at as usize, words)?,
             (b'w', [at, words @ ..]) => lay(&mut self.words, *at as usize, words)?,
             (b'p', &[length, word]) if length as usize <= ROOM => {

@@ -1,7 +1,8 @@
 //! The lots on the bench and the shortcuts that lose a lot, each as document 01 says it; and the next lot, who waits behind
-//! whom, regrading, updates that go down like readers, and a lock that lets readers stay, as 02 does.
+//! whom, regrading, updates that go down like readers, a lock that lets readers stay, and pools that are opened, as 02 does.
 
 mod like_readers;
+mod opening;
 mod third_way;
 
 use twin::Way::{self, First};
@@ -51,6 +52,21 @@ impl Case {
         case
     }
 
+    /// A case with these pages, k = 1, and a state of rubbish.
+    fn handed(name: &'static str, pages: &[[u32; 7]]) -> Case {
+        let mut lines = vec![format!("p {} 0", 7 * pages.len()), "s 0 1 9 3".to_string()];
+        lines.extend((0..).zip(pages).map(|(page, words)| {
+            let words = words.map(|word| word.to_string()).join(" ");
+            format!("w {} {words}", 7 * page)
+        }));
+        let expected = Vec::new();
+        Case {
+            name,
+            lines,
+            expected,
+        }
+    }
+
     /// A case with k = 1 from a fresh pool.
     fn fresh(name: &'static str, n: u32) -> Case {
         Case::made(name, 1, n, Answer::Made)
@@ -91,6 +107,12 @@ impl Case {
         missing.words(&E);
 
         vec![there, missing]
+    }
+
+    /// A line that is no call, if it is not empty.
+    fn line(&mut self, line: &str) {
+        self.lines
+            .extend((!line.is_empty()).then(|| line.to_string()));
     }
 
     /// A call, and its answer.
@@ -179,6 +201,7 @@ pub fn cases() -> Vec<Case> {
         regrade_locks(),
         like_readers::cases(),
         third_way::cases(),
+        opening::cases(),
     ]
     .into_iter()
     .flatten()

@@ -2,6 +2,7 @@
 
 mod bench;
 mod differ;
+mod opening;
 mod program;
 mod scene;
 mod scenes;

@@ -56,12 +56,27 @@ impl Scene {
         self.rows('w', words);
     }
 
+    /// The pool's words become these, as many as there are: rows that are not so already.
+    pub fn pool_becomes(&mut self, words: &[u32]) {
+        for (row, part) in words.chunks(ROW).enumerate() {
+            let at = row * ROW;
+            if self.drive.words[at..at + part.len()] != *part {
+                self.row('w', at, part);
+            }
+        }
+    }
+
     /// Words in rows.
     fn rows(&mut self, letter: char, words: &[u32]) {
         for (row, part) in words.chunks(ROW).enumerate() {
-            let numbers: Vec<String> = part.iter().map(|word| word.to_string()).collect();
-            self.text(&format!("{letter} {} {}", row * ROW, numbers.join(" ")));
+            self.row(letter, row * ROW, part);
         }
+    }
+
+    /// One row of words.
+    fn row(&mut self, letter: char, at: usize, words: &[u32]) {
+        let numbers: Vec<String> = words.iter().map(|word| word.to_string()).collect();
+        self.text(&format!("{letter} {at} {}", numbers.join(" ")));
     }
 
     /// A call.

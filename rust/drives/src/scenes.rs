@@ -1,5 +1,5 @@
-//! Scenes by kind: long schedules from fresh pools, runs with words changed in the middle, and moments that no run
-//! reaches.
+//! Scenes by kind: long schedules from fresh pools, runs with words changed in the middle, pools that are opened, and moments that
+//! no run reaches.
 
 use draw::Random;
 use moments::{
@@ -10,6 +10,7 @@ use twin::{
 };
 use versus::spoiled;
 
+use crate::opening::{opening, raw_opening};
 use crate::scene::{call_line, Scene};
 
 /// A kind of scene.
@@ -33,12 +34,16 @@ pub enum Kind {
     Raw,
     /// Makings, in and out of range.
     Making,
+    /// A schedule whose pool is opened now and then, as it is or with something changed.
+    Opening,
+    /// Openings of drawn words.
+    RawOpening,
     /// Lines with something wrong.
     Lines,
 }
 
 /// All kinds, the weightier ones more than once.
-pub const KINDS: [Kind; 16] = [
+pub const KINDS: [Kind; 20] = [
     Kind::Fresh,
     Kind::Fresh,
     Kind::Fresh,
@@ -54,6 +59,10 @@ pub const KINDS: [Kind; 16] = [
     Kind::Limits,
     Kind::Raw,
     Kind::Making,
+    Kind::Opening,
+    Kind::Opening,
+    Kind::Opening,
+    Kind::RawOpening,
     Kind::Lines,
 ];
 
@@ -70,6 +79,8 @@ pub fn draw_scene(kind: Kind, random: &mut Random) -> Scene {
         Kind::Limits => many(random, 12, limits_scene),
         Kind::Raw => many(random, 12, raw_scene),
         Kind::Making => making(random),
+        Kind::Opening => opening(random),
+        Kind::RawOpening => raw_opening(random),
     }
 }
 
@@ -101,7 +112,7 @@ fn moment(scene: &mut Scene) -> Moment {
 }
 
 /// The next call: one of a schedule where the state is sound, otherwise any.
-fn next(random: &mut Random, draw: &Draw, scene: &mut Scene, at: usize) -> Call {
+pub(crate) fn next(random: &mut Random, draw: &Draw, scene: &mut Scene, at: usize) -> Call {
     let moment = moment(scene);
     let length = draw.n as usize * page_words(draw.k);
     let goes_on = is_sound(&moment.state)
@@ -155,7 +166,7 @@ fn schedule(random: &mut Random, spoils: Spoils) -> Scene {
 }
 
 /// A pool just made, over rubbish.
-fn fresh(random: &mut Random, draw: &Draw) -> Scene {
+pub(crate) fn fresh(random: &mut Random, draw: &Draw) -> Scene {
     let mut scene = Scene::new(draw.n as usize * page_words(draw.k), random.bits() as u32);
     let rubbish: Vec<u32> = (0..STATE).map(|_| random.below(20) as u32).collect();
     scene.state_words(&rubbish);

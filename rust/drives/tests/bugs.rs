@@ -4,6 +4,8 @@
 mod kinds;
 #[path = "bugs/like_readers.rs"]
 mod like_readers;
+#[path = "bugs/opening.rs"]
+mod opening;
 #[path = "bugs/third_way.rs"]
 mod third_way;
 
@@ -14,6 +16,7 @@ use drive_twin::{Calls, Twin};
 use drives::{cases, compare, draw_scene, smallest, Scene, KINDS};
 use kinds::{KindBug, KIND_BUGS, KIND_STATE_BUGS};
 use like_readers::{SecondBug, SECOND_BUGS, SECOND_STATE_BUGS};
+use opening::{NoBug, OpenBug, OPEN_BUGS};
 use third_way::{ThirdBug, THIRD_BUGS, THIRD_STATE_BUGS};
 use twin::row::{BESIDE, DEPTH, INFORMATION, KEY, KIND, LOCK, PATH, WANT};
 use twin::Way::First;
@@ -471,7 +474,7 @@ fn is_crossing(state: &[u32; STATE], words: &[u32], slot: usize) -> bool {
 
 /// Some scenes, the same for every bug.
 fn scenes() -> Vec<Scene> {
-    (0..28 * 12)
+    (0..28 * 20)
         .map(|seed: u64| {
             let kind = KINDS[(seed % KINDS.len() as u64) as usize];
             draw_scene(kind, &mut Random(seed))
@@ -511,6 +514,16 @@ fn each_bug_is_found() {
     for bug in THIRD_BUGS.into_iter().chain(THIRD_STATE_BUGS) {
         is_found(bug, &scenes);
     }
+    for bug in OPEN_BUGS {
+        is_found(bug, &scenes);
+    }
+}
+
+/// The check that the bugs of opening are put into is right without them.
+#[test]
+fn the_check_without_a_bug_is_the_twins() {
+    let program = || NoBug;
+    assert_eq!(compare(&program, &scenes()), None);
 }
 
 #[test]
@@ -548,4 +561,5 @@ fn a_case_of_the_documents_finds_each_shortcut() {
     SECOND_BUGS.into_iter().for_each(is_refuted::<SecondBug>);
     KIND_BUGS.into_iter().for_each(is_refuted::<KindBug>);
     THIRD_BUGS.into_iter().for_each(is_refuted::<ThirdBug>);
+    OPEN_BUGS.into_iter().for_each(is_refuted::<OpenBug>);
 }

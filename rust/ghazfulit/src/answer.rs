@@ -268,11 +268,15 @@ pub enum Refusal {
     Damaged,
     /// A report was asked for a page that the pool does not have.
     BadPage,
+    /// A pool was to be opened in which this page is the lowest that is not sound by itself.
+    BadPageInPool(u32),
+    /// A pool was to be opened whose pages are sound by themselves, but do not form the tree from page 0.
+    BadTree,
 }
 
 impl Refusal {
-    /// Each of them once.
-    const EACH: [Refusal; 7] = [
+    /// Each of them once, but the one that has a value.
+    const EACH: [Refusal; 8] = [
         Refusal::BadState,
         Refusal::BadPool,
         Refusal::BadSlot,
@@ -280,7 +284,18 @@ impl Refusal {
         Refusal::SlotIdle,
         Refusal::Damaged,
         Refusal::BadPage,
+        Refusal::BadTree,
     ];
+
+    /// The refusal of an answer, if it is one.
+    fn of(answer: Answer) -> Option<Refusal> {
+        let [number, page, ..] = answer;
+        if number == numbers::BAD_PAGE_IN_POOL {
+            return Some(Refusal::BadPageInPool(page));
+        }
+        let mut each = Refusal::EACH.into_iter();
+        each.find(|refusal| refusal.number() == number)
+    }
 
     /// The refusal's number.
     pub fn number(self) -> u32 {
@@ -292,13 +307,15 @@ impl Refusal {
             Refusal::SlotIdle => numbers::SLOT_IDLE,
             Refusal::Damaged => numbers::DAMAGED,
             Refusal::BadPage => numbers::BAD_PAGE,
+            Refusal::BadPageInPool(_) => numbers::BAD_PAGE_IN_POOL,
+            Refusal::BadTree => numbers::BAD_TREE,
         }
     }
 }
 
 impl Display for Refusal {
     fn fmt(&self, f: &mut Formatter) -> fmt::Result {
-        f.write_str(match self {
+        let text = match self {
             Refusal::BadState => "the state is not sound",
             Refusal::BadPool => "k, n or the number of words is out of range",
             Refusal::BadSlot => "the slot is above 15",
@@ -306,7 +323,10 @@ impl Display for Refusal {
             Refusal::SlotIdle => "the slot is closed",
             Refusal::Damaged => "the pages that the step would meet are not sound",
             Refusal::BadPage => "there is no such page",
-        })
+            Refusal::BadPageInPool(page) => return write!(f, "page {page} is not sound by itself"),
+            Refusal::BadTree => "the pages do not form a tree",
+        };
+        f.write_str(text)
     }
 }
 
@@ -362,22 +382,19 @@ pub struct Report {
     pub holders: u32,
 }
 
-/// The refusal of a number, if it is one.
-fn refusal(number: u32) -> Option<Refusal> {
-    let mut each = Refusal::EACH.into_iter();
-    each.find(|refusal| refusal.number() == number)
+/// Reads an answer that must be a refusal then.
+fn refused(answer: Answer) -> Refusal {
+    let refusal = Refusal::of(answer);
+    refusal.unwrap_or_else(|| {
+        panic!("the archive answers {answer:?}, which is not in its header for this call")
+    })
 }
 
-/// An answer that a call does not give.
-fn unheard(answer: Answer) -> ! {
-    panic!("the archive answers {answer:?}, which is not in its header for this call")
-}
-
-/// Reads the answer of a making or a beginning.
+/// Reads the answer of a making, an opening or a beginning.
 pub(crate) fn done(answer: Answer) -> Result<(), Refusal> {
     match answer[0] {
-        numbers::MADE | numbers::BEGUN => Ok(()),
-        number => Err(refusal(number).unwrap_or_else(|| unheard(answer))),
+        numbers::MADE | numbers::OPENED | numbers::BEGUN => Ok(()),
+        _ => Err(refused(answer)),
     }
 }
 
@@ -399,7 +416,7 @@ pub(crate) fn stepped(answer: Answer) -> Result<Step, Refusal> {
         },
         numbers::NO_LOT => Step::None,
         numbers::REGRADED => Step::Regraded(answer[1]),
-        number => return Err(refusal(number).unwrap_or_else(|| unheard(answer))),
+        _ => return Err(refused(answer)),
     })
 }
 
@@ -407,7 +424,7 @@ pub(crate) fn stepped(answer: Answer) -> Result<Step, Refusal> {
 pub(crate) fn reported(answer: Answer) -> Result<Report, Refusal> {
     let [number, kind, holders, lowest] = answer;
     if number != numbers::REPORTED {
-        return Err(refusal(number).unwrap_or_else(|| unheard(answer)));
+        return Err(refused(answer));
     }
     let mut each = Lock::EACH.into_iter();
     let held = each.find(|lock| lock.number() == kind);

@@ -5,6 +5,7 @@ use std::fmt::{self, Debug, Formatter};
 use crate::answer::{done, reported, stepped, Op, Refusal, Report, Step};
 use crate::lots::Lots;
 use crate::numbers::{LARGEST_K, LARGEST_N, VERSION};
+use crate::opening::NotOpened;
 use crate::pool_words;
 use crate::raw::{self, STATE};
 
@@ -67,6 +68,36 @@ impl Index<'static> {
         make(k, n, Words::Owned(vec![0; length]))
     }
 
+    /// The words of a pool that somebody hands in, say from a file: `n` pages of width `k`. They are opened exactly if they form the tree from
+    /// page 0, no page hangs in two places, and every other page is all zeros; who has written them does not matter. Every slot is closed then.
+    /// Words that are not opened come back as they were, with the refusal.
+    ///
+    /// ```
+    /// # use ghazfulit::{Index, NotOpened, Op, Refusal, Step};
+    /// let mut index = Index::new(1, 3)?;
+    /// index.begin(0, Op::insert(10, 7))?;
+    /// assert_eq!(index.step(0)?, Step::Inserted);
+    /// let saved = index.into_words();
+    /// // kept somewhere, and taken up again
+    /// let mut index = Index::open(1, 3, saved)?;
+    /// index.begin(0, Op::search(10))?;
+    /// assert_eq!(index.step(0)?, Step::Found(7));
+    /// // one word changed, in page 2
+    /// let mut words = index.into_words();
+    /// words[20] = 1;
+    /// let refused = Index::open(1, 3, words).unwrap_err();
+    /// assert_eq!(refused.refusal, Refusal::BadPageInPool(2));
+    /// assert_eq!(refused.to_string(), "page 2 is not sound by itself");
+    /// assert_eq!(refused.words[20], 1);
+    /// # Ok::<(), Refusal>(())
+    /// ```
+    pub fn open(k: u32, n: u32, words: Vec<u32>) -> Result<Index<'static>, NotOpened> {
+        match opened(k, n, &words) {
+            Ok(state) => Ok(Index::held(state, Words::Owned(words))),
+            Err(refusal) => Err(NotOpened { refusal, words }),
+        }
+    }
+
     /// Any state with any words of its own: what is not sound is refused call by call. Words that an archive of another version left may mean
     /// something else to this one.
     ///
@@ -101,6 +132,21 @@ impl<'w> Index<'w> {
         make(k, n, Words::Lent(words))
     }
 
+    /// Lent words opened as a pool, as [`Index::open`] does. Where they are refused, their lender has them as they were.
+    ///
+    /// ```
+    /// # use ghazfulit::{Index, Refusal};
+    /// let mut words = [1, 1, 10, 7, 0, 0, 0];
+    /// assert!(Index::open_over(1, 1, &mut words).is_ok());
+    /// words[0] = 2;
+    /// // a page above the leaves, and there is none below it
+    /// assert_eq!(Index::open_over(1, 1, &mut words).err(), Some(Refusal::BadPageInPool(0)));
+    /// ```
+    pub fn open_over(k: u32, n: u32, words: &'w mut [u32]) -> Result<Index<'w>, Refusal> {
+        let state = opened(k, n, words)?;
+        Ok(Index::held(state, Words::Lent(words)))
+    }
+
     /// Any state with any lent words: what is not sound is refused call by call.
     pub fn from_words(state: [u32; STATE], words: &'w mut [u32]) -> Index<'w> {
         Index::held(state, Words::Lent(words))
@@ -113,6 +159,12 @@ impl<'w> Index<'w> {
             Words::Lent(words) => words.to_vec(),
         };
         (self.state, words)
+    }
+
+    /// The words of the pool, to be kept and opened again ([`Index::open`]). What is open in a slot is not in them: it has done nothing to
+    /// the pages yet. Those of a pool that was lent are copied.
+    pub fn into_words(self) -> Vec<u32> {
+        self.into_parts().1
     }
 
     /// A state with words, held to the archive.
@@ -133,7 +185,8 @@ impl<'w> Index<'w> {
     }
 
     /// Steps a slot until its operation is answered, or has to wait for another slot: then `Waiting` is told, and the slot stays
-    /// open. It ends: no operation takes more than 29 locks, 10 of them before an update of the second way begins again.
+    /// open. It ends: no operation takes more than 38 steps that are granted, as a deletion by the third way may, with 19 locks and as many
+    /// conversions.
     ///
     /// ```
     /// # use ghazfulit::{Index, Op, Refusal, Step};
@@ -205,7 +258,7 @@ impl<'w> Index<'w> {
         &self.state
     }
 
-    /// The words of the pool.
+    /// The words of the pool; at any moment they could be opened ([`Index::open`]).
     pub fn words(&self) -> &[u32] {
         self.words.get()
     }
@@ -216,6 +269,14 @@ fn make(k: u32, n: u32, words: Words) -> Result<Index, Refusal> {
     let mut index = Index::held([0; STATE], words);
     done(raw::make(k, n, &mut index.state, index.words.get_mut()))?;
     Ok(index)
+}
+
+/// The state beside these words, if they are a pool.
+fn opened(k: u32, n: u32, words: &[u32]) -> Result<[u32; STATE], Refusal> {
+    hold_version(raw::version());
+    let mut state = [0; STATE];
+    done(raw::open(k, n, &mut state, words))?;
+    Ok(state)
 }
 
 /// Refuses an archive of another version than the header that this crate was built with.
@@ -236,7 +297,7 @@ mod tests {
     }
 
     #[test]
-    #[should_panic = "the archive is of version 1, and this crate of version 5"]
+    #[should_panic = "the archive is of version 1, and this crate of version 6"]
     fn another_version_is_refused() {
         hold_version(1);
     }

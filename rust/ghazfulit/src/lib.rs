@@ -79,6 +79,24 @@
 //! # Ok::<(), ghazfulit::Refusal>(())
 //! ```
 //!
+//! What the pool holds can be kept, and opened again: what is handed in is tested whole, and refused where it is not a tree of pages.
+//!
+//! ```
+//! use ghazfulit::{Index, Op, Refusal, Step};
+//!
+//! let mut index = Index::new(2, 64)?;
+//! index.begin(0, Op::insert(12, 3))?;
+//! index.finish(0)?;
+//! let mut words = index.into_words(); // to a file, say, and back
+//! let mut index = Index::open(2, 64, words.clone())?;
+//! index.begin(0, Op::search(12))?;
+//! assert_eq!(index.finish(0)?, Step::Found(3));
+//! words[1] = 7; // seven lots, and a page has room for four
+//! let refused = Index::open(2, 64, words).unwrap_err();
+//! assert_eq!(refused.refusal, Refusal::BadPageInPool(0)); // and `refused.words` are as they were
+//! # Ok::<(), Refusal>(())
+//! ```
+//!
 //! A refusal is an error, and leaves everything as it was:
 //!
 //! ```
@@ -97,11 +115,13 @@ mod answer;
 mod index;
 mod lots;
 pub mod numbers;
+mod opening;
 mod raw;
 
 pub use answer::{Lock, Op, Refusal, Report, Step, Way};
 pub use index::Index;
 pub use lots::{Lot, Lots, Stop};
+pub use opening::NotOpened;
 pub use raw::{ANSWER, STATE};
 
 /// How many slots there are.

@@ -20,6 +20,14 @@ pub mod archive {
             length: usize,
             answer: *mut u32,
         );
+        pub fn ghazfulit_open(
+            k: u32,
+            n: u32,
+            state: *mut u32,
+            words: *const u32,
+            length: usize,
+            answer: *mut u32,
+        );
         pub fn ghazfulit_begin(
             state: *mut u32,
             slot: u32,
@@ -50,6 +58,23 @@ pub fn make(k: u32, n: u32, state: &mut [u32; STATE], words: &mut [u32]) -> Answ
             n,
             state.as_mut_ptr(),
             words.as_mut_ptr(),
+            words.len(),
+            answer.as_mut_ptr(),
+        );
+    }
+    answer
+}
+
+/// Opens words as a pool.
+pub fn open(k: u32, n: u32, state: &mut [u32; STATE], words: &[u32]) -> Answer {
+    let mut answer = [0; ANSWER];
+    // SAFETY: as in `make`; the words of the pool are only read.
+    unsafe {
+        archive::ghazfulit_open(
+            k,
+            n,
+            state.as_mut_ptr(),
+            words.as_ptr(),
             words.len(),
             answer.as_mut_ptr(),
         );

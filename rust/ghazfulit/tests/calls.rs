@@ -128,6 +128,7 @@ fn a_c_compiler_reads_the_header_so() {
 #[derive(Clone, Copy)]
 enum Call {
     Make(u32, u32),
+    Open(u32, u32),
     Begin(u32, u32, u32),
     Step(u32),
     Report(u32),
@@ -138,6 +139,7 @@ impl Call {
     fn named(self) -> (&'static str, Option<u32>) {
         match self {
             Call::Make(..) => ("make", None),
+            Call::Open(..) => ("open", None),
             Call::Begin(slot, ..) => ("begin", Some(slot)),
             Call::Step(slot) => ("step", Some(slot)),
             Call::Report(_) => ("report", None),
@@ -179,6 +181,7 @@ impl Met {
         unsafe {
             match call {
                 Call::Make(k, n) => archive::ghazfulit_make(k, n, state, words, length, out),
+                Call::Open(k, n) => archive::ghazfulit_open(k, n, state, words, length, out),
                 Call::Begin(slot, kind, key) => {
                     archive::ghazfulit_begin(state, slot, kind, key, key + 1, out)
                 }
@@ -208,10 +211,23 @@ impl Met {
             self.words == words || row.changed.contains("the pool"),
             "{row:?}"
         );
+        let is_emptied = row.changed.contains("every word is 0");
+        assert!(!is_emptied || self.state == [0; STATE], "{row:?}");
         if let Some(slot) = slot.filter(|&slot| slot < SLOTS) {
             let (was_open, is_open) = (is_open(&state, slot), is_open(&self.state, slot));
             assert!(row.leaves_slot(was_open, is_open), "{row:?}");
         }
+    }
+
+    /// Openings of the words as they are, and with something wrong; all is put back.
+    fn openings(&mut self, k: u32, n: u32) {
+        self.spoiled(Call::Open(k, n), |_, _| {});
+        self.spoiled(Call::Open(k, n + 1), |_, _| {});
+        self.spoiled(Call::Open(k, n), |_, words| words[6] = 1 << 31);
+        // page 0 says one level more, which is no tree
+        self.spoiled(Call::Open(k, n), |_, words| {
+            words[0] += u32::from(words[0] > 1)
+        });
     }
 
     /// Makes a call on a state or pool with something wrong, and puts all back.
@@ -250,7 +266,8 @@ fn each_row_is_met_and_nothing_else() {
                 state[2] = 17
             }),
             3 => met.call(random.one(&[Call::Begin(SLOTS, kind, key), Call::Step(SLOTS)])),
-            4 => met.call(Call::Begin(slot, random.one(&[0, 9, 31, u32::MAX]), key)),
+            4 => met.call(Call::Begin(slot, random.one(&[0, 12, 31, u32::MAX]), key)),
+            5 => met.openings(k, n),
             _ => {}
         }
     }

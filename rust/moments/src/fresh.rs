@@ -42,7 +42,7 @@ pub fn draw(random: &mut Random) -> Draw {
 /// The next call of a schedule: mostly one that is granted, now and then an odd one.
 pub fn next_call(random: &mut Random, draw: &Draw, moment: &Moment, at: usize) -> Call {
     if random.percent(4) {
-        return odd_call(random, draw);
+        return odd_call(random, draw, moment);
     }
     let slot = random.below(draw.slots) as usize;
     let open = moment.open();
@@ -73,14 +73,18 @@ fn behind_leaf(random: &mut Random, moment: &Moment, op: Op) -> Op {
     }
 }
 
-/// A call that is likely refused, or a report.
-fn odd_call(random: &mut Random, draw: &Draw) -> Call {
+/// A call that is likely refused, or a report, half of them for a page that a slot holds.
+fn odd_call(random: &mut Random, draw: &Draw, moment: &Moment) -> Call {
     match random.below(4) {
         0 => Call::Step(random.below(18) as usize),
         1 => Call::Begin(
             random.below(18) as usize,
             operation(random, draw, true, &[]),
         ),
+        2 if moment.held().next().is_some() => {
+            let held: Vec<u32> = moment.held().collect();
+            Call::Report(random.one(&held))
+        }
         _ => Call::Report(random.below(u64::from(draw.n) + 2) as u32),
     }
 }

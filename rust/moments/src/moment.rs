@@ -61,6 +61,12 @@ impl Moment {
             .collect()
     }
 
+    /// The pages that the open slots of a sound state hold, as often as they are held.
+    pub fn held(&self) -> impl Iterator<Item = u32> + '_ {
+        let slots = self.state.slots.iter().filter(|slot| slot.op.is_some());
+        slots.flat_map(Slot::held)
+    }
+
     /// The slots that are open.
     pub fn open(&self) -> Vec<usize> {
         (0..16)

@@ -1,9 +1,14 @@
 //! The draws reach what they are for: long and broken second ways of a `Next`, regradings of every outcome, updates of the second way
-//! that end at their leaf or begin again, conversions with every outcome, and states that are refused for the kind of a lock alone.
+//! that end at their leaf or begin again, conversions with every outcome, states that are refused for the kind of a lock alone, and pools
+//! that are opened with every outcome.
+
+use std::collections::BTreeMap;
 
 use draw::Random;
-use moments::{built, draw, draw_calls, limits, made, spoiled_state, spoiled_words, Call, Moment};
-use twin::{is_sound, Answer, Lock, Op, Slot, State, Way};
+use moments::{
+    built, draw, draw_calls, handed, limits, made, spoiled_state, spoiled_words, Call, Moment,
+};
+use twin::{is_sound, open, Answer, Lock, Op, Slot, State, Way};
 
 /// A moment's slot that is stepped, and its answer.
 fn stepped((mut moment, calls): (Moment, Vec<Call>)) -> Option<(Slot, Answer)> {
@@ -274,5 +279,36 @@ fn states_around_conversions() {
             count(&|state| has_beside_alpha(state, lock)) > 5,
             "{lock:?}"
         );
+    }
+}
+
+/// How many pools that were changed are opened with each answer, by its name; those of three levels and more by themselves.
+fn opened_with(random: &mut Random) -> BTreeMap<(&'static str, bool), u32> {
+    let mut met = BTreeMap::new();
+    for _ in 0..300 {
+        let draw = draw(random);
+        let mut moment = made(draw.k, draw.n);
+        let calls = random.from(20, 300) as usize;
+        for call in draw_calls(random, &draw, &moment, 0, calls) {
+            moment.call(call);
+        }
+        for _ in 0..20 {
+            let words = handed(random, draw.k, draw.n, &moment.words);
+            if words != moment.words {
+                let (answer, _) = open(draw.k, draw.n, &words);
+                *met.entry((answer.name(), words[0] > 2)).or_default() += 1;
+            }
+        }
+    }
+    met
+}
+
+#[test]
+fn pools_that_are_handed_in() {
+    let met = opened_with(&mut Random(9));
+    for name in ["Opened", "BadTree", "BadPageInPool"] {
+        for is_tall in [false, true] {
+            assert!(met[&(name, is_tall)] > 100, "{name} {is_tall} {met:?}");
+        }
     }
 }

@@ -1,6 +1,8 @@
-//! How long a call takes, in nanoseconds: `rivals [RUNS [OPERATIONS [PICTURE]]]`.
+//! How long a call takes, in nanoseconds: `rivals [RUNS [OPERATIONS [PICTURE]]]`; or openings alone: `rivals open [RUNS]`.
 
+mod checking;
 mod layout;
+mod opening;
 mod pages;
 mod plot;
 mod proved;
@@ -14,6 +16,7 @@ use std::time::Instant;
 
 use ghazfulit::Way;
 use layout::{Columns, Structs};
+use opening::openings;
 use plot::{svg, Table};
 use proved::Proved;
 use rival::Rival;
@@ -100,6 +103,9 @@ fn medians(schedule: &Schedule, runs: usize, programs: &[Timed]) -> Vec<f64> {
 fn main() {
     let words: Vec<String> = args().skip(1).collect();
     let number = |i: usize| words.get(i).and_then(|word| word.parse().ok());
+    if words.first().is_some_and(|word| word == "open") {
+        return openings(number(1).unwrap_or(11));
+    }
     let runs = number(0).unwrap_or(5);
     let count = number(1).unwrap_or(100_000);
     println!("nanoseconds a call, medians of {runs} runs; nine searches to one update; same answers, same words");
@@ -125,6 +131,7 @@ fn main() {
         medians(&Schedule::draw(16, 1024, slots, count / 4, 3), runs, RIVALS)
     });
     by_way(runs, count);
+    openings(runs);
     if let Some(file) = words.get(2) {
         let names: Vec<&str> = RIVALS.iter().map(|(name, _)| *name).collect();
         write(file, svg(&[pages, slots], &names)).expect("the picture is written");

@@ -14,6 +14,33 @@ fn base(page: &[u32]) -> usize {
 /// The most words of a page with one pair too many.
 const SHEET: usize = 2 * 33 + 3;
 
+/// Whether the words of page p are sound by themselves.
+pub fn is_page_sound(page: &[u32], p: u32, k: usize, n: u32) -> bool {
+    let (level, count) = (page[0], page[1] as usize);
+    let least = match (p, level) {
+        (0, 1) => 0,
+        (0, _) => 1,
+        _ => k,
+    };
+    if !(1..=10).contains(&level) || count < least || count > 2 * k {
+        return false;
+    }
+    let start = base(page);
+    let (pairs, unused) = page[start..].split_at(2 * count);
+    let mut bad = unused.iter().fold(0, |all, &word| all | word) != 0;
+    for i in 1..count {
+        bad |= pairs[2 * i - 2] >= pairs[2 * i];
+    }
+    if bad || level == 1 {
+        return !bad;
+    }
+    let mut seen: Pages = [0; 16];
+    for &pointer in page[2..].iter().step_by(2).take(count + 1) {
+        bad |= pointer == 0 || pointer >= n || put(&mut seen, pointer);
+    }
+    !bad
+}
+
 /// A pool's words with the width of its pages.
 pub struct Pool<'w> {
     pub words: &'w mut [u32],
@@ -106,30 +133,7 @@ impl Pool<'_> {
 
     /// The test of a page by itself.
     pub fn is_page_sound(&self, p: u32, n: u32) -> bool {
-        let page = self.page(p);
-        let (level, count, k) = (page[0], page[1] as usize, self.k);
-        let least = match (p, level) {
-            (0, 1) => 0,
-            (0, _) => 1,
-            _ => k,
-        };
-        if !(1..=10).contains(&level) || count < least || count > 2 * k {
-            return false;
-        }
-        let start = base(page);
-        let (pairs, unused) = page[start..].split_at(2 * count);
-        let mut bad = unused.iter().fold(0, |all, &word| all | word) != 0;
-        for i in 1..count {
-            bad |= pairs[2 * i - 2] >= pairs[2 * i];
-        }
-        if bad || level == 1 {
-            return !bad;
-        }
-        let mut seen: Pages = [0; 16];
-        for &pointer in page[2..].iter().step_by(2).take(count + 1) {
-            bad |= pointer == 0 || pointer >= n || put(&mut seen, pointer);
-        }
-        !bad
+        is_page_sound(self.page(p), p, self.k, n)
     }
 
     /// The first free pages from a page on, at most so many.

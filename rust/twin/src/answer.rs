@@ -1,6 +1,6 @@
 //! What the caller hears: every answer and refusal, its name and its numbers.
 
-/// An answer or refusal of one of the four calls.
+/// An answer or refusal of one of the five calls.
 #[derive(Clone, Copy, Debug, PartialEq, Eq)]
 pub enum Answer {
     BadState,
@@ -10,6 +10,10 @@ pub enum Answer {
     SlotIdle,
     Damaged,
     BadPage,
+    /// The lowest page of a pool handed in that is not sound by itself.
+    BadPageInPool(u32),
+    /// Each page of it is, but they do not form the tree from page 0.
+    BadTree,
     /// A kind of operation that does not exist, where operations come as numbers.
     BadKind,
     Waiting,
@@ -32,11 +36,12 @@ pub enum Answer {
     None,
     /// The information that was there before.
     Regraded(u32),
+    Opened,
 }
 
 impl Answer {
     /// Every answer once, with values of 0.
-    const EACH: [Answer; 23] = [
+    const EACH: [Answer; 26] = [
         Answer::BadState,
         Answer::BadPool,
         Answer::BadSlot,
@@ -44,6 +49,8 @@ impl Answer {
         Answer::SlotIdle,
         Answer::Damaged,
         Answer::BadPage,
+        Answer::BadPageInPool(0),
+        Answer::BadTree,
         Answer::BadKind,
         Answer::Waiting,
         Answer::Moved,
@@ -60,6 +67,7 @@ impl Answer {
         Answer::Next(0, 0),
         Answer::None,
         Answer::Regraded(0),
+        Answer::Opened,
     ];
 
     /// The answer's number.
@@ -72,6 +80,8 @@ impl Answer {
             Answer::SlotIdle => 5,
             Answer::Damaged => 6,
             Answer::BadPage => 7,
+            Answer::BadPageInPool(_) => 9,
+            Answer::BadTree => 10,
             Answer::BadKind => 31,
             Answer::Waiting => 32,
             Answer::Moved => 33,
@@ -88,6 +98,7 @@ impl Answer {
             Answer::Next(..) => 44,
             Answer::None => 45,
             Answer::Regraded(_) => 46,
+            Answer::Opened => 47,
         }
     }
 
@@ -105,6 +116,7 @@ impl Answer {
             | Answer::AlreadyThere(information)
             | Answer::Deleted(information)
             | Answer::Regraded(information) => vec![information],
+            Answer::BadPageInPool(page) => vec![page],
             Answer::Reported(kind, holders, lowest) => vec![kind, holders, lowest],
             Answer::Next(key, information) => vec![key, information],
             _ => vec![],
@@ -132,6 +144,8 @@ impl Answer {
             Answer::SlotIdle => "SlotIdle",
             Answer::Damaged => "Damaged",
             Answer::BadPage => "BadPage",
+            Answer::BadPageInPool(_) => "BadPageInPool",
+            Answer::BadTree => "BadTree",
             Answer::BadKind => "BadKind",
             Answer::Waiting => "Waiting",
             Answer::Moved => "Moved",
@@ -148,6 +162,7 @@ impl Answer {
             Answer::Next(..) => "Next",
             Answer::None => "None",
             Answer::Regraded(_) => "Regraded",
+            Answer::Opened => "Opened",
         }
     }
 }

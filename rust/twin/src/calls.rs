@@ -1,22 +1,39 @@
-//! The four calls, with their refusals in the order of document 01.
+//! The five calls, with their refusals in the order of document 01.
 
 use crate::answer::Answer;
 use crate::grant::{grant, Outcome};
 use crate::locks::{lock_report, must_wait};
 use crate::op::{Op, Way};
+use crate::opening::checked;
 use crate::page::page_words;
 use crate::reach::Shape;
 use crate::state::{is_sound, Slot, State, SLOTS};
 
 /// Makes a fresh pool: every word 0 but page 0's level, 1.
 pub fn make(k: u32, n: u32, words: &mut [u32]) -> (Answer, State) {
-    let is_in_range = (1..=16).contains(&k) && (1..=1024).contains(&n);
-    if !is_in_range || words.len() != n as usize * page_words(k) {
+    if !is_pool(k, n, words) {
         return (Answer::BadPool, State::empty(0, 0));
     }
     words.fill(0);
     words[0] = 1;
     (Answer::Made, State::empty(k, n))
+}
+
+/// Opens words that somebody hands in as a pool; they are only read.
+pub fn open(k: u32, n: u32, words: &[u32]) -> (Answer, State) {
+    if !is_pool(k, n, words) {
+        return (Answer::BadPool, State::empty(0, 0));
+    }
+    match checked(k, n, words) {
+        Answer::Opened => (Answer::Opened, State::empty(k, n)),
+        refusal => (refusal, State::empty(0, 0)),
+    }
+}
+
+/// Whether k and N are in range, and there are as many words as they ask for.
+fn is_pool(k: u32, n: u32, words: &[u32]) -> bool {
+    let is_in_range = (1..=16).contains(&k) && (1..=1024).contains(&n);
+    is_in_range && words.len() == n as usize * page_words(k)
 }
 
 /// Begins an operation in a closed slot: it wants page 0.

@@ -1,4 +1,4 @@
-//! The state as lent 32-bit words, in columns, and the four calls over it.
+//! The state as lent 32-bit words, in columns, and the five calls over it.
 //!
 //! | words | what |
 //! |---|---|
@@ -152,6 +152,13 @@ fn leaves_all(answer: Answer) -> bool {
 pub fn make_lent(k: u32, n: u32, state: &mut [u32; STATE], words: &mut [u32]) -> Answer {
     let (answer, made) = calls::make(k, n, words);
     *state = words_of(&made);
+    answer
+}
+
+/// Opens words as a pool; every word of the state is written, also when it refuses.
+pub fn open_lent(k: u32, n: u32, state: &mut [u32; STATE], words: &[u32]) -> Answer {
+    let (answer, opened) = calls::open(k, n, words);
+    *state = words_of(&opened);
     answer
 }
 

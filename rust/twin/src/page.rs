@@ -168,6 +168,11 @@ pub fn write_page(words: &mut [u32], k: u32, number: u32, page: &Page) {
     }
 }
 
+/// Whether all words of a page are 0, as those of a free page are.
+pub fn is_zero_page(words: &[u32], k: u32, number: u32) -> bool {
+    part(words, k, number).iter().all(|&word| word == 0)
+}
+
 /// Frees a page: all its words become 0.
 pub fn zero_page(words: &mut [u32], k: u32, number: u32) {
     let start = number as usize * page_words(k);

@@ -3,10 +3,10 @@
 use std::iter::Peekable;
 use std::vec::IntoIter;
 
-use twin::{begin, make, page_words, report, step, Answer, Lock, Op, Slot, State, Way};
+use twin::{begin, make, open, page_words, report, step, Answer, Lock, Op, Slot, State, Way};
 
 /// The proved tables; a name may be defined in another one than it is used in.
-const TABLES: [&str; 9] = [
+const TABLES: [&str; 10] = [
     include_str!("../../../crates/promises/specs/Bench.antt"),
     include_str!("../../../crates/promises/specs/MoreRows.antt"),
     include_str!("../../../crates/promises/specs/LongRun.antt"),
@@ -16,6 +16,7 @@ const TABLES: [&str; 9] = [
     include_str!("../../../crates/promises/specs/DamageRows.antt"),
     include_str!("../../../crates/promises/specs/SecondRows.antt"),
     include_str!("../../../crates/promises/specs/ThirdRows.antt"),
+    include_str!("../../../crates/promises/specs/OpenRows.antt"),
 ];
 
 /// What an expression of a table stands for.
@@ -29,6 +30,7 @@ enum Value {
     List(Vec<Value>),
     State(Box<State>),
     Told(Box<Told>),
+    Left(Box<Left>),
     Row(Vec<Value>, Vec<Value>),
 }
 use Value::{List, Number};
@@ -40,9 +42,18 @@ enum Call {
     Report(u32),
 }
 
-/// A state and the pool's words.
+/// A state and the pool's words, and what was answered on the way there.
 #[derive(Clone, Debug, PartialEq)]
 struct Told {
+    heard: Vec<Value>,
+    state: State,
+    words: Vec<u32>,
+}
+
+/// What an opening answers and leaves.
+#[derive(Clone, Debug, PartialEq)]
+struct Left {
+    answer: Answer,
     state: State,
     words: Vec<u32>,
 }
@@ -52,7 +63,17 @@ impl Told {
     fn fresh(n: u32) -> Told {
         let mut words = vec![9; n as usize * page_words(1)];
         let (_, state) = make(1, n, &mut words);
-        Told { state, words }
+        Told::of(state, words)
+    }
+
+    /// Before any call.
+    fn of(state: State, words: Vec<u32>) -> Told {
+        let heard = Vec::new();
+        Told {
+            heard,
+            state,
+            words,
+        }
     }
 
     fn answer(&mut self, call: &Value) -> Answer {
@@ -68,7 +89,8 @@ impl Told {
 
     fn answers(&mut self, calls: &[Value]) -> Vec<Value> {
         let answers = calls.iter().map(|call| Value::Answer(self.answer(call)));
-        answers.collect()
+        self.heard = answers.collect();
+        self.heard.clone()
     }
 }
 
@@ -109,21 +131,36 @@ fn expression(tokens: &mut Tokens) -> Value {
     }
 }
 
-/// A name with its arguments, or a value that stands alone; `.words` takes them out of what is told.
+/// A name with its arguments, or a value that stands alone, and what is taken out of it.
 fn application(tokens: &mut Tokens) -> Value {
     let head = tokens.next().expect("an expression");
-    let value = match standing_alone(&head, tokens) {
+    let mut value = match standing_alone(&head, tokens) {
         Some(value) => value,
         None => applied(&head, &arguments(tokens)),
     };
-    match tokens.next_if_eq(".words") {
-        Some(_) => words(&told(&value).words),
-        None => value,
+    while let Some(field) = tokens.next_if(|token| token.starts_with('.')) {
+        value = taken(&value, &field);
+    }
+    value
+}
+
+/// A part of a value, by its name behind the point.
+fn taken(value: &Value, field: &str) -> Value {
+    match (value, field) {
+        (Value::Left(left), ".answer") => Value::Answer(left.answer),
+        (Value::Left(left), ".state") => Value::State(Box::new(left.state)),
+        (Value::Left(left), ".words") => words(&left.words),
+        (Value::Told(told), ".state") => Value::State(Box::new(told.state)),
+        (Value::Told(told), ".words") => words(&told.words),
+        (Value::State(state), ".k") => Number(state.k),
+        (Value::State(state), ".n") => Number(state.n),
+        _ => panic!("{value:?} has no {field}"),
     }
 }
 
 fn arguments(tokens: &mut Tokens) -> Vec<Value> {
-    let is_end = |token: &String| [")", "∷", "++", ".words"].contains(&token.as_str());
+    let is_end =
+        |token: &String| [")", "∷", "++"].contains(&token.as_str()) || token.starts_with('.');
     let mut arguments = Vec::new();
     while let Some(token) = tokens.next_if(|token| !is_end(token)) {
         let value = standing_alone(&token, tokens);
@@ -177,6 +214,11 @@ fn answer(name: &str, arguments: &[Value]) -> Option<Value> {
         ("NoLot", []) => Answer::None,
         ("Damaged", []) => Answer::Damaged,
         ("BadState", []) => Answer::BadState,
+        ("BadPool", []) => Answer::BadPool,
+        ("SlotIdle", []) => Answer::SlotIdle,
+        ("Opened", []) => Answer::Opened,
+        ("BadPageInPool", [Number(page)]) => Answer::BadPageInPool(*page),
+        ("BadTree", []) => Answer::BadTree,
         _ => return None,
     };
     Some(Value::Answer(answer))
@@ -236,16 +278,36 @@ fn place(name: &str, arguments: &[Value]) -> Option<Value> {
     Some(match (name, arguments) {
         ("idleState", [Number(k), Number(n)]) => Value::State(Box::new(State::empty(*k, *n))),
         ("slotOpen", [Number(n), Value::Op(op), Number(want), path, beside]) => {
-            let slot = open(*op, *want, &numbers(path), &numbers(beside));
-            opened(*n, &[slot])
+            let slot = open_slot(*op, *want, &numbers(path), &numbers(beside));
+            state_with(*n, &[slot])
         }
         ("slotWanting", [Number(n), Value::Op(op), Number(want), Number(lock), path, beside]) => {
-            let slot = open(*op, *want, &numbers(path), &numbers(beside));
-            opened(*n, &[slot.wanting(Lock::of(*lock))])
+            let slot = open_slot(*op, *want, &numbers(path), &numbers(beside));
+            state_with(*n, &[slot.wanting(Lock::of(*lock))])
         }
         ("ran", [List(_), Value::State(state), words]) => {
-            let (state, words) = (**state, numbers(words));
-            Value::Told(Box::new(Told { state, words }))
+            Value::Told(Box::new(Told::of(**state, numbers(words))))
+        }
+        ("run", [List(calls), Value::State(state), words]) => {
+            let mut told = Told::of(**state, numbers(words));
+            told.answers(calls);
+            Value::Told(Box::new(told))
+        }
+        ("heardIn", [Value::Told(told)]) => List(told.heard.clone()),
+        ("opened", [Number(k), Number(n), words]) => {
+            let words = numbers(words);
+            let (answer, state) = open(*k, *n, &words);
+            Value::Left(Box::new(Left {
+                answer,
+                state,
+                words,
+            }))
+        }
+        ("handed", [_, _, _]) => taken(&applied("opened", arguments), ".answer"),
+        ("from", [n, words]) => {
+            let opened = applied("opened", &[Number(1), n.clone(), words.clone()]);
+            let (state, words) = (taken(&opened, ".state"), taken(&opened, ".words"));
+            applied("ran", &[List(Vec::new()), state, words])
         }
         ("pool", [Number(n), List(calls)]) => {
             let mut told = Told::fresh(*n);
@@ -279,17 +341,17 @@ fn place(name: &str, arguments: &[Value]) -> Option<Value> {
             applied("answers", &[from, read("report 5 ∷ []")])
         }
         ("together", [Value::Op(one), Value::Op(other)]) => {
-            let slots = [(one, 1), (other, 2)].map(|(op, want)| open(*op, want, &[5], &[]));
+            let slots = [(one, 1), (other, 2)].map(|(op, want)| open_slot(*op, want, &[5], &[]));
             look_at_five(&slots)
         }
         ("carried", [Value::Op(op), path, locks, beside, sidelocks]) => {
-            let mut slot = open(*op, 6, &numbers(path), &numbers(beside));
+            let mut slot = open_slot(*op, 6, &numbers(path), &numbers(beside));
             lay(locks, &mut slot.path_locks);
             lay(sidelocks, &mut slot.sibling_locks);
             look_at_five(&[slot])
         }
         ("carriedOne", [Value::Op(op), Number(lock)]) => {
-            let slot = open(*op, 6, &[5], &[]);
+            let slot = open_slot(*op, 6, &[5], &[]);
             look_at_five(&[slot.holding(Lock::of(*lock))])
         }
         ("meets", [Value::Op(held), Value::Op(wanted)]) => {
@@ -309,7 +371,7 @@ fn place(name: &str, arguments: &[Value]) -> Option<Value> {
         }
         ("standsWith", [Value::Op(op), Number(want), Number(lock), held @ ..]) => {
             let slot = holding(*op, *want, Lock::of(*lock), held);
-            let from = [List(Vec::new()), opened(7, &[slot]), read("tensWords")];
+            let from = [List(Vec::new()), state_with(7, &[slot]), read("tensWords")];
             applied("ran", &from)
         }
         ("looked", [Value::Op(op), Number(want), Number(lock), held @ ..]) => {
@@ -318,7 +380,7 @@ fn place(name: &str, arguments: &[Value]) -> Option<Value> {
         ("sharing", [Value::Op(one), Number(its), Value::Op(other), Number(theirs)]) => {
             let slots = [(one, 1, its), (other, 2, theirs)];
             let slots = slots.map(|(op, want, lock)| {
-                let slot = open(*op, want, &[5], &[]);
+                let slot = open_slot(*op, want, &[5], &[]);
                 slot.holding(Lock::of(*lock))
             });
             look_at_five(&slots)
@@ -379,7 +441,7 @@ fn open_in(n: u32, operation: Value, [want, path, beside]: [&Value; 3], words: V
 }
 
 /// An open slot that wants with the kind under which it holds. It may be said to hold more than its cells can name.
-fn open(op: Op, want: u32, path: &[u32], beside: &[u32]) -> Slot {
+fn open_slot(op: Op, want: u32, path: &[u32], beside: &[u32]) -> Slot {
     let mut slot = Slot::open(op, want, &path[..path.len().min(10)], beside);
     slot.depth = path.len();
     slot
@@ -390,7 +452,7 @@ fn holding(op: Op, want: u32, lock: Lock, held: &[Value]) -> Slot {
     let [path, locks, beside, sidelocks] = held else {
         panic!("{held:?} is not held")
     };
-    let mut slot = open(op, want, &numbers(path), &numbers(beside)).wanting(lock);
+    let mut slot = open_slot(op, want, &numbers(path), &numbers(beside)).wanting(lock);
     lay(locks, &mut slot.path_locks);
     lay(sidelocks, &mut slot.sibling_locks);
     slot
@@ -405,12 +467,12 @@ fn lay(locks: &Value, cells: &mut [Lock]) {
 
 /// What a report for page 5 says of three levels, in which these slots are open.
 fn look_at_five(slots: &[Slot]) -> Value {
-    let from = [List(Vec::new()), opened(7, slots), read("tensWords")];
+    let from = [List(Vec::new()), state_with(7, slots), read("tensWords")];
     applied("answers", &[applied("ran", &from), read("report 5 ∷ []")])
 }
 
 /// A state in which these slots are open, from slot 0 on, the lower one's want older.
-fn opened(n: u32, slots: &[Slot]) -> Value {
+fn state_with(n: u32, slots: &[Slot]) -> Value {
     let mut state = State::empty(1, n);
     for (number, slot) in slots.iter().enumerate() {
         state.slots[number] = *slot;
@@ -462,6 +524,7 @@ fn every_row_is_heard() {
         ("damageRows", 58),
         ("secondRows", 87),
         ("thirdRows", 68),
+        ("openRows", 33),
     ] {
         let rows = list(&defined(name).expect("it is there"));
         assert_eq!(rows.len(), length, "{name}");
@@ -471,5 +534,34 @@ fn every_row_is_heard() {
                 _ => panic!("{row:?} is no row"),
             }
         }
+    }
+}
+
+/// How an opening is written in a table, and a run from there.
+#[test]
+fn an_opening_is_read() {
+    let e = "(2 ∷ 1 ∷ 1 ∷ 20 ∷ 2 ∷ 0 ∷ 0 ∷ 1 ∷ 1 ∷ 10 ∷ 7 ∷ 0 ∷ 0 ∷ 0 ∷ 1 ∷ 2 ∷ 20 ∷ 7 ∷ 30 ∷ 7 ∷ 0 ∷ [])";
+    let opened = format!("opened 1 3 {e}");
+    let fresh = "opened 1 1 (1 ∷ 0 ∷ 0 ∷ 0 ∷ 0 ∷ 0 ∷ 0 ∷ [])";
+    let run = format!("run (runs 0 (Search 20) 2) ({opened} .state) ({opened} .words)");
+    for (given, said) in [
+        (format!("heard ({opened} .answer)"), "heard Opened"),
+        (
+            format!("{opened} .state .k ∷ {opened} .state .n ∷ []"),
+            "1 ∷ 3 ∷ []",
+        ),
+        (format!("heardIn ({run})"), "Begun ∷ Moved ∷ Found 7 ∷ []"),
+        (format!("answers ({run}) (step 0 ∷ [])"), "SlotIdle ∷ []"),
+        (format!("heard ({fresh} .answer)"), "heard Opened"),
+        (format!("opened 1 4 {e} .answer"), "BadPool"),
+        ("opened 1 1 [] .answer".to_string(), "BadPool"),
+        (
+            fresh.replace("1 ∷ 0", "0 ∷ 0") + " .answer",
+            "heard (BadPageInPool 0)",
+        ),
+        (opened.replace("10", "20") + " .answer", "BadTree"),
+        (opened.replace("10", "20") + " .state .n", "0"),
+    ] {
+        assert_eq!(read(&given), read(said), "{given}");
     }
 }

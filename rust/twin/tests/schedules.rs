@@ -1,4 +1,4 @@
-//! Long random schedules from fresh pools, with all the demands checked on the way.
+//! Long random schedules from fresh pools, which are opened anew now and then, with all the demands checked on the way.
 
 mod common;
 
@@ -84,6 +84,10 @@ fn schedule(random: &mut Random, draw: &Draw) -> Run {
         }
         if call % draw.check_every == 0 {
             run.check();
+        }
+        // whatever is open then ends, and the list goes on
+        if call % 700 == 699 {
+            run.reopen();
         }
     }
     run.finish();

@@ -10,8 +10,8 @@ use std::collections::BTreeMap;
 
 use twin::Way::{self, First, Second, Third};
 use twin::{
-    begin, free_pages, make, must_wait, page_words, read_page, report, step, Answer, Lock, Op,
-    State,
+    begin, free_pages, make, must_wait, open, page_words, read_page, report, step, Answer, Lock,
+    Op, State,
 };
 
 /// The way of an open slot that updates.
@@ -30,7 +30,7 @@ fn clash(one: Lock, other: Lock) -> bool {
     !are_rho && !with_alpha.contains(&(one, other))
 }
 
-/// A run from a fresh pool, with the sorted list beside it.
+/// A run from a fresh pool or from one that is opened, with the sorted list beside it.
 pub struct Run {
     pub k: u32,
     pub n: u32,
@@ -86,6 +86,16 @@ impl Run {
             behind: 0,
             held_up: 0,
         }
+    }
+
+    /// Opens the words as they are, which ends the run and starts another: every slot is closed, and the sorted list begins with the
+    /// entries that are there.
+    pub fn reopen(&mut self) {
+        let (answer, state) = open(self.k, self.n, &self.words);
+        assert_eq!(answer, Answer::Opened);
+        assert_eq!(state, State::empty(self.k, self.n));
+        self.state = state;
+        self.check();
     }
 
     /// Begins, and looks only at the slot begun.
@@ -378,6 +388,8 @@ impl Run {
         for (part, seen) in self.words.chunks(page_words(self.k)).zip(seen) {
             assert!(seen || part.iter().all(|&word| word == 0));
         }
+        // so that it could be opened
+        assert_eq!(open(self.k, self.n, &self.words).0, Answer::Opened);
     }
 
     /// One page of the tree: its keys lie from `least` to below `limit`.

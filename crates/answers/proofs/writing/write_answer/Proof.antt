@@ -2,7 +2,7 @@
 use mathlib.Core.Path.{refl}
 use native.Mathlib.Omega.{arith}
 use lib.Dec.{lit≤}
-use Rattle.slots.specs.declared.Answer.the-variants.{Waiting, Moved, Found, NotFound, Inserted, AlreadyThere, Deleted, NoSuchKey, NoRoom, Begun, Made, Reported, Next, None, Regraded, BadState, BadPool, BadSlot, SlotBusy, SlotIdle, Damaged, BadPage}
+use Rattle.slots.specs.declared.Answer.the-variants.{Waiting, Moved, Found, NotFound, Inserted, AlreadyThere, Deleted, NoSuchKey, NoRoom, Begun, Made, Reported, Next, None, Regraded, BadState, BadPool, BadSlot, SlotBusy, SlotIdle, Damaged, BadPage, Opened, BadPageInPool, BadTree}
 use Rattle.lines.specs.Text.{bytes}
 use Rattle.answers.proofs.Answers.{answered, informed-short, next-short, room}
 use Rattle.answers.proofs.writing.write_answer.Statement.{statement}
@@ -206,6 +206,33 @@ slice-aggregate-write-value-4 c = refl
 write-value-requires-4 : tie.Need-write-value-requires-4
 write-value-requires-4 c κs = omega (arith, c .before .before .before .before .before .before .pre)
 
+enum-told-18 : tie.Need-enum-told-18
+enum-told-18 c = c .match .keys23
+
+slice-aggregate-write-word-18 : tie.Need-slice-aggregate-write-word-18
+slice-aggregate-write-word-18 c = refl
+
+write-word-requires-18 : tie.Need-write-word-requires-18
+write-word-requires-18 c κs = room _ _ (c .before .before .before .before .before .pre) (lit≤ tt)
+
+enum-known-a-6 : tie.Need-enum-known-a-6
+enum-known-a-6 c = c .match .keys24
+
+slice-aggregate-write-value-5 : tie.Need-slice-aggregate-write-value-5
+slice-aggregate-write-value-5 c = refl
+
+write-value-requires-5 : tie.Need-write-value-requires-5
+write-value-requires-5 c κs = omega (arith, c .before .before .before .before .before .before .pre)
+
+enum-told-19 : tie.Need-enum-told-19
+enum-told-19 c = c .match .keys25
+
+slice-aggregate-write-word-19 : tie.Need-slice-aggregate-write-word-19
+slice-aggregate-write-word-19 c = refl
+
+write-word-requires-19 : tie.Need-write-word-requires-19
+write-word-requires-19 c κs = room _ _ (c .before .before .before .before .before .pre) (lit≤ tt)
+
 same-length : tie.Need-same-length
 same-length c = c .before .before .write-word .kept .0
 
@@ -349,6 +376,26 @@ returns-22 c =
     let v = c .before .before .before .before .before .before .a5 .given .0 .0 in
     answered (Regraded v) (c .before .before .before .before .before .before .before .before .before .args .out .now) (c .before .before .before .before .before .before .before .before .before .args .at) (c .before .before .before .before .before .before .a5 .given .1) (c .before .before .write-value4 .ensures) (informed-short (bytes "Regraded ") v (lit≤ tt) (omega arith))
 
+same-length-23 : tie.Need-same-length-23
+same-length-23 c = c .before .before .write-word18 .kept .0
+
+returns-23 : tie.Need-returns-23
+returns-23 c = answered Opened (c .before .before .before .before .before .before .before .before .args .out .now) (c .before .before .before .before .before .before .before .before .args .at) (c .before .before .before .before .before .enum-told18 .given .1) (c .before .before .write-word18 .ensures) (lit≤ tt)
+
+same-length-24 : tie.Need-same-length-24
+same-length-24 c = c .before .before .write-value5 .kept .0
+
+returns-24 : tie.Need-returns-24
+returns-24 c =
+    let v = c .before .before .before .before .before .before .a6 .given .0 .0 in
+    answered (BadPageInPool v) (c .before .before .before .before .before .before .before .before .before .args .out .now) (c .before .before .before .before .before .before .before .before .before .args .at) (c .before .before .before .before .before .before .a6 .given .1) (c .before .before .write-value5 .ensures) (informed-short (bytes "BadPageInPool ") v (lit≤ tt) (omega arith))
+
+same-length-25 : tie.Need-same-length-25
+same-length-25 c = c .before .before .write-word19 .kept .0
+
+returns-25 : tie.Need-returns-25
+returns-25 c = answered BadTree (c .before .before .before .before .before .before .before .before .args .out .now) (c .before .before .before .before .before .before .before .before .args .at) (c .before .before .before .before .before .enum-told19 .given .1) (c .before .before .write-word19 .ensures) (lit≤ tt)
+
 pub write-answer-spec : {M : Type 1} → statement M
 write-answer-spec =
     tie.close
@@ -419,6 +466,15 @@ write-answer-spec =
     enum-known-a-5
     slice-aggregate-write-value-4
     write-value-requires-4
+    enum-told-18
+    slice-aggregate-write-word-18
+    write-word-requires-18
+    enum-known-a-6
+    slice-aggregate-write-value-5
+    write-value-requires-5
+    enum-told-19
+    slice-aggregate-write-word-19
+    write-word-requires-19
     same-length
     returns
     same-length-2
@@ -462,4 +518,10 @@ write-answer-spec =
     same-length-21
     returns-21
     same-length-22
-    returns-22)
+    returns-22
+    same-length-23
+    returns-23
+    same-length-24
+    returns-24
+    same-length-25
+    returns-25)

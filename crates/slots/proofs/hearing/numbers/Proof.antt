@@ -76,6 +76,15 @@ enum-told-16 c = search needs
 enum-known-answer-6 : tie.Need-enum-known-answer-6
 enum-known-answer-6 c = search needs
 
+enum-told-17 : tie.Need-enum-told-17
+enum-told-17 c = search needs
+
+enum-known-answer-7 : tie.Need-enum-known-answer-7
+enum-known-answer-7 c = search needs
+
+enum-told-18 : tie.Need-enum-told-18
+enum-told-18 c = search needs
+
 returns : tie.Need-returns
 returns c = sym (ap numbersOf (c .enum-told .given .1))
 
@@ -144,6 +153,15 @@ returns-21 c = sym (ap numbersOf (c .enum-told16 .given .1))
 returns-22 : tie.Need-returns-22
 returns-22 c = sym (ap numbersOf (c .before .answer6 .given .1))
 
+returns-23 : tie.Need-returns-23
+returns-23 c = sym (ap numbersOf (c .enum-told17 .given .1))
+
+returns-24 : tie.Need-returns-24
+returns-24 c = sym (ap numbersOf (c .before .answer7 .given .1))
+
+returns-25 : tie.Need-returns-25
+returns-25 c = sym (ap numbersOf (c .enum-told18 .given .1))
+
 pub numbers-spec : {M : Type 1} → statement M
 numbers-spec =
     tie.close
@@ -171,6 +189,9 @@ numbers-spec =
     enum-known-answer-5
     enum-told-16
     enum-known-answer-6
+    enum-told-17
+    enum-known-answer-7
+    enum-told-18
     returns
     returns-2
     returns-3
@@ -192,4 +213,7 @@ numbers-spec =
     returns-19
     returns-20
     returns-21
-    returns-22)
+    returns-22
+    returns-23
+    returns-24
+    returns-25)
