@@ -210,7 +210,7 @@ hangs-hangs-requires : (t : ℕ) → hangs-lts.Need-hangs-requires (
 ) (hangs-at t) hangs.Post hangs-Inv-loop hangs-μ-loop
 hangs-hangs-requires t c κs =
     let d = c .before .before .before .before .loop .inv in
-    (omega (arith, d .above, c .before .before .before .before .before .before .before .before .before .before .before .before .before .before .pre .0), (child-walk d (c .before .pointer-of .result) (c .before .pointer-of .ensures) (omega arith), (omega (arith, d .above), d .bottom, c .before .before .end-of .ensures .1, d .room)))
+    (omega (arith, d .above, c .before .before .before .before .before .before .before .before .before .before .before .before .before .before .pre .0), (child-walk d (c .before .pointer-of .result) (c .before .pointer-of .ensures) (omega arith), (omega (arith, d .above), d .bottom, omega (arith, d .top, c .before .before .end-of .ensures .1), d .room)))
 
 hangs-same-length-3 : (t : ℕ) → hangs-lts.Need-same-length-3 (
   meet-reads.Asked,
