@@ -1,7 +1,7 @@
-/* Two buyers on one list: the house enters a lot while a buyer looks for it, and then downgrades it while one does. Then all lots are listed,
- * each by a question of its own. At the end the house enters a lot by the second way, and a buyer is on the top page with it; then one by
- * the third, and waits only to change what a buyer still reads. Last, the words of the pool are kept and opened again, as they are and with one
- * of them changed. Writes each answer by its number. */
+/* Two buyers on one list: the house enters a lot while a buyer looks for it, and then downgrades it while one does. Then it scans a blank tag,
+ * which is refused, and all lots are listed, each by a question of its own. At the end the house enters a lot by the second way, and a buyer is
+ * on the top page with it; then one by the third, and waits only to change what a buyer still reads. Last, the words of the pool are kept and
+ * opened again, as they are and with one of them changed. Writes each answer by its number. */
 #include <stdio.h>
 #include <string.h>
 
@@ -23,6 +23,7 @@ static void say(const char *what, const uint32_t *answer) {
     case GHAZFULIT_FOUND: printf("%s: Found %u\n", what, (unsigned)answer[1]); break;
     case GHAZFULIT_REGRADED: printf("%s: Regraded %u\n", what, (unsigned)answer[1]); break;
     case GHAZFULIT_OPENED: printf("%s: Opened\n", what); break;
+    case GHAZFULIT_BAD_KEY: printf("%s: BadKey\n", what); break;
     case GHAZFULIT_BAD_PAGE_IN_POOL: printf("%s: BadPageInPool %u\n", what, (unsigned)answer[1]); break;
     case GHAZFULIT_NEXT_LOT: printf("%s: Next %u %u\n", what, (unsigned)answer[1], (unsigned)answer[2]); break;
     case GHAZFULIT_REPORTED:
@@ -119,11 +120,13 @@ int main(void) {
     say("page 0", answer);
     step(1);
     begin(2, 12, 12, 0);
+    /* lot number 0 is that of a blank tag */
+    begin(0, GHAZFULIT_INSERT, 0, 3);
     for (uint32_t i = 1; i <= 6; i++) {
         ghazfulit_begin(state, 0, GHAZFULIT_INSERT, 10 * i, i, answer);
         finish(0, answer);
     }
-    list(11);
+    list(0);
     begin(0, GHAZFULIT_INSERT_SECOND, 35, 4);
     begin(1, GHAZFULIT_SEARCH, 12, 0);
     step(0);

@@ -38,15 +38,18 @@ impl Server {
         }
     }
 
-    /// Gives each free slot a request, oldest first.
+    /// Gives each free slot a request, oldest first. Who has scanned a blank tag is told so, and the slot takes the next one.
     fn admit(&mut self, slots: usize) -> Result<(), Refusal> {
         for slot in 0..slots {
-            if self.open[slot].is_none() {
+            while self.open[slot].is_none() {
                 let Some(request) = self.requests.pop_front() else {
                     return Ok(());
                 };
-                self.index.begin(slot as u32, request.op)?;
-                self.open[slot] = Some(request);
+                match self.index.begin(slot as u32, request.op) {
+                    Ok(()) => self.open[slot] = Some(request),
+                    Err(Refusal::BadKey) => println!("{}: {}", request.who, Refusal::BadKey),
+                    Err(refusal) => return Err(refusal),
+                }
             }
         }
         Ok(())
@@ -116,12 +119,12 @@ fn look(who: &'static str, key: u32) -> Request {
 }
 
 /// The house enters fourteen lots; then it enters one more while buyers look for the last of them, and one for what follows: they wait for it
-/// at the top page. At last it downgrades that lot while two look for it, and goes the second way, so that they meet it on the leaf alone: one
+/// at the top page. A fifth buyer has scanned a blank tag. At last it downgrades that lot while two look for it, and goes the second way, so that they meet it on the leaf alone: one
 /// finds the lot as it was, one as it is, and nobody misses it.
 fn first_day(server: &mut Server) -> Result<(), Refusal> {
     server.requests.extend((1..15).map(|i| enter(10 * i, 5)));
     server.run(1)?;
-    println!("four buyers come");
+    println!("five buyers come");
     server.requests.extend([
         enter(150, 1),
         look("first buyer", 140),
@@ -131,6 +134,7 @@ fn first_day(server: &mut Server) -> Result<(), Refusal> {
             who: "fourth buyer",
             op: Op::next(141),
         },
+        look("fifth buyer", 0),
     ]);
     server.run(5)?;
     println!("the house downgrades a lot");

@@ -23,9 +23,9 @@ extern "C" {
  * and Next never tells a key below the one asked for. 3: updates by the second way, and for them a row more of the state. 4: four kinds
  * of lock; updates by the second way hold with updater's rho, and a page that is held has the kind of its lock in its word. 5: updates
  * by the third way, which hold with alpha and want a page that they hold once more, with xi. 6: a pool that is handed in is opened, and
- * three answers more.
+ * three answers more. 7: key 0 is no lot's: begin refuses it but for a Next, and a leaf with it is not sound.
  * ghazfulit_version() gives the archive's own. */
-#define GHAZFULIT_VERSION 6
+#define GHAZFULIT_VERSION 7
 
 /* Words of a state, words of an answer, slots, and the largest k and n. A state's words are the library's own; docs/DECISIONS.md has
  * how they lie ("Layout"). The word of a page that a slot holds is the page and 65,536 times the number of the kind of its lock, as the
@@ -68,6 +68,7 @@ enum {
     GHAZFULIT_SLOT_IDLE = 5,      /* step on a closed slot */
     GHAZFULIT_DAMAGED = 6,        /* a granted step would meet pages that are not sound */
     GHAZFULIT_BAD_PAGE = 7,       /* a report for a page n or above */
+    GHAZFULIT_BAD_KEY = 8,        /* begin with key 0, that of a blank tag, for any kind but Next */
     GHAZFULIT_BAD_PAGE_IN_POOL = 9, /* opening: with the lowest page that is not sound by itself */
     GHAZFULIT_BAD_TREE = 10,      /* opening: each page is sound by itself, but they are not the tree from page 0 */
     GHAZFULIT_BAD_KIND = 31,      /* a kind of operation that does not exist */
@@ -111,13 +112,14 @@ enum {
 void ghazfulit_make(uint32_t k, uint32_t n, uint32_t *state, uint32_t *words, size_t length, uint32_t *answer);
 
 /* Opens the words as a pool of n pages of width k, which may come from anywhere, and writes every word of the state: Opened, or BadPool,
- * BadPageInPool, BadTree in this order. It is Opened exactly if the pages form the tree from page 0, no page hangs in two places, and
- * every other page is all zeros. Then every slot is closed, and operations are begun as in a pool that was made; else every word of the
- * state is 0. The pool is only read. */
+ * BadPageInPool, BadTree in this order. It is Opened exactly if the pages form the tree from page 0, no page hangs in two places, no leaf
+ * has key 0, and every other page is all zeros. Then every slot is closed, and operations are begun as in a pool that was made; else every
+ * word of the state is 0. The pool is only read. */
 void ghazfulit_open(uint32_t k, uint32_t n, uint32_t *state, const uint32_t *words, size_t length, uint32_t *answer);
 
-/* Begins an operation in a closed slot: Begun, or BadKind, BadState, BadSlot, SlotBusy in this order. The information
- * counts for an insertion and a regrading only. */
+/* Begins an operation in a closed slot: Begun, or BadKind, BadState, BadSlot, SlotBusy, BadKey in this order. The information
+ * counts for an insertion and a regrading only. Key 0 is that of a blank tag, and no lot's: only a Next may begin with it, and asks for
+ * the first lot of all. */
 void ghazfulit_begin(uint32_t *state, uint32_t slot, uint32_t kind, uint32_t key, uint32_t information, uint32_t *answer);
 
 /* Takes one lock more, if it is to be had, and does what follows: the answers 32 to 40 and 44 to 46, or BadState, BadPool,

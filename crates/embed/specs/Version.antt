@@ -3,4 +3,4 @@
 use Prim.Native.Nat.{ℕ}
 
 abbrev pub libraryVersion : ℕ
-libraryVersion = 6
+libraryVersion = 7

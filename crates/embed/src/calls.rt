@@ -14,7 +14,7 @@ ghost use Rattle.embed.specs.Statements.{MakeTells, OpenTells, BeginTell
 ghost use Rattle.embed.specs.Version.{libraryVersion};
 
 // The version of these calls.
-const VERSION: u32 = 6;
+const VERSION: u32 = 7;
 
 // Makes a fresh pool of n pages of width k in the lent words, and an idle state beside it.
 #[no_mangle]

@@ -1,15 +1,20 @@
 -- The facts about document 01's fixed numbers on which the theory of trees and runs rests, each once. Proofs of code open the names
 -- too: the length of an array, and what a sum may come to, are numbers there.
-use Prim.Native.Nat.{_+_, _-_, _*_, _^_, _<_, _≤_}
+use Prim.Native.Nat.{ℕ, _+_, _-_, _*_, _^_, _<_, _≤_}
 use mathlib.Core.Path.{_≡_, refl}
 use native.Mathlib.Omega.{arith}
 use lib.Dec.{lit<}
-use Rattle.ground.specs.Limits.{largestN, tallest, slotCount, pathHolds, siblingHolds, wordRange, wayGrants, secondGrants, slotGrants, roundsEnough}
+use Rattle.ground.specs.Limits.{largestN, tallest, slotCount, pathHolds, siblingHolds, wordRange, blankKey, wayGrants, secondGrants, slotGrants, roundsEnough}
 
 -- there are words
 pub range-rises : 0 < wordRange
 unfolding wordRange
 range-rises = lit< tt
+
+-- no key is below that of a blank tag
+pub blank-lowest : (x : ℕ) → blankKey ≤ x
+unfolding blankKey
+blank-lowest x = omega arith
 
 -- "a tree of height h has at least 2^h - 1 pages, and h is at most 10": no pool has pages for a tree of height 11
 pub pages-few : largestN < 2 ^ (tallest + 1) - 1

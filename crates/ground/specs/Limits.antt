@@ -53,6 +53,10 @@ mostNew = 11
 unfoldable pub wordRange : ℕ
 wordRange = 4294967296
 
+-- 02 (viii): "Lot number 0 is printed on blank tags and gets scanned."
+unfoldable pub blankKey : ℕ
+blankKey = 0
+
 -- 01: "deletion h to 2h-1. So at most 19": by the first way
 unfoldable pub wayGrants : ℕ
 wayGrants = 19

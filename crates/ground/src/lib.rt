@@ -16,3 +16,6 @@ pub const HELD: usize = 10;
 
 // An insertion takes at most one page for each page on its path, and one more.
 pub const NEW: usize = 11;
+
+// The key on a blank tag, which is no lot's.
+pub const BLANK_KEY: u32 = 0;

@@ -13,7 +13,8 @@ use Rattle.slots.specs.declared.Op.{Op}
 use Rattle.slots.specs.declared.State.{State}
 use Rattle.slots.specs.declared.Outcome.{Outcome}
 use Rattle.slots.specs.declared.Answer.{Answer}
-use Rattle.slots.specs.declared.Answer.the-variants.{Begun, Reported, BadState, BadSlot, SlotBusy, BadPage}
+use Rattle.slots.specs.declared.Answer.the-variants.{Begun, Reported, BadState, BadSlot, SlotBusy, BadPage, BadKey}
+use Rattle.slots.specs.Operations.{blankTag}
 use Rattle.slots.specs.Parts.{openAt, freshStand, slotOf}
 use Rattle.slots.specs.Heard.{heard, changesNothing}
 use Rattle.slots.specs.Sound.{sound}
@@ -33,21 +34,28 @@ module _ (st : State) (s : ℕ) (op : Op) where
   begun-unsound h = sym (cond-true _ _ (not-of-false h))
 
   sound-begins : sound st ≡ true
-      → cond (not (ltb s slotCount)) (outcome BadSlot st) (cond (openAt st s) (outcome SlotBusy st) (outcome Begun (begins st s op))) ≡ begun st s op
+      → cond (not (ltb s slotCount)) (outcome BadSlot st) (cond (openAt st s) (outcome SlotBusy st) (cond (blankTag op) (outcome BadKey st) (outcome Begun (begins st s op)))) ≡ begun st s op
   unfolding begun
   sound-begins h = sym (cond-false _ _ (not-of-true h))
 
   begun-nowhere : sound st ≡ true → slotCount ≤ s → outcome BadSlot st ≡ begun st s op
   begun-nowhere h b = sym (cond-true _ _ (not-of-false (le-ltb s slotCount b))) ∙ sound-begins h
 
-  slot-begins : sound st ≡ true → s < slotCount → cond (openAt st s) (outcome SlotBusy st) (outcome Begun (begins st s op)) ≡ begun st s op
+  slot-begins : sound st ≡ true → s < slotCount
+      → cond (openAt st s) (outcome SlotBusy st) (cond (blankTag op) (outcome BadKey st) (outcome Begun (begins st s op))) ≡ begun st s op
   slot-begins h b = sym (cond-false _ _ (not-of-true (lt-ltb s slotCount b))) ∙ sound-begins h
 
   begun-busy : sound st ≡ true → s < slotCount → openAt st s ≡ true → outcome SlotBusy st ≡ begun st s op
   begun-busy h b o = sym (cond-true _ _ o) ∙ slot-begins h b
 
-  begun-done : sound st ≡ true → s < slotCount → openAt st s ≡ false → outcome Begun (begins st s op) ≡ begun st s op
-  begun-done h b o = sym (cond-false _ _ o) ∙ slot-begins h b
+  closed-begins : sound st ≡ true → s < slotCount → openAt st s ≡ false → cond (blankTag op) (outcome BadKey st) (outcome Begun (begins st s op)) ≡ begun st s op
+  closed-begins h b o = sym (cond-false _ _ o) ∙ slot-begins h b
+
+  begun-blank : sound st ≡ true → s < slotCount → openAt st s ≡ false → blankTag op ≡ true → outcome BadKey st ≡ begun st s op
+  begun-blank h b o t = sym (cond-true _ _ t) ∙ closed-begins h b o
+
+  begun-done : sound st ≡ true → s < slotCount → openAt st s ≡ false → blankTag op ≡ false → outcome Begun (begins st s op) ≡ begun st s op
+  begun-done h b o t = sym (cond-false _ _ t) ∙ closed-begins h b o
 
 -- an answer and words that are the rule's
 begin-says : (cells : List ℕ) (s : ℕ) (op : Op) (r : Outcome) {after : List ℕ} → r ≡ begun (stateOf cells) s op → stateOf after ≡ r .state
@@ -76,13 +84,16 @@ module _ (cells : List ℕ) (s : ℕ) (op : Op) where
       pub says-busy : openAt (asRead cells) s ≡ true → BeginSays cells s op SlotBusy cells
       says-busy o = refused SlotBusy (begun-busy (stateOf cells) s op h b (ap (λ (st : State). openAt st s) (state-known cells exist) ∙ o)) refl
 
-      pub says-begun : length cells ≡ stateLength → openAt (asRead cells) s ≡ false → {after : List ℕ} → after ≡ laidInto cells s (begins (asRead cells) s op)
+      pub says-blank : openAt (asRead cells) s ≡ false → blankTag op ≡ true → BeginSays cells s op BadKey cells
+      says-blank o t = refused BadKey (begun-blank (stateOf cells) s op h b (ap (λ (st : State). openAt st s) (state-known cells exist) ∙ o) t) refl
+
+      pub says-begun : length cells ≡ stateLength → openAt (asRead cells) s ≡ false → blankTag op ≡ false → {after : List ℕ} → after ≡ laidInto cells s (begins (asRead cells) s op)
           → BeginSays cells s op Begun after
       unfolding begins slotCount lentAfter
-      says-begun long o {after} e =
+      says-begun long o t {after} e =
           let read : stateOf cells ≡ asRead cells = state-known cells exist in
           begin-says cells s op (outcome Begun (begins (stateOf cells) s op))
-          (begun-done (stateOf cells) s op h b (ap (λ (st : State). openAt st s) read ∙ o))
+          (begun-done (stateOf cells) s op h b (ap (λ (st : State). openAt st s) read ∙ o) t)
           (ap stateOf e
           ∙ state-written cells s (slotOf (freshStand op)) (set (orderIn cells) (getD cells waitingAt 0) s) (getD cells waitingAt 0 + 1) long b
           (length-set (orderIn cells) (getD cells waitingAt 0) s ∙ length-order cells long) (fresh-layable op) exist

@@ -1,5 +1,5 @@
 -- For who computes examples by the rules: all that a call unfolds to, in one list. Who unfolds `everyCall` unfolds all of it.
-use Rattle.ground.specs.Limits.{largestK, largestN, tallest, slotCount, searchHolds, regradeHolds, secondHolds, pathHolds, siblingHolds, wordRange}
+use Rattle.ground.specs.Limits.{largestK, largestN, tallest, slotCount, searchHolds, regradeHolds, secondHolds, pathHolds, siblingHolds, wordRange, blankKey}
 use Rattle.ground.specs.Tests.{all, count, member, distinct, apart, allBelow, anyBelow, countBelow, listBelow, firstBelow, filled}
 use Rattle.page.specs.Words.{flat, encode, pairs, view}
 use Rattle.page.specs.Place.{place, has, information, atOrAbove, without, regraded}
@@ -11,6 +11,7 @@ use Rattle.opening.specs.Opening.{lowestUnsound, within, children, hangs, forEa
 use Rattle.change.specs.Insertion.{room, settled, insertion}
 use Rattle.change.specs.Deletion.{needs, shares, shrunk, deletion}
 use Rattle.change.specs.Regrading.{regrading}
+use Rattle.slots.specs.Operations.{blankTag}
 use Rattle.slots.specs.Parts.{pathOf, besideOf, locksOf, sidelocksOf, withXi, waitingOrder}
 use Rattle.slots.specs.Locks.{lockAmong}
 use Rattle.slots.specs.Grant.{olderThan, noClash, noOlder, noConversion}
@@ -26,7 +27,7 @@ use Rattle.index.specs.Open.{opened}
 
 -- numbers, tests and folds
 grounds : Unit {0}
-unfolding largestK largestN tallest slotCount searchHolds regradeHolds secondHolds pathHolds siblingHolds all count member distinct apart allBelow anyBelow countBelow listBelow firstBelow filled
+unfolding largestK largestN tallest slotCount searchHolds regradeHolds secondHolds pathHolds siblingHolds blankKey all count member distinct apart allBelow anyBelow countBelow listBelow firstBelow filled
 grounds = tt
 
 -- pages, the pool, and how they change
@@ -36,7 +37,7 @@ pages = tt
 
 -- slots, locks and the waiting order
 slotted : Unit {0}
-unfolding pathOf besideOf locksOf sidelocksOf withXi lockAmong waitingOrder olderThan noClash noOlder noConversion leaving begins goesOn closes namesEach slotSound noClashingHolds sound begun reported
+unfolding blankTag pathOf besideOf locksOf sidelocksOf withXi lockAmong waitingOrder olderThan noClash noOlder noConversion leaving begins goesOn closes namesEach slotSound noClashingHolds sound begun reported
 slotted = tt
 
 -- the check of a pool that is handed in

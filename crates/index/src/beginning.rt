@@ -6,6 +6,7 @@ use lent::cells::kind_at;
 use lent::cells::sized;
 use slots::Answer;
 use slots::Op;
+use slots::operations::blank_tag;
 use soundness::checking::is_sound;
 ghost use Rattle.index.specs.Statements.{BeginSays};
 
@@ -22,6 +23,9 @@ pub fn begin(state: &mut [u32; STATE], s: usize, op: Op) -> Answer
     }
     if kind_at(state, s) != 0 {
         return Answer::SlotBusy;
+    }
+    if blank_tag(op) {
+        return Answer::BadKey;
     }
     begins(state, s, op);
     Answer::Begun

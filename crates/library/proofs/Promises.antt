@@ -1,6 +1,6 @@
 -- Calls of the library, one after the other, are a run; so the demands hold of them.
 use Prim.Native.Nat.{ℕ, _<_}
-use mathlib.Core.Bool.{true, _&&_, true≢false}
+use mathlib.Core.Bool.{Bool, true, not, _&&_, true≢false}
 use mathlib.Core.List.{List, [], _∷_, _++_, map, append-nil}
 use mathlib.Core.Logic.{⊎-elim}
 use mathlib.Core.Path.{_≡_, refl, sym, ap, subst, _∙_}
@@ -50,7 +50,8 @@ use Rattle.promises.proofs.Demand3.{demand3}
 use Rattle.promises.proofs.TopOpen.{top-open-holds}
 use Rattle.promises.proofs.Regrading.{regrading-holds}
 use Rattle.promises.proofs.Reopening.{reopening-holds}
-use Rattle.library.specs.Promises.{Went, begins, steps, reports, Follow, OpenedBy, making, opening, beginsWith, callsIn, toldFirst, toldIn, quietNumber, quietFour, LibraryRuns, LibraryOpens, LibraryReopens, LibrarySteps, LibraryPromises, LibraryKeepsLots}
+use Rattle.promises.proofs.NoBlank.{namesBlank, names-none, no-blank-holds}
+use Rattle.library.specs.Promises.{Went, begins, steps, reports, Follow, OpenedBy, making, opening, beginsWith, callsIn, toldFirst, toldIn, quietNumber, quietFour, blankFour, LibraryRuns, LibraryOpens, LibraryReopens, LibrarySteps, LibraryPromises, LibraryKeepsLots}
 
 -- ---- what is left and told
 
@@ -210,6 +211,12 @@ from-quiet : (start : Start) (cs : List Call) → Run start cs → all quietFour
 unfolding runFrom
 from-quiet start cs r = run-quiet cs (start .state) (start .words) (start-ready start (r .starts) .holds) (r .inWords)
 
+-- a lot that is told is one that was answered
+told-blank : (answers : List Answer) → all (λ (four : List ℕ). not (blankFour four)) (map told answers) ≡ all (λ (a : Answer). not (namesBlank a)) answers
+unfolding all
+told-blank [] = refl
+told-blank (a ∷ answers) = ap (λ (b : Bool). not (namesBlank a) && b) (told-blank answers)
+
 pub library-promises : LibraryPromises
 library-promises start calls last lastWs h =
     let cs : List Call = callsIn calls in
@@ -223,6 +230,10 @@ library-promises start calls last lastWs h =
       third = demand3 start cs (is .run);
       top = subst (λ (st : State). TopOpen st lastWs) (sym (is .state))
           (subst (λ (after : List ℕ). TopOpen (runFrom start cs .state) after) (sym (is .words)) (top-open-holds start cs (is .run)));
+      noBlank = no-blank-holds start cs (is .run);
+      blankNeverTold = ap (all (λ (four : List ℕ). not (blankFour four))) (is .answers)
+          ∙ told-blank (runFrom start cs .answers)
+          ∙ names-none start cs (is .run);
     }
 
 -- ---- a step, of any words

@@ -1,14 +1,15 @@
 -- Calls of the library, one after the other, each lent the words that the last one left, are a run. So the demands on runs are
 -- demands on the library: on the words that it leaves and the numbers that it tells.
 use Prim.Native.Nat.{ℕ, _<_}
-use mathlib.Core.Bool.{Bool, true, not}
+use mathlib.Core.Bool.{Bool, true, not, _&&_}
 use mathlib.Core.List.{List, [], _∷_, map}
 use mathlib.Core.Path.{_≡_}
+use lib.Dec.{eqb}
 use lib.ListN.{getD}
-use Rattle.ground.specs.Limits.{wordRange}
+use Rattle.ground.specs.Limits.{wordRange, blankKey}
 use Rattle.ground.specs.Tests.{all, member}
 use Rattle.page.specs.Words.{Entry}
-use Rattle.slots.specs.declared.Answer.the-variants.{Made, Opened, BadState, BadPool, Damaged}
+use Rattle.slots.specs.declared.Answer.the-variants.{Made, Opened, BadState, BadPool, Damaged, Next}
 use Rattle.slots.specs.declared.operations.Asked.{Asked}
 use Rattle.slots.specs.declared.operations.Asked.the-variants.{Known, Unknown}
 use Rattle.slots.specs.Heard.{numberOf}
@@ -23,6 +24,7 @@ use Rattle.promises.specs.Demand1.{StepDemand}
 use Rattle.promises.specs.Demand2.{AfterEveryCall, Demand2}
 use Rattle.promises.specs.Demand3.{doneIn, Demand3}
 use Rattle.promises.specs.TopOpen.{TopOpen}
+use Rattle.promises.specs.NoBlank.{NoBlank}
 use Rattle.promises.specs.Regrading.{IsThere, NotDeleted, NeverNowhere}
 
 -- ---- calls of the library
@@ -124,6 +126,10 @@ quietNumber x = not (member x (map numberOf (BadState ∷ BadPool ∷ Damaged �
 abbrev pub quietFour : List ℕ → Bool
 quietFour four = quietNumber (getD four 0 0)
 
+-- a lot was told, by a Next, and its key is that of a blank tag: the number stands first, the key behind it
+abbrev pub blankFour : List ℕ → Bool
+blankFour four = eqb (getD four 0 0) (numberOf (Next 0 0)) && eqb (getD four 1 0) blankKey
+
 -- Of every such list of calls, and so after each call of one.
 pub record Kept (start : Start) (calls : List Went) (last lastWs : List ℕ) : Type 0 where
   -- demand 2 of the words themselves: tree, free pages, locks, and where every slot stands
@@ -135,6 +141,10 @@ pub record Kept (start : Start) (calls : List Went) (last lastWs : List ℕ) : T
   pub third : Demand3 start (callsIn calls)
   -- 02 (v): nobody waits for page 0 or an upper page but for an update by the first way
   pub top : TopOpen (stateOf last) lastWs
+  -- 02 (viii): "Lot number 0 is printed on blank tags and gets scanned.": there never is such a lot, of the calls as a run,
+  pub noBlank : NoBlank start (callsIn calls)
+  -- and none was told: "Begin shall refuse key 0 for every operation but that of (i)", which finds none
+  pub blankNeverTold : all (λ (four : List ℕ). not (blankFour four)) (toldIn calls) ≡ true
 
 abbrev pub LibraryPromises : Type 0
 LibraryPromises = (start : Start) (calls : List Went) (last lastWs : List ℕ) → Served start calls last lastWs → Kept start calls last lastWs

@@ -1,23 +1,26 @@
 -- The test of a page's words, part by part: what stops each part, and what is known where it comes to its end.
 use Prim.Native.Nat.{ℕ, zero, suc, _+_, _-_, _*_, _%_, _≤_, _<_}
-use mathlib.Core.Bool.{Bool, true, false, cond, _&&_}
+use mathlib.Core.Bool.{Bool, true, false, cond, not, _&&_}
 use mathlib.Core.List.{List, [], _∷_}
 use mathlib.Core.Path.{_≡_, refl, sym, ap, _∙_, subst}
 use native.Mathlib.Numerals.{add-one}
 use native.Mathlib.Omega.{arith}
 use borrow.Author.Count.{below-none, below-more}
-use borrow.Author.Tests.{leb-true, le-leb, lt-leb, eq-eqb, ne-eqb}
+use borrow.Author.Tests.{leb-true, le-leb, lt-leb, eqb-true, eq-eqb, ne-eqb}
 use lib.Dec.{leb, ltb, eqb}
 use lib.ListN.{length, getD, take, drop, set, length-drop}
 use lib.Seq.{length-take-le, getD-take, getD-drop, getD-set-same, take-all}
-use Rattle.ground.specs.Limits.{tallest}
+use Rattle.ground.specs.Limits.{tallest, blankKey}
 use Rattle.ground.specs.Tests.{all, member, distinct}
-use Rattle.ground.proofs.Bools.{not-both, and-second, and-both, and-first-fails, and-second-fails, not-of-false, false-if-not-true}
+use Rattle.ground.proofs.Limits.{blank-lowest}
+use Rattle.ground.proofs.Bools.{not-both, same-if-true-together, and-second, and-both, and-first-fails, and-second-fails, not-of-false, false-if-not-true}
 use Rattle.ground.proofs.Tests.{all-from, all-stops, member-at, not-member-from, distinct-more, distinct-at}
-use Rattle.page.specs.Words.{isLeaf, pointers, pairsFrom, view, size}
-use Rattle.page.specs.Sound.{rises, least, inRange, goodPointers, soundByItself}
+use Rattle.page.specs.Words.{Entry, isLeaf, pointers, pairsFrom, view, size}
+use Rattle.page.specs.Sound.{rises, least, inRange, goodPointers, noBlank, soundByItself}
 use Rattle.page.specs.Reading.{Readable, inShape}
-use Rattle.page.proofs.RiseLaws.{keyAt, rises-from, rises-stops}
+use Rattle.page.specs.Place.{has}
+use Rattle.page.proofs.RiseLaws.{keyAt, rises-at, rises-from, rises-stops}
+use Rattle.page.proofs.PlaceLaws.{has-from, has-at}
 use Rattle.page.proofs.ReadingLaws.{readable, readable-μ, key-word}
 
 -- ---- level and μ
@@ -191,6 +194,30 @@ module _ (ws : List ℕ) (from i : ℕ) where
       (all-from (λ (x : ℕ). eqb x 0) (drop from ws) 0
       (λ j h. eq-eqb (getD (drop from ws) j 0) 0 (getD-drop from ws j 0 ∙ f (from + j) (omega arith) (omega arith))))
 
+-- ---- the key of a blank tag
+
+-- no key is, where there is none
+pub no-keys : (es : List Entry) → length es ≡ 0 → noBlank es ≡ true
+no-keys es none = not-of-false (false-if-not-true (has blankKey es) (λ t. let found = has-at blankKey es t in absurd (omega (arith, found .1))))
+
+module _ (es : List Entry) (t : rises es ≡ true) (some : 0 < length es) where
+  -- where keys rise, it is the first key or none
+  blank-first : has blankKey es ≡ true → keyAt 0 es ≡ blankKey
+  blank-first y =
+      let found = has-at blankKey es y in
+      first (found .0) (found .1) (found .2)
+    where
+      first : (i : ℕ) → i < length es → keyAt i es ≡ blankKey → keyAt 0 es ≡ blankKey
+      first zero h e = e
+      first (suc i) h e = absurd (omega (arith, e, rises-at es t 0 (suc i) (omega arith) h, blank-lowest (keyAt 0 es)))
+
+  -- so the first key tells
+  pub first-tells : not (eqb (keyAt 0 es) blankKey) ≡ noBlank es
+  first-tells =
+      ap not (same-if-true-together (eqb (keyAt 0 es) blankKey) (has blankKey es)
+      (λ e. has-from blankKey es 0 some (eqb-true (keyAt 0 es) blankKey e))
+      (λ y. eq-eqb (keyAt 0 es) blankKey (blank-first y)))
+
 -- ---- the whole test
 
 -- three tests hold, so the fourth tells whether all do
@@ -204,34 +231,34 @@ module _ (k n p : ℕ) (ws : List ℕ) where
   keys : Bool
   keys = rises (view ws .entries)
 
-  children : Bool
-  children = cond (isLeaf (view ws)) true (goodPointers n (pointers (view ws)))
+  onLevel : Bool
+  onLevel = cond (isLeaf (view ws)) (noBlank (view ws .entries)) (goodPointers n (pointers (view ws)))
 
   zeros : Bool
   zeros = all (λ (w : ℕ). eqb w 0) (drop (pairsFrom (getD ws 0 0) + 2 * getD ws 1 0) ws)
 
-  parts : soundByItself k n p ws ≡ shape && keys && children && zeros
-  unfolding soundByItself inShape shape keys children zeros view
+  parts : soundByItself k n p ws ≡ shape && keys && onLevel && zeros
+  unfolding soundByItself inShape shape keys onLevel zeros view
   parts = refl
 
   -- level or μ out of range
   pub shape-fails : inShape k p ws ≡ false → false ≡ soundByItself k n p ws
   unfolding shape
-  shape-fails f = sym (parts ∙ and-first-fails zeros (and-first-fails children (and-first-fails keys f)))
+  shape-fails f = sym (parts ∙ and-first-fails zeros (and-first-fails onLevel (and-first-fails keys f)))
 
   -- keys that do not rise
   pub keys-fail : rises (view ws .entries) ≡ false → false ≡ soundByItself k n p ws
   unfolding keys
-  keys-fail f = sym (parts ∙ and-first-fails zeros (and-first-fails children (and-second-fails shape f)))
+  keys-fail f = sym (parts ∙ and-first-fails zeros (and-first-fails onLevel (and-second-fails shape f)))
 
-  -- pointers that are not good
-  pub pointers-fail : cond (isLeaf (view ws)) true (goodPointers n (pointers (view ws))) ≡ false → false ≡ soundByItself k n p ws
-  unfolding children
-  pointers-fail f = sym (parts ∙ and-first-fails zeros (and-second-fails (shape && keys) f))
+  -- a blank tag in a leaf, or pointers that are not good
+  pub level-fails : cond (isLeaf (view ws)) (noBlank (view ws .entries)) (goodPointers n (pointers (view ws))) ≡ false → false ≡ soundByItself k n p ws
+  unfolding onLevel
+  level-fails f = sym (parts ∙ and-first-fails zeros (and-second-fails (shape && keys) f))
 
   -- what is left is that the unused words are 0
   pub zeros-left : (from m : ℕ) → inShape k p ws ≡ true → rises (view ws .entries) ≡ true
-      → cond (isLeaf (view ws)) true (goodPointers n (pointers (view ws))) ≡ true
+      → cond (isLeaf (view ws)) (noBlank (view ws .entries)) (goodPointers n (pointers (view ws))) ≡ true
       → from ≡ pairsFrom (getD ws 0 0) → m ≡ getD ws 1 0 → all (λ (w : ℕ). eqb w 0) (drop (from + 2 * m) ws) ≡ soundByItself k n p ws
-  unfolding shape keys children zeros
+  unfolding shape keys onLevel zeros
   zeros-left from m ts tk tc ef em = rw (ef, em) (fourth zeros ts tk tc ∙ sym parts)

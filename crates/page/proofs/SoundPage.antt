@@ -2,19 +2,19 @@
 use Prim.Native.Nat.{ℕ, _+_, _-_, _*_, _≤_, _<_}
 use mathlib.Core.Bool.{Bool, true, false, cond, _&&_}
 use mathlib.Core.List.{List}
-use mathlib.Core.Path.{_≡_, refl, sym, _∙_}
-use borrow.Author.Tests.{leb-true, le-leb, ltb-true}
+use mathlib.Core.Path.{_≡_, sym, _∙_}
+use borrow.Author.Tests.{leb-true, le-leb, ltb-true, not-true}
 use lib.Dec.{leb, ltb, eqb}
 use native.Mathlib.Omega.{arith}
 use lib.ListN.{length, getD, drop, length-map}
-use Rattle.ground.specs.Limits.{tallest}
+use Rattle.ground.specs.Limits.{tallest, blankKey}
 use Rattle.ground.specs.Tests.{all, distinct}
-use Rattle.ground.proofs.Bools.{and-first, and-second, and-both}
+use Rattle.ground.proofs.Bools.{and-first, and-second, and-both, not-of-false}
 use Rattle.ground.proofs.Tests.{all-at}
 use Rattle.ground.proofs.Choice.{cond-ind, cond-true, cond-false}
 use Rattle.page.specs.Words.{Page, μ, isLeaf, pointers, valueOf, used, pairsFrom, view, encode, size}
-use Rattle.page.specs.Place.{pointer}
-use Rattle.page.specs.Sound.{rises, least, goodPointers, soundByItself}
+use Rattle.page.specs.Place.{pointer, has}
+use Rattle.page.specs.Sound.{rises, least, goodPointers, noBlank, soundByItself}
 use Rattle.page.specs.Fits.{Fits}
 use Rattle.page.proofs.WordLaws.{encode-μ, view-encode, encode-view, view-μ, encode-behind, zeros-pass}
 
@@ -28,6 +28,8 @@ pub record SoundPage (k n p : ℕ) (P : Page) : Type 0 where
   pub room : μ P ≤ 2 * k
   -- "rising keys"
   pub rising : rises (P .entries) ≡ true
+  -- 02 (viii): no "leaf with key 0"
+  pub noBlank : isLeaf P ≡ true → has blankKey (P .entries) ≡ false
   -- "pointers all different and from 1 to N-1"
   pub pointersApart : isLeaf P ≡ false → distinct (pointers P) ≡ true
   pub pointersInPool : isLeaf P ≡ false → all (λ (q : ℕ). leb 1 q && ltb q n) (pointers P) ≡ true
@@ -45,6 +47,7 @@ record Passed (k n p : ℕ) (ws : List ℕ) : Type 0 where
   enough : least k p (isLeaf (view ws)) ≤ getD ws 1 0
   room : getD ws 1 0 ≤ 2 * k
   rising : rises (view ws .entries) ≡ true
+  unblank : isLeaf (view ws) ≡ true → noBlank (view ws .entries) ≡ true
   good : isLeaf (view ws) ≡ false → goodPointers n (pointers (view ws)) ≡ true
   zeros : all (λ (w : ℕ). eqb w 0) (drop (pairsFrom (view ws .level) + 2 * getD ws 1 0) ws) ≡ true
 
@@ -57,7 +60,7 @@ passed k n p ws h =
     let c : Bool = leb (least k p (isLeaf P)) (getD ws 1 0) in
     let d : Bool = leb (getD ws 1 0) (2 * k) in
     let e : Bool = rises (P .entries) in
-    let f : Bool = cond (isLeaf P) true (goodPointers n (pointers P)) in
+    let f : Bool = cond (isLeaf P) (noBlank (P .entries)) (goodPointers n (pointers P)) in
     let g : Bool = all (λ (w : ℕ). eqb w 0) (drop (pairsFrom (P .level) + 2 * getD ws 1 0) ws) in
     let toF = and-first (a && b && (c && d) && e && f) g h in
     let toE = and-first (a && b && (c && d) && e) f toF in
@@ -70,7 +73,8 @@ passed k n p ws h =
       enough = leb-true (least k p (isLeaf P)) (getD ws 1 0) (and-first c d toCD);
       room = leb-true (getD ws 1 0) (2 * k) (and-second c d toCD);
       rising = and-second (a && b && (c && d)) e toE;
-      good = λ upper. sym (cond-false true (goodPointers n (pointers P)) upper) ∙ and-second (a && b && (c && d) && e) f toF;
+      unblank = λ leaf. sym (cond-true (noBlank (P .entries)) (goodPointers n (pointers P)) leaf) ∙ and-second (a && b && (c && d) && e) f toF;
+      good = λ upper. sym (cond-false (noBlank (P .entries)) (goodPointers n (pointers P)) upper) ∙ and-second (a && b && (c && d) && e) f toF;
       zeros = and-second (a && b && (c && d) && e && f) g h;
     }
 
@@ -96,6 +100,7 @@ module _ (k n p : ℕ) (ws : List ℕ) (len : length ws ≡ size k) (test : soun
         enough = rw sound-μ (t .enough);
         room = rw sound-μ (t .room);
         rising = t .rising;
+        noBlank = λ leaf. not-true (has blankKey (view ws .entries)) (t .unblank leaf);
         pointersApart = λ upper. and-first (distinct ps) (all (λ (q : ℕ). leb 1 q && ltb q n) ps) (t .good upper);
         pointersInPool = λ upper. and-second (distinct ps) (all (λ (q : ℕ). leb 1 q && ltb q n) ps) (t .good upper);
         leafFirst = λ leaf. cond-true 0 (getD ws 2 0) leaf;
@@ -114,7 +119,7 @@ sound-test k n p P s =
     (and-both (le-leb (least k p (isLeaf P)) (μ P) (s .enough)) (le-leb (μ P) (2 * k) (s .room))))
     (s .rising))
     (cond-ind (λ (b : Bool). b ≡ true) (isLeaf P)
-    (λ leaf. refl)
+    (λ leaf. not-of-false (s .noBlank leaf))
     (λ upper. and-both (s .pointersApart upper) (s .pointersInPool upper))))
     (rw (encode-behind k P) (zeros-pass (size k - length (used P)))))
 

@@ -1,12 +1,13 @@
 -- A page sound by itself: what document 01 asks of one page's words, whatever the other pages hold.
 use Prim.Native.Nat.{ℕ, _+_, _*_}
-use mathlib.Core.Bool.{Bool, true, cond, _&&_}
+use mathlib.Core.Bool.{Bool, true, cond, not, _&&_}
 use mathlib.Core.List.{List, [], _∷_}
 use lib.Dec.{leb, ltb, eqb}
 use lib.ListN.{getD, drop}
-use Rattle.ground.specs.Limits.{tallest}
+use Rattle.ground.specs.Limits.{tallest, blankKey}
 use Rattle.ground.specs.Tests.{all, distinct}
 use Rattle.page.specs.Words.{Entry, isLeaf, pointers, pairsFrom, view}
+use Rattle.page.specs.Place.{has}
 
 -- "Keys in a page rise strictly."
 unfoldable pub risesFrom : ℕ → List Entry → Bool
@@ -28,6 +29,11 @@ inRange k p leaf m = leb (least k p leaf) m && leb m (2 * k)
 abbrev pub goodPointers : ℕ → List ℕ → Bool
 goodPointers n ps = distinct ps && all (λ (p : ℕ). leb 1 p && ltb p n) ps
 
+-- 02 (viii): "The check of (vii) treats a leaf with key 0 as a page that is not sound; so does Damaged." Only leaves are named: a reference key
+-- may be 0.
+abbrev pub noBlank : List Entry → Bool
+noBlank es = not (has blankKey es)
+
 -- "level 1 to 10 .., μ in range, rising keys, pointers all different and from 1 to N-1, unused words 0"
 unfoldable pub soundByItself : ℕ → ℕ → ℕ → List ℕ → Bool
 soundByItself k n p ws =
@@ -36,5 +42,5 @@ soundByItself k n p ws =
     && leb (P .level) tallest
     && inRange k p (isLeaf P) (getD ws 1 0)
     && rises (P .entries)
-    && cond (isLeaf P) true (goodPointers n (pointers P))
+    && cond (isLeaf P) (noBlank (P .entries)) (goodPointers n (pointers P))
     && all (λ (w : ℕ). eqb w 0) (drop (pairsFrom (P .level) + 2 * getD ws 1 0) ws)

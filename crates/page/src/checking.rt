@@ -3,9 +3,11 @@
 // several are looked at in one go.
 use crate::reading::count;
 use crate::reading::is_leaf;
+use crate::reading::key_at;
 use crate::reading::level;
 use crate::reading::pairs_from;
 use crate::reading::wide;
+use ground::BLANK_KEY;
 use ground::TALLEST;
 ghost use Prim.Native.Nat.{ℕ, _≤_};
 ghost use lib.Dec.{leb, ltb, eqb};
@@ -15,7 +17,7 @@ ghost use mathlib.Core.Path.{_≡_};
 ghost use Rattle.ground.specs.Tests.{all, member};
 ghost use Rattle.page.specs.Place.{pointer};
 ghost use Rattle.page.specs.Reading.{Readable, inShape};
-ghost use Rattle.page.specs.Sound.{rises, least as leastOf, goodPointers, soundByItself};
+ghost use Rattle.page.specs.Sound.{rises, least as leastOf, goodPointers, noBlank, soundByItself};
 ghost use Rattle.page.specs.Words.{size, view, isLeaf, pointers};
 
 // A pointer leaves its mark by its remainder.
@@ -121,13 +123,26 @@ fn good_pointers(w: &[u32], n: usize) -> bool
     true
 }
 
-// A leaf has no pointers.
-fn pointers_sound(w: &[u32], n: usize) -> bool
+// No key is that of a blank tag. Keys rise, so it could only be the first.
+fn no_blank(w: &[u32]) -> bool
     requires { ⌜ Readable (now w) ⌝ }
-    ensures { λ r. ⌜ r ≡ cond (isLeaf (view (now (w .entry)))) true (goodPointers n (pointers (view (now (w .entry))))) ⌝ }
+    requires { ⌜ rises (view (now w) .entries) ≡ true ⌝ }
+    ensures { λ r. ⌜ r ≡ noBlank (view (now (w .entry)) .entries) ⌝ }
+{
+    if count(w) == 0 {
+        return true;
+    }
+    key_at(w, 0) != BLANK_KEY
+}
+
+// What is asked of a leaf, and of a page above.
+fn sound_on_level(w: &[u32], n: usize) -> bool
+    requires { ⌜ Readable (now w) ⌝ }
+    requires { ⌜ rises (view (now w) .entries) ≡ true ⌝ }
+    ensures { λ r. ⌜ r ≡ cond (isLeaf (view (now (w .entry)))) (noBlank (view (now (w .entry)) .entries)) (goodPointers n (pointers (view (now (w .entry))))) ⌝ }
 {
     if is_leaf(w) {
-        return true;
+        return no_blank(w);
     }
     good_pointers(w, n)
 }
@@ -156,7 +171,7 @@ pub fn sound_page(w: &[u32], k: usize, n: usize, p: u32) -> bool
     if !rising(w) {
         return false;
     }
-    if !pointers_sound(w, n) {
+    if !sound_on_level(w, n) {
         return false;
     }
     let from = pairs_from(w[0]);

@@ -17,6 +17,7 @@ use Rattle.promises.specs.DamageRows.{damageRows}
 use Rattle.promises.specs.SecondRows.{secondRows}
 use Rattle.promises.specs.ThirdRows.{thirdRows}
 use Rattle.promises.specs.OpenRows.{openRows}
+use Rattle.promises.specs.BlankRows.{blankRows}
 
 -- Everything that a run unfolds to: who unfolds this unfolds all of it.
 calls : Unit {0}
@@ -108,3 +109,7 @@ third-holds = agree-holds thirdRows refl
 pub open-holds : RowsHold openRows
 unfolding calls same sames agree
 open-holds = agree-holds openRows refl
+
+pub blank-holds : RowsHold blankRows
+unfolding calls same sames agree
+blank-holds = agree-holds blankRows refl

@@ -21,8 +21,9 @@ use Rattle.slots.specs.declared.Slot.{Slot}
 use Rattle.slots.specs.declared.State.{State}
 use Rattle.slots.specs.declared.Lock.{Lock}
 use Rattle.slots.specs.declared.Answer.{Answer}
-use Rattle.slots.specs.declared.Answer.the-variants.{Waiting, Begun, Made, Reported, BadState, BadPool, BadSlot, SlotBusy, SlotIdle, Damaged, BadPage, Opened, BadPageInPool, BadTree}
+use Rattle.slots.specs.declared.Answer.the-variants.{Waiting, Begun, Made, Reported, BadState, BadPool, BadSlot, SlotBusy, SlotIdle, Damaged, BadPage, Opened, BadPageInPool, BadTree, BadKey}
 use Rattle.slots.specs.Heard.{numberOf, valueOf, refuses, changesNothing}
+use Rattle.slots.specs.Operations.{blankTag}
 use Rattle.slots.specs.Parts.{isOpen, slotAt, openAt, holding, standOf}
 use Rattle.slots.specs.Sound.{sound}
 use Rattle.slots.specs.Grant.{grants}
@@ -38,9 +39,10 @@ use Rattle.index.specs.Step.{Left, ofGranted, acted, steppedTask, stepped}
 use Rattle.index.specs.Make.{made}
 use Rattle.index.specs.Open.{opened}
 use Rattle.index.proofs.Refusals.{Answers, granted-answers, changes, step-refused, make-refused, step-length, make-length, open-refused, open-words, opened-told}
-use Rattle.promises.specs.Terms.{Exactly}
+use Rattle.promises.specs.Terms.{Exactly, Blank}
 use Rattle.promises.specs.Report.{Reports}
 use Rattle.promises.specs.Demand1.{BeginDemand, WordsFit, PagesSound, PagesSoundAt, Celled, StepDemand, ReportDemand, MakingInRange, MakeDemand, AloneSound, LowestUnsound, FormsTree, OpenDemand, Demand1}
+use Rattle.promises.proofs.Terms.{blank-is, unblank-is}
 use Rattle.promises.proofs.SoundState.{numbers, sound-is}
 use Rattle.promises.proofs.Report.{reports-so, reports-once}
 use Rattle.promises.proofs.SoundPages.{Sized}
@@ -60,24 +62,27 @@ Tells [] other a = other
 Tells (r ∷ rows) other a = cond (eqb (numberOf a) (numberOf (r .answer))) (r .when) (Tells rows other a)
 
 -- what begin's answers tell
-abbrev BeginTells : State → ℕ → Answer → Type 0
-BeginTells st s =
+abbrev BeginTells : State → ℕ → Op → Answer → Type 0
+BeginTells st s op =
     Tells
     (row BadState (sound st ≡ false)
     ∷ row BadSlot ((sound st ≡ true) × (slotCount ≤ s))
     ∷ row SlotBusy ((sound st ≡ true) × (s < slotCount) × (openAt st s ≡ true))
-    ∷ row Begun ((sound st ≡ true) × (s < slotCount) × (openAt st s ≡ false))
+    ∷ row BadKey ((sound st ≡ true) × (s < slotCount) × (openAt st s ≡ false) × Blank op)
+    ∷ row Begun ((sound st ≡ true) × (s < slotCount) × (openAt st s ≡ false) × (Blank op → ⊥))
     ∷ [])
     ⊥
 
-begin-tells : (st : State) (s : ℕ) (op : Op) → BeginTells st s (begun st s op .answer)
+begin-tells : (st : State) (s : ℕ) (op : Op) → BeginTells st s op (begun st s op .answer)
 unfolding begun
 begin-tells st s op =
     by-test (sound st)
     (λ a. by-test (ltb s slotCount)
     (λ b. by-test (openAt st s)
     (λ c. rw (a, b, c) (refl, ltb-true s slotCount b, refl))
-    (λ c. rw (a, b, c) (refl, ltb-true s slotCount b, refl)))
+    (λ c. by-test (blankTag op)
+    (λ d. rw (a, b, c, d) (refl, ltb-true s slotCount b, refl, blank-is op .0 d))
+    (λ d. rw (a, b, c, d) (refl, ltb-true s slotCount b, refl, λ blank. not-both (blank-is op .1 blank) d))))
     (λ b. rw (a, b) (refl, ltb-false s slotCount b)))
     (λ a. rw a refl)
 
@@ -87,18 +92,21 @@ begin-demand st s op = record {
   badState = (told, λ h. rw h);
   badSlot = (told, λ h. rw (h .0, le-ltb s slotCount (h .1)));
   slotBusy = (told, λ h. rw (h .0, lt-ltb s slotCount (h .1), h .2));
-  begins = (told, λ h. rw (h .0, lt-ltb s slotCount (h .1), h .2));
+  badKey = (told, λ h. rw (h .0, lt-ltb s slotCount (h .1), h .2, blank-is op .1 (h .3)));
+  begins = (told, λ h. rw (h .0, lt-ltb s slotCount (h .1), h .2, unblank-is op (h .3)));
   noOther =
       by-test (sound st)
       (λ a. by-test (ltb s slotCount)
-      (λ b. by-test (openAt st s) (λ c. inr (inr (inl (rw (a, b, c))))) (λ c. inr (inr (inr (rw (a, b, c))))))
+      (λ b. by-test (openAt st s)
+      (λ c. inr (inr (inl (rw (a, b, c)))))
+      (λ c. by-test (blankTag op) (λ d. inr (inr (inr (inl (rw (a, b, c, d)))))) (λ d. inr (inr (inr (inr (rw (a, b, c, d))))))))
       (λ b. inr (inl (rw (a, b)))))
       (λ a. inl (rw a));
   asGiven = begin-refused st s op;
 }
   where
-    told : {a : Answer} → begun st s op .answer ≡ a → BeginTells st s a
-    told e = subst (BeginTells st s) e (begin-tells st s op)
+    told : {a : Answer} → begun st s op .answer ≡ a → BeginTells st s op a
+    told e = subst (BeginTells st s op) e (begin-tells st s op)
 
 -- a table of answers after which everything is as given
 abbrev unchanging : List Row → Bool

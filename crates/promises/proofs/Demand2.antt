@@ -60,7 +60,7 @@ use Rattle.runs.proofs.Locking.{paired, held-with}
 use Rattle.runs.proofs.Turning.{scene-ordered, turn-once, in-turn}
 use Rattle.runs.proofs.Stepping.{turned-all}
 use Rattle.runs.proofs.Calls.{StepOf, noSlot, idle, waits, onward, over, step-of, granted-does}
-use Rattle.runs.proofs.Runs.{call-keeps, call-numbers, BeginOf, noSuch, busy, begins-so, begin-of, ReportOf, noPage, tells, report-of, holds-after, numbers-after}
+use Rattle.runs.proofs.Runs.{call-keeps, call-numbers, BeginOf, noSuch, busy, blank, begins-so, begin-of, ReportOf, noPage, tells, report-of, holds-after, numbers-after}
 use Rattle.runs.proofs.Barring.{coming-above}
 use Rattle.runs.proofs.Progress.{barred, barred-waits, older-other, older-waits, opened}
 use Rattle.runs.proofs.Older.{older-before, before-older}
@@ -506,7 +506,8 @@ module _ (st : State) (ws : List ℕ) (inv : Invariant st ws) where
   unfolding called begins
   begin-locks s op (noSuch b e) = subst (λ (r : Outcome). CallLocks st ws (begin s op) (left (r .answer) (r .state) ws)) (sym e) (inl (record { answer = refl; state = refl; words = refl }))
   begin-locks s op (busy b o e) = subst (λ (r : Outcome). CallLocks st ws (begin s op) (left (r .answer) (r .state) ws)) (sym e) (inl (record { answer = refl; state = refl; words = refl }))
-  begin-locks s op (begins-so b c e) =
+  begin-locks s op (blank b c t e) = subst (λ (r : Outcome). CallLocks st ws (begin s op) (left (r .answer) (r .state) ws)) (sym e) (inl (record { answer = refl; state = refl; words = refl }))
+  begin-locks s op (begins-so b c t e) =
       let here : slotAt (begins st s op) s ≡ slotOf (freshStand op) = slot-here st (inv .shaped) s b (slotOf (freshStand op)) [] 0 in
       subst (λ (r : Outcome). CallLocks st ws (begin s op) (left (r .answer) (r .state) ws)) (sym e)
       (inr (record {
@@ -531,7 +532,8 @@ module _ (st : State) (ws : List ℕ) (inv : Invariant st ws) where
   unfolding member
   begin-heard s op (noSuch b e) = ap (λ (r : Outcome). isOneOf (r .answer) (answersOf (begin s op))) e
   begin-heard s op (busy b o e) = ap (λ (r : Outcome). isOneOf (r .answer) (answersOf (begin s op))) e
-  begin-heard s op (begins-so b c e) = ap (λ (r : Outcome). isOneOf (r .answer) (answersOf (begin s op))) e
+  begin-heard s op (blank b c t e) = ap (λ (r : Outcome). isOneOf (r .answer) (answersOf (begin s op))) e
+  begin-heard s op (begins-so b c t e) = ap (λ (r : Outcome). isOneOf (r .answer) (answersOf (begin s op))) e
 
   step-heard : (s : ℕ) → StepOf st ws inv s → isOneOf (stepped st ws s .answer) (answersOf (step s)) ≡ true
   unfolding member

@@ -16,4 +16,5 @@ pub mod TopOpen
 pub mod Regrading
 pub mod OneWord
 pub mod NextAbove
+pub mod NoBlank
 pub mod Reopening

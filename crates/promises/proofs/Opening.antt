@@ -8,18 +8,21 @@ use native.Mathlib.Omega.{arith}
 use lib.Dec.{ltb, eqb}
 use lib.ListN.{replicate}
 use borrow.Author.Tests.{ltb-false, eqb-false, ne-eqb, not-true, not-false}
+use Rattle.ground.specs.Limits.{blankKey}
 use Rattle.ground.specs.Tests.{all, firstBelow}
 use Rattle.ground.proofs.Bools.{not-both, false-if-not-true, and-first, and-second, and-both, or-first, or-second, or-cases, not-of-true, not-of-false}
 use Rattle.ground.proofs.Tests.{firstBelow-most, firstBelow-passes, firstBelow-before, firstBelow-found, firstBelow-fails, firstBelow-all-fail}
 use Rattle.page.specs.Words.{size}
+use Rattle.page.specs.Place.{has}
 use Rattle.page.specs.Sound.{soundByItself}
 use Rattle.page.proofs.WordLaws.{all-zero, zeros-pass}
 use Rattle.pool.specs.Pool.{wordsOf, pageAt}
 use Rattle.pool.proofs.StretchLaws.{length-wordsOf}
 use Rattle.opening.specs.Opening.{isZero, soundAlone, lowestUnsound, isTree}
-use Rattle.tree.specs.Tree.{Tr, PoolForms}
+use Rattle.tree.specs.Tree.{Tr, entriesOf, PoolForms}
 use Rattle.tree.proofs.Words.{outside-words}
 use Rattle.tree.proofs.Opening.{opening-forms, forms-opening}
+use Rattle.runs.proofs.PlainLaws.{missing-has, has-missing}
 use Rattle.promises.specs.Terms.{Exactly}
 use Rattle.promises.specs.Demand1.{MakingInRange, AloneSound, LowestUnsound, FormsTree}
 use Rattle.promises.proofs.SoundPages.{page-told, page-from}
@@ -29,8 +32,14 @@ abbrev unsoundAt : ℕ → ℕ → List ℕ → ℕ → Bool
 unsoundAt k n ws p = not (soundAlone k n ws p)
 
 -- with the tree that the words form, what demand 1 asks of it
-pub forms-tree : (k n : ℕ) (ws : List ℕ) (l : ℕ) (t : Tr l) → PoolForms k n ws l t → FormsTree k n ws
-forms-tree k n ws l t forms = record { height = l; tree = t; forms = forms; free = outside-words k n ws l t forms }
+pub forms-tree : (k n : ℕ) (ws : List ℕ) (l : ℕ) (t : Tr l) → PoolForms k n ws l t → has blankKey (entriesOf l t) ≡ false → FormsTree k n ws
+forms-tree k n ws l t forms unblank = record {
+  height = l;
+  tree = t;
+  forms = forms;
+  free = outside-words k n ws l t forms;
+  noBlank = has-missing blankKey (entriesOf l t) unblank;
+}
 
 module _ (k n : ℕ) (ws : List ℕ) (range : MakingInRange k n ws) where
   -- ---- each page by itself
@@ -90,7 +99,9 @@ module _ (k n : ℕ) (ws : List ℕ) (range : MakingInRange k n ws) where
   pub tree-told : lowestUnsound k n ws ≡ n → isTree k n ws ≡ true → FormsTree k n ws
   tree-told none test =
       let a = opening-forms k n ws (range .nLeast) (range .words) none test in
-      forms-tree k n ws (a .height) (a .tree) (a .forms)
+      forms-tree k n ws (a .height) (a .tree) (a .forms) (a .noBlank)
 
   pub tree-is : FormsTree k n ws → (lowestUnsound k n ws ≡ n) × (isTree k n ws ≡ true)
-  tree-is f = forms-opening k n ws (f .height) (f .tree) (range .kLeast) (range .nMost) (f .forms)
+  tree-is f =
+      forms-opening k n ws (f .height) (f .tree) (range .kLeast) (range .nMost) (f .forms)
+      (missing-has blankKey (entriesOf (f .height) (f .tree)) (f .noBlank))

@@ -127,6 +127,7 @@ module _ (st : State) (ws : List ℕ) (inv : Invariant st ws) (s x v : ℕ) (b :
         nMost = inv .sound .nMost;
         key = subst (λ (o : Op). keyOf o < wordRange) (sym same) (inv .keys s (Insert x v First) b runs);
         forms = inv .forms;
+        noBlank = inv .noBlank;
         stance = stance;
         locked = locked;
       }))

@@ -9,14 +9,14 @@ use lib.Dec.{leb, ltb, eqb}
 use lib.ListN.{length, getD, drop, length-append, length-drop, length-reverse}
 use lib.Seq.{getD-drop}
 use borrow.Author.Tests.{leb-true, le-leb, ltb-true, lt-ltb, eqb-true, eqb-false, eq-eqb, ne-eqb, not-true}
-use Rattle.ground.specs.Limits.{tallest}
+use Rattle.ground.specs.Limits.{tallest, blankKey}
 use Rattle.ground.specs.Tests.{all, member, distinct}
 use Rattle.ground.proofs.Bools.{not-both, false-if-not-true, and-first, and-second, and-both, or-first, or-second, or-cases, not-of-false}
 use Rattle.ground.proofs.Choice.{by-test, cond-ind, cond-true, cond-false}
 use Rattle.ground.proofs.Tests.{all-at, all-from, all-member, all-from-members, member-here, member-append, member-at, distinct-at, distinct-from}
 use Rattle.page.specs.Words.{Entry, Page, isLeaf, pointers, pairsFrom, view}
 use Rattle.page.specs.Place.{place, pointer, route, has, atOrAbove}
-use Rattle.page.specs.Sound.{rises, least, goodPointers, soundByItself}
+use Rattle.page.specs.Sound.{rises, least, goodPointers, noBlank, soundByItself}
 use Rattle.page.specs.Short.{neighbour}
 use Rattle.page.proofs.RiseLaws.{rises-at, rises-from}
 use Rattle.page.proofs.PlaceLaws.{place-most, place-is, place-before, place-behind, has-at, has-from}
@@ -36,7 +36,7 @@ use Rattle.footing.specs.Fitting.{pagesSound, leads, descends, rightlyKept, sam
 use Rattle.footing.proofs.OnTurn.{converts-facts}
 use Rattle.tree.proofs.DeletionRule.{needs-length}
 use Rattle.runs.specs.Stance.{StandsAtLeaf}
-use Rattle.runs.proofs.PlainLaws.{none-below, below-none}
+use Rattle.runs.proofs.PlainLaws.{missing-has, has-missing, none-below, below-none}
 use Rattle.runs.proofs.Paths.{none-is}
 use Rattle.runs.proofs.Needing.{course-needs, needs-course}
 use Rattle.runs.proofs.Stepping.{at-leaf-test, test-at-leaf}
@@ -78,7 +78,7 @@ page-told k n p ws h =
     let c : Bool = leb (least k p (isLeaf P)) (getD ws 1 0) in
     let d : Bool = leb (getD ws 1 0) (2 * k) in
     let e : Bool = rises (P .entries) in
-    let f : Bool = cond (isLeaf P) true (goodPointers n (pointers P)) in
+    let f : Bool = cond (isLeaf P) (noBlank (P .entries)) (goodPointers n (pointers P)) in
     let g : Bool = all (λ (w : ℕ). eqb w 0) (drop (pairsFrom (P .level) + 2 * getD ws 1 0) ws) in
     let toF = and-first (a && b && (c && d) && e && f) g h in
     let toE = and-first (a && b && (c && d) && e) f toF in
@@ -86,8 +86,11 @@ page-told k n p ws h =
     let toB = and-first (a && b) (c && d) toD in
     let toCD = and-second (a && b) (c && d) toD in
     let low : least k p (isLeaf P) ≤ getD ws 1 0 = leb-true (least k p (isLeaf P)) (getD ws 1 0) (and-first c d toCD) in
+    let onLevel : f ≡ true = and-second (a && b && (c && d) && e) f toF in
+    let unblank : P .level ≡ 1 → noBlank (P .entries) ≡ true
+    = λ one. sym (cond-true (noBlank (P .entries)) (goodPointers n (pointers P)) (eq-eqb (P .level) 1 one)) ∙ onLevel in
     let good : P .level ≢ 1 → goodPointers n (pointers P) ≡ true
-    = λ ne. sym (cond-false true (goodPointers n (pointers P)) (ne-eqb (P .level) 1 ne)) ∙ and-second (a && b && (c && d) && e) f toF in
+    = λ ne. sym (cond-false (noBlank (P .entries)) (goodPointers n (pointers P)) (ne-eqb (P .level) 1 ne)) ∙ onLevel in
     let inside : Bool = all (λ (q : ℕ). leb 1 q && ltb q n) (pointers P) in
     record {
       lowest = leb-true 1 (P .level) (and-first a b toB);
@@ -96,6 +99,7 @@ page-told k n p ws h =
       rootEnough = λ z ne. subst (λ (m : ℕ). m ≤ getD ws 1 0) (cond-true (cond (isLeaf P) 0 1) k (eq-eqb p 0 z) ∙ cond-false 0 1 (ne-eqb (P .level) 1 ne)) low;
       room = leb-true (getD ws 1 0) (2 * k) (and-second c d toCD);
       rising = rises-at (P .entries) (and-second (a && b && (c && d)) e toE);
+      noBlank = λ one. has-missing blankKey (P .entries) (not-true (has blankKey (P .entries)) (unblank one));
       different = λ ne. distinct-at (pointers P) 0 (and-first (distinct (pointers P)) inside (good ne));
       inPool = λ ne q i.
           let t = all-member (λ (r : ℕ). leb 1 r && ltb r n) (pointers P) (and-second (distinct (pointers P)) inside (good ne)) q (in-member q (pointers P) i) in
@@ -131,7 +135,7 @@ page-from k n p ws s =
     (le-leb (getD ws 1 0) (2 * k) (s .room))))
     (rises-from (P .entries) (λ i b. s .rising i (suc i) (omega arith) b)))
     (cond-ind (λ (t : Bool). t ≡ true) (isLeaf P)
-    (λ l. refl)
+    (λ l. not-of-false (missing-has blankKey (P .entries) (s .noBlank (eqb-true (P .level) 1 l))))
     (λ l. and-both
     (distinct-from (pointers P) 0 (s .different (eqb-false (P .level) 1 l)))
     (all-from-members (λ (q : ℕ). leb 1 q && ltb q n) (pointers P)

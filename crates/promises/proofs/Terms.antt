@@ -7,7 +7,7 @@ use native.Mathlib.Omega.{arith}
 use lib.Dec.{eqb}
 use lib.ListN.{length, getD, length-reverse}
 use borrow.Author.Tests.{eqb-true, eq-eqb}
-use Rattle.ground.specs.Limits.{slotCount}
+use Rattle.ground.specs.Limits.{slotCount, blankKey}
 use Rattle.ground.specs.Tests.{member, distinct}
 use Rattle.ground.proofs.Bools.{not-both, false-if-not-true, and-first, and-second, and-both}
 use Rattle.ground.proofs.Choice.{by-test, cond-true, cond-false}
@@ -20,17 +20,41 @@ use Rattle.slots.specs.declared.Lock.{Lock}
 use Rattle.slots.specs.declared.Lock.the-variants.{None, Rho, Xi, UpdaterRho, Alpha}
 use Rattle.slots.specs.declared.Under.{Under}
 use Rattle.slots.specs.declared.State.{State}
+use Rattle.slots.specs.Operations.{blankTag}
 use Rattle.slots.specs.Parts.{isSecond, isThird, heldLock, held, heldLocks, under, Stand, stand, holding, converting, slotAt, holdsAt}
 use Rattle.slots.specs.Locks.{lockAmong, lockHeldAt, clash}
 use Rattle.slots.proofs.SoundFacts.{SoundState}
 use Rattle.slots.proofs.GrantLaws.{holder-open}
 use Rattle.slots.proofs.LockLaws.{among-once, rho-not-xi, updater-not-xi, alpha-not-xi}
 use Rattle.footing.specs.Fitting.{lockDue}
-use Rattle.promises.specs.Terms.{Exactly, In, GoTogether, HoldsAs, GoesWith, ByFirst, BySecond, ByThird, ConvertsHere, AboveItsLeaf, WantsAs}
+use Rattle.promises.specs.Terms.{Exactly, In, Blank, GoTogether, HoldsAs, GoesWith, ByFirst, BySecond, ByThird, ConvertsHere, AboveItsLeaf, WantsAs}
 
 -- what stands in a list is a member of it (`member-at` is the way back)
 pub in-member : (x : ℕ) (xs : List ℕ) → In x xs → member x xs ≡ true
 in-member x xs (i, b, e) = member-from x xs i 0 b e
+
+-- ---- the blank tag
+
+key-blank : (x : ℕ) → Exactly (eqb x blankKey ≡ true) (x ≡ blankKey)
+key-blank x = (eqb-true x blankKey, eq-eqb x blankKey)
+
+-- the rule's test passes just those operations that 02 (viii) names
+pub blank-is : (op : Op) → Exactly (blankTag op ≡ true) (Blank op)
+unfolding blankTag
+blank-is (Search x) = key-blank x
+blank-is (Insert x v First) = key-blank x
+blank-is (Insert x v Second) = key-blank x
+blank-is (Insert x v Third) = key-blank x
+blank-is (Delete x First) = key-blank x
+blank-is (Delete x Second) = key-blank x
+blank-is (Delete x Third) = key-blank x
+blank-is (Next x) = ((λ t. false≢true t), (λ b. absurd b))
+blank-is (Regrade x v First) = key-blank x
+blank-is (Regrade x v Second) = key-blank x
+blank-is (Regrade x v Third) = key-blank x
+
+pub unblank-is : (op : Op) → (Blank op → ⊥) → blankTag op ≡ false
+unblank-is op never = false-if-not-true (blankTag op) (λ t. never (blank-is op .0 t))
 
 -- ---- kinds of lock
 

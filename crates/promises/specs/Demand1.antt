@@ -12,7 +12,7 @@ use mathlib.Core.List.{List}
 use mathlib.Core.Logic.{_⊎_, _≢_}
 use mathlib.Core.Path.{_≡_}
 use lib.ListN.{length, replicate}
-use Rattle.ground.specs.Limits.{largestK, largestN, slotCount}
+use Rattle.ground.specs.Limits.{largestK, largestN, slotCount, blankKey}
 use Rattle.page.specs.Words.{size}
 use Rattle.pool.specs.Pool.{poolLength, wordsOf, pageAt, fresh}
 use Rattle.slots.specs.declared.Op.{Op}
@@ -21,7 +21,7 @@ use Rattle.slots.specs.declared.Task.the-variants.{Closed, Open}
 use Rattle.slots.specs.declared.Slot.{Slot}
 use Rattle.slots.specs.declared.State.{State}
 use Rattle.slots.specs.declared.Lock.{Lock}
-use Rattle.slots.specs.declared.Answer.the-variants.{Waiting, Begun, Made, Reported, BadState, BadPool, BadSlot, SlotBusy, SlotIdle, Damaged, BadPage, Opened, BadPageInPool, BadTree}
+use Rattle.slots.specs.declared.Answer.the-variants.{Waiting, Begun, Made, Reported, BadState, BadPool, BadSlot, SlotBusy, SlotIdle, Damaged, BadPage, Opened, BadPageInPool, BadTree, BadKey}
 use Rattle.slots.specs.Heard.{refuses, changesNothing}
 use Rattle.slots.specs.Parts.{standOf, slotAt, openAt, idleState}
 use Rattle.slots.specs.Sound.{sound}
@@ -31,13 +31,14 @@ use Rattle.slots.specs.Report.{reported}
 use Rattle.index.specs.Step.{ofGranted, stepped}
 use Rattle.index.specs.Make.{made}
 use Rattle.index.specs.Open.{opened}
-use Rattle.tree.specs.Tree.{Tr, occurs, PoolForms}
-use Rattle.promises.specs.Terms.{Exactly}
+use Rattle.tree.specs.Tree.{Tr, entriesOf, occurs, PoolForms}
+use Rattle.runs.specs.PlainFacts.{Missing}
+use Rattle.promises.specs.Terms.{Exactly, Blank}
 use Rattle.promises.specs.SoundState.{Numbers, IsSound}
 use Rattle.promises.specs.Report.{Reports}
 use Rattle.promises.specs.SoundPages.{PageSound, SoundForStep}
 
--- "Order. Begin: 1, 3, 4." Begin is handed no words, so it leaves them.
+-- "Order. Begin: 1, 3, 4."; 02 (viii): 8 "after SlotBusy". Begin is handed no words, so it leaves them.
 pub record BeginDemand (st : State) (s : ℕ) (op : Op) : Type 0 where
   -- 1, "the state is not sound"
   pub badState : Exactly (begun st s op .answer ≡ BadState) (sound st ≡ false)
@@ -45,9 +46,11 @@ pub record BeginDemand (st : State) (s : ℕ) (op : Op) : Type 0 where
   pub badSlot : Exactly (begun st s op .answer ≡ BadSlot) ((sound st ≡ true) × (slotCount ≤ s))
   -- 4, "begin on an open slot"
   pub slotBusy : Exactly (begun st s op .answer ≡ SlotBusy) ((sound st ≡ true) × (s < slotCount) × (openAt st s ≡ true))
+  -- 8, "key 0 for every operation but that of (i)"
+  pub badKey : Exactly (begun st s op .answer ≡ BadKey) ((sound st ≡ true) × (s < slotCount) × (openAt st s ≡ false) × Blank op)
   -- "Begin answers: Begun."
-  pub begins : Exactly (begun st s op .answer ≡ Begun) ((sound st ≡ true) × (s < slotCount) × (openAt st s ≡ false))
-  pub noOther : (begun st s op .answer ≡ BadState) ⊎ (begun st s op .answer ≡ BadSlot) ⊎ (begun st s op .answer ≡ SlotBusy) ⊎ (begun st s op .answer ≡ Begun)
+  pub begins : Exactly (begun st s op .answer ≡ Begun) ((sound st ≡ true) × (s < slotCount) × (openAt st s ≡ false) × (Blank op → ⊥))
+  pub noOther : (begun st s op .answer ≡ BadState) ⊎ (begun st s op .answer ≡ BadSlot) ⊎ (begun st s op .answer ≡ SlotBusy) ⊎ (begun st s op .answer ≡ BadKey) ⊎ (begun st s op .answer ≡ Begun)
   -- "A refused call leaves pages, locks and waiting order exactly as found."
   pub asGiven : refuses (begun st s op .answer) ≡ true → begun st s op .state ≡ st
 
@@ -124,7 +127,7 @@ pub record MakeDemand (k n : ℕ) (ws : List ℕ) : Type 0 where
 
 -- ---- opening a pool that somebody hands us, 02 (vii)
 
--- "sound by itself (all zeros and not page 0, or its level, μ, keys, pointers and unused words as 01 has them)": page p
+-- "sound by itself (all zeros and not page 0, or its level, μ, keys, pointers and unused words as 01 has them)", and, by (viii), if it is a leaf no key 0: page p
 abbrev pub AloneSound : ℕ → ℕ → List ℕ → ℕ → Type 0
 AloneSound k n ws p = ((p ≢ 0) × (wordsOf k p ws ≡ replicate (size k) 0)) ⊎ PageSound k n p (wordsOf k p ws) (pageAt k ws p)
 
@@ -135,12 +138,14 @@ pub record LowestUnsound (k n : ℕ) (ws : List ℕ) (p : ℕ) : Type 0 where
   pub lower : (q : ℕ) → q < p → AloneSound k n ws q
 
 -- "they form the B*-tree of document 01 from page 0, every other page is all zeros, and no page hangs in two places": the tree is demand 2's,
--- which has page 0 for its root and no page twice (`Forms`, its fields root and different).
+-- which has page 0 for its root and no page twice (`Forms`, its fields root and different). 02 (viii): the check "treats a leaf with key 0 as a page
+-- that is not sound", so no lot of it is that of a blank tag.
 pub record FormsTree (k n : ℕ) (ws : List ℕ) : Type 0 where
   pub height : ℕ
   pub tree : Tr height
   pub forms : PoolForms k n ws height tree
   pub free : (q : ℕ) → q < n → occurs q height tree ≡ 0 → wordsOf k q ws ≡ replicate (size k) 0
+  pub noBlank : Missing blankKey (entriesOf height tree)
 
 -- Opening. "These are refusals 9 (BadPageInPool, with the page) and 10 (BadTree), after BadPool."
 pub record OpenDemand (k n : ℕ) (ws : List ℕ) : Type 0 where

@@ -17,5 +17,7 @@ pub mod DamageRows
 pub mod SecondRows
 pub mod ThirdRows
 pub mod OpenRows
+pub mod BlankRows
 pub mod Regrading
 pub mod Reopening
+pub mod NoBlank

@@ -9,7 +9,7 @@ use mathlib.Core.List.{List, [], _∷_, _++_, reverse}
 use mathlib.Core.Logic.{_⊎_, _≢_}
 use mathlib.Core.Path.{_≡_}
 use lib.ListN.{length, getD}
-use Rattle.ground.specs.Limits.{tallest}
+use Rattle.ground.specs.Limits.{tallest, blankKey}
 use Rattle.page.specs.Words.{Entry, Page, μ, pointers}
 use Rattle.page.specs.Place.{pointer}
 use Rattle.page.specs.Splits.{entryAt}
@@ -19,7 +19,7 @@ use Rattle.slots.specs.declared.Lock.{Lock}
 use Rattle.slots.specs.declared.Lock.the-variants.{Xi, Alpha}
 use Rattle.slots.specs.Parts.{keyOf, isDelete, isNext, Stand}
 use Rattle.footing.specs.Granted.{answeredAtOnce, pagesInTurn}
-use Rattle.runs.specs.PlainFacts.{AllBelow}
+use Rattle.runs.specs.PlainFacts.{Missing, AllBelow}
 use Rattle.runs.specs.Stance.{Safe, StandsAtLeaf}
 use Rattle.promises.specs.Terms.{In, Once, GoesWith, ByThird, ConvertsHere, HeldHere, WantsAs, NoMore}
 
@@ -36,6 +36,8 @@ pub record PageSound (k n p : ℕ) (words : List ℕ) (P : Page) : Type 0 where
   pub room : getD words 1 0 ≤ 2 * k
   -- "rising keys"
   pub rising : (i j : ℕ) → i < j → j < μ P → entryAt i (P .entries) .key < entryAt j (P .entries) .key
+  -- 02 (viii): "a leaf with key 0" is "a page that is not sound"; of a reference key nothing is said
+  pub noBlank : P .level ≡ 1 → Missing blankKey (P .entries)
   -- "pointers all different and from 1 to N-1": a leaf has none
   pub different : P .level ≢ 1 → Once (pointers P)
   pub inPool : P .level ≢ 1 → (q : ℕ) → In q (pointers P) → (1 ≤ q) × (q < n)

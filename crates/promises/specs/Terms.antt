@@ -5,6 +5,7 @@ use mathlib.Core.List.{List, [], _∷_, reverse}
 use mathlib.Core.Logic.{_⊎_, _≢_}
 use mathlib.Core.Path.{_≡_}
 use lib.ListN.{length, getD}
+use Rattle.ground.specs.Limits.{blankKey}
 use Rattle.page.specs.Words.{Page, μ}
 use Rattle.page.specs.Short.{neighbour}
 use Rattle.slots.specs.declared.Op.{Op}
@@ -36,6 +37,14 @@ Holds st s p = In p (held (slotAt st s))
 -- slot s is open
 abbrev pub IsOpen : State → ℕ → Type 0
 IsOpen st s = (op : Op) × Opened st s op
+
+-- 02 (viii): "Begin shall refuse key 0 for every operation but that of (i)": it is such an operation
+abbrev pub Blank : Op → Type 0
+Blank (Search x) = x ≡ blankKey
+Blank (Insert x v way) = x ≡ blankKey
+Blank (Delete x way) = x ≡ blankKey
+Blank (Next x) = ⊥
+Blank (Regrade x v way) = x ≡ blankKey
 
 -- ---- kinds of lock
 

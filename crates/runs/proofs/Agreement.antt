@@ -18,7 +18,7 @@ use Rattle.slots.specs.declared.Slot.{Slot}
 use Rattle.slots.specs.declared.State.{State}
 use Rattle.slots.specs.declared.Outcome.{Outcome}
 use Rattle.slots.specs.declared.Answer.{Answer}
-use Rattle.slots.specs.declared.Answer.the-variants.{Waiting, Moved, Begun, BadSlot, SlotBusy, SlotIdle}
+use Rattle.slots.specs.declared.Answer.the-variants.{Waiting, Moved, Begun, BadSlot, SlotBusy, SlotIdle, BadKey}
 use Rattle.slots.specs.Parts.{firstWay, Stand, freshStand, standOf, slotOf, slotAt, closedSlot, Opened}
 use Rattle.slots.specs.Heard.{isOneOf, countedAnswers}
 use Rattle.slots.specs.Book.{rewritten, begins, goesOn, closes}
@@ -37,7 +37,7 @@ use Rattle.runs.specs.Step.{Ended}
 use Rattle.runs.proofs.Invariant.{Invariant}
 use Rattle.runs.proofs.PlainLaws.{plain-ways}
 use Rattle.runs.proofs.Calls.{StepOf, noSlot, idle, waits, onward, over, step-of, same-op, closed-open}
-use Rattle.runs.proofs.Runs.{BeginOf, noSuch, busy, begins-so, begin-of, call-keeps, call-numbers, forms-with, Ready, start-ready}
+use Rattle.runs.proofs.Runs.{BeginOf, noSuch, busy, blank, begins-so, begin-of, call-keeps, call-numbers, forms-with, Ready, start-ready}
 
 -- the entries of the tree that the words form
 abbrev pub entriesIn : (st : State) (ws : List ℕ) → Invariant st ws → List Entry
@@ -179,7 +179,10 @@ module _ (st : State) (ws : List ℕ) (inv : Invariant st ws) (asked : ℕ → O
   begin-adds s op (busy b o e) =
       subst (λ (r : Outcome). Adds (entriesIn st ws inv) (begin s op) asked (left (r .answer) (r .state) ws) (entriesIn st ws inv)) (sym e)
       (same-so (begin s op) (left SlotBusy st ws) asked knows (λ cs heard. refl))
-  begin-adds s op (begins-so b c e) =
+  begin-adds s op (blank b c t e) =
+      subst (λ (r : Outcome). Adds (entriesIn st ws inv) (begin s op) asked (left (r .answer) (r .state) ws) (entriesIn st ws inv)) (sym e)
+      (same-so (begin s op) (left BadKey st ws) asked knows (λ cs heard. refl))
+  begin-adds s op (begins-so b c t e) =
       subst (λ (r : Outcome). Adds (entriesIn st ws inv) (begin s op) asked (left (r .answer) (r .state) ws) (entriesIn st ws inv)) (sym e)
       (same-so (begin s op) (left Begun (begins st s op) ws) (asks s op asked) (knows-begun st ws inv s b asked knows op) (λ cs heard. refl))
 

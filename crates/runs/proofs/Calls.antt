@@ -8,12 +8,13 @@ use native.Mathlib.Omega.{arith}
 use lib.Dec.{ltb, eqb}
 use lib.ListN.{length, length-append}
 use borrow.Author.Tests.{ltb-true, ltb-false, lt-ltb, eq-eqb, eqb-true, eqb-false}
-use Rattle.ground.specs.Limits.{slotCount, wordRange}
+use Rattle.ground.specs.Limits.{slotCount, wordRange, blankKey}
 use Rattle.ground.specs.Tests.{member}
 use Rattle.ground.proofs.Bools.{true-or-false, not-both, false-if-not-true, and-both, and-first-fails, or-second, not-of-true, not-of-false}
 use Rattle.ground.proofs.Choice.{by-test, cond-true, cond-false}
 use Rattle.ground.proofs.Tests.{member-none, member-one, member-there, member-last}
 use Rattle.page.specs.Words.{Page}
+use Rattle.page.specs.Place.{has}
 use Rattle.pool.specs.Pool.{Write, poolLength, pageAt, applied}
 use Rattle.slots.specs.declared.Op.{Op}
 use Rattle.slots.specs.declared.Lock.{Lock}
@@ -25,6 +26,7 @@ use Rattle.slots.specs.declared.Slot.{Slot}
 use Rattle.slots.specs.declared.State.{State}
 use Rattle.slots.specs.declared.Answer.{Answer}
 use Rattle.slots.specs.declared.Answer.the-variants.{Waiting, Moved, BadState, BadPool, BadSlot, SlotIdle}
+use Rattle.slots.specs.Operations.{blankTag}
 use Rattle.slots.specs.Parts.{isOpen, held, keyOf, isSecond, isThird, firstWay, under, xiOn, withXi, Stand, freshStand, holding, holdingLocks, converting, standOf, slotOf, slotAt, openAt, wantAt, holdsAt, closedSlot, Opened}
 use Rattle.slots.specs.Locks.{lockAmong, lockHeld, sameLock, canWant}
 use Rattle.slots.specs.Sound.{convertsRightly}
@@ -38,12 +40,13 @@ use Rattle.slots.proofs.GrantLaws.{Takable, taking-fits}
 use Rattle.slots.proofs.Keeping.{Shaped, slot-here, slot-other, held-new, lock-new, stand-new, begins-sound, begins-shaped, closes-sound, closes-shaped, goes-on-sound, goes-on-shaped}
 use Rattle.footing.specs.Fitting.{verdict}
 use Rattle.index.specs.Step.{Left, left, acted, steppedTask, stepped}
-use Rattle.tree.specs.Tree.{Tr, PoolForms}
+use Rattle.tree.specs.Tree.{Tr, entriesOf, PoolForms}
 use Rattle.tree.specs.Change.{memoryAfter, writtenPages}
 use Rattle.tree.proofs.Words.{fit-writes, applied-memory, pool-leads}
 use Rattle.runs.specs.Stance.{HoldsWith, Locked, Gathering, Converting, Stance, Converts, Takes}
 use Rattle.runs.specs.Step.{Scene, Writable, Ended, Comes, moves, stops}
 use Rattle.runs.proofs.Invariant.{Invariant, scene}
+use Rattle.runs.proofs.BlankTags.{same-tag, ended-unblank}
 use Rattle.runs.proofs.Placing.{WellHeld, well-held, gathers-new, turn-held}
 use Rattle.runs.proofs.Others.{others-keep, others-wait}
 use Rattle.runs.proofs.Stepping.{same-key, granted-comes}
@@ -124,21 +127,20 @@ module _ (k n : ℕ) (ws : List ℕ) (l : ℕ) (t : Tr l) (z : Stand) (scene : S
 module _ (st : State) (ws : List ℕ) (inv : Invariant st ws) (s : ℕ) (b : s < slotCount) where
   pub slot-anew : (slot : Slot) (order : List ℕ) (waiting : ℕ) (after : List ℕ) (l : ℕ) (t : Tr l)
       → Shaped (rewritten st s slot order waiting) → SoundState (rewritten st s slot order waiting)
-      → PoolForms (st .k) (st .n) after l t
-      → ((op : Op) → slot .task ≡ Open op → (keyOf op < wordRange) × StandsIn (st .k) after l t op slot)
+      → PoolForms (st .k) (st .n) after l t → has blankKey (entriesOf l t) ≡ false
+      → ((op : Op) → slot .task ≡ Open op → (keyOf op < wordRange) × (blankTag op ≡ false) × StandsIn (st .k) after l t op slot)
       → ((u : ℕ) (op : Op) → u < slotCount → u ≢ s → Opened st u op → StandsIn (st .k) after l t op (slotAt st u))
       → Invariant (rewritten st s slot order waiting) after
-  slot-anew slot order waiting after l t shaped sound forms here other =
+  slot-anew slot order waiting after l t shaped sound forms unblank here other =
       record {
         shaped = shaped;
         sound = sound;
         height = l;
         tree = t;
         forms = forms;
-        keys = λ u op c runs. ⊎-elim
-            (λ e. here op (sym (ap (λ (sl : Slot). sl .task) (slot-at u e)) ∙ runs) .0)
-            (λ n. inv .keys u op c (sym (ap (λ (sl : Slot). sl .task) (slot-away u n)) ∙ runs))
-            (same-or-not u s);
+        noBlank = unblank;
+        keys = λ u op c runs. ⊎-elim (λ e. here op (now-here u op e runs) .0) (λ n. inv .keys u op c (was-there u op n runs)) (same-or-not u s);
+        tags = λ u op c runs. ⊎-elim (λ e. here op (now-here u op e runs) .1) (λ n. inv .tags u op c (was-there u op n runs)) (same-or-not u s);
         stands = λ u op c runs. stands-in u op c runs .0;
         locked = λ u op c runs. stands-in u op c runs .1;
       }
@@ -152,22 +154,33 @@ module _ (st : State) (ws : List ℕ) (inv : Invariant st ws) (s : ℕ) (b : s <
       slot-away : (u : ℕ) → u ≢ s → slotAt next u ≡ slotAt st u
       slot-away u n = slot-other st (inv .shaped) s b slot order waiting u n
 
+      -- what runs in the slot, and what ran in another
+      now-here : (u : ℕ) (op : Op) → u ≡ s → Opened next u op → slot .task ≡ Open op
+      now-here u op e runs = sym (ap (λ (sl : Slot). sl .task) (slot-at u e)) ∙ runs
+
+      was-there : (u : ℕ) (op : Op) → u ≢ s → Opened next u op → Opened st u op
+      was-there u op n runs = sym (ap (λ (sl : Slot). sl .task) (slot-away u n)) ∙ runs
+
       stands-in : (u : ℕ) (op : Op) → u < slotCount → Opened next u op → StandsIn (st .k) after l t op (slotAt next u)
       stands-in u op c runs = ⊎-elim
-          (λ e. subst (StandsIn (st .k) after l t op) (sym (slot-at u e)) (here op (sym (ap (λ (sl : Slot). sl .task) (slot-at u e)) ∙ runs) .1))
-          (λ n. subst (StandsIn (st .k) after l t op) (sym (slot-away u n)) (other u op c n (sym (ap (λ (sl : Slot). sl .task) (slot-away u n)) ∙ runs)))
+          (λ e. subst (StandsIn (st .k) after l t op) (sym (slot-at u e)) (here op (now-here u op e runs) .2))
+          (λ n. subst (StandsIn (st .k) after l t op) (sym (slot-away u n)) (other u op c n (was-there u op n runs)))
           (same-or-not u s)
 
   -- Beginning in a closed slot.
-  pub begin-keeps : (op : Op) → openAt st s ≡ false → keyOf op < wordRange → Invariant (begins st s op) ws
+  pub begin-keeps : (op : Op) → openAt st s ≡ false → blankTag op ≡ false → keyOf op < wordRange → Invariant (begins st s op) ws
   unfolding begins
-  begin-keeps op closed key =
+  begin-keeps op closed tag key =
       slot-anew (slotOf (freshStand op)) _ _ ws (inv .height) (inv .tree)
       (begins-shaped st (inv .shaped) (inv .sound) s b op)
       (begins-sound st (inv .shaped) (inv .sound) s b op closed)
       (inv .forms)
-      (λ op′ e. let same : op ≡ op′ = same-op e in
-      (subst (λ (o : Op). keyOf o < wordRange) same key, subst (λ (o : Op). StandsIn (st .k) ws (inv .height) (inv .tree) o (slotOf (freshStand op))) same here))
+      (inv .noBlank)
+      (λ op′ e. let same : op ≡ op′ = same-op e in (
+        subst (λ (o : Op). keyOf o < wordRange) same key,
+        ap blankTag (sym same) ∙ tag,
+        subst (λ (o : Op). StandsIn (st .k) ws (inv .height) (inv .tree) o (slotOf (freshStand op))) same here,
+      ))
       (λ u op′ c n runs. (inv .stands u op′ c runs, inv .locked u op′ c runs))
     where
       here : StandsIn (st .k) ws (inv .height) (inv .tree) op (slotOf (freshStand op))
@@ -192,8 +205,12 @@ module _ (st : State) (ws : List ℕ) (inv : Invariant st ws) (s : ℕ) (b : s <
       (wanted .converts) (wanted .can) (due-held-can z (wanted .third) (locked .holds))
       (λ u c n p m. taking-fits st (inv .sound) s b granted (slotOf z) p (from p m) u c n))
       (inv .forms)
-      (λ op′ e. let same : z .op ≡ op′ = same-op e in
-      (subst (λ (o : Op). keyOf o < wordRange) same key, subst (λ (o : Op). StandsIn (st .k) ws (inv .height) (inv .tree) o (slotOf z)) same here))
+      (inv .noBlank)
+      (λ op′ e. let same : z .op ≡ op′ = same-op e in (
+        subst (λ (o : Op). keyOf o < wordRange) same key,
+        ap blankTag (sym same) ∙ same-tag (z .op) op asked ∙ inv .tags s op b runs,
+        subst (λ (o : Op). StandsIn (st .k) ws (inv .height) (inv .tree) o (slotOf z)) same here,
+      ))
       (λ u op′ c n rs. (inv .stands u op′ c rs, inv .locked u op′ c rs))
     where
       opened : openAt st s ≡ true
@@ -203,7 +220,16 @@ module _ (st : State) (ws : List ℕ) (inv : Invariant st ws) (s : ℕ) (b : s <
       key = subst (λ (y : ℕ). y < wordRange) (sym (same-key (z .op) op asked)) (inv .keys s op b runs)
 
       seen : Scene (st .k) (st .n) ws (inv .height) (inv .tree) z
-      seen = record { kLeast = inv .sound .kLeast; kMost = inv .sound .kMost; nMost = inv .sound .nMost; key = key; forms = inv .forms; stance = stance; locked = locked }
+      seen = record {
+        kLeast = inv .sound .kLeast;
+        kMost = inv .sound .kMost;
+        nMost = inv .sound .nMost;
+        key = key;
+        forms = inv .forms;
+        noBlank = inv .noBlank;
+        stance = stance;
+        locked = locked;
+      }
 
       well : WellHeld (st .n) (inv .height) (inv .tree) z
       well = well-held (st .k) (st .n) ws (inv .height) (inv .tree) z seen
@@ -242,6 +268,7 @@ module _ (st : State) (ws : List ℕ) (inv : Invariant st ws) (s : ℕ) (b : s <
       (closes-shaped st (inv .shaped) (inv .sound) s b opened)
       (closes-sound st (inv .shaped) (inv .sound) s b opened)
       (pool-leads (st .k) (st .n) ws (inv .height) (inv .tree) writes (e .entries) (inv .forms) (e .leads))
+      (ended-unblank (st .k) (st .n) ws (inv .height) (inv .tree) (standOf op (slotAt st s)) a writes (inv .tags s op b runs) (inv .noBlank) e)
       (λ op′ c. absurd (closed-open c))
       (λ u op′ c n rs. subst
       (λ (m : ℕ → Page). Stance (st .k) m (e .leads .height) (e .leads .tree) (standOf op′ (slotAt st u)) × Locked m (standOf op′ (slotAt st u)))

@@ -27,7 +27,7 @@ use Rattle.runs.specs.Run.{Call, begin, called, InWords}
 use Rattle.runs.specs.Counts.{grantedTo, grantsOf, endsWithin, heightGranted, secondTask, secondAt, beginsAgain, grantsSecond, Behind, behind, behindAgain, FirstCounts, GrantCounts, CountsFrom}
 use Rattle.runs.proofs.Invariant.{Invariant}
 use Rattle.runs.proofs.Calls.{same-op}
-use Rattle.runs.proofs.Runs.{BeginOf, noSuch, busy, begins-so, begin-of, call-keeps}
+use Rattle.runs.proofs.Runs.{BeginOf, noSuch, busy, blank, begins-so, begin-of, call-keeps}
 use Rattle.runs.proofs.Measure.{grantsLeft, beside-first, Where, atStart, onTheWay, atTheLeaf, inTurns}
 use Rattle.runs.proofs.MeasureLaws.{undisturbed-measure, measure-falls, measure-bound, measure-first, measure-second, where-slot, low-above, start-above}
 pub use Rattle.runs.proofs.Grants.{granted-heard}
@@ -413,7 +413,8 @@ counts-from st ws inv s op cs words heard-begun = by-begin (begin-of st ws inv s
     by-begin : BeginOf st s op → GrantCounts s op cs (begun st s op .state) ws
     by-begin (noSuch b e) = absurd (omega (arith, ap numberOf (sym (ap (λ (o : Outcome). o .answer) e) ∙ heard-begun)))
     by-begin (busy b o e) = absurd (omega (arith, ap numberOf (sym (ap (λ (o : Outcome). o .answer) e) ∙ heard-begun)))
-    by-begin (begins-so b c e) =
+    by-begin (blank b c t e) = absurd (omega (arith, ap numberOf (sym (ap (λ (o : Outcome). o .answer) e) ∙ heard-begun)))
+    by-begin (begins-so b c t e) =
         let here : slotAt (begun st s op .state) s ≡ slotOf (freshStand op) = ap (λ (o : Outcome). slotAt (o .state) s) e ∙ begins-here st (inv .shaped) s b op in
         grant-counts s b op cs (begun st s op .state) ws (call-keeps st ws inv (begin s op) (words .0)) (words .1)
         (ap (λ (slot : Slot). slot .task) here)

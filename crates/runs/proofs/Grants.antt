@@ -36,7 +36,7 @@ use Rattle.runs.specs.Stance.{HoldsWith, BeginsAgain}
 use Rattle.runs.specs.Step.{Comes, moves, stops}
 use Rattle.runs.specs.Counts.{grantedTo, grantsOf, endsWithin, heightGranted}
 use Rattle.runs.proofs.Invariant.{Invariant}
-use Rattle.runs.proofs.Runs.{BeginOf, noSuch, busy, begins-so, begin-of}
+use Rattle.runs.proofs.Runs.{BeginOf, noSuch, busy, blank, begins-so, begin-of}
 use Rattle.runs.proofs.Measure.{lowestOf, grantsLeft, left-by-first}
 use Rattle.runs.proofs.MeasureLaws.{Undisturbed, nothing-disturbed, step-undisturbed, measure-falls, Lower, takes-gathers, takes-lower, goes-on-here, goes-on-k, closes-here, comes, moved, ended-so, after-moving, lower-left}
 use Rattle.runs.proofs.Steps.{Goes, step-cases}
@@ -103,7 +103,8 @@ begin-undisturbed : (st : State) (ws : List ℕ) → Invariant st ws → (u : �
     → Undisturbed st ws (begun st u op .state) ws s
 begin-undisturbed st ws inv u op s opened (noSuch b e) = subst (λ (o : Outcome). Undisturbed st ws (o .state) ws s) (sym e) (nothing-disturbed st ws s)
 begin-undisturbed st ws inv u op s opened (busy b o e) = subst (λ (o : Outcome). Undisturbed st ws (o .state) ws s) (sym e) (nothing-disturbed st ws s)
-begin-undisturbed st ws inv u op s opened (begins-so b closed e) =
+begin-undisturbed st ws inv u op s opened (blank b c t e) = subst (λ (o : Outcome). Undisturbed st ws (o .state) ws s) (sym e) (nothing-disturbed st ws s)
+begin-undisturbed st ws inv u op s opened (begins-so b closed t e) =
     subst (λ (o : Outcome). Undisturbed st ws (o .state) ws s) (sym e)
     (record {
       slot = begins-other st (inv .shaped) u b op s (λ same. not-both opened (ap (openAt st) same ∙ closed));

@@ -1,5 +1,6 @@
 pub mod Invariant
 pub mod PlainLaws
+pub mod BlankTags
 pub mod Paths
 pub mod HeldPath
 pub mod Across

@@ -69,9 +69,12 @@ module _ (x v : ℕ) (es : List Entry) (a : Among x v es) where
       let long : length es ≡ length (a .before) + length (entry x v ∷ a .after) = ap length (a .whole) ∙ length-append (a .before) (entry x v ∷ a .after) in
       information-at x es r (length (a .before)) (omega arith) (ap keyOf at-seam) ∙ ap valueOf at-seam
 
--- a key without an entry does not stand
-missing-has : (x : ℕ) (es : List Entry) → Missing x es → has x es ≡ false
+-- a key without an entry does not stand, and one that does not stand has none
+pub missing-has : (x : ℕ) (es : List Entry) → Missing x es → has x es ≡ false
 missing-has x es m = ⊎-elim (λ t. absurd (m (information x es) (has-among x es t))) (λ f. f) (true-or-false (has x es))
+
+pub has-missing : (x : ℕ) (es : List Entry) → has x es ≡ false → Missing x es
+has-missing x es f = λ v a. not-both (among-has x v es a) f
 
 -- ---- inserted
 

@@ -120,7 +120,7 @@ module _ (k n : ℕ) (ws : List ℕ) (l : ℕ) (t : Tr l) (z : Stand) (scene : S
   pages-test =
       all-from-members (λ (p : ℕ). soundByItself k n p (wordsOf k p ws)) (holding z ++ z .want ∷ [])
       (λ q m.
-      pool-sound k n ws l t (scene .kLeast) (scene .nMost) (scene .forms) q
+      pool-sound k n ws l t (scene .kLeast) (scene .nMost) (scene .forms) (scene .noBlank) q
       (well-held k n ws l t z scene .pages q (member-first q (z .want) (holding z) m)))
 
   -- the key of an operation that goes on with it

@@ -313,6 +313,7 @@ module _ (k n : ℕ) (ws : List ℕ) (l : ℕ) (t : Tr l) (z : Stand) (scene : S
           nMost = scene .nMost;
           key = subst (λ (op : Op). keyOf op < wordRange) (sym (gathers-same z′ gathers)) (scene .key);
           forms = scene .forms;
+          noBlank = scene .noBlank;
           stance = stance;
           locked = locked;
         }

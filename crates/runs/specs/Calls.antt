@@ -8,7 +8,7 @@ use Rattle.ground.specs.Limits.{wordRange}
 use Rattle.slots.specs.declared.Op.{Op}
 use Rattle.slots.specs.declared.Lock.the-variants.{None}
 use Rattle.slots.specs.declared.Answer.{Answer}
-use Rattle.slots.specs.declared.Answer.the-variants.{Waiting, Moved, Begun, Reported, BadSlot, SlotBusy, SlotIdle, BadPage}
+use Rattle.slots.specs.declared.Answer.the-variants.{Waiting, Moved, Begun, Reported, BadSlot, SlotBusy, SlotIdle, BadPage, BadKey}
 use Rattle.slots.specs.declared.State.{State}
 use Rattle.slots.specs.Operations.{keyOf, informationOf}
 use Rattle.slots.specs.Heard.{ending}
@@ -49,6 +49,6 @@ isStepOf s (report p) = false
 
 -- what can be heard of it in a run: BadState, BadPool and Damaged never are
 abbrev pub answersOf : Call → List Answer
-answersOf (begin s op) = Begun ∷ BadSlot ∷ SlotBusy ∷ []
+answersOf (begin s op) = Begun ∷ BadSlot ∷ SlotBusy ∷ BadKey ∷ []
 answersOf (step s) = Waiting ∷ Moved ∷ BadSlot ∷ SlotIdle ∷ ending
 answersOf (report p) = Reported None 0 0 ∷ BadPage ∷ []

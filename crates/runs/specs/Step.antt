@@ -6,7 +6,7 @@ use mathlib.Core.List.{List, [], _∷_}
 use mathlib.Core.Logic.{_⊎_}
 use mathlib.Core.Path.{_≡_}
 use lib.ListN.{length}
-use Rattle.ground.specs.Limits.{largestK, largestN, wordRange}
+use Rattle.ground.specs.Limits.{largestK, largestN, wordRange, blankKey}
 use Rattle.ground.specs.Tests.{member}
 use Rattle.page.specs.Words.{Entry}
 use Rattle.page.specs.Place.{has}
@@ -35,6 +35,8 @@ pub record Scene (k n : ℕ) (ws : List ℕ) (l : ℕ) (t : Tr l) (z : Stand) : 
   pub nMost : n ≤ largestN
   pub key : keyOf (z .op) < wordRange
   pub forms : PoolForms k n ws l t
+  -- 02 (viii): no lot has the key of a blank tag
+  pub noBlank : has blankKey (entriesOf l t) ≡ false
   pub stance : Stance k (pageAt k ws) l t z
   pub locked : Locked (pageAt k ws) z
 

@@ -1,4 +1,4 @@
--- Demands 2 and 3, 02 (iv) and (v) for the little program.
+-- Demands 2 and 3, 02 (iv), (v) and (viii) for the little program.
 use Prim.Native.Nat.{ℕ}
 use mathlib.Core.Bool.{true}
 use mathlib.Core.List.{List, []}
@@ -21,8 +21,9 @@ use Rattle.runs.proofs.Agreement.{agreement}
 use Rattle.promises.proofs.Demand3.{run-before}
 use Rattle.promises.proofs.TopOpen.{top-open-holds}
 use Rattle.promises.proofs.Regrading.{regrading-holds}
+use Rattle.promises.proofs.NoBlank.{no-blank-holds}
 use Rattle.script.specs.Script.{commandsIn, callsBy, scriptCalls, scriptStart, scriptRun}
-use Rattle.script.specs.Promises.{quiet, NeverSaid, ScriptAgrees, ScriptKeepsLots, ScriptTopOpen}
+use Rattle.script.specs.Promises.{quiet, NeverSaid, ScriptAgrees, ScriptKeepsLots, ScriptTopOpen, ScriptNoBlank}
 use Rattle.script.proofs.Script.{program-is-run, script-in-words, script-runs}
 use Rattle.script.proofs.Heard.{isSpoken, script-hears, said-quiet}
 use Rattle.script.proofs.Reading.{answers-once, each-answered}
@@ -67,3 +68,7 @@ script-keeps-lots input before between x e =
 pub script-top-open : ScriptTopOpen
 script-top-open input before rest e =
     top-open-holds scriptStart before (run-before scriptStart (scriptCalls input) before rest e (script-runs input))
+
+pub script-no-blank : ScriptNoBlank
+script-no-blank input before rest e =
+    no-blank-holds scriptStart before (run-before scriptStart (scriptCalls input) before rest e (script-runs input))

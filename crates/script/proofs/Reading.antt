@@ -16,7 +16,7 @@ use Rattle.ground.proofs.Tests.{all-member}
 use Rattle.slots.specs.declared.State.{State}
 use Rattle.slots.specs.declared.Lock.the-variants.{None}
 use Rattle.slots.specs.declared.Answer.{Answer}
-use Rattle.slots.specs.declared.Answer.the-variants.{Waiting, Moved, Found, NotFound, Inserted, AlreadyThere, Deleted, NoSuchKey, NoRoom, Begun, Made, Reported, Next, None as NoLot, Regraded, BadState, BadPool, BadSlot, SlotBusy, SlotIdle, Damaged, BadPage, Opened, BadPageInPool, BadTree}
+use Rattle.slots.specs.declared.Answer.the-variants.{Waiting, Moved, Found, NotFound, Inserted, AlreadyThere, Deleted, NoSuchKey, NoRoom, Begun, Made, Reported, Next, None as NoLot, Regraded, BadState, BadPool, BadSlot, SlotBusy, SlotIdle, Damaged, BadPage, Opened, BadPageInPool, BadTree, BadKey}
 use Rattle.slots.specs.Heard.{numberOf}
 use Rattle.lines.specs.declared.Command.{Command}
 use Rattle.lines.specs.declared.Command.the-variants.{Begin, Step, Bad}
@@ -69,7 +69,8 @@ readBack line =
     (cond (startsWith (bytes "BadPage") line) BadPage
     (cond (startsWith (bytes "Opened") line) Opened
     (cond (startsWith (bytes "BadTree") line) BadTree
-    (Reported None 0 0))))))))))))))))))))))))
+    (cond (startsWith (bytes "BadKey") line) BadKey
+    (Reported None 0 0)))))))))))))))))))))))))
 
 isReport : Answer → Bool
 isReport a = eqb (numberOf a) (numberOf (Reported None 0 0))
@@ -118,6 +119,7 @@ reads-back BadPage = refl
 reads-back Opened = refl
 reads-back (BadPageInPool p) = ap BadPageInPool (number-back p)
 reads-back BadTree = refl
+reads-back BadKey = refl
 
 -- beginning and stepping hear no report
 spoken-plain : (a : Answer) → isSpoken a ≡ true → isReport a ≡ false

@@ -1,4 +1,4 @@
--- What demands 2 and 3 come to for the little program: of the bytes that it reads and writes. And 02 (iv) and (v), of the calls of its lines.
+-- What demands 2 and 3 come to for the little program: of the bytes that it reads and writes. And 02 (iv), (v) and (viii), of the calls of its lines.
 use Prim.Native.Nat.{ℕ, _≤_}
 use mathlib.Core.Bool.{Bool, true, not, _||_}
 use mathlib.Core.List.{List, [], _++_, flatten}
@@ -13,6 +13,7 @@ use Rattle.runs.specs.Run.{Call, runFrom}
 use Rattle.runs.specs.Done.{Done, nobody, done, plainAnswers, opsOf, answersIn}
 use Rattle.promises.specs.TopOpen.{TopOpen}
 use Rattle.promises.specs.Regrading.{LotStays}
+use Rattle.promises.specs.NoBlank.{NoBlank}
 use Rattle.script.specs.Script.{saidBy, scriptCalls, scriptStart}
 
 -- ---- demand 2: BadState, BadPool and Damaged are never said
@@ -67,3 +68,8 @@ abbrev pub ScriptTopOpen : Type 0
 ScriptTopOpen =
     (input : List ℕ) (before rest : List Call) → scriptCalls input ≡ before ++ rest
     → TopOpen (runFrom scriptStart before .state) (runFrom scriptStart before .words)
+
+-- ---- 02 (viii): after any of these calls there is no lot of a blank tag, and no answer so far has named one.
+
+abbrev pub ScriptNoBlank : Type 0
+ScriptNoBlank = (input : List ℕ) (before rest : List Call) → scriptCalls input ≡ before ++ rest → NoBlank scriptStart before

@@ -13,7 +13,7 @@ use Rattle.slots.specs.declared.Lock.{Lock}
 use Rattle.slots.specs.declared.Lock.the-variants.{None, Rho, Xi, UpdaterRho, Alpha}
 use Rattle.slots.specs.declared.hearing.Heard.{Heard}
 use Rattle.slots.specs.declared.Answer.{Answer}
-use Rattle.slots.specs.declared.Answer.the-variants.{Waiting, Moved, Found, NotFound, Inserted, AlreadyThere, Deleted, NoSuchKey, NoRoom, Begun, Made, Reported, BadState, BadPool, BadSlot, SlotBusy, SlotIdle, Damaged, BadPage, Next, None as NoLot, Regraded, Opened, BadPageInPool, BadTree}
+use Rattle.slots.specs.declared.Answer.the-variants.{Waiting, Moved, Found, NotFound, Inserted, AlreadyThere, Deleted, NoSuchKey, NoRoom, Begun, Made, Reported, BadState, BadPool, BadSlot, SlotBusy, SlotIdle, Damaged, BadPage, Next, None as NoLot, Regraded, Opened, BadPageInPool, BadTree, BadKey}
 
 -- none, ρ, ξ; and those of 02 (vi) behind them
 abbrev pub lockNumber : Lock → ℕ
@@ -85,6 +85,7 @@ said (Regraded v) = change 46 "Regraded" (v ∷ [])
 said Opened = notice 47 "Opened" []
 said (BadPageInPool p) = refusalOf 9 "BadPageInPool" (p ∷ [])
 said BadTree = refusal 10 "BadTree"
+said BadKey = refusal 8 "BadKey"
 
 -- all answers, each with as many of these values as it has
 abbrev pub answersWith : List ℕ → List Answer
@@ -114,6 +115,7 @@ answersWith vs =
     ∷ Opened
     ∷ BadPageInPool (getD vs 0 0)
     ∷ BadTree
+    ∷ BadKey
     ∷ []
 
 -- ---- the columns

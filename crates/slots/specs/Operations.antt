@@ -1,9 +1,10 @@
 -- What is listed by operation, in one table. A new operation is a row of `rowOf` and a place in `operations`.
 -- (How many pages it may hold stands in Sound.)
 use Prim.Native.Nat.{ℕ}
-use mathlib.Core.Bool.{Bool, true, false, cond, _||_}
+use mathlib.Core.Bool.{Bool, true, false, cond, not, _&&_, _||_}
 use mathlib.Core.List.{List, [], _∷_}
 use lib.Dec.{eqb}
+use Rattle.ground.specs.Limits.{blankKey}
 use Rattle.slots.specs.declared.Way.{Way}
 use Rattle.slots.specs.declared.Way.the-variants.{First, Second, Third}
 use Rattle.slots.specs.declared.Lock.{Lock}
@@ -95,6 +96,10 @@ isDelete op = eqb (kindNumber op) (kindNumber (Delete 0 First)) || eqb (kindNumb
 
 abbrev pub isNext : Op → Bool
 isNext op = eqb (kindNumber op) (kindNumber (Next 0))
+
+-- 02 (viii): "Begin shall refuse key 0 for every operation but that of (i)", which is Next
+unfoldable pub blankTag : Op → Bool
+blankTag op = not (isNext op) && eqb (keyOf op) blankKey
 
 -- ---- ways
 

@@ -107,6 +107,7 @@ pub enum Answer {
     // the lowest-numbered page that is not sound by itself
     BadPageInPool(u32),
     BadTree,
+    BadKey,
 }
 
 // What beginning an operation gives, as the rules have it. In the code a state lies in lent words (crate lent).

@@ -3,8 +3,9 @@
 use crate::Lock;
 use crate::Op;
 use crate::Way;
+use ground::BLANK_KEY;
 ghost use mathlib.Core.Path.{_≡_};
-ghost use Rattle.slots.specs.Operations.{byWay, keyOf, informationOf, kindNumber, askedBy, isSecond, isThird, firstWay, heldLock};
+ghost use Rattle.slots.specs.Operations.{byWay, keyOf, informationOf, kindNumber, blankTag, askedBy, isSecond, isThird, firstWay, heldLock};
 ghost use Rattle.slots.specs.declared.Lock;
 ghost use mathlib.Core.Bool.{true, false};
 
@@ -88,6 +89,16 @@ pub fn kind_asked(op: Op) -> u32
         Op::Next(_) => NEXTS,
         Op::Regrade(_, _, way) => by_way(way, REGRADES, REGRADES_SECOND, REGRADES_THIRD),
     }
+}
+
+// Its key is that of a blank tag, and it is no Next.
+pub fn blank_tag(op: Op) -> bool
+    ensures { λ r. ⌜ r ≡ blankTag op ⌝ }
+{
+    if kind_asked(op) == NEXTS {
+        return false;
+    }
+    key_asked(op) == BLANK_KEY
 }
 
 // It goes down by the second way.

@@ -12,7 +12,7 @@ use Rattle.ground.proofs.Bools.{and-first, and-second, and-both}
 use Rattle.ground.proofs.Tests.{all-append}
 use Rattle.slots.specs.declared.State.{State}
 use Rattle.slots.specs.declared.Answer.{Answer}
-use Rattle.slots.specs.declared.Answer.the-variants.{Waiting, Moved, Found, NotFound, Inserted, AlreadyThere, Deleted, NoSuchKey, NoRoom, Begun, Made, Reported, Next, None, Regraded, BadState, BadPool, BadSlot, SlotBusy, SlotIdle, Damaged, BadPage, Opened, BadPageInPool, BadTree}
+use Rattle.slots.specs.declared.Answer.the-variants.{Waiting, Moved, Found, NotFound, Inserted, AlreadyThere, Deleted, NoSuchKey, NoRoom, Begun, Made, Reported, Next, None, Regraded, BadState, BadPool, BadSlot, SlotBusy, SlotIdle, Damaged, BadPage, Opened, BadPageInPool, BadTree, BadKey}
 use Rattle.slots.specs.Begin.{begun}
 use Rattle.lines.specs.declared.Command.{Command}
 use Rattle.lines.specs.declared.Command.the-variants.{Begin, Step, Bad}
@@ -95,6 +95,7 @@ answer-line BadPage rest = one-line (bytes "BadPage") rest refl
 answer-line Opened rest = one-line (bytes "Opened") rest refl
 answer-line (BadPageInPool p) rest = one-line (bytes "BadPageInPool " ++ decimal p) rest (digits-plain (decimal p) (decimal-digital p))
 answer-line BadTree rest = one-line (bytes "BadTree") rest refl
+answer-line BadKey rest = one-line (bytes "BadKey") rest refl
 
 pub bad-line : (rest : List ℕ) → linesOf (badLine ++ rest) ≡ ended (firstLine badLine) ∷ linesOf rest
 unfolding all

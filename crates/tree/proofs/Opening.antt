@@ -1,4 +1,4 @@
--- Opening: the test of a pool that is handed in accepts exactly the words that form a tree. 02 (vii): "a check that accepts words with
+-- Opening: the test of a pool that is handed in accepts exactly the words that form a tree without the lot of a blank tag. 02 (vii): "a check that accepts words with
 -- k and N exactly if they form the B*-tree of document 01 from page 0, every other page is all zeros, and no page hangs in two places".
 use Prim.Native.Nat.{ℕ, zero, suc, _+_, _*_, _≤_, _<_}
 use mathlib.Core.Bool.{Bool, true, false, not, _&&_, _||_}
@@ -9,22 +9,24 @@ use native.Mathlib.Omega.{arith}
 use borrow.Author.Tests.{leb-true, leb-false, le-leb, ltb-true, lt-ltb, eqb-true, eq-eqb, ne-eqb, not-false}
 use lib.Dec.{leb, ltb, eqb}
 use lib.ListN.{length, drop, replicate, length-map}
-use Rattle.ground.specs.Limits.{largestN, wordRange}
+use Rattle.ground.specs.Limits.{largestN, wordRange, blankKey}
 use Rattle.ground.specs.Tests.{all, member, distinct, allBelow}
-use Rattle.ground.proofs.Bools.{and-first, and-second, and-both, or-first, or-second, or-cases, not-of-false, not-of-true, not-both}
+use Rattle.ground.proofs.Bools.{and-first, and-second, and-both, or-first, or-second, or-cases, or-none, not-of-false, not-of-true, not-both}
 use Rattle.ground.proofs.Choice.{by-test, cond-ind}
 use Rattle.ground.proofs.Limits.{range-rises}
 use Rattle.ground.proofs.Tests.{allBelow-at, allBelow-from, firstBelow-fails, firstBelow-all-fail}
 use Rattle.page.specs.Words.{Keyed, Entry, Page, keyed, entry, page, μ, isLeaf, valueOf, pointers, freePage, encode, view, size}
+use Rattle.page.specs.Place.{has}
 use Rattle.page.specs.Sound.{risesFrom, rises, least, soundByItself}
 use Rattle.page.proofs.WordLaws.{all-zero, zeros-pass, encode-free, view-encode, free-fits}
+use Rattle.page.proofs.PlaceLaws.{has-append}
 use Rattle.page.proofs.SoundPage.{SoundPage, sound-words}
 use Rattle.pool.specs.Pool.{poolLength, wordsOf, pageAt}
 use Rattle.pool.proofs.StretchLaws.{length-wordsOf}
 use Rattle.opening.specs.Opening.{isZero, soundAlone, lowestUnsound, within, children, hangs, forEach, met, depth, isTree}
 use Rattle.opening.proofs.PageLaws.{level-sound, on-level}
-use Rattle.tree.specs.Rows.{headKey, Span, Each, total, topPointer, references}
-use Rattle.tree.specs.Tree.{Tr, pageNumber, node, once, occurs, InRange, rootLeast, Holds, Forms, PoolForms}
+use Rattle.tree.specs.Rows.{headKey, Span, Each, gathered, total, topPointer, references}
+use Rattle.tree.specs.Tree.{Tr, pageNumber, entriesOf, node, once, occurs, InRange, rootLeast, Holds, Forms, PoolForms}
 use Rattle.tree.proofs.Rows.{Keys, keys-below, keys-from}
 use Rattle.tree.proofs.Memory.{once-same, once-is, times, times-append, times-member, times-absent, distinct-times, times-distinct, root-occurs}
 use Rattle.tree.proofs.Sorted.{Anything, Within, within-references}
@@ -310,6 +312,7 @@ pub record Accepted (k n : ℕ) (ws : List ℕ) : Type 0 where
   pub height : ℕ
   pub tree : Tr height
   pub forms : PoolForms k n ws height tree
+  pub noBlank : has blankKey (entriesOf height tree) ≡ false
 
 -- where page 0 is the root page of a tree, no page is met twice from there, and what is not met is zeros, the words form that tree
 hanging-forms : (k n : ℕ) (ws : List ℕ) (l : ℕ) → length ws ≡ poolLength k n → ((q : ℕ) → q < n → soundAlone k n ws q ≡ true)
@@ -336,9 +339,50 @@ hanging-forms k n ws l whole sound h apart rest =
       };
     }
 
--- Words that the test accepts form a tree.
+-- ---- the blank tag
+
+module _ (memory : ℕ → Page) (x : ℕ) where
+  -- a key that no leaf of a tree has, in the memory, is not among the entries: of a row of trees,
+  row-lacks : (l : ℕ) (row : List (Keyed (Tr l)))
+      → ((c : Tr l) → Holds memory l c → ((q : ℕ) → 1 ≤ occurs q l c → memory q .level ≡ 1 → has x (memory q .entries) ≡ false) → has x (entriesOf l c) ≡ false)
+      → Each (Holds memory l) row → ((q : ℕ) → 1 ≤ total (occurs q l) row → memory q .level ≡ 1 → has x (memory q .entries) ≡ false)
+      → has x (gathered (entriesOf l) row) ≡ false
+  unfolding has
+  row-lacks l [] tree h f = refl
+  row-lacks l (d ∷ ds) tree h f =
+      has-append x (entriesOf l (d .value)) (gathered (entriesOf l) ds)
+      ∙ or-none (tree (d .value) (h .0) (λ q o. f q (omega arith))) (row-lacks l ds tree (h .1) (λ q o. f q (omega arith)))
+
+  -- and of a tree
+  tree-lacks : (l : ℕ) (t : Tr l) → Holds memory l t → ((q : ℕ) → 1 ≤ occurs q l t → memory q .level ≡ 1 → has x (memory q .entries) ≡ false)
+      → has x (entriesOf l t) ≡ false
+  tree-lacks zero t h f =
+      ap (λ (P : Page). has x (P .entries)) (sym h) ∙ f (t .at) (omega (arith, once-same (t .at) (t .at) refl)) (ap (λ (P : Page). P .level) h)
+  tree-lacks (suc l) t h f = row-lacks l (t .row) (tree-lacks l) (h .1) (λ q o. f q (omega arith))
+
+-- where every page is sound by itself, no tree that the words form has the lot of a blank tag
+sound-unblank : (k n : ℕ) (ws : List ℕ) (l : ℕ) (t : Tr l) → length ws ≡ poolLength k n → ((q : ℕ) → q < n → soundAlone k n ws q ≡ true)
+    → PoolForms k n ws l t → has blankKey (entriesOf l t) ≡ false
+sound-unblank k n ws l t whole sound pool =
+    tree-lacks (pageAt k ws) blankKey l t (pool .forms .holds)
+    (λ q o leaf.
+    let inside = pool .forms .within q o in
+    alone-page k n ws whole q inside (sound q inside) (omega arith) .noBlank (eq-eqb (pageAt k ws q .level) 1 leaf))
+
+-- where none is told as unsound, each is sound
+none-unsound : (k n : ℕ) (ws : List ℕ) → lowestUnsound k n ws ≡ n → (q : ℕ) → q < n → soundAlone k n ws q ≡ true
+unfolding lowestUnsound
+none-unsound k n ws low q inside =
+    not-false (soundAlone k n ws q) (firstBelow-all-fail (λ (p : ℕ). not (soundAlone k n ws p)) n low q inside)
+
+-- Whatever tree the words of an accepted pool form, it has no lot of a blank tag.
+pub opening-unblank : (k n : ℕ) (ws : List ℕ) (l : ℕ) (t : Tr l) → length ws ≡ poolLength k n → lowestUnsound k n ws ≡ n → PoolForms k n ws l t
+    → has blankKey (entriesOf l t) ≡ false
+opening-unblank k n ws l t whole low pool = sound-unblank k n ws l t whole (none-unsound k n ws low) pool
+
+-- Words that the test accepts form a tree, without the lot of a blank tag.
 pub opening-forms : (k n : ℕ) (ws : List ℕ) → 1 ≤ n → length ws ≡ poolLength k n → lowestUnsound k n ws ≡ n → isTree k n ws ≡ true → Accepted k n ws
-unfolding lowestUnsound isTree
+unfolding isTree
 opening-forms k n ws some whole low test =
     let l : ℕ = depth k ws in
     let pages : List ℕ = met (pageAt k ws) l 0 in
@@ -346,15 +390,11 @@ opening-forms k n ws some whole low test =
     let b : Bool = distinct pages in
     let c : Bool = allBelow n (λ (q : ℕ). member q pages || isZero k ws q) in
     let ab = and-first (a && b) c test in
-    let sound : (q : ℕ) → q < n → soundAlone k n ws q ≡ true
-    = λ q inside. not-false (soundAlone k n ws q) (firstBelow-all-fail (λ (p : ℕ). not (soundAlone k n ws p)) n low q inside) in
+    let sound = none-unsound k n ws low in
     let h = hanging-root k n (pageAt k ws) (λ q inside. alone-page k n ws whole q inside (sound q inside)) l some (and-first a b ab) in
-    record {
-      height = l;
-      tree = h .tree;
-      forms = hanging-forms k n ws l whole sound h (and-second a b ab)
-          (allBelow-at (λ (q : ℕ). member q pages || isZero k ws q) n (and-second (a && b) c test));
-    }
+    let forms = hanging-forms k n ws l whole sound h (and-second a b ab)
+    (allBelow-at (λ (q : ℕ). member q pages || isZero k ws q) n (and-second (a && b) c test)) in
+    record { height = l; tree = h .tree; forms = forms; noBlank = sound-unblank k n ws l (h .tree) whole sound forms }
 
 module _ (k n : ℕ) (ws : List ℕ) (l : ℕ) (t : Tr l) (pool : PoolForms k n ws l t) where
   -- a page that is none of the tree's is zeros
@@ -390,18 +430,18 @@ module _ (k n : ℕ) (ws : List ℕ) (l : ℕ) (t : Tr l) (pool : PoolForms k n 
       let few = leb-false 1 (occurs q l t) z in
       or-second (member q (met (pageAt k ws) l 0)) (outside-zero q inside (omega arith)))
 
--- Words that form a tree are accepted by the test.
-pub forms-opening : (k n : ℕ) (ws : List ℕ) (l : ℕ) (t : Tr l) → 1 ≤ k → n ≤ largestN → PoolForms k n ws l t
+-- Words that form a tree without the lot of a blank tag are accepted by the test.
+pub forms-opening : (k n : ℕ) (ws : List ℕ) (l : ℕ) (t : Tr l) → 1 ≤ k → n ≤ largestN → PoolForms k n ws l t → has blankKey (entriesOf l t) ≡ false
     → (lowestUnsound k n ws ≡ n) × (isTree k n ws ≡ true)
 unfolding lowestUnsound isTree
-forms-opening k n ws l t one most pool =
+forms-opening k n ws l t one most pool unblank =
     let memory : ℕ → Page = pageAt k ws in
     let forms : Forms k n memory l t = pool .forms in
     let level = root-level k n memory l t forms in
     let height : l ≡ depth k ws = omega arith in
     let counted = root-met k memory (rootLeast l) (2 * k) l t 0 wordRange (forms .root) (forms .inRange) (forms .holds) in (
       firstBelow-fails (λ (q : ℕ). not (soundAlone k n ws q)) n
-          (λ q inside. not-of-true (outside-alone k n ws l t pool q inside (pool-sound k n ws l t one most pool q))),
+          (λ q inside. not-of-true (outside-alone k n ws l t pool q inside (pool-sound k n ws l t one most pool unblank q))),
       subst (λ (h : ℕ). hangs memory h 0 0 wordRange && distinct (met memory h 0)
           && allBelow n (λ (q : ℕ). member q (met memory h 0) || isZero k ws q) ≡ true) height
           (and-both

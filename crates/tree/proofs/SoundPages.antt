@@ -1,6 +1,6 @@
--- Sound pages: every page of the tree passes the rule's test of a page sound by itself.
+-- Sound pages: every page of a tree without the lot of a blank tag passes the rule's test of a page sound by itself.
 use Prim.Native.Nat.{ℕ, zero, suc, _+_, _-_, _*_, _≤_, _<_}
-use mathlib.Core.Bool.{Bool, true, _&&_, true≢false}
+use mathlib.Core.Bool.{Bool, true, false, _&&_, true≢false}
 use mathlib.Core.Path.{_≡_, refl, sym, ap, _∙_, subst}
 use mathlib.Core.List.{List, [], _∷_, _++_, map}
 use mathlib.Core.Logic.{_≢_}
@@ -8,18 +8,20 @@ use native.Mathlib.Omega.{arith}
 use borrow.Author.Tests.{leb-true, leb-false, le-leb, lt-ltb}
 use lib.Dec.{leb, ltb, eqb}
 use lib.ListN.{length}
-use Rattle.ground.specs.Limits.{largestN, tallest, wordRange}
+use Rattle.ground.specs.Limits.{largestN, tallest, wordRange, blankKey}
 use Rattle.ground.specs.Tests.{all, distinct}
-use Rattle.ground.proofs.Bools.{and-both, not-both}
+use Rattle.ground.proofs.Bools.{and-both, or-first-fails, or-second-fails, not-both}
 use Rattle.ground.proofs.Choice.{by-test, cond-ind}
 use Rattle.ground.proofs.Tests.{all-from-members}
-use Rattle.page.specs.Words.{Keyed, Page, isLeaf, pointers}
+use Rattle.page.specs.Words.{Keyed, Entry, Page, isLeaf, pointers}
+use Rattle.page.specs.Place.{has}
 use Rattle.page.specs.Sound.{rises, least, soundByItself}
+use Rattle.page.proofs.PlaceLaws.{has-append}
 use Rattle.page.proofs.SoundPage.{SoundPage, sound-test}
 use Rattle.pool.specs.Pool.{wordsOf, pageAt}
-use Rattle.tree.specs.Rows.{headKey, Span, total, references, rowPage}
-use Rattle.tree.specs.Tree.{Tr, pageNumber, pageOf, once, occurs, rootLeast, InRange, Holds, Forms, PoolForms}
-use Rattle.tree.proofs.Rows.{middle-has}
+use Rattle.tree.specs.Rows.{headKey, Span, gathered, total, references, rowPage}
+use Rattle.tree.specs.Tree.{Tr, pageNumber, pageOf, entriesOf, once, occurs, rootLeast, InRange, Holds, Forms, PoolForms}
+use Rattle.tree.proofs.Rows.{middle-has, gathered-append}
 use Rattle.tree.proofs.Sorted.{rises-within, within-references}
 use Rattle.tree.proofs.Memory.{once-same, once-is, times, member-times, times-distinct, root-occurs, total-middle}
 use Rattle.tree.proofs.Pages.{noLeaf, rowPage-pointers}
@@ -47,23 +49,36 @@ unfolding rises
 row-rises l P level [] hi s = refl
 row-rises l P level (d ∷ ds) hi s = rises-within (headKey ds hi) hi (references (pageNumber l) ds) (within-references P (pageNumber l) ds hi (s .2))
 
--- What the root page of a tree needs to be sound as page p: enough in it, different pages of the pool, and page 0 not
--- below it.
+-- a key that no entry of a row of trees has no tree of it has
+middle-lacks : (x l : ℕ) (before : List (Keyed (Tr l))) (d : Keyed (Tr l)) (after : List (Keyed (Tr l)))
+    → has x (gathered (entriesOf l) (before ++ d ∷ after)) ≡ false → has x (entriesOf l (d .value)) ≡ false
+middle-lacks x l before d after f =
+    let front : List Entry = gathered (entriesOf l) before in
+    let here : List Entry = entriesOf l (d .value) in
+    let back : List Entry = gathered (entriesOf l) after in
+    or-first-fails (has x here) (has x back)
+    (sym (has-append x here back)
+    ∙ or-second-fails (has x front) (has x (here ++ back))
+    (sym (ap (has x) (gathered-append (entriesOf l) before (d ∷ after)) ∙ has-append x front (here ++ back)) ∙ f))
+
+-- What the root page of a tree needs to be sound as page p: enough in it, different pages of the pool, page 0 not below it, and no lot of a
+-- blank tag.
 pub root-sound : (k n m p l : ℕ) (t : Tr l) (lo hi : ℕ) → InRange k m (2 * k) l t lo hi → least k p (isLeaf (pageOf l t)) ≤ m
     → ((q : ℕ) → occurs q l t ≤ 1) → ((q : ℕ) → 1 ≤ occurs q l t → q < n) → occurs 0 l t ≤ once 0 (pageNumber l t) → l + 1 ≤ tallest
-    → SoundPage k n p (pageOf l t)
-root-sound k n m p zero t lo hi r enough once within top height =
+    → has blankKey (entriesOf l t) ≡ false → SoundPage k n p (pageOf l t)
+root-sound k n m p zero t lo hi r enough once within top height unblank =
     record {
       lowest = omega arith;
       highest = height;
       enough = omega (arith, r .least);
       room = r .most;
       rising = rises-within lo hi (t .entries) (r .low, r .rising);
+      noBlank = λ leaf. unblank;
       pointersApart = λ upper. absurd (true≢false upper);
       pointersInPool = λ upper. absurd (true≢false upper);
       leafFirst = λ leaf. refl;
     }
-root-sound k n m p (suc l) t lo hi r enough different within top height =
+root-sound k n m p (suc l) t lo hi r enough different within top height unblank =
     let least′ : m + 1 ≤ length (t .row) = r .least in
     let many = row-μ (suc (suc l)) (pageNumber l) (t .row) (omega arith) in
     let ps = row-pointers (suc (suc l)) l (t .row) (omega arith) in
@@ -73,6 +88,7 @@ root-sound k n m p (suc l) t lo hi r enough different within top height =
       enough = omega arith;
       room = omega (arith, r .most);
       rising = row-rises l (InRange k k (2 * k) l) (suc (suc l)) (t .row) hi (r .children);
+      noBlank = λ leaf. not-both leaf (noLeaf l);
       pointersApart = λ upper. ap distinct ps
           ∙ times-distinct (numbers l (t .row)) (λ q. omega (arith, numbers-occur q l (t .row), different q));
       pointersInPool = λ upper. ap (all (λ (q : ℕ). leb 1 q && ltb q n)) ps
@@ -105,15 +121,15 @@ module _ (k n : ℕ) (memory : ℕ → Page) (one : 1 ≤ k) (q : ℕ) where
   pub all-sound : (m l : ℕ) (t : Tr l) (lo hi : ℕ) → InRange k m (2 * k) l t lo hi → Holds memory l t
       → least k (pageNumber l t) (isLeaf (pageOf l t)) ≤ m
       → ((q : ℕ) → occurs q l t ≤ 1) → ((q : ℕ) → 1 ≤ occurs q l t → q < n) → occurs 0 l t ≤ once 0 (pageNumber l t) → l + 1 ≤ tallest
-      → 1 ≤ occurs q l t → SoundPage k n q (memory q)
-  all-sound m zero t lo hi r h enough different within top height o =
+      → has blankKey (entriesOf l t) ≡ false → 1 ≤ occurs q l t → SoundPage k n q (memory q)
+  all-sound m zero t lo hi r h enough different within top height unblank o =
       subst (λ (p : ℕ). SoundPage k n p (memory p)) (sym (once-is q (t .at) o))
-      (subst (SoundPage k n (t .at)) (sym h) (root-sound k n m (t .at) zero t lo hi r enough different within top height))
-  all-sound m (suc l) t lo hi r h enough different within top height o =
+      (subst (SoundPage k n (t .at)) (sym h) (root-sound k n m (t .at) zero t lo hi r enough different within top height unblank))
+  all-sound m (suc l) t lo hi r h enough different within top height unblank o =
       by-test (leb 1 (once q (t .at)))
       (λ y.
       subst (λ (p : ℕ). SoundPage k n p (memory p)) (sym (once-is q (t .at) (leb-true 1 (once q (t .at)) y)))
-      (subst (SoundPage k n (t .at)) (sym (h .0)) (root-sound k n m (t .at) (suc l) t lo hi r enough different within top height)))
+      (subst (SoundPage k n (t .at)) (sym (h .0)) (root-sound k n m (t .at) (suc l) t lo hi r enough different within top height unblank)))
       (λ z.
       let none = leb-false 1 (once q (t .at)) z in
       let f = total-found (occurs q l) (t .row) hi (omega arith) in
@@ -130,20 +146,21 @@ module _ (k n : ℕ) (memory : ℕ → Page) (one : 1 ≤ k) (q : ℕ) where
       (λ p s. within p (omega (arith, part p)))
       (omega (arith, part 0))
       (omega arith)
+      (middle-lacks blankKey l (f .before) (f .here) (f .after) (ap (λ (row : List (Keyed (Tr l))). has blankKey (gathered (entriesOf l) row)) (sym (f .whole)) ∙ unblank))
       (f .has))
 
--- Every page of a tree that a memory holds is sound by itself.
+-- Every page of a tree that a memory holds is sound by itself, where no lot is that of a blank tag.
 pub sound-pages : (k n : ℕ) (memory : ℕ → Page) (l : ℕ) (t : Tr l) → 1 ≤ k → n ≤ largestN → Forms k n memory l t
-    → (q : ℕ) → 1 ≤ occurs q l t → SoundPage k n q (memory q)
-sound-pages k n memory l t one most forms q o =
+    → has blankKey (entriesOf l t) ≡ false → (q : ℕ) → 1 ≤ occurs q l t → SoundPage k n q (memory q)
+sound-pages k n memory l t one most forms unblank q o =
     let root : once 0 (pageNumber l t) ≡ 1 = once-same 0 (pageNumber l t) (sym (forms .root)) in
     all-sound k n memory one q (rootLeast l) l t 0 wordRange (forms .inRange) (forms .holds)
     (subst (λ (p : ℕ). least k p (isLeaf (pageOf l t)) ≤ rootLeast l) (sym (forms .root)) (least-root k l t))
-    (forms .different) (forms .within) (omega (arith, forms .different 0)) (height-facts k n memory l t one most forms .height) o
+    (forms .different) (forms .within) (omega (arith, forms .different 0)) (height-facts k n memory l t one most forms .height) unblank o
 
 -- The words of every page of a pool's tree pass the rule's test.
 pub pool-sound : (k n : ℕ) (ws : List ℕ) (l : ℕ) (t : Tr l) → 1 ≤ k → n ≤ largestN → PoolForms k n ws l t
-    → (q : ℕ) → 1 ≤ occurs q l t → soundByItself k n q (wordsOf k q ws) ≡ true
-pool-sound k n ws l t one most pool q o =
+    → has blankKey (entriesOf l t) ≡ false → (q : ℕ) → 1 ≤ occurs q l t → soundByItself k n q (wordsOf k q ws) ≡ true
+pool-sound k n ws l t one most pool unblank q o =
     ap (soundByItself k n q) (pool .exact q (pool .forms .within q o))
-    ∙ sound-test k n q (pageAt k ws q) (sound-pages k n (pageAt k ws) l t one most (pool .forms) q o)
+    ∙ sound-test k n q (pageAt k ws q) (sound-pages k n (pageAt k ws) l t one most (pool .forms) unblank q o)

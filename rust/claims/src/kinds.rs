@@ -1,7 +1,7 @@
 //! Names for what a call did, to count how much the claims cover.
 
 use moments::{Call, Moment};
-use twin::{free_pages, page_words, Answer, Op, Slot, Way};
+use twin::{free_pages, page_words, Answer, Op, Slot, Way, BLANK_KEY};
 
 /// The name of what a call did from one moment to the next.
 pub fn kind(before: &Moment, call: Call, answer: Answer, after: &Moment) -> String {
@@ -15,7 +15,12 @@ pub fn kind(before: &Moment, call: Call, answer: Answer, after: &Moment) -> Stri
             } else {
                 ", begins again"
             };
-            format!("{} {}{again}", answer.name(), stand(before, was))
+            let blank = if answer == Answer::Damaged && meets_blank(before, was) {
+                ", key 0 in a leaf"
+            } else {
+                ""
+            };
+            format!("{} {}{again}{blank}", answer.name(), stand(before, was))
         }
         _ => answer.name().to_string(),
     }
@@ -93,6 +98,15 @@ fn stand(moment: &Moment, slot: &Slot) -> String {
         false => "",
     };
     format!("{op}{way}{leaf} {}+{}", slot.depth, slot.beside)
+}
+
+/// Whether a slot holds or wants a leaf with the key of a blank tag.
+fn meets_blank(moment: &Moment, slot: &Slot) -> bool {
+    let mut pages = slot.held().into_iter().chain([slot.want]);
+    pages.any(|number| {
+        let page = page(moment, number);
+        page[0] == 1 && page[1] > 0 && page[2] == BLANK_KEY
+    })
 }
 
 /// Whether the lowest path page is a leaf.

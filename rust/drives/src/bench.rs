@@ -1,6 +1,8 @@
 //! The lots on the bench and the shortcuts that lose a lot, each as document 01 says it; and the next lot, who waits behind
-//! whom, regrading, updates that go down like readers, a lock that lets readers stay, and pools that are opened, as 02 does.
+//! whom, regrading, updates that go down like readers, a lock that lets readers stay, pools that are opened, and the blank tag, as 02
+//! does.
 
+mod blank_tag;
 mod like_readers;
 mod opening;
 mod third_way;
@@ -202,6 +204,7 @@ pub fn cases() -> Vec<Case> {
         like_readers::cases(),
         third_way::cases(),
         opening::cases(),
+        blank_tag::cases(),
     ]
     .into_iter()
     .flatten()

@@ -6,7 +6,8 @@ use moments::{
     built, draw, limits, next_call, operation, spoiled_state, spoiled_words, Call, Draw, Moment,
 };
 use twin::{
-    at, is_sound, kind, page_words, row, state_of, Lock, Op, State, Way, FRONT, HALF, SLOTS, STATE,
+    at, is_sound, kind, page_words, row, state_of, Lock, Op, State, Way, BLANK_KEY, FRONT, HALF,
+    SLOTS, STATE,
 };
 use versus::spoiled;
 
@@ -218,30 +219,17 @@ fn spoil_cells(
     random: &mut Random,
     draw: &Draw,
     scene: &mut Scene,
-    at: usize,
+    from: usize,
     letter: char,
 ) -> usize {
     let before = (scene.drive.state, scene.drive.words.clone());
-    let mut places = Vec::new();
     for _ in 0..random.one(&[1, 1, 1, 2, 3]) {
-        let (place, word) = match letter {
-            'w' => {
-                let place = pool_place(random, draw, scene);
-                let was = scene.drive.words.get(place).copied();
-                (place, changed(random, draw, was.unwrap_or(0)))
-            }
-            _ => {
-                let place = state_place(random, scene);
-                let was = scene.drive.state.get(place).copied();
-                (place, changed_cell(random, draw, place, was.unwrap_or(0)))
-            }
-        };
+        let (place, word) = spoiled_cell(random, draw, scene, letter);
         scene.text(&format!("{letter} {place} {word}"));
-        places.push(place);
     }
     let calls = random.from(1, 4) as usize;
     for i in 0..calls {
-        let call = next(random, draw, scene, at + i);
+        let call = next(random, draw, scene, from + i);
         scene.call(call);
     }
     if random.percent(90) {
@@ -252,9 +240,26 @@ fn spoil_cells(
     calls
 }
 
-/// A word of the pool, best one of a page that some slot holds or wants.
-fn pool_place(random: &mut Random, draw: &Draw, scene: &mut Scene) -> usize {
-    let size = page_words(draw.k);
+/// A place in the pool or in the state, and another word for it; now and then that of a blank tag where a key stands.
+fn spoiled_cell(random: &mut Random, draw: &Draw, scene: &mut Scene, letter: char) -> (usize, u32) {
+    match letter {
+        'w' if random.percent(20) => (blank_place(random, draw, scene), BLANK_KEY),
+        's' if random.percent(15) => (at(row::KEY, any_slot(random, scene)), BLANK_KEY),
+        'w' => {
+            let place = pool_place(random, draw, scene);
+            let was = scene.drive.words.get(place).copied();
+            (place, changed(random, draw, was.unwrap_or(0)))
+        }
+        _ => {
+            let place = state_place(random, scene);
+            let was = scene.drive.state.get(place).copied();
+            (place, changed_cell(random, draw, place, was.unwrap_or(0)))
+        }
+    }
+}
+
+/// A page of the pool, best one that some slot holds or wants.
+fn page_place(random: &mut Random, draw: &Draw, scene: &mut Scene) -> usize {
     let moment = moment(scene);
     let pages: Vec<u32> = moment
         .state
@@ -269,24 +274,31 @@ fn pool_place(random: &mut Random, draw: &Draw, scene: &mut Scene) -> usize {
     } else {
         random.one(&pages) as usize
     };
+    page * page_words(draw.k)
+}
+
+/// Where a page has its first key: a leaf its lowest lot, an upper page its first reference key.
+fn blank_place(random: &mut Random, draw: &Draw, scene: &mut Scene) -> usize {
+    let start = page_place(random, draw, scene);
+    let is_leaf = scene.drive.words.get(start) == Some(&1);
+    start + if is_leaf { 2 } else { 3 }
+}
+
+/// A word of such a page.
+fn pool_place(random: &mut Random, draw: &Draw, scene: &mut Scene) -> usize {
+    let start = page_place(random, draw, scene);
+    let size = page_words(draw.k);
     let word = match random.below(4) {
         0 => 0,
         1 => 1,
         _ => random.below(size as u64) as usize,
     };
-    page * size + word
+    start + word
 }
 
 /// A word of the state, best one of an open slot.
 fn state_place(random: &mut Random, scene: &Scene) -> usize {
-    let open: Vec<usize> = (0..SLOTS)
-        .filter(|&slot| scene.drive.state[at(row::KIND, slot)] != kind::CLOSED)
-        .collect();
-    let slot = if open.is_empty() || random.percent(20) {
-        random.below(SLOTS as u64) as usize
-    } else {
-        random.one(&open)
-    };
+    let slot = any_slot(random, scene);
     match random.below(14) {
         0 => random.below(3) as usize,
         1 | 2 => random.below(FRONT as u64) as usize,
@@ -295,6 +307,18 @@ fn state_place(random: &mut Random, scene: &Scene) -> usize {
         6 | 7 => at(row::SIBLINGS + random.below(3) as usize, slot),
         8 | 9 => held_place(random, &scene.drive.state, slot),
         _ => at(random.below(row::PATH as u64) as usize, slot),
+    }
+}
+
+/// A slot, best an open one.
+fn any_slot(random: &mut Random, scene: &Scene) -> usize {
+    let open: Vec<usize> = (0..SLOTS)
+        .filter(|&slot| scene.drive.state[at(row::KIND, slot)] != kind::CLOSED)
+        .collect();
+    if open.is_empty() || random.percent(20) {
+        random.below(SLOTS as u64) as usize
+    } else {
+        random.one(&open)
     }
 }
 

@@ -1,5 +1,7 @@
 //! The comparison can fail: each bug that is put into the calls of the second program is found.
 
+#[path = "bugs/blank_tag.rs"]
+mod blank_tag;
 #[path = "bugs/kinds.rs"]
 mod kinds;
 #[path = "bugs/like_readers.rs"]
@@ -11,6 +13,7 @@ mod third_way;
 
 use std::fmt::Debug;
 
+use blank_tag::{BlankBug, BLANK_BUGS, BLANK_STATE_BUGS};
 use draw::Random;
 use drive_twin::{Calls, Twin};
 use drives::{cases, compare, draw_scene, smallest, Scene, KINDS};
@@ -444,10 +447,21 @@ fn unbarred(state: &mut [u32; STATE], words: &mut [u32], slot: usize) -> Answer 
     answer
 }
 
+/// Begins an operation on any key: a spoiled state may have one that no begin lets in.
+fn begin_any(state: &mut [u32; STATE], slot: usize, op: Op) -> Answer {
+    let (kind, key, information) = op.numbers();
+    let named = Op::of(kind, key.max(1), information).expect("the same kind");
+    let answer = begin_lent(state, slot, named);
+    if answer == Answer::Begun {
+        state[at(KEY, slot)] = key;
+    }
+    answer
+}
+
 /// An operation from its beginning to its end, with no other slot open.
 fn alone(state: &[u32; STATE], words: &mut [u32], op: Op) -> Answer {
     let mut idle = words_of(&State::empty(state[0], state[1]));
-    begin_lent(&mut idle, 0, op);
+    begin_any(&mut idle, 0, op);
     loop {
         let answer = step_lent(&mut idle, words, 0);
         if answer != Answer::Moved {
@@ -472,14 +486,16 @@ fn is_crossing(state: &[u32; STATE], words: &[u32], slot: usize) -> bool {
     state[at(DEPTH, slot)] > 0 && words[leaf_word(state, slot)] == 1
 }
 
-/// Some scenes, the same for every bug.
+/// Some scenes, the same for every bug, short ones first: where a bug is found late in a long one, its smallest case takes seconds.
 fn scenes() -> Vec<Scene> {
-    (0..28 * 20)
+    let mut scenes: Vec<Scene> = (0..28 * 20)
         .map(|seed: u64| {
             let kind = KINDS[(seed % KINDS.len() as u64) as usize];
             draw_scene(kind, &mut Random(seed))
         })
-        .collect()
+        .collect();
+    scenes.sort_by_key(|scene| scene.lines.len());
+    scenes
 }
 
 /// A bug is found in some of the scenes, and told.
@@ -515,6 +531,9 @@ fn each_bug_is_found() {
         is_found(bug, &scenes);
     }
     for bug in OPEN_BUGS {
+        is_found(bug, &scenes);
+    }
+    for bug in BLANK_BUGS.into_iter().chain(BLANK_STATE_BUGS) {
         is_found(bug, &scenes);
     }
 }
@@ -562,4 +581,5 @@ fn a_case_of_the_documents_finds_each_shortcut() {
     KIND_BUGS.into_iter().for_each(is_refuted::<KindBug>);
     THIRD_BUGS.into_iter().for_each(is_refuted::<ThirdBug>);
     OPEN_BUGS.into_iter().for_each(is_refuted::<OpenBug>);
+    BLANK_BUGS.into_iter().for_each(is_refuted::<BlankBug>);
 }

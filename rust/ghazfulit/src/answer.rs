@@ -27,7 +27,8 @@ impl Way {
 
 /// What a buyer asks for.
 ///
-/// The functions of the same names make updates by the first way; [`Op::by`] chooses.
+/// The functions of the same names make updates by the first way; [`Op::by`] chooses. Key 0 is no lot's, and refused for all but a next
+/// ([`Refusal::BadKey`]).
 ///
 /// ```
 /// # use ghazfulit::{Op, Way};
@@ -62,7 +63,7 @@ pub enum Op {
     },
     /// The first lot at or above a key.
     Next {
-        /// The key, which need not be there.
+        /// The key, which need not be there; from 0 on it is the first lot of all.
         key: u32,
     },
     /// New information for a lot that is there.
@@ -268,6 +269,8 @@ pub enum Refusal {
     Damaged,
     /// A report was asked for a page that the pool does not have.
     BadPage,
+    /// An operation was begun with key 0, which is that of a blank tag and no lot's. Only [`Op::Next`] may begin with it.
+    BadKey,
     /// A pool was to be opened in which this page is the lowest that is not sound by itself.
     BadPageInPool(u32),
     /// A pool was to be opened whose pages are sound by themselves, but do not form the tree from page 0.
@@ -276,7 +279,7 @@ pub enum Refusal {
 
 impl Refusal {
     /// Each of them once, but the one that has a value.
-    const EACH: [Refusal; 8] = [
+    const EACH: [Refusal; 9] = [
         Refusal::BadState,
         Refusal::BadPool,
         Refusal::BadSlot,
@@ -284,6 +287,7 @@ impl Refusal {
         Refusal::SlotIdle,
         Refusal::Damaged,
         Refusal::BadPage,
+        Refusal::BadKey,
         Refusal::BadTree,
     ];
 
@@ -307,6 +311,7 @@ impl Refusal {
             Refusal::SlotIdle => numbers::SLOT_IDLE,
             Refusal::Damaged => numbers::DAMAGED,
             Refusal::BadPage => numbers::BAD_PAGE,
+            Refusal::BadKey => numbers::BAD_KEY,
             Refusal::BadPageInPool(_) => numbers::BAD_PAGE_IN_POOL,
             Refusal::BadTree => numbers::BAD_TREE,
         }
@@ -323,6 +328,7 @@ impl Display for Refusal {
             Refusal::SlotIdle => "the slot is closed",
             Refusal::Damaged => "the pages that the step would meet are not sound",
             Refusal::BadPage => "there is no such page",
+            Refusal::BadKey => "key 0 is that of a blank tag, and no lot's",
             Refusal::BadPageInPool(page) => return write!(f, "page {page} is not sound by itself"),
             Refusal::BadTree => "the pages do not form a tree",
         };

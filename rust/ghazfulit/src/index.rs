@@ -69,8 +69,8 @@ impl Index<'static> {
     }
 
     /// The words of a pool that somebody hands in, say from a file: `n` pages of width `k`. They are opened exactly if they form the tree from
-    /// page 0, no page hangs in two places, and every other page is all zeros; who has written them does not matter. Every slot is closed then.
-    /// Words that are not opened come back as they were, with the refusal.
+    /// page 0, no page hangs in two places, no lot has number 0, and every other page is all zeros; who has written them does not matter. Every
+    /// slot is closed then. Words that are not opened come back as they were, with the refusal.
     ///
     /// ```
     /// # use ghazfulit::{Index, NotOpened, Op, Refusal, Step};
@@ -173,7 +173,17 @@ impl<'w> Index<'w> {
         Index { state, words }
     }
 
-    /// Begins an operation in a closed slot. An update chooses its [`Way`](crate::Way) here.
+    /// Begins an operation in a closed slot. An update chooses its [`Way`](crate::Way) here. Key 0 is that of a blank tag: only a next may
+    /// begin with it, and asks for the first lot of all.
+    ///
+    /// ```
+    /// # use ghazfulit::{Index, Op, Refusal, Step};
+    /// let mut index = Index::new(1, 3)?;
+    /// assert_eq!(index.begin(0, Op::insert(0, 7)), Err(Refusal::BadKey));
+    /// index.begin(0, Op::next(0))?;
+    /// assert_eq!(index.step(0)?, Step::None);
+    /// # Ok::<(), Refusal>(())
+    /// ```
     pub fn begin(&mut self, slot: u32, op: Op) -> Result<(), Refusal> {
         let (kind, key, information) = op.numbers();
         done(raw::begin(&mut self.state, slot, kind, key, information))
@@ -297,7 +307,7 @@ mod tests {
     }
 
     #[test]
-    #[should_panic = "the archive is of version 1, and this crate of version 6"]
+    #[should_panic = "the archive is of version 1, and this crate of version 7"]
     fn another_version_is_refused() {
         hold_version(1);
     }

@@ -106,6 +106,7 @@
 //! assert_eq!(index.step(0), Err(Refusal::SlotIdle));
 //! assert_eq!(index.begin(16, Op::search(1)), Err(Refusal::BadSlot));
 //! assert_eq!(Refusal::BadSlot.to_string(), "the slot is above 15");
+//! assert_eq!(index.begin(0, Op::search(0)), Err(Refusal::BadKey)); // a blank tag: no lot has number 0
 //! # Ok::<(), Refusal>(())
 //! ```
 

@@ -228,6 +228,11 @@ impl Met {
         self.spoiled(Call::Open(k, n), |_, words| {
             words[0] += u32::from(words[0] > 1)
         });
+        // the first key of page 0: that of a leaf, or a reference key
+        self.spoiled(Call::Open(k, n), |_, words| {
+            let first = if words[0] == 1 { 2 } else { 3 };
+            words[first] = 0;
+        });
     }
 
     /// Makes a call on a state or pool with something wrong, and puts all back.

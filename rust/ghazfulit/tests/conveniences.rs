@@ -77,8 +77,8 @@ fn an_operation_is_finished_or_waits() {
 
 #[test]
 fn the_lots_come_in_order() {
-    let mut index = entered(20, &[50, 10, u32::MAX, 30, 0, 20, 40]);
-    let all = [0, 10, 20, 30, 40, 50, u32::MAX];
+    let mut index = entered(20, &[50, 10, u32::MAX, 30, 1, 20, 40]);
+    let all = [1, 10, 20, 30, 40, 50, u32::MAX];
     assert_eq!(keys(&mut index, 3, 0), Ok(all.to_vec()));
     assert_eq!(keys(&mut index, 3, 31), Ok(all[4..].to_vec()));
     assert_eq!(keys(&mut index, 3, u32::MAX), Ok(vec![u32::MAX]));

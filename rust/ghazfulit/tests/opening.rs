@@ -12,8 +12,9 @@ const E: [u32; 21] = [
 /// A pool in which lots were entered and taken out, by each way in turn.
 fn grown() -> Index<'static> {
     let mut index = Index::new(2, 64).expect("in range");
-    let entered = (0..90).map(|i| Op::insert(7 * i % 101, i));
-    let taken = (0..40).map(|i| Op::delete(7 * (3 * i % 90) % 101));
+    // 101 is a prime, so that no lot has number 0
+    let entered = (1..91).map(|i| Op::insert(7 * i % 101, i));
+    let taken = (0..40).map(|i| Op::delete(7 * (1 + 3 * i % 90) % 101));
     for (op, way) in entered.chain(taken).zip(Way::ALL.into_iter().cycle()) {
         index.begin(0, op.by(way)).expect("begun");
         let step = index.finish(0).expect("answered");

@@ -236,6 +236,35 @@ fn a_search_beside_the_third_way() {
     assert!(written(&input).ends_with(told), "{}", written(&input));
 }
 
+/// Lot number 0 is that of a blank tag, however many zeros it has. The next lot at or above it is asked for as ever.
+#[test]
+fn the_blank_tag() {
+    let lines = [
+        "b 0 s 0",
+        "b 0 i 0 7",
+        "b 0 i2 0 7",
+        "b 0 i3 0 7",
+        "b 0 d 0",
+        "b 0 d2 0",
+        "b 0 d3 0",
+        "b 0 g 0 7",
+        "b 0 g2 0 7",
+        "b 0 g3 0 7",
+        "b 0 s 000",
+    ];
+    for line in lines {
+        let input = format!("{line}\nt 0\nb 0 s 1\n{line}\nt 0\n");
+        let told = "BadKey\nSlotIdle\nBegun\nSlotBusy\nNotFound\n";
+        assert_eq!(written(&input), told, "{line}");
+        let beyond = line.replace("b 0", "b 16");
+        assert_eq!(written(&(beyond + "\n")), "BadSlot\n", "{line}");
+        assert_eq!(written(line), "BadLine\n", "{line}");
+    }
+    let next = "b 0 n 0\nt 0\nb 0 i 1 0\nt 0\nb 0 n 00\nt 0\n";
+    let told = "Begun\nNone\nBegun\nInserted\nBegun\nNext 1 0\n";
+    assert_eq!(written(next), told);
+}
+
 #[test]
 fn what_is_there_already_is_told() {
     let input = "b 0 i 12 3\nt 0\nb 0 i 12 8\nt 0\nb 0 d 12\nt 0\n";

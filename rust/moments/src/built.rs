@@ -2,7 +2,7 @@
 //! wants is sound by itself and in its place, but keys, pointers and all other pages are drawn.
 
 use draw::Random;
-use twin::{page_words, Lock, Op, Slot, State, Way};
+use twin::{page_words, Lock, Op, Slot, State, Way, BLANK_KEY};
 
 use crate::converting::{is_third, place_conversion, spoil_turn};
 use crate::moment::{ask, spoil_lock, turn, Call, Moment};
@@ -43,19 +43,13 @@ fn spoil(random: &mut Random, build: &mut Build, slot: &mut Slot) {
     if slot.op.is_some_and(is_third) && random.percent(40) {
         return spoil_turn(random, slot);
     }
-    match random.below(19) {
+    match random.below(20) {
         12..=15 => turn_back(random, build, slot),
         16 => slot.lock = random.one(&[Lock::Xi, Lock::UpdaterRho, Lock::Rho, Lock::Alpha]),
         17 => turn(slot, way),
         18 => spoil_lock(random, slot),
-        0 => ask(
-            slot,
-            random.one(&[
-                Op::Delete(key, way),
-                Op::Next(key),
-                Op::Regrade(key, 1, way),
-            ]),
-        ),
+        19 => blank_key(random, build, &pages),
+        0 => ask(slot, other_op(random, key, way)),
         1 => ask(slot, Op::Insert(key, 1, way)),
         2 => ask(slot, random.one(&[Op::Delete(drawn, way), Op::Next(drawn)])),
         3 | 4 => recount(random, build, page),
@@ -74,6 +68,28 @@ fn spoil(random: &mut Random, build: &mut Build, slot: &mut Slot) {
             build.words[at] = random.below(5) as u32;
         }
     }
+}
+
+/// Another operation on a key than an insertion or a search.
+fn other_op(random: &mut Random, key: u32, way: Way) -> Op {
+    random.one(&[
+        Op::Delete(key, way),
+        Op::Next(key),
+        Op::Regrade(key, 1, way),
+    ])
+}
+
+/// The lowest key of a page is that of a blank tag: of a leaf, if there is one, otherwise a reference key, with which the page is sound.
+fn blank_key(random: &mut Random, build: &mut Build, pages: &[u32]) {
+    let start = |page: u32| page as usize * page_words(build.k);
+    let is_leaf = |page: &u32| build.words[start(*page)] == 1;
+    let leaves: Vec<u32> = pages.iter().copied().filter(is_leaf).collect();
+    let at = if leaves.is_empty() {
+        start(random.one(pages)) + 3
+    } else {
+        start(random.one(&leaves)) + 2
+    };
+    build.words[at] = BLANK_KEY;
 }
 
 /// A page points at one that is held or wanted: where the next want would be read, if the

@@ -1,7 +1,7 @@
 //! Random schedules from fresh pools.
 
 use draw::Random;
-use twin::{make, page_words, Op, Way};
+use twin::{make, page_words, Op, Way, BLANK_KEY};
 
 use crate::moment::{Call, Moment};
 
@@ -73,15 +73,16 @@ fn behind_leaf(random: &mut Random, moment: &Moment, op: Op) -> Op {
     }
 }
 
-/// A call that is likely refused, or a report, half of them for a page that a slot holds.
+/// A call that is likely refused, or a report, half of them for a page that a slot holds. A blank tag is scanned in any slot, busy or not.
 fn odd_call(random: &mut Random, draw: &Draw, moment: &Moment) -> Call {
-    match random.below(4) {
+    match random.below(5) {
         0 => Call::Step(random.below(18) as usize),
         1 => Call::Begin(
             random.below(18) as usize,
             operation(random, draw, true, &[]),
         ),
-        2 if moment.held().next().is_some() => {
+        2 => Call::Begin(random.below(17) as usize, blank_tag(random)),
+        3 if moment.held().next().is_some() => {
             let held: Vec<u32> = moment.held().collect();
             Call::Report(random.one(&held))
         }
@@ -90,11 +91,13 @@ fn odd_call(random: &mut Random, draw: &Draw, moment: &Moment) -> Call {
 }
 
 /// A random operation; a deletion or a regrading is mostly of a key that is there, and a `Next` is often from just behind one. Updates go one
-/// way or another.
+/// way or another. Now and then a blank tag is scanned.
 pub fn operation(random: &mut Random, draw: &Draw, grows: bool, there: &[u32]) -> Op {
     let key = match random.below(50) {
         0 => u32::MAX,
-        _ => random.below(draw.keys) as u32,
+        1 => BLANK_KEY,
+        // from 1 on, so that lots can be entered
+        _ => 1 + random.below(draw.keys.min(u64::from(u32::MAX))) as u32,
     };
     if random.percent(draw.readers) {
         return random.one(&[Op::Search(key), Op::Next(key)]);
@@ -114,6 +117,18 @@ pub fn operation(random: &mut Random, draw: &Draw, grows: bool, there: &[u32]) -
         }
         _ => Op::Next(key),
     }
+}
+
+/// Any operation on the key of a blank tag, a `Next` among them.
+pub fn blank_tag(random: &mut Random) -> Op {
+    let (way, information) = (random.one(&Way::ALL), random.below(3) as u32);
+    random.one(&[
+        Op::Search(BLANK_KEY),
+        Op::Next(BLANK_KEY),
+        Op::Insert(BLANK_KEY, information, way),
+        Op::Delete(BLANK_KEY, way),
+        Op::Regrade(BLANK_KEY, information, way),
+    ])
 }
 
 /// A regrading, mostly of a key that is there.

@@ -1,7 +1,7 @@
 //! Pools that somebody hands in: the words of a run with something changed, so that they are a tree still, or just no more.
 
 use draw::Random;
-use twin::page_words;
+use twin::{page_words, BLANK_KEY};
 
 /// A pool's words, to be changed.
 struct Handed {
@@ -69,12 +69,13 @@ fn pick(random: &mut Random, places: &[usize]) -> Option<usize> {
 type Change = fn(&mut Random, &mut Handed) -> Option<()>;
 
 /// Those that keep each page sound by itself as a rule come first.
-const CHANGES: [Change; 18] = [
+const CHANGES: [Change; 20] = [
     move_key,
     end_key,
     end_key,
     bounded_key,
     bounded_key,
+    blank_reference,
     move_pointer,
     exchange_pointers,
     hang_twice,
@@ -85,6 +86,7 @@ const CHANGES: [Change; 18] = [
     move_page,
     zero_page,
     level,
+    blank_lot,
     some_unused,
     free_word,
     any_word,
@@ -123,7 +125,8 @@ fn end_key(random: &mut Random, pool: &mut Handed) -> Option<()> {
         pool.words[last] = random.one(&[higher, u32::MAX]);
     } else {
         let lower = pool.words[first].saturating_sub(random.from(1, 40) as u32);
-        pool.words[first] = random.one(&[lower, 0]);
+        // the lowest that a lot can have
+        pool.words[first] = random.one(&[lower.max(1), 1]);
     }
     Some(())
 }
@@ -137,6 +140,25 @@ fn bounded_key(random: &mut Random, pool: &mut Handed) -> Option<()> {
     let above = references.map(|at| pool.words[at]);
     let end = above.filter(|&key| key > pool.words[last]).min()?;
     pool.words[last] = end - random.below(2) as u32;
+    Some(())
+}
+
+/// The first reference key of an upper page is that of a blank tag: each page is sound by itself then.
+fn blank_reference(random: &mut Random, pool: &mut Handed) -> Option<()> {
+    let page = pick(random, &pool.pages(2..=u32::MAX))?;
+    let first = *pool.keys(page).first()?;
+    pool.words[first] = BLANK_KEY;
+    Some(())
+}
+
+/// The first key of a leaf is that of a blank tag, or that of two, so that which one is named shows.
+fn blank_lot(random: &mut Random, pool: &mut Handed) -> Option<()> {
+    let leaves = pool.pages(1..=1);
+    for _ in 0..random.from(1, 2) {
+        let page = pick(random, &leaves)?;
+        let first = *pool.keys(page).first()?;
+        pool.words[first] = BLANK_KEY;
+    }
     Some(())
 }
 
@@ -214,9 +236,10 @@ fn zero_page(random: &mut Random, pool: &mut Handed) -> Option<()> {
     Some(())
 }
 
-/// A level one more or one less.
+/// A level one more or one less, often that of page 0: all that hangs from it is on another level then.
 fn level(random: &mut Random, pool: &mut Handed) -> Option<()> {
-    let page = pick(random, &pool.used())?;
+    let any = pick(random, &pool.used())?;
+    let page = random.one(&[0, any, any]);
     let was = pool.words[page];
     pool.words[page] = random.one(&[was.wrapping_add(1), was.wrapping_sub(1)]);
     Some(())

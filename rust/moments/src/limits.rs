@@ -4,15 +4,18 @@ use draw::Random;
 use twin::{Lock, Op, Slot, State, Way};
 
 use crate::converting::{convert, is_third, spoil_turn};
+use crate::fresh::blank_tag;
 use crate::moment::{any_lock, spoil_lock, Call, Moment};
 
 /// A report, a beginning and a step on one drawn state, with no words at all.
 pub fn limits(random: &mut Random) -> (Moment, Vec<Call>) {
     let state = drawn_state(random);
     let page = random.below(u64::from(state.n.min(30)) + 2) as u32;
+    let blank = blank_tag(random);
+    let op = random.one(&[Op::Search(5), blank]);
     let calls = vec![
         Call::Report(page),
-        Call::Begin(random.below(17) as usize, Op::Search(5)),
+        Call::Begin(random.below(17) as usize, op),
         Call::Step(random.below(17) as usize),
     ];
     let words = Vec::new();

@@ -2,7 +2,7 @@
 //! in such a pool, and what breaks a clause there, rest on it.
 
 use draw::Random;
-use twin::{page_words, Op, Page, Way};
+use twin::{page_words, Op, Page, Way, BLANK_KEY};
 
 /// A pool being built, and what its pages must be.
 pub(crate) struct Build {
@@ -34,7 +34,8 @@ pub(crate) fn rubbish(random: &mut Random) -> Build {
     Build { k, n, keys, words }
 }
 
-/// An operation on a key near the middle. There are enough keys below that of a `Next` to fill a page, and one above it.
+/// An operation on a key near the middle, now and then on that of a blank tag. There are enough keys below that of a `Next` to fill a page, and
+/// one above it.
 pub(crate) fn operation(random: &mut Random, build: &Build) -> Op {
     let key = random.below(build.keys) as u32;
     // by the second way there is less to hold
@@ -43,7 +44,7 @@ pub(crate) fn operation(random: &mut Random, build: &Build) -> Op {
         0 => Op::Search(key),
         14 | 15 => Op::Regrade(key, random.below(1000) as u32, way),
         1..=4 => Op::Insert(key, random.below(1000) as u32, way),
-        5..=8 => Op::Next(random.from(2 * u64::from(build.k), build.keys - 2) as u32),
+        5..=8 => Op::Next(random.from(2 * u64::from(build.k) + 1, build.keys - 2) as u32),
         _ => Op::Delete(key, way),
     }
 }
@@ -80,7 +81,8 @@ pub(crate) fn path_count(
     }
 }
 
-/// Writes a page of this level and number of keys; one of a leaf's keys may be a given one.
+/// Writes a page of this level and number of keys; one of a leaf's keys may be a given one. A reference key may be that of a blank tag, but no
+/// other key of a leaf.
 pub(crate) fn write(
     random: &mut Random,
     build: &mut Build,
@@ -91,13 +93,18 @@ pub(crate) fn write(
 ) {
     let mut keys: Vec<u32> = with.into_iter().collect();
     while keys.len() < count as usize {
-        let key = random.below(build.keys) as u32;
+        let key = random.from(lowest_key(level), build.keys - 1) as u32;
         if !keys.contains(&key) {
             keys.push(key);
         }
     }
     keys.truncate(count as usize);
     write_keys(random, build, page, level, keys);
+}
+
+/// The lowest key of a sound page: that of a blank tag is in no leaf.
+pub(crate) fn lowest_key(level: u32) -> u64 {
+    u64::from(BLANK_KEY) + u64::from(level == 1)
 }
 
 /// Writes a page of this level with these keys, and pointers that are drawn.

@@ -4,7 +4,7 @@ use draw::Random;
 use twin::{page_words, Op, Slot};
 
 use crate::broken::break_clause;
-use crate::pages::{leads, path_count, write, write_keys, Build};
+use crate::pages::{leads, lowest_key, path_count, write, write_keys, Build};
 
 /// How often a page is drawn again, so that it points to pages that are not used.
 const TRIES: usize = 60;
@@ -156,7 +156,7 @@ impl Way {
             _ => (Vec::new(), key),
         };
         while keys.len() < count as usize {
-            let drawn = random.below(bound) as u32;
+            let drawn = random.from(lowest_key(level), bound - 1) as u32;
             if !keys.contains(&drawn) {
                 keys.push(drawn);
             }

@@ -2,10 +2,10 @@
 //! slot holds or wants, or cells of the state.
 
 use draw::Random;
-use twin::{page_words, Op, Slot, State, Way};
+use twin::{page_words, Op, Slot, State, Way, BLANK_KEY};
 
 use crate::converting::{convert, is_third, spoil_turn};
-use crate::fresh::{draw, made, next_call, operation, Draw};
+use crate::fresh::{blank_tag, draw, made, next_call, operation, Draw};
 use crate::moment::{any_lock, ask, spoil_lock, turn, Call, Moment};
 
 /// A moment in the middle of a random run, grown first and then mostly shrunk; best one where a
@@ -100,7 +100,7 @@ fn spoil_page(random: &mut Random, draw: &Draw, words: &mut [u32], page: u32) {
     let start = page as usize * size;
     let part = &mut words[start..start + size];
     let body = 2 + random.below(size as u64 - 2) as usize;
-    match random.below(9) {
+    match random.below(10) {
         0 => part[0] = part[0].wrapping_add(random.one(&[1, 2, 9, 10, u32::MAX])),
         1 => part[1] = part[1].wrapping_add(random.one(&[1, u32::MAX])),
         2 => part[1] = random.one(&[0, 1, draw.k, 2 * draw.k, 2 * draw.k + 1, u32::MAX]),
@@ -109,6 +109,8 @@ fn spoil_page(random: &mut Random, draw: &Draw, words: &mut [u32], page: u32) {
         5 => part[body] = random.below(draw.keys) as u32,
         6 => part.swap(body, 2 + (body + random.one(&[0, 1, 2])) % (size - 2)),
         7 => part[body] = u32::MAX,
+        // the first key of a leaf, or the first reference key
+        8 => part[if part[0] == 1 { 2 } else { 3 }] = BLANK_KEY,
         _ => {
             let other = random.below(u64::from(draw.n)) as usize * size;
             words.copy_within(other..other + size, start);
@@ -129,8 +131,9 @@ pub fn spoiled_state(random: &mut Random) -> (Moment, Vec<Call>) {
     let slot = chosen
         .filter(|_| random.percent(70))
         .unwrap_or(random.below(18) as usize);
+    let (op, blank) = (operation(random, &draw, true, &[]), blank_tag(random));
     let call = match random.below(4) {
-        0 => Call::Begin(slot, operation(random, &draw, true, &[])),
+        0 => Call::Begin(slot, random.one(&[op, op, blank])),
         1 => Call::Report(random.below(u64::from(draw.n) + 2) as u32),
         _ => Call::Step(slot),
     };
@@ -142,7 +145,9 @@ fn spoil_state(random: &mut Random, draw: &Draw, state: &mut State, number: usiz
     let page = random.below(u64::from(draw.n) + 1) as u32;
     let odd = random.one(&[0, 1, 2, 9, 10, 11, 15, 16, 17, 1024, 1025, u32::MAX]);
     let cell = random.one(&[0, 0, 0, 1, 1, 2, 3, 9]);
-    let key = random.below(draw.keys) as u32;
+    let drawn = random.below(draw.keys) as u32;
+    // such a slot is sound, though no begin opens it
+    let key = random.one(&[drawn, drawn, drawn, BLANK_KEY]);
     let way = random.one(&Way::ALL);
     let other = random.below(16) as usize;
     let slot = &mut state.slots[number];

@@ -79,8 +79,9 @@ fn row(random: &mut Random, runs: usize, k: usize, count: usize) {
     let (place, _) = least(runs, &mut |way| ask_all(way, &pages, &keys));
     let (chained, _) = least(runs, &mut |way| ask_chained(way, &pages, &keys));
     let mut pool = Pool::of(k, count);
-    let all = 2 * u64::from(pool.lots);
-    let wanted: Vec<u32> = (0..KEYS).map(|_| random.below(all) as u32).collect();
+    let last = 2 * u64::from(pool.lots);
+    // from 1 on: 0 is refused
+    let wanted: Vec<u32> = (0..KEYS).map(|_| random.from(1, last) as u32).collect();
     let (search, sum) = least(runs, &mut |way| pool.search_all(way, &wanted));
     assert_eq!(sum, Pool::sum_of(&wanted), "a lot is not found");
     let levels = pool.levels;

@@ -20,7 +20,7 @@ use opening::openings;
 use plot::{svg, Table};
 use proved::Proved;
 use rival::Rival;
-use schedule::{run, with_others, with_ways, Outcome, Program, Schedule};
+use schedule::{run, with_blank_tags, with_others, with_ways, Outcome, Program, Schedule};
 use second::Second;
 
 /// A program by name, as a function from a schedule to its nanoseconds a call and its outcome.
@@ -139,12 +139,15 @@ fn main() {
 }
 
 /// The next lot, regradings and all ways together: compared, and not timed. In pages of one or two lots updates of the second way often begin
-/// again, and where page 0 is the only page each one does.
+/// again, and where page 0 is the only page each one does. Then blank tags among them, with those programs that refuse something.
 fn compare(schedule: &Schedule) {
     let count = schedule.ops.len();
     let small = [64, 1].map(|n| Schedule::draw_with(1, [1, n, 16], count, 5));
+    let refusing = [PROGRAMS[0], PROGRAMS[1], PROGRAMS[2], PROGRAMS[5]];
     for schedule in small.iter().chain([schedule]) {
-        medians(&with_others(schedule), 1, &PROGRAMS);
+        let schedule = with_others(schedule);
+        medians(&schedule, 1, &PROGRAMS);
+        medians(&with_blank_tags(&schedule), 1, &refusing);
     }
 }
 

@@ -28,7 +28,8 @@ fn pool(name: &'static str, k: u32, n: u32, is_fresh: bool) -> Pool {
     let mut random = Random(u64::from(k));
     let mut has_room = !is_fresh;
     while has_room {
-        let key = random.bits() as u32;
+        // any number but that of a blank tag
+        let key = (random.bits() as u32).max(1);
         index.begin(0, Op::insert(key, key)).expect("a closed slot");
         has_room = index.finish(0) != Ok(Step::NoRoom);
     }
@@ -60,7 +61,7 @@ fn compare(pool: &mut Pool) {
         let at = random.below(pool.words.len() as u64) as usize;
         let was = pool.words[at];
         let any = random.below(1024) as u32;
-        pool.words[at] = random.one(&[was, was.wrapping_add(1), was.wrapping_sub(1), any]);
+        pool.words[at] = random.one(&[was, was.wrapping_add(1), was.wrapping_sub(1), any, 0]);
         let answers = [proved as Opens, rival].map(|opens| opens(pool.k, pool.n, &mut pool.words));
         assert_eq!(answers[0], answers[1], "{}, word {at}", pool.name);
         pool.words[at] = was;

@@ -31,8 +31,12 @@ pub fn is_page_sound(page: &[u32], p: u32, k: usize, n: u32) -> bool {
     for i in 1..count {
         bad |= pairs[2 * i - 2] >= pairs[2 * i];
     }
-    if bad || level == 1 {
-        return !bad;
+    if level == 1 {
+        // keys rise, so that the first tells whether a blank tag's is there
+        return !bad && (count == 0 || pairs[0] != 0);
+    }
+    if bad {
+        return false;
     }
     let mut seen: Pages = [0; 16];
     for &pointer in page[2..].iter().step_by(2).take(count + 1) {

@@ -42,6 +42,10 @@ impl<L: Layout, const TESTS: bool> Program for Rival<L, TESTS> {
             return plain(numbers::SLOT_BUSY);
         }
         let (kind, key, information) = op.numbers();
+        // a blank tag
+        if TESTS && key == 0 && kind != NEXT {
+            return plain(numbers::BAD_KEY);
+        }
         let slot = Slot::begun(kind, key, information);
         let all = if TESTS { HELD } else { 0 };
         state.set_slot(s, &slot, all, all);

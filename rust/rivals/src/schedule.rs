@@ -48,7 +48,8 @@ impl Schedule {
         let mut random = Random(seed);
         let lots = u64::from(n) * u64::from(k) * 3 / 4;
         let range = 2 * lots.max(1);
-        let key = |random: &mut Random| random.below(range) as u32;
+        // no lot has key 0
+        let key = |random: &mut Random| 1 + random.below(range) as u32;
         let filling = (0..lots)
             .map(|i| Op::insert(key(&mut random), i as u32))
             .collect();
@@ -80,6 +81,22 @@ pub fn with_others(schedule: &Schedule) -> Schedule {
             _ => {}
         }
         *op = op.by(Way::ALL[i % 3]);
+    }
+    other
+}
+
+/// The same operations, but now and then on the key of a blank tag: who tests refuses it, and the slot takes the next operation. A `Next` goes on.
+pub fn with_blank_tags(schedule: &Schedule) -> Schedule {
+    let mut other = schedule.clone();
+    for op in other.ops.iter_mut().step_by(7) {
+        match op {
+            Op::Search { key }
+            | Op::Insert { key, .. }
+            | Op::Delete { key, .. }
+            | Op::Next { key }
+            | Op::Regrade { key, .. } => *key = 0,
+            _ => {}
+        }
     }
     other
 }
@@ -121,10 +138,12 @@ pub fn run<P: Program>(program: &mut P, slots: u32, ops: &[Op]) -> (u64, u64, u6
             let answer = if is_open[slot as usize] {
                 program.step(slot)
             } else if next < ops.len() {
-                is_open[slot as usize] = true;
-                open += 1;
                 next += 1;
-                program.begin(slot, ops[next - 1])
+                let answer = program.begin(slot, ops[next - 1]);
+                let is_begun = answer[0] == numbers::BEGUN;
+                is_open[slot as usize] = is_begun;
+                open += u32::from(is_begun);
+                answer
             } else {
                 continue;
             };

@@ -10,6 +10,8 @@ pub enum Answer {
     SlotIdle,
     Damaged,
     BadPage,
+    /// The key of a blank tag, 0.
+    BadKey,
     /// The lowest page of a pool handed in that is not sound by itself.
     BadPageInPool(u32),
     /// Each page of it is, but they do not form the tree from page 0.
@@ -41,7 +43,7 @@ pub enum Answer {
 
 impl Answer {
     /// Every answer once, with values of 0.
-    const EACH: [Answer; 26] = [
+    const EACH: [Answer; 27] = [
         Answer::BadState,
         Answer::BadPool,
         Answer::BadSlot,
@@ -49,6 +51,7 @@ impl Answer {
         Answer::SlotIdle,
         Answer::Damaged,
         Answer::BadPage,
+        Answer::BadKey,
         Answer::BadPageInPool(0),
         Answer::BadTree,
         Answer::BadKind,
@@ -80,6 +83,7 @@ impl Answer {
             Answer::SlotIdle => 5,
             Answer::Damaged => 6,
             Answer::BadPage => 7,
+            Answer::BadKey => 8,
             Answer::BadPageInPool(_) => 9,
             Answer::BadTree => 10,
             Answer::BadKind => 31,
@@ -144,6 +148,7 @@ impl Answer {
             Answer::SlotIdle => "SlotIdle",
             Answer::Damaged => "Damaged",
             Answer::BadPage => "BadPage",
+            Answer::BadKey => "BadKey",
             Answer::BadPageInPool(_) => "BadPageInPool",
             Answer::BadTree => "BadTree",
             Answer::BadKind => "BadKind",

@@ -1,4 +1,4 @@
-//! The five calls, with their refusals in the order of document 01.
+//! The five calls, with their refusals in the order of documents 01 and 02.
 
 use crate::answer::Answer;
 use crate::grant::{grant, Outcome};
@@ -46,6 +46,9 @@ pub fn begin(given: &State, slot: usize, op: Op) -> (Answer, State) {
     }
     if given.slots[slot].op.is_some() {
         return (Answer::SlotBusy, *given);
+    }
+    if op.is_blank_tag() {
+        return (Answer::BadKey, *given);
     }
     let mut state = *given;
     state.slots[slot] = begun(op);

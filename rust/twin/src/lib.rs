@@ -39,5 +39,5 @@ pub use lent::{
 pub use lock::Lock;
 pub use locks::must_wait;
 pub use op::{kind, Op, Way};
-pub use page::{free_pages, page_words, read_page, Page};
+pub use page::{free_pages, page_words, read_page, Page, BLANK_KEY};
 pub use state::{is_sound, Slot, State, PATH, SIBLINGS, SLOTS};

@@ -1,6 +1,7 @@
 //! What a buyer asks for, and its numbers: as a caller gives them, and as the state's words have them.
 
 use crate::lock::Lock;
+use crate::page::BLANK_KEY;
 
 /// The kinds of operation by number.
 pub mod kind {
@@ -89,6 +90,11 @@ impl Op {
     /// The key the operation is about.
     pub fn key(self) -> u32 {
         self.numbers().1
+    }
+
+    /// Whether it names the lot of a blank tag, which is none: key 0, but for a `Next`, which may begin there.
+    pub fn is_blank_tag(self) -> bool {
+        !matches!(self, Op::Next(_)) && self.key() == BLANK_KEY
     }
 
     /// An update's way; who only reads has none.

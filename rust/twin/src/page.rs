@@ -1,5 +1,8 @@
 //! Pages of the pool: read as lists of keys with what belongs to them, and written back whole.
 
+/// The key that is printed on blank tags: no lot has it.
+pub const BLANK_KEY: u32 = 0;
+
 /// A page read: its level, its keys, and for a leaf the information of each key, above the
 /// leaves the pointers, one more than keys.
 #[derive(Clone, Debug, PartialEq, Eq)]
@@ -118,7 +121,7 @@ pub fn read_page(words: &[u32], k: u32, n: u32, number: u32) -> Option<Page> {
     };
     let is_sound = unused.iter().all(|&word| word == 0)
         && page.keys.windows(2).all(|pair| pair[0] < pair[1])
-        && (level == 1 || are_pointers_sound(&page.with, n));
+        && is_on_its_level(&page, n);
     is_sound.then_some(page)
 }
 
@@ -130,6 +133,15 @@ fn is_count_sound(k: u32, number: u32, level: u32, count: u32) -> bool {
         _ => k,
     };
     (least..=2 * k).contains(&count)
+}
+
+/// What is asked of a leaf alone, that it has no lot of a blank tag, and of an upper page alone, its pointers.
+fn is_on_its_level(page: &Page, n: u32) -> bool {
+    if page.is_leaf() {
+        !page.keys.contains(&BLANK_KEY)
+    } else {
+        are_pointers_sound(&page.with, n)
+    }
 }
 
 /// Pointers are all different and from 1 to N-1.

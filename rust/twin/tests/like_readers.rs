@@ -112,7 +112,7 @@ fn a_key_that_is_there() {
 
 #[test]
 fn a_key_that_is_missing() {
-    for (key, leaf) in [(99, 2), (11, 1), (0, 1)] {
+    for (key, leaf) in [(99, 2), (11, 1), (1, 1)] {
         let mut run = two_levels();
         for op in [Op::Delete(key, Second), Op::Regrade(key, 9, Second)] {
             judge_in_e(&mut run, op, leaf, Answer::NoSuchKey);
@@ -243,16 +243,16 @@ fn over_ten_levels() {
     let mut run = Run::new(1, 1024);
     run.rise(1);
     assert_eq!(run.words[0], 10);
-    run.begin(0, Op::Regrade(1, 9, Second));
+    run.begin(0, Op::Regrade(2, 9, Second));
     (1..10).for_each(|_| assert_eq!(run.step(0), Answer::Moved));
     assert_eq!(run.step(0), Answer::Regraded(7));
-    run.begin(0, Op::Delete(0, Second));
+    run.begin(0, Op::Delete(1, Second));
     for grant in 1..29 {
         assert_eq!(run.step(0), Answer::Moved);
         let is_second = grant < 10;
         assert_eq!(
             run.state.slots[0].op,
-            Some(Op::Delete(0, if is_second { Second } else { First }))
+            Some(Op::Delete(1, if is_second { Second } else { First }))
         );
     }
     assert_eq!(run.step(0), Answer::Deleted(7));

@@ -133,7 +133,7 @@ fn the_number_in_page_0() {
         let mut words = vec![0; 4 * size];
         words[..2].copy_from_slice(&[1, count]);
         for i in 0..(count as usize).min(4) {
-            words[2 + 2 * i] = 10 * i as u32;
+            words[2 + 2 * i] = 10 * (i as u32 + 1);
         }
         let expected = match count {
             5 => Answer::BadPageInPool(0),
@@ -225,7 +225,7 @@ fn a_page_in_two_places() {
     assert_eq!(opened(&right.concat()), Answer::Opened);
 }
 
-/// Reference keys need not stand in a leaf, and both ends of the range of all keys may: 0 and the largest.
+/// Reference keys need not stand in a leaf, and both ends of the range of all lots may: 1 and the largest.
 #[test]
 fn loose_reference_keys_and_the_ends_of_the_range() {
     assert_eq!(changed(&E, &[(3, 11)]), Answer::Opened);
@@ -233,7 +233,7 @@ fn loose_reference_keys_and_the_ends_of_the_range() {
     assert_eq!(changed(&E, &[(3, 10)]), Answer::BadTree);
     assert_eq!(changed(&E, &[(3, 21)]), Answer::BadTree);
     assert_eq!(
-        changed(&E, &[(7 + 2, 0), (14 + 4, u32::MAX)]),
+        changed(&E, &[(7 + 2, 1), (14 + 4, u32::MAX)]),
         Answer::Opened
     );
     // information is any number

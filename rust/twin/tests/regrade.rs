@@ -51,7 +51,7 @@ fn in_e() {
 fn a_missing_key() {
     let mut run = two_levels();
     let words = run.words.clone();
-    for (key, leaf) in [(0, 1), (9, 1), (19, 1), (21, 2), (u32::MAX, 2)] {
+    for (key, leaf) in [(1, 1), (9, 1), (19, 1), (21, 2), (u32::MAX, 2)] {
         judge(&mut run, key, 9, &[(0, leaf)], Answer::NoSuchKey);
         assert_eq!(run.words, words);
     }
@@ -99,10 +99,10 @@ fn over_ten_levels() {
     let mut run = Run::new(1, 1024);
     run.rise(1);
     assert_eq!(run.words[0], 10);
-    for (key, answer) in [(0, Answer::Regraded(7)), (u32::MAX, Answer::NoSuchKey)] {
+    for (key, answer) in [(1, Answer::Regraded(7)), (u32::MAX, Answer::NoSuchKey)] {
         run.begin(0, Op::Regrade(key, 9, First));
         run.finish();
-        assert_eq!((run.grants[0], run.list.get(&0)), (10, Some(&9)));
+        assert_eq!((run.grants[0], run.list.get(&1)), (10, Some(&9)));
         assert!(run.tally.contains_key(answer.name()));
     }
 }

@@ -6,7 +6,7 @@ use std::vec::IntoIter;
 use twin::{begin, make, open, page_words, report, step, Answer, Lock, Op, Slot, State, Way};
 
 /// The proved tables; a name may be defined in another one than it is used in.
-const TABLES: [&str; 10] = [
+const TABLES: [&str; 11] = [
     include_str!("../../../crates/promises/specs/Bench.antt"),
     include_str!("../../../crates/promises/specs/MoreRows.antt"),
     include_str!("../../../crates/promises/specs/LongRun.antt"),
@@ -17,6 +17,7 @@ const TABLES: [&str; 10] = [
     include_str!("../../../crates/promises/specs/SecondRows.antt"),
     include_str!("../../../crates/promises/specs/ThirdRows.antt"),
     include_str!("../../../crates/promises/specs/OpenRows.antt"),
+    include_str!("../../../crates/promises/specs/BlankRows.antt"),
 ];
 
 /// What an expression of a table stands for.
@@ -186,7 +187,8 @@ fn standing_alone(token: &str, tokens: &mut Tokens) -> Option<Value> {
 fn applied(name: &str, arguments: &[Value]) -> Value {
     let known = answer(name, arguments)
         .or_else(|| calls(name, arguments))
-        .or_else(|| place(name, arguments));
+        .or_else(|| place(name, arguments))
+        .or_else(|| blank(name, arguments));
     let defined = || defined(name).filter(|_| arguments.is_empty());
     let value = known.or_else(defined);
     value.unwrap_or_else(|| panic!("{name} {arguments:?} has no meaning here"))
@@ -215,7 +217,10 @@ fn answer(name: &str, arguments: &[Value]) -> Option<Value> {
         ("Damaged", []) => Answer::Damaged,
         ("BadState", []) => Answer::BadState,
         ("BadPool", []) => Answer::BadPool,
+        ("BadSlot", []) => Answer::BadSlot,
+        ("SlotBusy", []) => Answer::SlotBusy,
         ("SlotIdle", []) => Answer::SlotIdle,
+        ("BadKey", []) => Answer::BadKey,
         ("Opened", []) => Answer::Opened,
         ("BadPageInPool", [Number(page)]) => Answer::BadPageInPool(*page),
         ("BadTree", []) => Answer::BadTree,
@@ -427,6 +432,29 @@ fn place(name: &str, arguments: &[Value]) -> Option<Value> {
     })
 }
 
+/// What the table of the blank tag has for itself.
+fn blank(name: &str, arguments: &[Value]) -> Option<Value> {
+    Some(match (name, arguments) {
+        ("short", [from]) => {
+            let mut told = told(from);
+            told.words.truncate(20);
+            Value::Told(Box::new(told))
+        }
+        ("meets", [op]) => {
+            let begun = applied("runs", &[Number(0), op.clone(), Number(1)]);
+            let held = applied("goingOn", &[read("caseE"), begun]);
+            let from = applied("damaged", &[held, Number(9), Number(0)]);
+            applied("once", &[from])
+        }
+        ("asking", [op]) => {
+            let nothing = List(Vec::new());
+            let held = [&Number(0), &nothing, &nothing];
+            open_in(1, op.clone(), held, read("bare"))
+        }
+        _ => return None,
+    })
+}
+
 /// A pool of n pages in which slot 0 alone is open, with its want, its path and what stands beside it.
 fn open_in(n: u32, operation: Value, [want, path, beside]: [&Value; 3], words: Value) -> Value {
     let slot = [
@@ -525,6 +553,7 @@ fn every_row_is_heard() {
         ("secondRows", 87),
         ("thirdRows", 68),
         ("openRows", 33),
+        ("blankRows", 28),
     ] {
         let rows = list(&defined(name).expect("it is there"));
         assert_eq!(rows.len(), length, "{name}");

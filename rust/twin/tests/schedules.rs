@@ -33,12 +33,12 @@ impl Draw {
 }
 
 /// A random operation: a `Next` so many times in a hundred; otherwise insertions and deletions prevail by turns, by one way or
-/// another. Keys are even, so that there is always a number between two of them.
+/// another. Keys are even, so that there is always a number between two of them; now and then a blank tag is scanned, 0.
 fn operation(random: &mut Random, run: &Run, draw: &Draw, grows: bool) -> Op {
     let key = match random.below(60) {
-        0 => 0,
-        1 => u32::MAX,
-        _ => 2 * random.below(draw.keys) as u32,
+        0..=2 => 0,
+        3 => u32::MAX,
+        _ => 2 * (1 + random.below(draw.keys) as u32),
     };
     if random.percent(draw.nexts) {
         return next(random, run, key);
@@ -224,6 +224,26 @@ fn large_pools() {
     reached.check_third();
 }
 
+/// What is heard in a run.
+const HEARD: [&str; 16] = [
+    "Begun",
+    "SlotBusy",
+    "BadKey",
+    "Waiting",
+    "Moved",
+    "Found",
+    "NotFound",
+    "Inserted",
+    "AlreadyThere",
+    "Deleted",
+    "NoSuchKey",
+    "NoRoom",
+    "Next",
+    "None",
+    "Regraded",
+    "SlotIdle",
+];
+
 #[test]
 fn every_kind_of_answer() {
     let mut random = Random(3);
@@ -251,22 +271,7 @@ fn every_kind_of_answer() {
             run.step(slot);
         }
     }
-    let heard = [
-        "Waiting",
-        "Moved",
-        "Found",
-        "NotFound",
-        "Inserted",
-        "AlreadyThere",
-        "Deleted",
-        "NoSuchKey",
-        "NoRoom",
-        "Next",
-        "None",
-        "Regraded",
-        "SlotIdle",
-    ];
-    for name in heard {
+    for name in HEARD {
         assert!(
             run.tally.get(name).is_some_and(|&times| times > 10),
             "{name}"

@@ -229,7 +229,7 @@ fn over_ten_levels() {
     let mut run = Run::new(1, 1024);
     run.rise(1);
     assert_eq!(run.words[0], 10);
-    run.begin(0, Op::Delete(0, Third));
+    run.begin(0, Op::Delete(1, Third));
     for grant in 1..38 {
         assert_eq!(run.step(0), Answer::Moved);
         let its = &run.state.slots[0];

@@ -1,7 +1,7 @@
 //! Random inputs: operations in many slots at once, stepped in random order, with bad lines between them.
 
 use draw::Random;
-use twin::{Op, Way, SLOTS};
+use twin::{Op, Way, BLANK_KEY, SLOTS};
 
 use crate::input::{begin_line, Input};
 use crate::spoil::spoiled;
@@ -73,11 +73,12 @@ fn good_line(random: &mut Random, slot: u64, kind: &Kind, grows: bool) -> String
     }
 }
 
-/// An operation; keys are few, so that they meet, or at the ends of the range.
+/// An operation; keys are few, so that they meet, or at the ends of the range. Now and then a blank tag is scanned.
 fn operation(random: &mut Random, kind: &Kind, grows: bool) -> Op {
     let key = match random.below(50) {
-        0 => random.one(&[0, 1, u32::MAX - 1, u32::MAX]),
-        _ => random.below(kind.keys) as u32,
+        0 => random.one(&[1, u32::MAX - 1, u32::MAX]),
+        1 => BLANK_KEY,
+        _ => 1 + random.below(kind.keys) as u32,
     };
     let information = random.bits() as u32 >> random.below(32);
     let way = random.one(&Way::ALL);

@@ -25,7 +25,7 @@ pub(super) fn cases() -> Vec<Case> {
 }
 
 /// Words that are opened, k = 1; and the words behind it, which are as they were.
-fn opened(name: &'static str, pages: &[[u32; 7]], answer: Answer) -> Case {
+pub(super) fn opened(name: &'static str, pages: &[[u32; 7]], answer: Answer) -> Case {
     let mut case = Case::handed(name, pages);
     case.call(&format!("o 1 {}", pages.len()), answer);
     case.words(pages);
@@ -33,7 +33,7 @@ fn opened(name: &'static str, pages: &[[u32; 7]], answer: Answer) -> Case {
 }
 
 /// The same with some words put otherwise: each a page, a place in it, and the word.
-fn spoiled(
+pub(super) fn spoiled(
     name: &'static str,
     pages: &[[u32; 7]],
     words: &[(usize, usize, u32)],

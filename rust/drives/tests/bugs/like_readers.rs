@@ -7,7 +7,7 @@ use twin::{
     State, Way, SLOTS, STATE,
 };
 
-use crate::{alone, is_second};
+use crate::{alone, begin_any, is_second};
 
 /// A call that something is wrong with.
 #[derive(Clone, Copy, Debug)]
@@ -181,7 +181,7 @@ impl SecondBug {
             )
             | (SecondBug::ToldBeginsAgain, Answer::AlreadyThere(_) | Answer::NoSuchKey) => {
                 words.copy_from_slice(pages);
-                begin_lent(state, slot, asked(before, slot).by(Way::First));
+                begin_any(state, slot, asked(before, slot).by(Way::First));
                 Answer::Moved
             }
             (SecondBug::FatherKept, Answer::Moved) if before[at(DEPTH, slot)] == 1 => {

@@ -30,6 +30,16 @@ fn clash(one: Lock, other: Lock) -> bool {
     !are_rho && !with_alpha.contains(&(one, other))
 }
 
+/// Whether an operation names lot number 0; a `Next` may, which names none.
+fn is_blank_tag(op: Op) -> bool {
+    match op {
+        Op::Next(_) => false,
+        Op::Search(key) | Op::Insert(key, ..) | Op::Delete(key, _) | Op::Regrade(key, ..) => {
+            key == 0
+        }
+    }
+}
+
 /// A run from a fresh pool or from one that is opened, with the sorted list beside it.
 pub struct Run {
     pub k: u32,
@@ -105,9 +115,11 @@ impl Run {
         let expected = match slot {
             16.. => Answer::BadSlot,
             _ if was_open => Answer::SlotBusy,
+            _ if is_blank_tag(op) => Answer::BadKey,
             _ => Answer::Begun,
         };
         assert_eq!(answer, expected);
+        *self.tally.entry(answer.name()).or_default() += 1;
         if answer == Answer::Begun {
             self.grants[slot] = 0;
         } else {
@@ -373,7 +385,7 @@ impl Run {
         (0..16).filter(is_ready).collect()
     }
 
-    /// The pages form the tree, it holds the list's entries, every other page is all zeros.
+    /// The pages form the tree, it holds the list's entries, of which none is lot number 0, every other page is all zeros.
     fn check_tree(&self) {
         let mut seen = vec![false; self.n as usize];
         let mut entries = Vec::new();
@@ -385,6 +397,7 @@ impl Run {
                 .map(|(&key, &with)| (key, with))
                 .collect::<Vec<_>>()
         );
+        assert!(!self.list.contains_key(&0));
         for (part, seen) in self.words.chunks(page_words(self.k)).zip(seen) {
             assert!(seen || part.iter().all(|&word| word == 0));
         }
@@ -470,7 +483,7 @@ impl Run {
 
     /// Enters rising keys, so far apart, until there is no room. They leave pages half full, which gives the tallest tree of the pool.
     pub fn rise(&mut self, apart: u32) {
-        for step in 0.. {
+        for step in 1.. {
             self.begin(0, Op::Insert(apart * step, 7, First));
             self.finish();
             if self.tally.contains_key("NoRoom") {

@@ -2,7 +2,7 @@
 use mathlib.Core.Path.{refl}
 use native.Mathlib.Omega.{arith}
 use lib.Dec.{lit≤}
-use Rattle.slots.specs.declared.Answer.the-variants.{Waiting, Moved, Found, NotFound, Inserted, AlreadyThere, Deleted, NoSuchKey, NoRoom, Begun, Made, Reported, Next, None, Regraded, BadState, BadPool, BadSlot, SlotBusy, SlotIdle, Damaged, BadPage, Opened, BadPageInPool, BadTree}
+use Rattle.slots.specs.declared.Answer.the-variants.{Waiting, Moved, Found, NotFound, Inserted, AlreadyThere, Deleted, NoSuchKey, NoRoom, Begun, Made, Reported, Next, None, Regraded, BadState, BadPool, BadSlot, SlotBusy, SlotIdle, Damaged, BadPage, Opened, BadPageInPool, BadTree, BadKey}
 use Rattle.lines.specs.Text.{bytes}
 use Rattle.answers.proofs.Answers.{answered, informed-short, next-short, room}
 use Rattle.answers.proofs.writing.write_answer.Statement.{statement}
@@ -233,6 +233,15 @@ slice-aggregate-write-word-19 c = refl
 write-word-requires-19 : tie.Need-write-word-requires-19
 write-word-requires-19 c κs = room _ _ (c .before .before .before .before .before .pre) (lit≤ tt)
 
+enum-told-20 : tie.Need-enum-told-20
+enum-told-20 c = c .match .keys26
+
+slice-aggregate-write-word-20 : tie.Need-slice-aggregate-write-word-20
+slice-aggregate-write-word-20 c = refl
+
+write-word-requires-20 : tie.Need-write-word-requires-20
+write-word-requires-20 c κs = room _ _ (c .before .before .before .before .before .pre) (lit≤ tt)
+
 same-length : tie.Need-same-length
 same-length c = c .before .before .write-word .kept .0
 
@@ -396,6 +405,12 @@ same-length-25 c = c .before .before .write-word19 .kept .0
 returns-25 : tie.Need-returns-25
 returns-25 c = answered BadTree (c .before .before .before .before .before .before .before .before .args .out .now) (c .before .before .before .before .before .before .before .before .args .at) (c .before .before .before .before .before .enum-told19 .given .1) (c .before .before .write-word19 .ensures) (lit≤ tt)
 
+same-length-26 : tie.Need-same-length-26
+same-length-26 c = c .before .before .write-word20 .kept .0
+
+returns-26 : tie.Need-returns-26
+returns-26 c = answered BadKey (c .before .before .before .before .before .before .before .before .args .out .now) (c .before .before .before .before .before .before .before .before .args .at) (c .before .before .before .before .before .enum-told20 .given .1) (c .before .before .write-word20 .ensures) (lit≤ tt)
+
 pub write-answer-spec : {M : Type 1} → statement M
 write-answer-spec =
     tie.close
@@ -475,6 +490,9 @@ write-answer-spec =
     enum-told-19
     slice-aggregate-write-word-19
     write-word-requires-19
+    enum-told-20
+    slice-aggregate-write-word-20
+    write-word-requires-20
     same-length
     returns
     same-length-2
@@ -524,4 +542,6 @@ write-answer-spec =
     same-length-24
     returns-24
     same-length-25
-    returns-25)
+    returns-25
+    same-length-26
+    returns-26)

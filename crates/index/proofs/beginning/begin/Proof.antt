@@ -1,5 +1,5 @@
 -- Each way out is a case of the rule; a closed slot of a sound state leaves room in the waiting order.
-use Rattle.index.proofs.CallLaws.{says-unsound, says-nowhere, says-busy, says-begun}
+use Rattle.index.proofs.CallLaws.{says-unsound, says-nowhere, says-busy, says-blank, says-begun}
 use Rattle.soundness.proofs.CheckingLawsSound.{sound-words, kind-closed, kind-open}
 use Rattle.lent.proofs.StateLaws.{length-order}
 use Rattle.lent.specs.Words.{asRead, stateOf}
@@ -54,21 +54,31 @@ shut c =
     let was = c .before .before .before .before .before .before .before .before .before .before .args in
     kind-closed (was .state .now) (was .s) (sound-words (was .state .now) (kept (c .before .before .before .before)) .exist) (c .before .before .before .if2 .left) (sym (c .before .kind-at .ensures) ∙ c .if3 .left)
 
-begins-requires : tie.Need-begins-requires
-unfolding slotCount
-begins-requires c κs =
-    let was = c .before .before .before .before .before .before .before .before .before .before .before .args in
-    let known = sound-words (was .state .now) (kept (c .before .before .before .before .before)) in (
-      c .before .before .before .before .if2 .left,
-      order-has-room (asRead (was .state .now)) (length-order (was .state .now) (c .before .before .before .before .before .before .before .before .sized .ensures)) (known .facts) (was .s) (c .before .before .before .before .if2 .left) (shut (c .before)),
-    )
+blank-tag-requires : tie.Need-blank-tag-requires
+blank-tag-requires c κs = tt
 
 returns-4 : tie.Need-returns-4
 unfolding slotCount
 returns-4 c =
     let was = c .before .before .before .before .before .before .before .before .before .before .before .before .args in
     let known = sound-words (was .state .now) (kept (c .before .before .before .before .before .before)) in
-    says-begun (was .state .now) (was .s) (was .op) (kept (c .before .before .before .before .before .before)) (c .before .before .before .before .before .if2 .left) (known .exist) (c .before .before .before .before .before .before .before .before .before .sized .ensures) (shut (c .before .before)) (c .begins .ensures)
+    says-blank (was .state .now) (was .s) (was .op) (kept (c .before .before .before .before .before .before)) (c .before .before .before .before .before .if2 .left) (known .exist) (shut (c .before .before)) (sym (c .before .blank-tag .ensures) ∙ c .if4 .taken)
+
+begins-requires : tie.Need-begins-requires
+unfolding slotCount
+begins-requires c κs =
+    let was = c .before .before .before .before .before .before .before .before .before .before .before .before .before .args in
+    let known = sound-words (was .state .now) (kept (c .before .before .before .before .before .before .before)) in (
+      c .before .before .before .before .before .before .if2 .left,
+      order-has-room (asRead (was .state .now)) (length-order (was .state .now) (c .before .before .before .before .before .before .before .before .before .before .sized .ensures)) (known .facts) (was .s) (c .before .before .before .before .before .before .if2 .left) (shut (c .before .before .before)),
+    )
+
+returns-5 : tie.Need-returns-5
+unfolding slotCount
+returns-5 c =
+    let was = c .before .before .before .before .before .before .before .before .before .before .before .before .before .before .args in
+    let known = sound-words (was .state .now) (kept (c .before .before .before .before .before .before .before .before)) in
+    says-begun (was .state .now) (was .s) (was .op) (kept (c .before .before .before .before .before .before .before .before)) (c .before .before .before .before .before .before .before .if2 .left) (known .exist) (c .before .before .before .before .before .before .before .before .before .before .before .sized .ensures) (shut (c .before .before .before .before)) (sym (c .before .before .before .blank-tag .ensures) ∙ c .before .before .if4 .left) (c .begins .ensures)
 
 pub begin-spec : {M : Type 1} → statement M
 begin-spec =
@@ -80,5 +90,7 @@ begin-spec =
     returns-2
     kind-at-requires
     returns-3
+    blank-tag-requires
+    returns-4
     begins-requires
-    returns-4)
+    returns-5)

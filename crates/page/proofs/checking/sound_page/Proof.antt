@@ -7,7 +7,7 @@ use borrow.Author.Tests.{not-true, not-false}
 use Rattle.page.specs.Words.{view}
 use Rattle.page.specs.Sound.{rises}
 use Rattle.page.specs.Reading.{Readable, inShape}
-use Rattle.page.proofs.CheckingLaws.{shape-readable, shape-fails, keys-fail, pointers-fail, zeros-left}
+use Rattle.page.proofs.CheckingLaws.{shape-readable, shape-fails, keys-fail, level-fails, zeros-left}
 use Rattle.page.proofs.checking.sound_page.Statement.{statement}
 use Rattle.page.proofs.checking.sound_page.Tie as tie
 
@@ -41,14 +41,14 @@ returns-2 c =
     keys-fail (start .args .k) (start .args .n) (start .args .p) (start .args .w .now)
     (sym (c .before .rising .ensures) ∙ not-true (c .before .rising .result) (c .if2 .taken))
 
-pointers-sound-requires : tie.Need-pointers-sound-requires
-pointers-sound-requires c κs = words (c .before .before)
+sound-on-level-requires : tie.Need-sound-on-level-requires
+sound-on-level-requires c κs = (words (c .before .before), keys-held c)
 
 returns-3 : tie.Need-returns-3
 returns-3 c =
     let start = c .before .before .before .before .before .before .before in
-    pointers-fail (start .args .k) (start .args .n) (start .args .p) (start .args .w .now)
-    (sym (c .before .pointers-sound .ensures) ∙ not-true (c .before .pointers-sound .result) (c .if3 .taken))
+    level-fails (start .args .k) (start .args .n) (start .args .p) (start .args .w .now)
+    (sym (c .before .sound-on-level .ensures) ∙ not-true (c .before .sound-on-level .result) (c .if3 .taken))
 
 shared-slice-read-pairs-from : tie.Need-shared-slice-read-pairs-from
 shared-slice-read-pairs-from c = omega arith
@@ -73,7 +73,7 @@ returns-4 c =
     let start = c .before .before .before .before .before .before .before .before .before .before .before in
     let from = c .before .before .pairs-from in
     let count = c .before .count in
-    let pointers = c .before .before .before .before .before .pointers-sound in
+    let pointers = c .before .before .before .before .before .sound-on-level in
     c .unused .ensures
     ∙ zeros-left (start .args .k) (start .args .n) (start .args .p) (start .args .w .now) (from .result) (count .result)
     (shape-held (c .before .before .before .before .before .before .before .before)) (keys-held (c .before .before .before .before .before .before)) (sym (pointers .ensures) ∙ not-false (pointers .result) (c .before .before .before .before .if3 .left))
@@ -87,7 +87,7 @@ sound-page-spec =
     returns
     rising-requires
     returns-2
-    pointers-sound-requires
+    sound-on-level-requires
     returns-3
     shared-slice-read-pairs-from
     pairs-from-requires

@@ -85,6 +85,9 @@ enum-known-answer-7 c = search needs
 enum-told-18 : tie.Need-enum-told-18
 enum-told-18 c = search needs
 
+enum-told-19 : tie.Need-enum-told-19
+enum-told-19 c = search needs
+
 returns : tie.Need-returns
 returns c = sym (ap numbersOf (c .enum-told .given .1))
 
@@ -162,6 +165,9 @@ returns-24 c = sym (ap numbersOf (c .before .answer7 .given .1))
 returns-25 : tie.Need-returns-25
 returns-25 c = sym (ap numbersOf (c .enum-told18 .given .1))
 
+returns-26 : tie.Need-returns-26
+returns-26 c = sym (ap numbersOf (c .enum-told19 .given .1))
+
 pub numbers-spec : {M : Type 1} → statement M
 numbers-spec =
     tie.close
@@ -192,6 +198,7 @@ numbers-spec =
     enum-told-17
     enum-known-answer-7
     enum-told-18
+    enum-told-19
     returns
     returns-2
     returns-3
@@ -216,4 +223,5 @@ numbers-spec =
     returns-22
     returns-23
     returns-24
-    returns-25)
+    returns-25
+    returns-26)
