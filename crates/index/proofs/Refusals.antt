@@ -3,15 +3,14 @@ use Prim.Native.Nat.{ℕ}
 use mathlib.Core.Bool.{true, false, not, _&&_, true≢false, false≢true}
 use mathlib.Core.Path.{_≡_, refl, sym, ap, _∙_}
 use mathlib.Core.List.{List, [], _∷_, map, reverse}
-use native.Mathlib.Omega.{arith}
 use lib.Dec.{leb, ltb, eqb}
 use lib.ListN.{length}
-use borrow.Author.Tests.{ltb-false, eqb-true, not-true}
+use borrow.Author.Tests.{ltb-true, eqb-true, not-true}
 use Rattle.ground.specs.Limits.{kInRange, nInRange, slotCount}
 use Rattle.ground.specs.Tests.{all, member}
 use Rattle.ground.proofs.Bools.{not-both, and-second}
 use Rattle.ground.proofs.Choice.{by-test, cond-ind, cond-true}
-use Rattle.ground.proofs.Tests.{all-member, firstBelow-most}
+use Rattle.ground.proofs.Tests.{all-member}
 use Rattle.pool.proofs.WriteLaws.{length-applied}
 use Rattle.pool.proofs.FreshLaws.{length-fresh}
 use Rattle.page.specs.Words.{Entry, Page, isLeaf}
@@ -19,7 +18,8 @@ use Rattle.page.specs.Place.{has, atOrAbove}
 use Rattle.pool.specs.Pool.{poolLength, pageAt, freePages}
 use Rattle.opening.specs.declared.checking.Checked.{Checked}
 use Rattle.opening.specs.declared.checking.Checked.the-variants.{Unsound, Tree, NoTree}
-use Rattle.opening.specs.Opening.{soundAlone, lowestUnsound, checked}
+use Rattle.opening.specs.Opening.{lowestUnsound, checked}
+use Rattle.opening.proofs.CheckLaws.{none-found, checked-unsound}
 use Rattle.change.specs.Insertion.{room}
 use Rattle.change.specs.Deletion.{Need, nothing, sibling, astray, needs}
 use Rattle.slots.specs.declared.Op.{Op}
@@ -215,14 +215,15 @@ opened-told k n ws =
 
 -- an opening that finds a page that is not sound is refused; so where it is accepted there is none
 pub accepted-sound : (k n : ℕ) (ws : List ℕ) → opened k n ws .answer ≡ Opened → lowestUnsound k n ws ≡ n
-unfolding opened checked lowestUnsound
+unfolding opened
 accepted-sound k n ws a =
     by-test (ltb (lowestUnsound k n ws) n)
     (λ low.
     let refused : opened k n ws ≡ left (BadPageInPool (lowestUnsound k n ws)) (idleState 0 0) ws
-    = cond-true _ (left BadPool (idleState 0 0) ws) (opened-told k n ws a .0) ∙ ap (openedAs k n ws) (cond-true (Unsound (lowestUnsound k n ws)) _ low) in
+    = cond-true _ (left BadPool (idleState 0 0) ws) (opened-told k n ws a .0)
+    ∙ ap (openedAs k n ws) (sym (checked-unsound k n ws (ltb-true (lowestUnsound k n ws) n low))) in
     absurd (true≢false (ap refuses (sym (ap (λ (after : Left). after .answer) refused) ∙ a))))
-    (λ none. omega (arith, ltb-false (lowestUnsound k n ws) n none, firstBelow-most (λ (p : ℕ). not (soundAlone k n ws p)) n))
+    (none-found k n ws)
 
 abbrev SameLength : List ℕ → Left → Type 0
 SameLength ws after = length (after .words) ≡ length ws

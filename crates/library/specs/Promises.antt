@@ -141,9 +141,9 @@ pub record Kept (start : Start) (calls : List Went) (last lastWs : List ℕ) : T
   pub third : Demand3 start (callsIn calls)
   -- 02 (v): nobody waits for page 0 or an upper page but for an update by the first way
   pub top : TopOpen (stateOf last) lastWs
-  -- 02 (viii): "Lot number 0 is printed on blank tags and gets scanned.": there never is such a lot, of the calls as a run,
+  -- 02 (viii): "Lot number 0 is printed on blank tags and gets scanned.": of the calls as a run there never is such a lot, and of the numbers told
+  -- none names one
   pub noBlank : NoBlank start (callsIn calls)
-  -- and none was told: "Begin shall refuse key 0 for every operation but that of (i)", which finds none
   pub blankNeverTold : all (λ (four : List ℕ). not (blankFour four)) (toldIn calls) ≡ true
 
 abbrev pub LibraryPromises : Type 0

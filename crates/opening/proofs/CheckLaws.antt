@@ -4,25 +4,32 @@ use mathlib.Core.Bool.{true, false, cond, not}
 use mathlib.Core.List.{List}
 use mathlib.Core.Path.{_≡_, sym, _∙_}
 use native.Mathlib.Omega.{arith}
-use borrow.Author.Tests.{lt-ltb, le-ltb, not-false}
+use lib.Dec.{ltb}
+use borrow.Author.Tests.{lt-ltb, le-ltb, ltb-false, not-false}
+use Rattle.ground.proofs.Bools.{not-of-true}
 use Rattle.ground.proofs.Choice.{cond-true, cond-false}
-use Rattle.ground.proofs.Tests.{firstBelow-most, firstBelow-all-fail}
+use Rattle.ground.proofs.Tests.{firstBelow-most, firstBelow-fails, firstBelow-all-fail}
 use Rattle.opening.specs.declared.checking.Checked.the-variants.{Unsound, Tree, NoTree}
 use Rattle.opening.specs.Opening.{soundAlone, lowestUnsound, isTree, checked}
 use Rattle.opening.specs.Marks.{Handed, AllSound}
-
--- no page is named, so each is sound by itself
-pub all-sound : {k n : ℕ} {ws : List ℕ} → Handed k n ws → lowestUnsound k n ws ≡ n → AllSound k n ws
-unfolding lowestUnsound
-all-sound {k} {n} {ws} handed none = record {
-  handed = handed;
-  sound = λ q h. not-false (soundAlone k n ws q) (firstBelow-all-fail (λ (p : ℕ). not (soundAlone k n ws p)) n none q h);
-}
 
 module _ (k n : ℕ) (ws : List ℕ) where
   pub lowest-most : lowestUnsound k n ws ≤ n
   unfolding lowestUnsound
   lowest-most = firstBelow-most (λ (p : ℕ). not (soundAlone k n ws p)) n
+
+  -- the test by which the rule tells that no page is named
+  pub none-found : ltb (lowestUnsound k n ws) n ≡ false → lowestUnsound k n ws ≡ n
+  none-found f = omega (arith, ltb-false (lowestUnsound k n ws) n f, lowest-most)
+
+  -- no page is named exactly if each is sound by itself
+  pub none-unsound : lowestUnsound k n ws ≡ n → (q : ℕ) → q < n → soundAlone k n ws q ≡ true
+  unfolding lowestUnsound
+  none-unsound none q h = not-false (soundAlone k n ws q) (firstBelow-all-fail (λ (p : ℕ). not (soundAlone k n ws p)) n none q h)
+
+  pub none-from : ((q : ℕ) → q < n → soundAlone k n ws q ≡ true) → lowestUnsound k n ws ≡ n
+  unfolding lowestUnsound
+  none-from sound = firstBelow-fails (λ (p : ℕ). not (soundAlone k n ws p)) n (λ q h. not-of-true (sound q h))
 
   pub checked-unsound : lowestUnsound k n ws < n → Unsound (lowestUnsound k n ws) ≡ checked k n ws
   unfolding checked
@@ -38,3 +45,7 @@ module _ (k n : ℕ) (ws : List ℕ) where
 
     pub checked-none : isTree k n ws ≡ false → NoTree ≡ checked k n ws
     checked-none t = sym (cond-false Tree NoTree t) ∙ sound-checked
+
+-- no page is named, so each is sound by itself
+pub all-sound : {k n : ℕ} {ws : List ℕ} → Handed k n ws → lowestUnsound k n ws ≡ n → AllSound k n ws
+all-sound {k} {n} {ws} handed none = record { handed = handed; sound = none-unsound k n ws none }

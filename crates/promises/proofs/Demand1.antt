@@ -14,6 +14,7 @@ use Rattle.ground.proofs.Bools.{not-both, false-if-not-true, and-first, and-sec
 use Rattle.ground.proofs.Choice.{cond-false}
 use Rattle.pool.specs.Pool.{poolLength, pageAt, freePages}
 use Rattle.opening.specs.Opening.{lowestUnsound, isTree, checked}
+use Rattle.opening.proofs.CheckLaws.{none-found}
 use Rattle.slots.specs.declared.Op.{Op}
 use Rattle.slots.specs.declared.Task.{Task}
 use Rattle.slots.specs.declared.Task.the-variants.{Closed, Open}
@@ -47,7 +48,7 @@ use Rattle.promises.proofs.SoundState.{numbers, sound-is}
 use Rattle.promises.proofs.Report.{reports-so, reports-once}
 use Rattle.promises.proofs.SoundPages.{Sized}
 use Rattle.promises.proofs.NextWant.{sound-for-step}
-use Rattle.promises.proofs.Opening.{lowest-told, lowest-is, none-told, none-is, none-found, tree-told, tree-is}
+use Rattle.promises.proofs.Opening.{lowest-told, lowest-is, none-told, none-is, tree-told, tree-is}
 
 -- A row of a table: an answer, and what it tells. By its number an answer tells what stands beside it; one with no row tells `other`.
 record Row : Type 1 where
@@ -397,7 +398,7 @@ open-tells k n ws =
     by-test (ltb (lowestUnsound k n ws) n)
     (λ b. rw (a, b) (range, lowest-told k n ws range (ltb-true (lowestUnsound k n ws) n b)))
     (λ b.
-    let none = none-found k n ws range b in
+    let none = none-found k n ws b in
     by-test (isTree k n ws)
     (λ c. rw (a, b, c) (range, tree-told k n ws range none c))
     (λ c. rw (a, b, c) (range, none-told k n ws range none, λ f. not-both (tree-is k n ws range f .1) c))))

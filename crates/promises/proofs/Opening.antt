@@ -5,13 +5,13 @@ use mathlib.Core.List.{List}
 use mathlib.Core.Logic.{inl, inr, ⊎-elim}
 use mathlib.Core.Path.{_≡_, ap, _∙_}
 use native.Mathlib.Omega.{arith}
-use lib.Dec.{ltb, eqb}
+use lib.Dec.{eqb}
 use lib.ListN.{replicate}
-use borrow.Author.Tests.{ltb-false, eqb-false, ne-eqb, not-true, not-false}
+use borrow.Author.Tests.{eqb-false, ne-eqb, not-true, not-false}
 use Rattle.ground.specs.Limits.{blankKey}
 use Rattle.ground.specs.Tests.{all, firstBelow}
 use Rattle.ground.proofs.Bools.{not-both, false-if-not-true, and-first, and-second, and-both, or-first, or-second, or-cases, not-of-true, not-of-false}
-use Rattle.ground.proofs.Tests.{firstBelow-most, firstBelow-passes, firstBelow-before, firstBelow-found, firstBelow-fails, firstBelow-all-fail}
+use Rattle.ground.proofs.Tests.{firstBelow-passes, firstBelow-before, firstBelow-found}
 use Rattle.page.specs.Words.{size}
 use Rattle.page.specs.Place.{has}
 use Rattle.page.specs.Sound.{soundByItself}
@@ -19,6 +19,7 @@ use Rattle.page.proofs.WordLaws.{all-zero, zeros-pass}
 use Rattle.pool.specs.Pool.{wordsOf, pageAt}
 use Rattle.pool.proofs.StretchLaws.{length-wordsOf}
 use Rattle.opening.specs.Opening.{isZero, soundAlone, lowestUnsound, isTree}
+use Rattle.opening.proofs.CheckLaws.{none-unsound, none-from}
 use Rattle.tree.specs.Tree.{Tr, entriesOf, PoolForms}
 use Rattle.tree.proofs.Words.{outside-words}
 use Rattle.tree.proofs.Opening.{opening-forms, forms-opening}
@@ -81,18 +82,10 @@ module _ (k n : ℕ) (ws : List ℕ) (range : MakingInRange k n ws) where
 
   -- there is none exactly if every page is sound
   pub none-told : lowestUnsound k n ws ≡ n → (q : ℕ) → q < n → AloneSound k n ws q
-  unfolding lowestUnsound
-  none-told none q inPool =
-      alone-is q inPool .0 (not-false (soundAlone k n ws q) (firstBelow-all-fail (unsoundAt k n ws) n none q inPool))
+  none-told none q inPool = alone-is q inPool .0 (none-unsound k n ws none q inPool)
 
   pub none-is : ((q : ℕ) → q < n → AloneSound k n ws q) → lowestUnsound k n ws ≡ n
-  unfolding lowestUnsound
-  none-is sound = firstBelow-fails (unsoundAt k n ws) n (λ q inPool. not-of-true (alone-is q inPool .1 (sound q inPool)))
-
-  pub none-found : ltb (lowestUnsound k n ws) n ≡ false → lowestUnsound k n ws ≡ n
-  unfolding lowestUnsound
-  none-found f =
-      omega (arith, ltb-false (lowestUnsound k n ws) n f, firstBelow-most (unsoundAt k n ws) n)
+  none-is sound = none-from k n ws (λ q inPool. alone-is q inPool .1 (sound q inPool))
 
   -- ---- the tree
 

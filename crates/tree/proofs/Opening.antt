@@ -6,15 +6,15 @@ use mathlib.Core.List.{List, [], _∷_, map}
 use mathlib.Core.Logic.{⊎-elim}
 use mathlib.Core.Path.{_≡_, refl, sym, ap, _∙_, subst}
 use native.Mathlib.Omega.{arith}
-use borrow.Author.Tests.{leb-true, leb-false, le-leb, ltb-true, lt-ltb, eqb-true, eq-eqb, ne-eqb, not-false}
+use borrow.Author.Tests.{leb-true, leb-false, le-leb, ltb-true, lt-ltb, eqb-true, eq-eqb, ne-eqb}
 use lib.Dec.{leb, ltb, eqb}
 use lib.ListN.{length, drop, replicate, length-map}
 use Rattle.ground.specs.Limits.{largestN, wordRange, blankKey}
 use Rattle.ground.specs.Tests.{all, member, distinct, allBelow}
-use Rattle.ground.proofs.Bools.{and-first, and-second, and-both, or-first, or-second, or-cases, or-none, not-of-false, not-of-true, not-both}
+use Rattle.ground.proofs.Bools.{and-first, and-second, and-both, or-first, or-second, or-cases, or-none, not-of-false, not-both}
 use Rattle.ground.proofs.Choice.{by-test, cond-ind}
 use Rattle.ground.proofs.Limits.{range-rises}
-use Rattle.ground.proofs.Tests.{allBelow-at, allBelow-from, firstBelow-fails, firstBelow-all-fail}
+use Rattle.ground.proofs.Tests.{allBelow-at, allBelow-from}
 use Rattle.page.specs.Words.{Keyed, Entry, Page, keyed, entry, page, μ, isLeaf, valueOf, pointers, freePage, encode, view, size}
 use Rattle.page.specs.Place.{has}
 use Rattle.page.specs.Sound.{risesFrom, rises, least, soundByItself}
@@ -25,6 +25,7 @@ use Rattle.pool.specs.Pool.{poolLength, wordsOf, pageAt}
 use Rattle.pool.proofs.StretchLaws.{length-wordsOf}
 use Rattle.opening.specs.Opening.{isZero, soundAlone, lowestUnsound, within, children, hangs, forEach, met, depth, isTree}
 use Rattle.opening.proofs.PageLaws.{level-sound, on-level}
+use Rattle.opening.proofs.CheckLaws.{none-unsound, none-from}
 use Rattle.tree.specs.Rows.{headKey, Span, Each, gathered, total, topPointer, references}
 use Rattle.tree.specs.Tree.{Tr, pageNumber, entriesOf, node, once, occurs, InRange, rootLeast, Holds, Forms, PoolForms}
 use Rattle.tree.proofs.Rows.{Keys, keys-below, keys-from}
@@ -369,12 +370,6 @@ sound-unblank k n ws l t whole sound pool =
     let inside = pool .forms .within q o in
     alone-page k n ws whole q inside (sound q inside) (omega arith) .noBlank (eq-eqb (pageAt k ws q .level) 1 leaf))
 
--- where none is told as unsound, each is sound
-none-unsound : (k n : ℕ) (ws : List ℕ) → lowestUnsound k n ws ≡ n → (q : ℕ) → q < n → soundAlone k n ws q ≡ true
-unfolding lowestUnsound
-none-unsound k n ws low q inside =
-    not-false (soundAlone k n ws q) (firstBelow-all-fail (λ (p : ℕ). not (soundAlone k n ws p)) n low q inside)
-
 -- Whatever tree the words of an accepted pool form, it has no lot of a blank tag.
 pub opening-unblank : (k n : ℕ) (ws : List ℕ) (l : ℕ) (t : Tr l) → length ws ≡ poolLength k n → lowestUnsound k n ws ≡ n → PoolForms k n ws l t
     → has blankKey (entriesOf l t) ≡ false
@@ -433,15 +428,14 @@ module _ (k n : ℕ) (ws : List ℕ) (l : ℕ) (t : Tr l) (pool : PoolForms k n 
 -- Words that form a tree without the lot of a blank tag are accepted by the test.
 pub forms-opening : (k n : ℕ) (ws : List ℕ) (l : ℕ) (t : Tr l) → 1 ≤ k → n ≤ largestN → PoolForms k n ws l t → has blankKey (entriesOf l t) ≡ false
     → (lowestUnsound k n ws ≡ n) × (isTree k n ws ≡ true)
-unfolding lowestUnsound isTree
+unfolding isTree
 forms-opening k n ws l t one most pool unblank =
     let memory : ℕ → Page = pageAt k ws in
     let forms : Forms k n memory l t = pool .forms in
     let level = root-level k n memory l t forms in
     let height : l ≡ depth k ws = omega arith in
     let counted = root-met k memory (rootLeast l) (2 * k) l t 0 wordRange (forms .root) (forms .inRange) (forms .holds) in (
-      firstBelow-fails (λ (q : ℕ). not (soundAlone k n ws q)) n
-          (λ q inside. not-of-true (outside-alone k n ws l t pool q inside (pool-sound k n ws l t one most pool unblank q))),
+      none-from k n ws (λ q inside. outside-alone k n ws l t pool q inside (pool-sound k n ws l t one most pool unblank q)),
       subst (λ (h : ℕ). hangs memory h 0 0 wordRange && distinct (met memory h 0)
           && allBelow n (λ (q : ℕ). member q (met memory h 0) || isZero k ws q) ≡ true) height
           (and-both

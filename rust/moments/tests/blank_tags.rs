@@ -45,6 +45,15 @@ fn steps(drawn: impl Iterator<Item = (Moment, Vec<Call>)>) -> Vec<(Moment, Call,
     drawn.filter_map(step).collect()
 }
 
+/// Steps on pages that were built, from so many draws, and on pages that were spoiled.
+fn drawn_steps(seed: u64, draws: usize) -> [Vec<(Moment, Call, usize)>; 2] {
+    let mut random = Random(seed);
+    let on_built = steps((0..draws).filter_map(|_| built(&mut random)));
+    let mut random = Random(seed + 1);
+    let on_spoiled = steps((0..3000).filter_map(|_| spoiled_words(&mut random)));
+    [on_built, on_spoiled]
+}
+
 #[test]
 fn beginnings_in_schedules() {
     let mut random = Random(1);
@@ -108,12 +117,7 @@ fn sound_states_with_a_blank_tag() {
 
 #[test]
 fn leaves_that_steps_meet() {
-    let mut random = Random(4);
-    let on_built = (0..12_000).filter_map(|_| built(&mut random));
-    let on_built = steps(on_built);
-    let mut random = Random(5);
-    let on_spoiled = (0..3000).filter_map(|_| spoiled_words(&mut random));
-    for drawn in [on_built, steps(on_spoiled)] {
+    for drawn in drawn_steps(4, 12_000) {
         let blank: Vec<usize> = drawn
             .iter()
             .filter(|(moment, call, _)| is_for_blank_alone(moment, *call, Answer::Damaged))
@@ -130,12 +134,7 @@ fn leaves_that_steps_meet() {
 
 #[test]
 fn upper_pages_that_steps_pass() {
-    let mut random = Random(6);
-    let on_built = (0..6000).filter_map(|_| built(&mut random));
-    let on_built = steps(on_built);
-    let mut random = Random(7);
-    let on_spoiled = (0..3000).filter_map(|_| spoiled_words(&mut random));
-    for drawn in [on_built, steps(on_spoiled)] {
+    for drawn in drawn_steps(6, 6000) {
         let passed = drawn.into_iter().filter(|(moment, call, slot)| {
             let number = moment.clone().call(*call).number();
             number > Answer::Waiting.number() && has_blank_reference(moment, *slot)
