@@ -1,8 +1,7 @@
 /* Two buyers on one list: the house enters a lot while a buyer looks for it, and then downgrades it while one does. Then it scans a blank tag,
  * which is refused, and all lots are listed, each by a question of its own. At the end the house enters a lot by the second way, and a buyer is
- * on the top page with it; then one by the third, and waits only to change what a buyer still reads. A buyer hangs up while the house waits for
- * him, and it goes on. Last, the words of the pool are kept and opened again, as they are and with one of them changed. Writes each answer by
- * its number. */
+ * on the top page with it; then one by the third, and waits only to change what a buyer still reads. Last, the words of the pool are kept and
+ * opened again, as they are and with one of them changed. Writes each answer by its number. */
 #include <stdio.h>
 #include <string.h>
 
@@ -24,7 +23,6 @@ static void say(const char *what, const uint32_t *answer) {
     case GHAZFULIT_FOUND: printf("%s: Found %u\n", what, (unsigned)answer[1]); break;
     case GHAZFULIT_REGRADED: printf("%s: Regraded %u\n", what, (unsigned)answer[1]); break;
     case GHAZFULIT_OPENED: printf("%s: Opened\n", what); break;
-    case GHAZFULIT_WITHDRAWN: printf("%s: Withdrawn\n", what); break;
     case GHAZFULIT_BAD_KEY: printf("%s: BadKey\n", what); break;
     case GHAZFULIT_BAD_PAGE_IN_POOL: printf("%s: BadPageInPool %u\n", what, (unsigned)answer[1]); break;
     case GHAZFULIT_NEXT_LOT: printf("%s: Next %u %u\n", what, (unsigned)answer[1], (unsigned)answer[2]); break;
@@ -57,13 +55,6 @@ static void step(uint32_t slot) {
     uint32_t answer[GHAZFULIT_ANSWER];
     ghazfulit_step(state, words, GHAZFULIT_WORDS(K, N), slot, answer);
     say(slot == 0 ? "the house" : "the buyer", answer);
-}
-
-/* The buyer's connection has ended: his locks go, and his slot is closed. */
-static void hang_up(uint32_t slot) {
-    uint32_t answer[GHAZFULIT_ANSWER];
-    ghazfulit_withdraw(state, slot, answer);
-    say("the buyer hangs up", answer);
 }
 
 /* Steps a slot until its operation has ended; no other slot is open, so it never waits. */
@@ -156,14 +147,6 @@ int main(void) {
     step(0);
     step(0);
     step(1);
-    step(0);
-    step(0);
-    /* the buyer holds the top page, and the house waits for him */
-    begin(1, GHAZFULIT_SEARCH, 12, 0);
-    step(1);
-    begin(0, GHAZFULIT_INSERT, 70, 7);
-    step(0);
-    hang_up(1);
     step(0);
     step(0);
     keep_and_open();

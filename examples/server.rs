@@ -1,5 +1,5 @@
 //! A stock-list server: one loop, many buyers. Each turn of the loop steps one open slot, so that a buyer's search and the
-//! house's insertions go on side by side. When a buyer's connection ends, his slot is withdrawn, and nobody waits for him.
+//! house's insertions go on side by side.
 //!
 //! Started with the name of a file, it opens the lots that are kept there, and keeps them there when it ends. What somebody has changed in the
 //! file so that it is no list of lots any more is refused, and the file stays as it is.
@@ -68,20 +68,6 @@ impl Server {
         Ok(())
     }
 
-    /// A connection has ended. What was begun there is withdrawn: its locks and its place among those who wait go, and the slot is free for the
-    /// next request. Nothing is half done, for a change is made in one step. Without this, others would wait for that slot for ever.
-    fn hang_up(&mut self, who: &str) -> Result<(), Refusal> {
-        self.requests.retain(|request| request.who != who);
-        for (slot, open) in (0..).zip(&mut self.open) {
-            if open.as_ref().is_some_and(|request| request.who == who) {
-                self.index.withdraw(slot)?;
-                *open = None;
-                println!("{who}: hangs up");
-            }
-        }
-        Ok(())
-    }
-
     /// Until nothing is left to do.
     fn run(&mut self, slots: usize) -> Result<(), Refusal> {
         self.admit(slots)?;
@@ -133,8 +119,8 @@ fn look(who: &'static str, key: u32) -> Request {
 }
 
 /// The house enters fourteen lots; then it enters one more while buyers look for the last of them, and one for what follows: they wait for it
-/// at the top page. A fifth buyer has scanned a blank tag. Then it downgrades that lot while two look for it, and goes the second way, so that they
-/// meet it on the leaf alone: one finds the lot as it was, one as it is, and nobody misses it. At last two buyers hang up.
+/// at the top page. A fifth buyer has scanned a blank tag. At last it downgrades that lot while two look for it, and goes the second way, so that they meet it on the leaf alone: one
+/// finds the lot as it was, one as it is, and nobody misses it.
 fn first_day(server: &mut Server) -> Result<(), Refusal> {
     server.requests.extend((1..15).map(|i| enter(10 * i, 5)));
     server.run(1)?;
@@ -164,27 +150,7 @@ fn first_day(server: &mut Server) -> Result<(), Refusal> {
     if let Err(refusal) = server.index.step(0) {
         println!("slot 0 again: {refusal}");
     }
-    two_hang_up(server)
-}
-
-/// The first buyer is about to take lot 120 out, and has the top page for himself; two others look for lots and wait. One of them hangs up while he
-/// waits, then the first, with the top page. The third goes on, and lot 120 is still there.
-fn two_hang_up(server: &mut Server) -> Result<(), Refusal> {
-    println!("two of three buyers hang up");
-    server.requests.extend([
-        Request {
-            who: "first buyer",
-            op: Op::delete(120),
-        },
-        look("second buyer", 140),
-        look("third buyer", 120),
-    ]);
-    server.admit(3)?;
-    (0..3).try_for_each(|slot| server.turn(slot))?;
-    server.hang_up("second buyer")?;
-    server.turn(2)?;
-    server.hang_up("first buyer")?;
-    server.run(3)
+    Ok(())
 }
 
 /// The lots are there again: a buyer looks for one, and the house enters another.

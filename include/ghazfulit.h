@@ -23,9 +23,9 @@ extern "C" {
  * and Next never tells a key below the one asked for. 3: updates by the second way, and for them a row more of the state. 4: four kinds
  * of lock; updates by the second way hold with updater's rho, and a page that is held has the kind of its lock in its word. 5: updates
  * by the third way, which hold with alpha and want a page that they hold once more, with xi. 6: a pool that is handed in is opened, and
- * three answers more. 7: key 0 is no lot's: begin refuses it but for a Next, and a leaf with it is not sound. 8: a slot is withdrawn.
+ * three answers more. 7: key 0 is no lot's: begin refuses it but for a Next, and a leaf with it is not sound.
  * ghazfulit_version() gives the archive's own. */
-#define GHAZFULIT_VERSION 8
+#define GHAZFULIT_VERSION 7
 
 /* Words of a state, words of an answer, slots, and the largest k and n. A state's words are the library's own; docs/DECISIONS.md has
  * how they lie ("Layout"). The word of a page that a slot holds is the page and 65,536 times the number of the kind of its lock, as the
@@ -65,7 +65,7 @@ enum {
     GHAZFULIT_BAD_POOL = 2,       /* k, n or the number of words is out of range */
     GHAZFULIT_BAD_SLOT = 3,       /* a slot above 15 */
     GHAZFULIT_SLOT_BUSY = 4,      /* begin on an open slot */
-    GHAZFULIT_SLOT_IDLE = 5,      /* step or withdrawal on a closed slot */
+    GHAZFULIT_SLOT_IDLE = 5,      /* step on a closed slot */
     GHAZFULIT_DAMAGED = 6,        /* a granted step would meet pages that are not sound */
     GHAZFULIT_BAD_PAGE = 7,       /* a report for a page n or above */
     GHAZFULIT_BAD_KEY = 8,        /* begin with key 0, that of a blank tag, for any kind but Next */
@@ -87,8 +87,7 @@ enum {
     GHAZFULIT_NEXT_LOT = 44,      /* Next, with the key and the information */
     GHAZFULIT_NO_LOT = 45,        /* None: no lot at or above the key */
     GHAZFULIT_REGRADED = 46,      /* with the old information */
-    GHAZFULIT_OPENED = 47,
-    GHAZFULIT_WITHDRAWN = 48      /* the slot is closed, and nothing of its operation is left */
+    GHAZFULIT_OPENED = 47
 };
 
 /* Whether an answer, by its number, is a refusal; whether a step's answer ends the operation, so that its slot is closed. The number
@@ -127,12 +126,6 @@ void ghazfulit_begin(uint32_t *state, uint32_t slot, uint32_t kind, uint32_t key
  * BadSlot, SlotIdle, Damaged in this order, but that Waiting comes before Damaged. GHAZFULIT_ENDS says which of them close the
  * slot. */
 void ghazfulit_step(uint32_t *state, uint32_t *words, size_t length, uint32_t slot, uint32_t *answer);
-
-/* Withdraws a slot whose buyer has hung up: Withdrawn, or BadState, BadSlot, SlotIdle in this order. Its locks and its want are given up, and
- * it is closed; those who waited for it go on, and the others stand as they stood. The pool is not handed in: no word of it changes, so that
- * nothing is half done, and it does not matter what is wrong with it. So a slot whose steps are Damaged can be closed, too. As long as a slot is
- * neither stepped nor withdrawn its locks stay, and others may wait for ever. */
-void ghazfulit_withdraw(uint32_t *state, uint32_t slot, uint32_t *answer);
 
 /* Says who holds a page: Reported, or BadState, BadPage. */
 void ghazfulit_report(const uint32_t *state, uint32_t page, uint32_t *answer);

@@ -102,7 +102,6 @@ pub fn write_answer(out: &mut [u8], at: usize, a: Answer) -> usize
         Answer::BadPageInPool(page) => write_value(out, at, b"BadPageInPool ", page),
         Answer::BadTree => write_word(out, at, b"BadTree\n"),
         Answer::BadKey => write_word(out, at, b"BadKey\n"),
-        Answer::Withdrawn => write_word(out, at, b"Withdrawn\n"),
     }
 }
 

@@ -4,7 +4,6 @@ ghost use Rattle.io.specs.Counts.{IsPrefixLen};
 
 use embed::calls::{
     ghazfulit_begin, ghazfulit_make, ghazfulit_open, ghazfulit_report, ghazfulit_step,
-    ghazfulit_withdraw,
 };
 use lent::STATE;
 use tape::reading::MOST;
@@ -202,20 +201,6 @@ fn report(
     outcome(given, answer, state, &words[..length], out)
 }
 
-// `h SLOT`: the buyer hangs up
-fn withdraw(
-    given: Setting,
-    numbers: &[u32; MOST],
-    state: &mut [u32; STATE],
-    words: &[u32],
-    out: &mut [u8; OUT],
-) -> Setting {
-    let length = within(given.length, words);
-    let mut answer = [0u32; 4];
-    ghazfulit_withdraw(state, numbers[0], &mut answer);
-    outcome(given, answer, state, &words[..length], out)
-}
-
 // `w AT WORD..`
 fn lay_words(given: Setting, numbers: &[u32; MOST], count: usize, words: &mut [u32]) -> bool {
     let length = within(given.length, words);
@@ -307,9 +292,6 @@ pub fn obey(
     }
     if letter == b'r' && count == 1 {
         return report(given, numbers, state, words, out);
-    }
-    if letter == b'h' && count == 1 {
-        return withdraw(given, numbers, state, words, out);
     }
     if letter == b'm' && count == 2 {
         return make(given, numbers, state, words, out);

@@ -16,7 +16,6 @@ use Rattle.slots.specs.declared.operations.Asked.TheVariants.{Known, Unknown}
 use Rattle.slots.specs.Heard.{changes_nothing}
 use Rattle.slots.specs.Parts.{idle_state}
 use Rattle.slots.specs.Begin.{begun}
-use Rattle.slots.specs.Withdraw.{withdrawn}
 use Rattle.lent.specs.Words.{state_of, state_words, laid_into, lent_after}
 use Rattle.index.specs.Step.{Left, stepped}
 use Rattle.index.specs.Make.{made}
@@ -45,12 +44,6 @@ begin_stays cells s (Known op) heard' e h =
     let a : Answer = (begun (state_of cells) s op).answer in
     lent_stays cells s a (begun (state_of cells) s op).state (still heard' a e h)
 begin_stays cells s Unknown heard' e h = refl
-
-pub withdraw_stays : (cells : List ℕ) (s : ℕ) (heard' : List ℕ) → heard' ≡ told (withdrawn (state_of cells) s).answer → leaves_all heard' ≡ true
-    → lent_after cells s (withdrawn (state_of cells) s).answer (withdrawn (state_of cells) s).state ≡ cells
-withdraw_stays cells s heard' e h =
-    let a : Answer = (withdrawn (state_of cells) s).answer in
-    lent_stays cells s a (withdrawn (state_of cells) s).state (still heard' a e h)
 
 -- the only answer of a making that changes nothing is its refusal
 make_still : (k n : ℕ) (ws : List ℕ) → changes_nothing (made k n ws).answer ≡ true → AsGiven (idle_state 0 0) ws (made k n ws)

@@ -11,15 +11,14 @@ use Rattle.slots.specs.Heard.{heard}
 use Rattle.slots.specs.Operations.{asked_by}
 use Rattle.slots.specs.Begin.{begun}
 use Rattle.slots.specs.Report.{reported}
-use Rattle.slots.specs.Withdraw.{withdrawn}
 use Rattle.lent.specs.Words.{state_of}
 use Rattle.index.specs.Step.{stepped}
 use Rattle.index.specs.Make.{made}
 use Rattle.index.specs.Open.{opened}
-use Rattle.index.specs.Statements.{MakeSays, OpenSays, BeginSays, StepSays, ReportSays, WithdrawSays}
+use Rattle.index.specs.Statements.{MakeSays, OpenSays, BeginSays, StepSays, ReportSays}
 use Rattle.embed.specs.Told.{told, bad_kind}
-use Rattle.embed.proofs.Refusals.{make_stays, open_stays, step_stays, begin_stays, withdraw_stays}
-use Rattle.embed.specs.Statements.{begin_told, begin_leaves, begin_next, MakeTells, OpenTells, BeginTells, StepTells, ReportTells, WithdrawTells}
+use Rattle.embed.proofs.Refusals.{make_stays, open_stays, step_stays, begin_stays}
+use Rattle.embed.specs.Statements.{begin_told, begin_leaves, begin_next, MakeTells, OpenTells, BeginTells, StepTells, ReportTells}
 
 -- answers that are heard alike are told alike
 pub told_heard : (a b : Answer) → heard a ≡ heard b → told a ≡ told b
@@ -62,16 +61,6 @@ step_tells cells ws s r cells' after heard' says e =
 
 pub report_tells : (cells : List ℕ) (p : ℕ) (r : Answer) (heard' : List ℕ) → ReportSays cells p r → heard' ≡ told r → ReportTells cells p heard'
 report_tells cells p r heard' says e = record { answer = e ∙ told_heard r (reported (state_of cells) p) says.answer }
-
-pub withdraw_tells : (cells : List ℕ) (s : ℕ) (r : Answer) (cells' heard' : List ℕ) → WithdrawSays cells s r cells' → heard' ≡ told r → WithdrawTells cells s cells' heard'
-withdraw_tells cells s r cells' heard' says e =
-    let t : heard' ≡ told (withdrawn (state_of cells) s).answer = e ∙ told_heard r (withdrawn (state_of cells) s).answer says.answer in
-    record {
-      answer = t;
-      state = says.state;
-      all = says.all;
-      kept = λ h. says.all ∙ withdraw_stays cells s heard' t h;
-    }
 
 -- a beginning, by what was asked
 begins_asked : (cells : List ℕ) (s kind key information : ℕ) (asked : Asked) (cells' heard' : List ℕ) → asked_by kind key information ≡ asked

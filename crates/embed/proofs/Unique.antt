@@ -3,7 +3,7 @@
 use Prim.Native.Nat.{ℕ}
 use mathlib.Core.List.{List}
 use mathlib.Core.Path.{◌≡◌, sym, ◌∙◌}
-use Rattle.embed.specs.Statements.{MakeTells, OpenTells, BeginTells, StepTells, ReportTells, WithdrawTells}
+use Rattle.embed.specs.Statements.{MakeTells, OpenTells, BeginTells, StepTells, ReportTells}
 
 pub make_told_once : (k n : ℕ) (ws cells' cells'' after after' heard' heard'' : List ℕ) → MakeTells k n ws cells' after heard' → MakeTells k n ws cells'' after' heard''
     → (heard' ≡ heard'') × (cells' ≡ cells'') × (after ≡ after')
@@ -23,7 +23,3 @@ step_told_once cells ws s cells' cells'' after after' heard' heard'' h h' = (h.a
 
 pub report_told_once : (cells : List ℕ) (p : ℕ) (heard' heard'' : List ℕ) → ReportTells cells p heard' → ReportTells cells p heard'' → heard' ≡ heard''
 report_told_once cells p heard' heard'' h h' = h.answer ∙ sym h'.answer
-
-pub withdraw_told_once : (cells : List ℕ) (s : ℕ) (cells' cells'' heard' heard'' : List ℕ) → WithdrawTells cells s cells' heard' → WithdrawTells cells s cells'' heard''
-    → (heard' ≡ heard'') × (cells' ≡ cells'')
-withdraw_told_once cells s cells' cells'' heard' heard'' h h' = (h.answer ∙ sym h'.answer, h.all ∙ sym h'.all)

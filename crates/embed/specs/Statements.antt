@@ -1,7 +1,7 @@
 -- What the exported calls promise, for every argument: the four numbers of the answer, the rules' next state as the words left
 -- read, every word of the state and every word of the pool. `cells'`, `after` and `heard'` are the lent words that a call leaves.
--- "A refused call leaves pages, locks and waiting order exactly as found." (demand 1) follows, and is said of making, opening, begin, step
--- and withdrawing (`kept`): a refused making, by 01, "returns an empty state", and so does a refused opening, by 02 (vii).
+-- "A refused call leaves pages, locks and waiting order exactly as found." (demand 1) follows, and is said of making, opening, begin and
+-- step (`kept`): a refused making, by 01, "returns an empty state", and so does a refused opening, by 02 (vii).
 use Rattle.std.specs.Prelude.{ℕ, true, List, ◌≡◌}
 use Rattle.slots.specs.declared.State.{State}
 use Rattle.slots.specs.declared.operations.Asked.{Asked}
@@ -10,7 +10,6 @@ use Rattle.slots.specs.Operations.{asked_by}
 use Rattle.slots.specs.Parts.{idle_state}
 use Rattle.slots.specs.Begin.{begun}
 use Rattle.slots.specs.Report.{reported}
-use Rattle.slots.specs.Withdraw.{withdrawn}
 use Rattle.lent.specs.Words.{state_of, state_words, lent_after}
 use Rattle.index.specs.Step.{stepped}
 use Rattle.index.specs.Make.{made}
@@ -61,10 +60,3 @@ pub record StepTells (cells ws : List ℕ) (s : ℕ) (cells' after heard' : List
 -- It is handed the state to read, and no pool, so it changes neither.
 pub record ReportTells (cells : List ℕ) (p : ℕ) (heard' : List ℕ) : Type 0 where
   pub answer : heard' ≡ told (reported (state_of cells) p)
-
--- It is handed no pool, so it changes no word of one.
-pub record WithdrawTells (cells : List ℕ) (s : ℕ) (cells' heard' : List ℕ) : Type 0 where
-  pub answer : heard' ≡ told (withdrawn (state_of cells) s).answer
-  pub state : state_of cells' ≡ (withdrawn (state_of cells) s).state
-  pub all : cells' ≡ lent_after cells s (withdrawn (state_of cells) s).answer (withdrawn (state_of cells) s).state
-  pub kept : leaves_all heard' ≡ true → cells' ≡ cells

@@ -3,4 +3,4 @@
 use Rattle.std.specs.Prelude.{ℕ}
 
 abbrev pub library_version : ℕ
-library_version = 8
+library_version = 7

@@ -1,15 +1,15 @@
 // The exported calls. A slice is handed in from C as a pointer and a length, an array as a pointer.
 ghost use Rattle.std.specs.Prelude.{◌≡◌};
-ghost use Rattle.embed.specs.Statements.{MakeTells, OpenTells, BeginTells, StepTells, ReportTells, WithdrawTells};
+ghost use Rattle.embed.specs.Statements.{MakeTells, OpenTells, BeginTells, StepTells, ReportTells};
 ghost use Rattle.embed.specs.Version.{library_version};
 
 use crate::telling::{tell, tell_bad_kind};
-use index::calls::{begin, make, open, report, step, withdraw};
+use index::calls::{begin, make, open, report, step};
 use lent::STATE;
 use slots::operations::{Asked, asked_by};
 
 // The version of these calls.
-const VERSION: u32 = 8;
+const VERSION: u32 = 7;
 
 // Makes a fresh pool of n pages of width k in the lent words, and an idle state beside it.
 #[unsafe(no_mangle)]
@@ -82,15 +82,6 @@ pub extern "C" fn ghazfulit_report(state: &[u32; STATE], page: u32, answer: &mut
     ensures { ReportTells state.now page answer.new }
 {
     let heard = report(state, page);
-    tell(heard, answer);
-}
-
-// Withdraws the operation of a slot.
-#[unsafe(no_mangle)]
-pub extern "C" fn ghazfulit_withdraw(state: &mut [u32; STATE], slot: u32, answer: &mut [u32; 4])
-    ensures { WithdrawTells state.old slot state.new answer.new }
-{
-    let heard = withdraw(state, slot as usize);
     tell(heard, answer);
 }
 

@@ -8,9 +8,9 @@ use mathlib.Core.Path.{◌≡◌, refl, sym, ap, ◌∙◌, subst}
 use native.Mathlib.Omega.{arith}
 use borrow.Author.Tests.{leb-true, leb-false, ltb-true, lt-ltb, le-ltb}
 use lib.Dec.{ltb}
-use lib.ListN.{length, get_or, take, drop, replicate, length-take, take-append-drop}
+use lib.ListN.{length, get_or, take, drop, replicate, length-append, length-drop, length-take, take-append-drop}
 use lib.Seq.{length-take-le, get_or-take, take_at}
-use Rattle.ground.specs.Limits.{largest_n, path_holds, most_new}
+use Rattle.ground.specs.Limits.{largest_n, slot_count, path_holds, most_new}
 use Rattle.ground.specs.Tests.{member, distinct, filled}
 use Rattle.ground.proofs.Bools.{or_first, or_second, false_if_not_true}
 use Rattle.ground.proofs.Choice.{cond-true, cond-false}
@@ -42,12 +42,13 @@ use Rattle.slots.specs.declared.Slot.{Slot}
 use Rattle.slots.specs.declared.State.{State}
 use Rattle.slots.specs.declared.Answer.{Answer}
 use Rattle.slots.specs.declared.Answer.TheVariants.{Moved, Inserted, Deleted, NoSuchKey, NoRoom, Damaged, Regraded}
-use Rattle.slots.specs.Parts.{is_next, first_way, path_of, beside_of, locks_of, sidelocks_of, fresh_stand, wants_next, stand_of, slot_of, waiting_order}
+use Rattle.slots.specs.Parts.{is_next, first_way, path_of, beside_of, locks_of, sidelocks_of, fresh_stand, wants_next, stand_of, slot_of, closed_slot, waiting_order}
 use Rattle.slots.specs.Book.{leaving, requeued, goes_on, closes}
-use Rattle.lent.specs.Layout.{page_range, column_length, state_length}
-use Rattle.lent.specs.Words.{as_read, known, state_of, laid_into}
+use Rattle.slots.proofs.OrderLaws.{length_leaving, length_waiting}
+use Rattle.lent.specs.Layout.{page_range, row_length, column_length, state_length}
+use Rattle.lent.specs.Words.{order_in, as_read, known, state_of, laid_into}
 use Rattle.lent.specs.Holds.{InHalves}
-use Rattle.lent.proofs.StateLaws.{state_known, Layable, below_halves, stand_halves, stand_layable, fresh_layable, state_written}
+use Rattle.lent.proofs.StateLaws.{length_order, state_known, Layable, below_halves, stand_halves, stand_layable, fresh_layable, closed_layable, state_written}
 use Rattle.course.specs.declared.judging.Course.{Course}
 use Rattle.course.specs.declared.judging.Course.TheVariants.{Broken, Goes, Ends, Inserts, Deletes, Regrades, Again}
 use Rattle.footing.specs.Granted.{Verdict, ends, at_leaf, from_leaf}
@@ -55,7 +56,6 @@ use Rattle.footing.specs.Standing.{SlotStanding}
 use Rattle.course.specs.Judged.{course_of, ready, stands_last}
 use Rattle.course.proofs.StandLaws.{Topped}
 use Rattle.course.proofs.JudgeLaws.{path_long, siblings_long, standing_needing, standing_holding, stand_upward, stand_known}
-use Rattle.index.proofs.LeavingLaws.{within_row, order_long, closed_state}
 use Rattle.index.specs.Acting.{Leaves, Acts, MayInsert, wanting, stand_leaf, stand_fathers, lacks_room, room_answer, after_insertion, after_deletion, regrade_answer, after_regrading}
 
 -- ---- an operation that stands somewhere
@@ -275,9 +275,27 @@ module _ (cells : List ℕ) {ws : List ℕ} {s : ℕ} {op : Op} {stand : Slot} (
   abbrev leaves : Course → Answer → List ℕ → List ℕ → Type 0
   leaves course r cells' after = Leaves cells ws s (said course) r cells' after
 
+  inside : s < row_length
+  unfolding slot_count
+  inside = a.waits.inside
+
+  -- an order that slot s left has the cells that it had
+  order_long : (last : ℕ) → length (leaving s (waiting_order st) ++ last ∷ drop st.waiting st.order) ≡ row_length
+  unfolding slot_count
+  order_long last =
+      let whole : length (order_in cells) ≡ row_length = length_order cells long in
+      let few = a.waits.few in
+      let fewer = length_leaving s (waiting_order st) a.waits.named in
+      let waiting = length_waiting st (omega arith) in
+      length-append (leaving s (waiting_order st)) (last ∷ drop st.waiting st.order) ∙ omega (arith, length-drop st.waiting st.order)
+
+  closed_state : state_of (laid_into cells s (closes st s)) ≡ closes st s
+  unfolding closes
+  closed_state = state_written cells s closed_slot (leaving s (waiting_order st) ++ 0 ∷ drop st.waiting st.order) (st.waiting - 1) long inside (order_long 0) closed_layable exist
+
   gone_state : (next : ℕ) (lock : Lock) → state_of (laid_into cells s (requeued st s (wanting next lock stand))) ≡ requeued st s (wanting next lock stand)
   gone_state next lock =
-      state_written cells s (wanting next lock stand) (leaving s (waiting_order st) ++ s ∷ drop st.waiting st.order) st.waiting long (within_row cells long a.waits) (order_long cells long a.waits s)
+      state_written cells s (wanting next lock stand) (leaving s (waiting_order st) ++ s ∷ drop st.waiting st.order) st.waiting long inside (order_long s)
       (wanting_lies a.stands next lock) exist
 
   pub acts_broken : {course : Course} → course ≡ Broken → leaves course Damaged cells ws
@@ -296,7 +314,7 @@ module _ (cells : List ℕ) {ws : List ℕ} {s : ℕ} {op : Op} {stand : Slot} (
   fresh_state : state_of (laid_into cells s (goes_on st s (fresh_stand (first_way op)))) ≡ goes_on st s (fresh_stand (first_way op))
   unfolding goes_on
   fresh_state =
-      state_written cells s (slot_of (fresh_stand (first_way op))) (leaving s (waiting_order st) ++ s ∷ drop st.waiting st.order) st.waiting long (within_row cells long a.waits) (order_long cells long a.waits s) (fresh_layable (first_way op)) exist
+      state_written cells s (slot_of (fresh_stand (first_way op))) (leaving s (waiting_order st) ++ s ∷ drop st.waiting st.order) st.waiting long inside (order_long s) (fresh_layable (first_way op)) exist
 
   pub acts_again : {course : Course} {cells' : List ℕ} → course ≡ Again → cells' ≡ laid_into cells s (goes_on st s (fresh_stand (first_way op)))
       → leaves course Moved cells' ws
@@ -306,7 +324,7 @@ module _ (cells : List ℕ) {ws : List ℕ} {s : ℕ} {op : Op} {stand : Slot} (
   pub acts_ends : {course : Course} {answer : Answer} {cells' : List ℕ} → course ≡ Ends answer → cells' ≡ laid_into cells s (closes st s) → leaves course answer cells' ws
   unfolding applied
   acts_ends {answer = answer} {cells' = cells'} is e =
-      subst (λ (c : Course). leaves c answer cells' ws) (sym is) (record { answer = refl; state = ap state_of e ∙ closed_state cells long a.waits exist; all = e; words = refl })
+      subst (λ (c : Course). leaves c answer cells' ws) (sym is) (record { answer = refl; state = ap state_of e ∙ closed_state; all = e; words = refl })
 
   -- an insertion: with room or without
   pub acts_inserts : {course : Course} {x v : ℕ} {answer : Answer} {cells' words : List ℕ} → course ≡ Inserts x v
@@ -334,8 +352,8 @@ module _ (cells : List ℕ) {ws : List ℕ} {s : ℕ} {op : Op} {stand : Slot} (
 
       split : (b : Bool) → answer ≡ cond b NoRoom Inserted → words ≡ cond b ws (applied st.k writes ws)
           → Leaves cells ws s (cond b (ends NoRoom []) (ends Inserted writes)) answer cells' words
-      split true h w = record { answer = h; state = ap state_of e ∙ closed_state cells long a.waits exist; all = e; words = w }
-      split false h w = record { answer = h; state = ap state_of e ∙ closed_state cells long a.waits exist; all = e; words = w }
+      split true h w = record { answer = h; state = ap state_of e ∙ closed_state; all = e; words = w }
+      split false h w = record { answer = h; state = ap state_of e ∙ closed_state; all = e; words = w }
 
   -- a deletion
   pub acts_deletes : {course : Course} {x v : ℕ} {cells' words : List ℕ} → course ≡ Deletes x v
@@ -345,7 +363,7 @@ module _ (cells : List ℕ) {ws : List ℕ} {s : ℕ} {op : Op} {stand : Slot} (
   acts_deletes {x = x} {v = v} {cells' = cells'} {words = words} is made e =
       subst (λ (c : Course). leaves c (Deleted v) cells' words) (sym is)
       (subst (λ (up : List ℕ). Leaves cells ws s (from_leaf change up) (Deleted v) cells' words) (sym (stand_upward a.stands))
-      (record { answer = refl; state = ap state_of e ∙ closed_state cells long a.waits exist; all = e; words = made }))
+      (record { answer = refl; state = ap state_of e ∙ closed_state; all = e; words = made }))
     where
       change : ℕ → List ℕ → Verdict
       change leaf fathers = ends (Deleted v) (deletion st.k (page_at st.k ws) x leaf fathers (beside_of stand))
@@ -374,8 +392,8 @@ module _ (cells : List ℕ) {ws : List ℕ} {s : ℕ} {op : Op} {stand : Slot} (
 
       split : (b : Bool) → has x es ≡ b → answer ≡ regrade_answer (cond b (There (information x es)) Missing)
           → Leaves cells ws s (cond b (ends (Regraded (information x es)) writes) (ends NoSuchKey [])) answer cells' words
-      split true there h = record { answer = h; state = ap state_of e ∙ closed_state cells long a.waits exist; all = e; words = made }
-      split false missing h = record { answer = h; state = ap state_of e ∙ closed_state cells long a.waits exist; all = e; words = made ∙ regraded_nothing a.stands x v missing }
+      split true there h = record { answer = h; state = ap state_of e ∙ closed_state; all = e; words = made }
+      split false missing h = record { answer = h; state = ap state_of e ∙ closed_state; all = e; words = made ∙ regraded_nothing a.stands x v missing }
 
 -- what a change may count on
 module _ {st : State} {ws : List ℕ} {s : ℕ} {op : Op} {stand : Slot} (a : Acts st ws s op stand) where

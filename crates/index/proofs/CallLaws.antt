@@ -13,21 +13,18 @@ use Rattle.slots.specs.declared.Op.{Op}
 use Rattle.slots.specs.declared.State.{State}
 use Rattle.slots.specs.declared.Outcome.{Outcome}
 use Rattle.slots.specs.declared.Answer.{Answer}
-use Rattle.slots.specs.declared.Answer.TheVariants.{Begun, Reported, BadState, BadSlot, SlotBusy, SlotIdle, BadPage, BadKey, Withdrawn}
+use Rattle.slots.specs.declared.Answer.TheVariants.{Begun, Reported, BadState, BadSlot, SlotBusy, BadPage, BadKey}
 use Rattle.slots.specs.Operations.{blank_tag}
 use Rattle.slots.specs.Parts.{open_at, fresh_stand, slot_of}
 use Rattle.slots.specs.Heard.{heard, changes_nothing}
 use Rattle.slots.specs.Sound.{sound}
-use Rattle.slots.specs.Book.{begins, closes}
+use Rattle.slots.specs.Book.{begins}
 use Rattle.slots.specs.Begin.{outcome, begun}
 use Rattle.slots.specs.Report.{lock_kind, holders, lowest_holder, reported}
-use Rattle.slots.specs.Withdraw.{withdrawn}
 use Rattle.lent.specs.Layout.{n_at, waiting_at, state_length}
 use Rattle.lent.specs.Words.{order_in, as_read, known, state_of, laid_into, lent_after}
 use Rattle.lent.proofs.StateLaws.{length_order, state_known, fresh_layable, state_written}
-use Rattle.index.specs.Acting.{Waits}
-use Rattle.index.specs.Statements.{BeginSays, ReportSays, WithdrawSays}
-use Rattle.index.proofs.LeavingLaws.{closed_state}
+use Rattle.index.specs.Statements.{BeginSays, ReportSays}
 
 -- ---- begin
 
@@ -136,64 +133,3 @@ module _ (cells : List ℕ) (p : ℕ) where
 
     pub report_done : p < get_or cells n_at 0 → {r : Answer} → r ≡ Reported (lock_kind (as_read cells) p) (holders (as_read cells) p) (lowest_holder (as_read cells) p) → ReportSays cells p r
     report_done b e = record { answer = ap heard (e ∙ reported_done (as_read cells) p h' b ∙ ap (λ (st : State). reported st p) (sym read)) }
-
--- ---- withdraw
-
-module _ (st : State) (s : ℕ) where
-  withdrawn_unsound : sound st ≡ false → outcome BadState st ≡ withdrawn st s
-  unfolding withdrawn
-  withdrawn_unsound h = sym (cond-true _ _ (not_of_false h))
-
-  sound_withdraws : sound st ≡ true
-      → cond (not (ltb s slot_count)) (outcome BadSlot st) (cond (open_at st s) (outcome Withdrawn (closes st s)) (outcome SlotIdle st)) ≡ withdrawn st s
-  unfolding withdrawn
-  sound_withdraws h = sym (cond-false _ _ (not_of_true h))
-
-  withdrawn_nowhere : sound st ≡ true → slot_count ≤ s → outcome BadSlot st ≡ withdrawn st s
-  withdrawn_nowhere h b = sym (cond-true _ _ (not_of_false (le-ltb s slot_count b))) ∙ sound_withdraws h
-
-  slot_withdraws : sound st ≡ true → s < slot_count → cond (open_at st s) (outcome Withdrawn (closes st s)) (outcome SlotIdle st) ≡ withdrawn st s
-  slot_withdraws h b = sym (cond-false _ _ (not_of_true (lt-ltb s slot_count b))) ∙ sound_withdraws h
-
-  withdrawn_idle : sound st ≡ true → s < slot_count → open_at st s ≡ false → outcome SlotIdle st ≡ withdrawn st s
-  withdrawn_idle h b o = sym (cond-false _ _ o) ∙ slot_withdraws h b
-
-  withdrawn_done : sound st ≡ true → s < slot_count → open_at st s ≡ true → outcome Withdrawn (closes st s) ≡ withdrawn st s
-  withdrawn_done h b o = sym (cond-true _ _ o) ∙ slot_withdraws h b
-
--- an answer and words that are the rule's
-withdraw_says : (cells : List ℕ) (s : ℕ) (r : Outcome) {after : List ℕ} → r ≡ withdrawn (state_of cells) s → state_of after ≡ r.state
-    → after ≡ lent_after cells s r.answer r.state
-    → WithdrawSays cells s r.answer after
-withdraw_says cells s r e state words = record {
-  answer = ap (λ (o : Outcome). heard o.answer) e;
-  state = state ∙ ap (λ (o : Outcome). o.state) e;
-  all = words ∙ ap (λ (o : Outcome). lent_after cells s o.answer o.state) e;
-}
-
-module _ (cells : List ℕ) (s : ℕ) where
-  -- a refusal leaves every word
-  withdraw_refused : (a : Answer) → outcome a (state_of cells) ≡ withdrawn (state_of cells) s → changes_nothing a ≡ true → WithdrawSays cells s a cells
-  unfolding lent_after
-  withdraw_refused a e q = withdraw_says cells s (outcome a (state_of cells)) e refl (sym (cond-true cells (laid_into cells s (state_of cells)) q))
-
-  pub withdraw_unsound : sound (state_of cells) ≡ false → WithdrawSays cells s BadState cells
-  withdraw_unsound h = withdraw_refused BadState (withdrawn_unsound (state_of cells) s h) refl
-
-  module _ (h : sound (state_of cells) ≡ true) where
-    pub withdraw_nowhere : slot_count ≤ s → WithdrawSays cells s BadSlot cells
-    withdraw_nowhere b = withdraw_refused BadSlot (withdrawn_nowhere (state_of cells) s h b) refl
-
-    module _ (b : s < slot_count) (exist : known cells ≡ true) where
-      pub withdraw_idle : open_at (as_read cells) s ≡ false → WithdrawSays cells s SlotIdle cells
-      withdraw_idle o = withdraw_refused SlotIdle (withdrawn_idle (state_of cells) s h b (ap (λ (st : State). open_at st s) (state_known cells exist) ∙ o)) refl
-
-      pub withdraw_done : length cells ≡ state_length → open_at (as_read cells) s ≡ true → Waits (as_read cells) s → {after : List ℕ} → after ≡ laid_into cells s (closes (as_read cells) s)
-          → WithdrawSays cells s Withdrawn after
-      unfolding lent_after
-      withdraw_done long o waits e =
-          let read : state_of cells ≡ as_read cells = state_known cells exist in
-          withdraw_says cells s (outcome Withdrawn (closes (state_of cells) s))
-          (withdrawn_done (state_of cells) s h b (ap (λ (st : State). open_at st s) read ∙ o))
-          (ap state_of e ∙ closed_state cells long waits exist ∙ ap (λ (st : State). closes st s) (sym read))
-          (e ∙ ap (λ (st : State). laid_into cells s (closes st s)) (sym read))

@@ -5,4 +5,3 @@ pub mod Refusals
 pub mod ActLaws
 pub mod MakeLaws
 pub mod StepLaws
-pub mod LeavingLaws

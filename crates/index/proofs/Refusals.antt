@@ -32,7 +32,6 @@ use Rattle.slots.specs.declared.Answer.{Answer}
 use Rattle.slots.specs.declared.Answer.TheVariants.{Waiting, Moved, BadPool, Opened, BadPageInPool, BadTree}
 use Rattle.slots.specs.Heard.{number_of, refuses, changes_nothing, ending}
 use Rattle.slots.specs.Begin.{begun}
-use Rattle.slots.specs.Withdraw.{withdrawn}
 use Rattle.slots.specs.Parts.{key_of, is_next, is_second, slot_at, idle_state, Stand, on_pages, want_beside, want_converted, converting, stand_of}
 use Rattle.slots.specs.Sound.{sound}
 use Rattle.slots.specs.Grant.{grants}
@@ -43,7 +42,7 @@ use Rattle.footing.specs.Fitting.{sound_for_step, verdict}
 use Rattle.index.specs.Step.{Left, left, of_granted, acted, stepped_task, stepped}
 use Rattle.index.specs.Make.{made}
 use Rattle.index.specs.Open.{opened_as, opened}
-use Rattle.index.specs.Statements.{BeginSays, StepSays, WithdrawSays}
+use Rattle.index.specs.Statements.{BeginSays, StepSays}
 
 -- an operation ends with an answer of a granted step: with no refusal, and not with Waiting
 abbrev pub Answers : Verdict → Type 0
@@ -255,7 +254,7 @@ make_length k n ws =
     (λ e. length_fresh k n ∙ sym (eqb-true (length ws) (pool_length k n) (and_second (k_in_range k && n_in_range n) (eqb (length ws) (pool_length k n)) e)))
     (λ _. refl)
 
--- A beginning or a withdrawal that is refused, and a step that is refused or answered Waiting, leaves every word of the state as given.
+-- A beginning that is refused, and a step that is refused or answered Waiting, leaves every word of the state as given.
 pub begin_kept : {cells : List ℕ} {s : ℕ} {op : Op} {r : Answer} {after : List ℕ} → BeginSays cells s op r after → changes_nothing (begun (state_of cells) s op).answer ≡ true
     → after ≡ cells
 unfolding lent_after
@@ -265,7 +264,3 @@ pub step_kept : {cells ws : List ℕ} {s : ℕ} {r : Answer} {cells' after : Lis
     → cells' ≡ cells
 unfolding lent_after
 step_kept {cells} h q = h.all ∙ cond-true cells _ q
-
-pub withdraw_kept : {cells : List ℕ} {s : ℕ} {r : Answer} {after : List ℕ} → WithdrawSays cells s r after → changes_nothing (withdrawn (state_of cells) s).answer ≡ true → after ≡ cells
-unfolding lent_after
-withdraw_kept {cells} h q = h.all ∙ cond-true cells _ q

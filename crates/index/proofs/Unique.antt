@@ -5,7 +5,7 @@ use mathlib.Core.List.{List}
 use Rattle.slots.specs.declared.Op.{Op}
 use Rattle.slots.specs.declared.Answer.{Answer}
 use Rattle.slots.proofs.Unique.{heard_once}
-use Rattle.index.specs.Statements.{MakeSays, OpenSays, BeginSays, StepSays, ReportSays, WithdrawSays}
+use Rattle.index.specs.Statements.{MakeSays, OpenSays, BeginSays, StepSays, ReportSays}
 
 pub make_once : (k n : ℕ) (ws : List ℕ) (r r' : Answer) (cells cells' after after' : List ℕ) → MakeSays k n ws r cells after → MakeSays k n ws r' cells' after'
     → (r ≡ r') × (cells ≡ cells') × (after ≡ after')
@@ -27,7 +27,3 @@ step_once state ws s r r' cells cells' after after' h h' =
 
 pub report_once : (state : List ℕ) (p : ℕ) (r r' : Answer) → ReportSays state p r → ReportSays state p r' → r ≡ r'
 report_once state p r r' h h' = heard_once r r' (h.answer ∙ sym h'.answer)
-
-pub withdraw_once : (state : List ℕ) (s : ℕ) (r r' : Answer) (cells cells' : List ℕ) → WithdrawSays state s r cells → WithdrawSays state s r' cells'
-    → (r ≡ r') × (cells ≡ cells')
-withdraw_once state s r r' cells cells' h h' = (heard_once r r' (h.answer ∙ sym h'.answer), h.all ∙ sym h'.all)

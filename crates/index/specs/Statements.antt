@@ -6,7 +6,6 @@ use Rattle.slots.specs.declared.Answer.{Answer}
 use Rattle.slots.specs.Heard.{heard}
 use Rattle.slots.specs.Begin.{begun}
 use Rattle.slots.specs.Report.{reported}
-use Rattle.slots.specs.Withdraw.{withdrawn}
 use Rattle.lent.specs.Words.{state_of, state_words, lent_after}
 use Rattle.index.specs.Step.{stepped}
 use Rattle.index.specs.Make.{made}
@@ -42,9 +41,3 @@ pub record StepSays (cells ws : List ℕ) (s : ℕ) (r : Answer) (cells' after :
 -- Report answers what the rules say. It is handed the words to read, and no pool, so it changes neither.
 pub record ReportSays (cells : List ℕ) (p : ℕ) (r : Answer) : Type 0 where
   pub answer : heard r ≡ heard (reported (state_of cells) p)
-
--- Withdrawing answers and leaves what the rules say. It is handed no pool.
-pub record WithdrawSays (cells : List ℕ) (s : ℕ) (r : Answer) (cells' : List ℕ) : Type 0 where
-  pub answer : heard r ≡ heard (withdrawn (state_of cells) s).answer
-  pub state : state_of cells' ≡ (withdrawn (state_of cells) s).state
-  pub all : cells' ≡ lent_after cells s (withdrawn (state_of cells) s).answer (withdrawn (state_of cells) s).state

@@ -19,7 +19,6 @@ use Rattle.slots.specs.Book.{leaving, begins, goes_on, closes}
 use Rattle.slots.specs.Sound.{names_each, slot_sound, no_clashing_holds, sound}
 use Rattle.slots.specs.Begin.{begun}
 use Rattle.slots.specs.Report.{reported}
-use Rattle.slots.specs.Withdraw.{withdrawn}
 use Rattle.footing.specs.Granted.{deletes, in_turn, unconverted, at_leaf, comes_down, goes_left, besides, converts, granted}
 use Rattle.footing.specs.Fitting.{pages_sound, descends, same_levels, leftmost, fitting_new, xi_then_alpha, fitting, sound_for_step, verdict}
 use Rattle.index.specs.Step.{stepped}
@@ -38,7 +37,7 @@ pages = tt
 
 -- slots, locks and the waiting order
 slotted : Unit {0}
-unfolding blank_tag path_of beside_of locks_of sidelocks_of with_xi lock_among waiting_order older_than no_clash no_older no_conversion leaving begins goes_on closes names_each slot_sound no_clashing_holds sound begun reported withdrawn
+unfolding blank_tag path_of beside_of locks_of sidelocks_of with_xi lock_among waiting_order older_than no_clash no_older no_conversion leaving begins goes_on closes names_each slot_sound no_clashing_holds sound begun reported
 slotted = tt
 
 -- the check of a pool that is handed in
@@ -46,7 +45,7 @@ opens : Unit {0}
 unfolding word_range lowest_unsound within children hangs for_each met is_tree checked opened
 opens = tt
 
--- making, opening, begin, step, report and withdraw
+-- making, opening, begin, step and report
 unfoldable pub every_call : Unit {0}
 unfolding grounds pages slotted opens deletes in_turn unconverted at_leaf comes_down goes_left besides converts granted pages_sound descends same_levels leftmost fitting_new xi_then_alpha fitting sound_for_step verdict stepped made
 every_call = tt

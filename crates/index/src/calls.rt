@@ -7,7 +7,6 @@ ghost use Rattle.index.specs.Statements.{MakeSays, OpenSays, StepSays};
 use crate::acting::granted_step;
 pub use crate::beginning::begin;
 pub use crate::reporting::report;
-pub use crate::withdrawing::withdraw;
 use ground::SLOTS;
 use lent::book::clear;
 use lent::cells::sized;

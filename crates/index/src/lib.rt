@@ -3,4 +3,3 @@ mod acting;
 mod beginning;
 pub mod calls;
 mod reporting;
-mod withdrawing;

@@ -24,11 +24,11 @@ use Rattle.slots.specs.declared.operations.Asked.TheVariants.{Known, Unknown}
 use Rattle.slots.specs.Heard.{number_of, is_one_of}
 use Rattle.slots.specs.Operations.{kind_number, operations, of_kind, asked_by}
 use Rattle.slots.specs.Parts.{slot_at, closed_slot}
-use Rattle.slots.proofs.Keeping.{same_everywhere, idle_shaped}
-use Rattle.lent.specs.Layout.{row_length, path_row, beside_row, state_length}
+use Rattle.slots.proofs.Keeping.{same_everywhere}
+use Rattle.lent.specs.Layout.{row_length, path_row, beside_row}
 use Rattle.lent.specs.Words.{list_of, slot_in, known, state_of}
 use Rattle.lent.proofs.ListLaws.{length_list_of}
-use Rattle.lent.proofs.StateLaws.{layout, slot_read, length_column, length_locks, length_order, closed_layable}
+use Rattle.lent.proofs.StateLaws.{slot_read, length_column, length_locks, closed_layable}
 use Rattle.index.specs.Make.{made}
 use Rattle.index.specs.Step.{Left}
 use Rattle.index.specs.Open.{opened}
@@ -36,23 +36,22 @@ use Rattle.index.proofs.Refusals.{opened_ind}
 use Rattle.embed.specs.Told.{told, leaves_all}
 use Rattle.embed.specs.Statements.{begin_told, begin_next}
 use Rattle.tree.specs.Tree.{PoolForms}
-use Rattle.runs.specs.Calls.{Call, begin, step, report, withdraw, called, answers_of}
+use Rattle.runs.specs.Calls.{Call, begin, step, report, called, answers_of}
 use Rattle.runs.specs.Run.{run, Start, IsStart, fresh_pool, accepted_pool, opened_start, run_from, InWords, Run}
 use Rattle.runs.proofs.Invariant.{Invariant}
 use Rattle.runs.proofs.Runs.{call_keeps, words_append, start_ready}
 use Rattle.promises.specs.Demand1.{MakingInRange, Celled}
 use Rattle.promises.specs.Demand2.{AfterEveryCall}
-use Rattle.promises.specs.Withdraw.{InCells}
 use Rattle.promises.specs.TopOpen.{TopOpen}
 use Rattle.promises.specs.Regrading.{IsThere, NotDeleted, NeverNowhere}
-use Rattle.promises.proofs.Demand1.{range_tested, make_demand, open_demand, step_demand, withdraw_demand}
+use Rattle.promises.proofs.Demand1.{range_tested, make_demand, open_demand, step_demand}
 use Rattle.promises.proofs.Demand2.{call_heard, demand2}
 use Rattle.promises.proofs.Demand3.{demand3}
 use Rattle.promises.proofs.TopOpen.{top_open_holds}
 use Rattle.promises.proofs.Regrading.{regrading_holds}
 use Rattle.promises.proofs.Reopening.{reopening_holds}
 use Rattle.promises.proofs.NoBlank.{names_blank, names_none, no_blank_holds}
-use Rattle.library.specs.Promises.{Went, begins, steps, reports, withdraws, Follow, OpenedBy, making, opening, begins_with, calls_in, told_first, told_in, quiet_number, quiet_four, blank_four, LibraryRuns, LibraryOpens, LibraryReopens, LibrarySteps, LibraryWithdraws, LibraryPromises, LibraryKeepsLots}
+use Rattle.library.specs.Promises.{Went, begins, steps, reports, Follow, OpenedBy, making, opening, begins_with, calls_in, told_first, told_in, quiet_number, quiet_four, blank_four, LibraryRuns, LibraryOpens, LibraryReopens, LibrarySteps, LibraryPromises, LibraryKeepsLots}
 
 -- ---- what is left and told
 
@@ -99,9 +98,6 @@ follow_goes (steps s cells' ws' four ∷ rest) cells ws last lastWs h =
     (from_here h.0.state h.0.words (follow_goes rest cells' ws' last lastWs h.1))
 follow_goes (reports p four ∷ rest) cells ws last lastWs h =
     more (state_of cells) ws (report p) (calls_in rest) four (told_in rest) last lastWs h.0.answer (follow_goes rest cells ws last lastWs h.1)
-follow_goes (withdraws s cells' four ∷ rest) cells ws last lastWs h =
-    more (state_of cells) ws (withdraw s) (calls_in rest) four (told_in rest) last lastWs h.0.answer
-    (from_here h.0.state refl (follow_goes rest cells' ws last lastWs h.1))
 
 -- ---- it is a run
 
@@ -125,7 +121,6 @@ follow_in_words (begins s kind key information cells' four ∷ rest) cells ws la
     asked_in_words s kind key information (calls_in rest) h.0 h.1 (follow_in_words rest cells' ws last lastWs h.3)
 follow_in_words (steps s cells' ws' four ∷ rest) cells ws last lastWs h = (tt, follow_in_words rest cells' ws' last lastWs h.1)
 follow_in_words (reports p four ∷ rest) cells ws last lastWs h = (tt, follow_in_words rest cells ws last lastWs h.1)
-follow_in_words (withdraws s cells' four ∷ rest) cells ws last lastWs h = (tt, follow_in_words rest cells' ws last lastWs h.1)
 
 -- a making that is told as Made had its numbers in range
 made_in_range : (k n : ℕ) (ws : List ℕ) → told (made k n ws).answer ≡ told Made → MakingInRange k n ws
@@ -204,7 +199,6 @@ unfolding all member
 quiet_told (begin s op) a h = all_member quiet_number (map number_of (answers_of (begin s op))) refl (number_of a) h
 quiet_told (step s) a h = all_member quiet_number (map number_of (answers_of (step s))) refl (number_of a) h
 quiet_told (report p) a h = all_member quiet_number (map number_of (answers_of (report p))) refl (number_of a) h
-quiet_told (withdraw s) a h = all_member quiet_number (map number_of (answers_of (withdraw s))) refl (number_of a) h
 
 run_quiet : (cs : List Call) (st : State) (ws : List ℕ) → Invariant st ws → InWords cs → all quiet_four (map told (run cs st ws).answers) ≡ true
 unfolding all run
@@ -242,7 +236,7 @@ library_promises start calls last lastWs h =
           ∙ names_none start cs is.run;
     }
 
--- ---- a step or a withdrawal, of any words
+-- ---- a step, of any words
 
 closed_celled : Celled closed_slot
 closed_celled = let l = closed_layable in record { path = l.locks ∙ sym l.path; beside = l.sidelocks ∙ sym l.beside }
@@ -265,17 +259,6 @@ words_celled cells s =
 
 pub library_steps : LibrarySteps
 library_steps cells ws s = step_demand (state_of cells) ws s (words_celled cells s)
-
--- as many words as a state has are one with 16 slots and an order of 16 cells; or they count as the empty one, which has them too
-words_in_cells : (cells : List ℕ) → length cells ≡ state_length → InCells (state_of cells)
-unfolding state_of
-words_in_cells cells long =
-    cond_ind InCells (known cells)
-    (λ _. record { slots = length_list_of row_length (slot_in cells) ∙ layout.0; order = length_order cells long ∙ layout.0 })
-    (λ _. let empty = idle_shaped 0 0 in record { slots = empty.slots; order = empty.order })
-
-pub library_withdraws : LibraryWithdraws
-library_withdraws = record { demand = λ cells s. withdraw_demand (state_of cells) s; in_cells = words_in_cells }
 
 -- ---- a lot that is not deleted
 

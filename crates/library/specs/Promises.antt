@@ -1,6 +1,6 @@
 -- Calls of the library, one after the other, each lent the words that the last one left, are a run. So the demands on runs are
 -- demands on the library: on the words that it leaves and the numbers that it tells.
-use Rattle.std.specs.Prelude.{ℕ, ◌<◌, Bool, true, not, ◌&&◌, List, [], ◌∷◌, map, ◌≡◌, eqb, length, get_or}
+use Rattle.std.specs.Prelude.{ℕ, ◌<◌, Bool, true, not, ◌&&◌, List, [], ◌∷◌, map, ◌≡◌, eqb, get_or}
 use Rattle.ground.specs.Limits.{word_range, blank_key}
 use Rattle.ground.specs.Tests.{all, member}
 use Rattle.page.specs.Words.{Entry}
@@ -9,15 +9,13 @@ use Rattle.slots.specs.declared.operations.Asked.{Asked}
 use Rattle.slots.specs.declared.operations.Asked.TheVariants.{Known, Unknown}
 use Rattle.slots.specs.Heard.{number_of}
 use Rattle.slots.specs.Operations.{asked_by}
-use Rattle.lent.specs.Layout.{state_length}
 use Rattle.lent.specs.Words.{state_of}
 use Rattle.embed.specs.Told.{told}
-use Rattle.embed.specs.Statements.{MakeTells, OpenTells, BeginTells, StepTells, ReportTells, WithdrawTells}
+use Rattle.embed.specs.Statements.{MakeTells, OpenTells, BeginTells, StepTells, ReportTells}
 use Rattle.tree.specs.Tree.{Tr, entries_of, PoolForms}
-use Rattle.runs.specs.Run.{Call, begin, step, report, withdraw, Start, fresh_start, opened_start, run_from, Run}
+use Rattle.runs.specs.Run.{Call, begin, step, report, Start, fresh_start, opened_start, run_from, Run}
 use Rattle.runs.specs.Done.{plain_entries, ops_of}
-use Rattle.promises.specs.Demand1.{StepDemand, WithdrawDemand}
-use Rattle.promises.specs.Withdraw.{InCells}
+use Rattle.promises.specs.Demand1.{StepDemand}
 use Rattle.promises.specs.Demand2.{AfterEveryCall, Demand2}
 use Rattle.promises.specs.Demand3.{done_in, Demand3}
 use Rattle.promises.specs.TopOpen.{TopOpen}
@@ -31,7 +29,6 @@ pub data Went : Type 0 where
   begins : (slot kind key information : ℕ) (cells' four : List ℕ) → Went
   steps : (slot : ℕ) (cells' ws' four : List ℕ) → Went
   reports : (page : ℕ) (four : List ℕ) → Went
-  withdraws : (slot : ℕ) (cells' four : List ℕ) → Went
 
 -- "each call given what the last one left": the first is lent the state's words `cells` and the pool's words `ws`, the last leaves
 -- `last` and `lastWs`, and each keeps its promise. "Keys and information are any 32-bit unsigned numbers."
@@ -41,7 +38,6 @@ Follow cells ws (begins s kind key information cells' four ∷ rest) last lastWs
     (key < word_range) × (information < word_range) × BeginTells cells s kind key information cells' four × Follow cells' ws rest last lastWs
 Follow cells ws (steps s cells' ws' four ∷ rest) last lastWs = StepTells cells ws s cells' ws' four × Follow cells' ws' rest last lastWs
 Follow cells ws (reports p four ∷ rest) last lastWs = ReportTells cells p four × Follow cells ws rest last lastWs
-Follow cells ws (withdraws s cells' four ∷ rest) last lastWs = WithdrawTells cells s cells' four × Follow cells' ws rest last lastWs
 
 -- How the library gave the words that the first call is lent, and what the run starts with then. "From a fresh pool": a making that
 -- succeeds, in words of any content. 02 (vii): "also start from an accepted pool, the sorted list beginning with its entries": an opening that is told as
@@ -71,7 +67,6 @@ calls_in [] = []
 calls_in (begins s kind key information cells' four ∷ rest) = begins_with s (asked_by kind key information) (calls_in rest)
 calls_in (steps s cells' ws' four ∷ rest) = step s ∷ calls_in rest
 calls_in (reports p four ∷ rest) = report p ∷ calls_in rest
-calls_in (withdraws s cells' four ∷ rest) = withdraw s ∷ calls_in rest
 
 abbrev pub told_first : List ℕ → Asked → List (List ℕ) → List (List ℕ)
 told_first four (Known op) rest = four ∷ rest
@@ -83,7 +78,6 @@ told_in [] = []
 told_in (begins s kind key information cells' four ∷ rest) = told_first four (asked_by kind key information) (told_in rest)
 told_in (steps s cells' ws' four ∷ rest) = four ∷ told_in rest
 told_in (reports p four ∷ rest) = four ∷ told_in rest
-told_in (withdraws s cells' four ∷ rest) = four ∷ told_in rest
 
 -- It is a run, as the demands speak of runs; the state that the last words read as, the pool's words and the numbers told are its.
 pub record IsRun (start : Start) (calls : List Went) (last lastWs : List ℕ) : Type 0 where
@@ -119,11 +113,6 @@ LibraryReopens =
 -- A state that words read as has the cells for kinds that the demand asks.
 abbrev pub LibrarySteps : Type 0
 LibrarySteps = (cells ws : List ℕ) (s : ℕ) → StepDemand (state_of cells) ws s
-
--- The same of a withdrawal. What it leaves is said of as many words as a state has.
-pub record LibraryWithdraws : Type 0 where
-  pub demand : (cells : List ℕ) (s : ℕ) → WithdrawDemand (state_of cells) s
-  pub in_cells : (cells : List ℕ) → length cells ≡ state_length → InCells (state_of cells)
 
 -- none of 1, 2 and 6
 abbrev pub quiet_number : ℕ → Bool

@@ -7,11 +7,11 @@ use mathlib.Core.Path.{◌≡◌, refl}
 use Rattle.slots.specs.declared.Op.TheVariants.{Search, Insert, Delete, Next, Regrade}
 use Rattle.slots.specs.declared.Way.TheVariants.{First, Second, Third}
 use Rattle.slots.specs.declared.Answer.{Answer}
-use Rattle.slots.specs.declared.Answer.TheVariants.{Begun, Waiting, Inserted, Found, SlotIdle, AlreadyThere, Deleted, Next as NextLot, None as NoLot, Regraded, Opened, BadPageInPool, BadTree, Withdrawn}
+use Rattle.slots.specs.declared.Answer.TheVariants.{Begun, Waiting, Inserted, Found, SlotIdle, AlreadyThere, Deleted, Next as NextLot, None as NoLot, Regraded, Opened, BadPageInPool, BadTree}
 use Rattle.lines.specs.declared.Command.{Command}
-use Rattle.lines.specs.declared.Command.TheVariants.{Begin, Step, Withdraw, Bad}
+use Rattle.lines.specs.declared.Command.TheVariants.{Begin, Step, Bad}
 use Rattle.lines.specs.Text.{bytes, starts_with}
-use Rattle.lines.specs.Meaning.{digits, value, front, stepping, withdrawing, searching, deleting, asking_next, informing, keying, inserting, asking_regrade, asking_third, asking_second, asking, beginning, meaning}
+use Rattle.lines.specs.Meaning.{digits, value, front, stepping, searching, deleting, asking_next, informing, keying, inserting, asking_regrade, asking_third, asking_second, asking, beginning, meaning}
 use Rattle.lines.specs.Decimal.{digits_within, decimal}
 use Rattle.lines.specs.Names.{answer_line}
 
@@ -34,8 +34,6 @@ good_lines :
     ∷ "b 0 i3 12 3"
     ∷ "b 16 d3 0"
     ∷ "b 2 g3 0012 4294967295"
-    ∷ "w 1"
-    ∷ "w 0016"
     ∷ []
     )
     ≡ Begin 0 (Insert 12 3 First)
@@ -52,10 +50,8 @@ good_lines :
     ∷ Begin 0 (Insert 12 3 Third)
     ∷ Begin 16 (Delete 0 Third)
     ∷ Begin 2 (Regrade 12 4294967295 Third)
-    ∷ Withdraw 1
-    ∷ Withdraw 16
     ∷ []
-unfolding meanings starts_with digits value front stepping withdrawing searching deleting asking_next informing keying inserting asking_regrade asking_third asking_second asking beginning meaning
+unfolding meanings starts_with digits value front stepping searching deleting asking_next informing keying inserting asking_regrade asking_third asking_second asking beginning meaning
 good_lines = refl
 
 bad_lines :
@@ -94,15 +90,10 @@ bad_lines :
     ∷ "b 1 d2 2 3"
     ∷ "b 1 d2  2"
     ∷ "b 1 g2 2 4294967296"
-    ∷ "w"
-    ∷ "w "
-    ∷ "w 1 2"
-    ∷ "w 4294967296"
-    ∷ "W 1"
     ∷ []
     )
-    ≡ Bad ∷ Bad ∷ Bad ∷ Bad ∷ Bad ∷ Bad ∷ Bad ∷ Bad ∷ Bad ∷ Bad ∷ Bad ∷ Bad ∷ Bad ∷ Bad ∷ Bad ∷ Bad ∷ Bad ∷ Bad ∷ Bad ∷ Bad ∷ Bad ∷ Bad ∷ Bad ∷ Bad ∷ Bad ∷ Bad ∷ Bad ∷ Bad ∷ Bad ∷ Bad ∷ Bad ∷ Bad ∷ Bad ∷ Bad ∷ Bad ∷ Bad ∷ Bad ∷ Bad ∷ Bad ∷ []
-unfolding meanings starts_with digits value front stepping withdrawing searching deleting asking_next informing keying inserting asking_regrade asking_third asking_second asking beginning meaning
+    ≡ Bad ∷ Bad ∷ Bad ∷ Bad ∷ Bad ∷ Bad ∷ Bad ∷ Bad ∷ Bad ∷ Bad ∷ Bad ∷ Bad ∷ Bad ∷ Bad ∷ Bad ∷ Bad ∷ Bad ∷ Bad ∷ Bad ∷ Bad ∷ Bad ∷ Bad ∷ Bad ∷ Bad ∷ Bad ∷ Bad ∷ Bad ∷ Bad ∷ Bad ∷ Bad ∷ Bad ∷ Bad ∷ Bad ∷ Bad ∷ []
+unfolding meanings starts_with digits value front stepping searching deleting asking_next informing keying inserting asking_regrade asking_third asking_second asking beginning meaning
 bad_lines = refl
 
 -- ---- answers
@@ -111,7 +102,7 @@ lines_written : List Answer → List (List ℕ)
 lines_written = map answer_line
 
 answers :
-    lines_written (Begun ∷ Waiting ∷ Inserted ∷ Found 3 ∷ SlotIdle ∷ Found 0 ∷ Deleted 4294967295 ∷ NextLot 4294967295 0 ∷ NoLot ∷ AlreadyThere 7 ∷ Regraded 4294967295 ∷ Opened ∷ BadPageInPool 7 ∷ BadTree ∷ Withdrawn ∷ [])
-    ≡ map bytes ("Begun\n" ∷ "Waiting\n" ∷ "Inserted\n" ∷ "Found 3\n" ∷ "SlotIdle\n" ∷ "Found 0\n" ∷ "Deleted 4294967295\n" ∷ "Next 4294967295 0\n" ∷ "None\n" ∷ "AlreadyThere 7\n" ∷ "Regraded 4294967295\n" ∷ "Opened\n" ∷ "BadPageInPool 7\n" ∷ "BadTree\n" ∷ "Withdrawn\n" ∷ [])
+    lines_written (Begun ∷ Waiting ∷ Inserted ∷ Found 3 ∷ SlotIdle ∷ Found 0 ∷ Deleted 4294967295 ∷ NextLot 4294967295 0 ∷ NoLot ∷ AlreadyThere 7 ∷ Regraded 4294967295 ∷ Opened ∷ BadPageInPool 7 ∷ BadTree ∷ [])
+    ≡ map bytes ("Begun\n" ∷ "Waiting\n" ∷ "Inserted\n" ∷ "Found 3\n" ∷ "SlotIdle\n" ∷ "Found 0\n" ∷ "Deleted 4294967295\n" ∷ "Next 4294967295 0\n" ∷ "None\n" ∷ "AlreadyThere 7\n" ∷ "Regraded 4294967295\n" ∷ "Opened\n" ∷ "BadPageInPool 7\n" ∷ "BadTree\n" ∷ [])
 unfolding lines_written digits_within decimal
 answers = refl

@@ -19,10 +19,10 @@ use Rattle.slots.specs.declared.Way.{Way}
 use Rattle.slots.specs.declared.Way.TheVariants.{First, Second, Third}
 use Rattle.slots.specs.Operations.{by_way}
 use Rattle.lines.specs.declared.Command.{Command}
-use Rattle.lines.specs.declared.Command.TheVariants.{Begin, Step, Withdraw, Bad}
+use Rattle.lines.specs.declared.Command.TheVariants.{Begin, Step, Bad}
 use Rattle.lines.specs.Text.{bytes, starts_with}
-use Rattle.lines.specs.Meaning.{is_digit, digits, value, largest, Front, no_number, number, counted, front, alone, numbered, after, stepping, withdrawing, searching, deleting, asking_next, informing, keying, inserting, asking_regrade, asking_third, asking_second, asking, beginning, meaning}
-use Rattle.lines.specs.Forms.{Numeral, Good, to_search, to_insert, to_delete, to_next, to_regrade, to_step, to_withdraw}
+use Rattle.lines.specs.Meaning.{is_digit, digits, value, largest, Front, no_number, number, counted, front, alone, numbered, after, stepping, searching, deleting, asking_next, informing, keying, inserting, asking_regrade, asking_third, asking_second, asking, beginning, meaning}
+use Rattle.lines.specs.Forms.{Numeral, Good, to_search, to_insert, to_delete, to_next, to_regrade, to_step}
 
 -- ---- a number at the front
 
@@ -96,7 +96,7 @@ regrade_asked Second ss bs hs = ap (λ (f : Front). numbered f asking) (front_nu
 regrade_asked Third ss bs hs = ap (λ (f : Front). numbered f asking) (front_numeral (bytes " g3 " ++ bs) hs refl)
 
 pub good_means : (line : List ℕ) {c : Command} → Good line c → meaning line ≡ c
-unfolding starts_with digits stepping withdrawing searching deleting asking_next informing keying inserting asking_regrade asking beginning meaning
+unfolding starts_with digits stepping searching deleting asking_next informing keying inserting asking_regrade asking beginning meaning
 good_means line (to_search {slot = slot} ss ks hs hk e) =
     ap meaning e
     ∙ ap (λ (f : Front). numbered f asking) (front_numeral (bytes " s " ++ ks) hs refl)
@@ -118,7 +118,6 @@ good_means line (to_regrade way {slot = slot} ss ks is hs hk hi e) =
     ∙ regrade_asked way ss (ks ++ (bytes " " ++ is)) hs
     ∙ lot_means (λ key information. Begin slot (Regrade key information way)) ks is hk hi
 good_means line (to_step ss hs e) = ap meaning e ∙ ap (λ (f : Front). numbered f (λ slot rest. Step slot)) (alone_numeral hs)
-good_means line (to_withdraw ss hs e) = ap meaning e ∙ ap (λ (f : Front). numbered f (λ slot rest. Withdraw slot)) (alone_numeral hs)
 
 -- ---- a line that means a command is good
 
@@ -182,12 +181,6 @@ module _ (line : List ℕ) where
   stepping_meant ss e =
       numbered_ind (Meant line) (alone (front ss)) (λ slot rest. Step slot) (inl refl)
       (λ slot rest f. inr (to_step ss (last_numeral ss f) e))
-
-  withdrawing_meant : (ss : List ℕ) → line ≡ bytes "w " ++ ss → Meant line (withdrawing ss)
-  unfolding withdrawing
-  withdrawing_meant ss e =
-      numbered_ind (Meant line) (alone (front ss)) (λ slot rest. Withdraw slot) (inl refl)
-      (λ slot rest f. inr (to_withdraw ss (last_numeral ss f) e))
 
   -- a key, a space and information mean nothing, or what is good for them
   lot_meant : (means : ℕ → ℕ → Command) (bs : List ℕ)
@@ -275,5 +268,4 @@ module _ (line : List ℕ) where
   unfolding meaning
   means_good =
       cond_ind (Meant line) (starts_with (bytes "b ") line) (λ t. beginning_meant (drop 2 line) (begins_split (bytes "b ") line t))
-      (λ n. cond_ind (Meant line) (starts_with (bytes "t ") line) (λ t. stepping_meant (drop 2 line) (begins_split (bytes "t ") line t))
-      (λ m. cond_ind (Meant line) (starts_with (bytes "w ") line) (λ t. withdrawing_meant (drop 2 line) (begins_split (bytes "w ") line t)) (λ k. inl refl)))
+      (λ n. cond_ind (Meant line) (starts_with (bytes "t ") line) (λ t. stepping_meant (drop 2 line) (begins_split (bytes "t ") line t)) (λ m. inl refl))

@@ -1,5 +1,5 @@
 -- The good lines as a grammar, a form each: `b SLOT s KEY`, `b SLOT i KEY INFO`, `b SLOT d KEY`, `b SLOT n KEY`,
--- `b SLOT g KEY INFO`, `t SLOT`, `w SLOT`; for the second way `i2`, `d2`, `g2`, for the third `i3`, `d3`, `g3` instead of `i`, `d`, `g`. `Meaning` computes what a line means;
+-- `b SLOT g KEY INFO`, `t SLOT`; for the second way `i2`, `d2`, `g2`, for the third `i3`, `d3`, `g3` instead of `i`, `d`, `g`. `Meaning` computes what a line means;
 -- that it gives a good line its command, and every other line none, is in `proofs/Grammar.antt`.
 use Rattle.std.specs.Prelude.{ℕ, ◌≤◌, ◌<◌, true, List, ◌++◌, ◌≡◌, length}
 use Rattle.ground.specs.Tests.{all}
@@ -7,7 +7,7 @@ use Rattle.slots.specs.declared.Op.TheVariants.{Search, Insert, Delete, Next, Re
 use Rattle.slots.specs.declared.Way.{Way}
 use Rattle.slots.specs.Operations.{by_way}
 use Rattle.lines.specs.declared.Command.{Command}
-use Rattle.lines.specs.declared.Command.TheVariants.{Begin, Step, Withdraw}
+use Rattle.lines.specs.declared.Command.TheVariants.{Begin, Step}
 use Rattle.lines.specs.Text.{bytes}
 use Rattle.lines.specs.Meaning.{is_digit, value, largest}
 
@@ -37,6 +37,3 @@ pub data Good (line : List ℕ) : Command → Type 0 where
   to_step : {slot : ℕ} (ss : List ℕ) → Numeral ss slot
       → line ≡ bytes "t " ++ ss
       → Good line (Step slot)
-  to_withdraw : {slot : ℕ} (ss : List ℕ) → Numeral ss slot
-      → line ≡ bytes "w " ++ ss
-      → Good line (Withdraw slot)

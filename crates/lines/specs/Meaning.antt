@@ -2,7 +2,7 @@
 use Rattle.std.specs.Prelude.{ℕ, ◌-◌, ◌+◌, ◌*◌, ◌^◌, Bool, cond, ◌&&◌, List, [], ◌∷◌, leb, ltb, length, drop}
 use Prim.Native.String.{String}
 use Rattle.lines.specs.declared.Command.{Command}
-use Rattle.lines.specs.declared.Command.TheVariants.{Begin, Step, Withdraw, Bad}
+use Rattle.lines.specs.declared.Command.TheVariants.{Begin, Step, Bad}
 use Rattle.slots.specs.declared.Op.TheVariants.{Search, Insert, Delete, Next, Regrade}
 use Rattle.slots.specs.declared.Way.{Way}
 use Rattle.slots.specs.declared.Way.TheVariants.{First, Second, Third}
@@ -46,7 +46,7 @@ alone no_number = no_number
 alone (number n []) = number n []
 alone (number n (b ∷ bs)) = no_number
 
--- ---- the forms of a line: "Another line .. gives BadLine"
+-- ---- the nine forms of a line: "Another line .. gives BadLine"
 
 -- what a number means, with the bytes behind it; where there is none, the line is bad
 abbrev pub numbered : Front → (ℕ → List ℕ → Command) → Command
@@ -60,10 +60,6 @@ after word bs means other = cond (starts_with (bytes word) bs) (means (drop (len
 -- `t SLOT`
 unfoldable pub stepping : List ℕ → Command
 stepping bs = numbered (alone (front bs)) (λ slot rest. Step slot)
-
--- `w SLOT`
-unfoldable pub withdrawing : List ℕ → Command
-withdrawing bs = numbered (alone (front bs)) (λ slot rest. Withdraw slot)
 
 -- `b SLOT s KEY`
 unfoldable pub searching : ℕ → List ℕ → Command
@@ -118,4 +114,4 @@ beginning bs = numbered (front bs) asking
 
 -- the meaning of a line
 unfoldable pub meaning : List ℕ → Command
-meaning line = after "b " line beginning (after "t " line stepping (after "w " line withdrawing Bad))
+meaning line = after "b " line beginning (after "t " line stepping Bad)

@@ -11,7 +11,5 @@ pub enum Command {
     Begin(u32, Op),
     // slot
     Step(u32),
-    // slot
-    Withdraw(u32),
     Bad,
 }

@@ -1,7 +1,7 @@
 // What a line means. Positions go from the front of the line to its end.
 ghost use Rattle.std.specs.Prelude.{true, ◌≡◌, ◌≤◌, max, length, drop};
 ghost use Rattle.lines.specs.Text.{starts_with};
-ghost use Rattle.lines.specs.Meaning.{is_digit, front, alone, stepping, withdrawing, searching, deleting, asking_next, inserting, asking_regrade, asking_third, asking_second, asking, beginning, meaning};
+ghost use Rattle.lines.specs.Meaning.{is_digit, front, alone, stepping, searching, deleting, asking_next, inserting, asking_regrade, asking_third, asking_second, asking, beginning, meaning};
 ghost use Rattle.lines.specs.Ends.{line_end};
 ghost use Rattle.lines.specs.Positions.{front_of, behind, IsLot, Capped, Counted};
 
@@ -139,17 +139,6 @@ fn read_step(line: &[u8], at: usize) -> Command
         return Command::Bad;
     };
     Command::Step(slot)
-}
-
-// `w SLOT`
-fn read_withdraw(line: &[u8], at: usize) -> Command
-    requires { at ≤ length line.now }
-    ensures { result ≡ withdrawing (drop at line.now) }
-{
-    let Number::Read(slot, _) = read_last(line, at) else {
-        return Command::Bad;
-    };
-    Command::Withdraw(slot)
 }
 
 // `b SLOT s KEY`
@@ -301,9 +290,6 @@ pub fn read_line(line: &[u8]) -> Command
     }
     if goes_on(line, 0, b"t ") {
         return read_step(line, 2);
-    }
-    if goes_on(line, 0, b"w ") {
-        return read_withdraw(line, 2);
     }
     Command::Bad
 }

@@ -18,7 +18,6 @@ use Rattle.promises.specs.SecondRows.{second_rows}
 use Rattle.promises.specs.ThirdRows.{third_rows}
 use Rattle.promises.specs.OpenRows.{open_rows}
 use Rattle.promises.specs.BlankRows.{blank_rows}
-use Rattle.promises.specs.WithdrawRows.{withdraw_rows}
 
 -- Everything that a run unfolds to: who unfolds this unfolds all of it.
 calls : Unit {0}
@@ -114,7 +113,3 @@ open_holds = agree_holds open_rows refl
 pub blank_holds : RowsHold blank_rows
 unfolding calls same sames agree
 blank_holds = agree_holds blank_rows refl
-
-pub withdraw_holds : RowsHold withdraw_rows
-unfolding calls same sames agree
-withdraw_holds = agree_holds withdraw_rows refl

@@ -1,6 +1,6 @@
 -- Demand 1 holds of every call. What an answer tells is read off a table, and the answer that a condition leads to off the rule.
 use Prim.Native.Nat.{ℕ, ◌≤◌, ◌<◌}
-use mathlib.Core.Bool.{Bool, true, false, cond, not, ◌&&◌, true≢false, false≢true}
+use mathlib.Core.Bool.{Bool, true, false, cond, ◌&&◌, true≢false, false≢true}
 use mathlib.Core.List.{List, [], ◌∷◌, ◌++◌}
 use mathlib.Core.Logic.{◌⊎◌, inl, inr, ◌≢◌}
 use mathlib.Core.Path.{◌≡◌, refl, sym, ap, ◌∙◌, subst, transport, transport⁻¹}
@@ -11,7 +11,7 @@ use borrow.Author.Tests.{ltb-true, ltb-false, leb-true, eqb-true, eqb-false, lt-
 use Rattle.ground.specs.Limits.{largest_k, k_in_range, largest_n, n_in_range, slot_count}
 use Rattle.ground.specs.Tests.{member}
 use Rattle.ground.proofs.Bools.{not_both, false_if_not_true, and_first, and_second, and_both}
-use Rattle.ground.proofs.Choice.{by_test, cond_ind, cond-false}
+use Rattle.ground.proofs.Choice.{cond-false}
 use Rattle.pool.specs.Pool.{pool_length, page_at, free_pages}
 use Rattle.opening.specs.Opening.{lowest_unsound, is_tree, checked}
 use Rattle.opening.proofs.CheckLaws.{none_found}
@@ -21,9 +21,8 @@ use Rattle.slots.specs.declared.Task.TheVariants.{Closed, Open}
 use Rattle.slots.specs.declared.Slot.{Slot}
 use Rattle.slots.specs.declared.State.{State}
 use Rattle.slots.specs.declared.Lock.{Lock}
-use Rattle.slots.specs.declared.Outcome.{Outcome}
 use Rattle.slots.specs.declared.Answer.{Answer}
-use Rattle.slots.specs.declared.Answer.TheVariants.{Waiting, Begun, Made, Reported, BadState, BadPool, BadSlot, SlotBusy, SlotIdle, Damaged, BadPage, Opened, BadPageInPool, BadTree, BadKey, Withdrawn}
+use Rattle.slots.specs.declared.Answer.TheVariants.{Waiting, Begun, Made, Reported, BadState, BadPool, BadSlot, SlotBusy, SlotIdle, Damaged, BadPage, Opened, BadPageInPool, BadTree, BadKey}
 use Rattle.slots.specs.Heard.{number_of, value_of, refuses, changes_nothing}
 use Rattle.slots.specs.Operations.{blank_tag}
 use Rattle.slots.specs.Parts.{is_open, slot_at, open_at, holding, stand_of}
@@ -31,25 +30,24 @@ use Rattle.slots.specs.Sound.{sound}
 use Rattle.slots.specs.Grant.{grants}
 use Rattle.slots.specs.Begin.{begun}
 use Rattle.slots.specs.Report.{holders, lowest_holder, lock_kind, reported}
-use Rattle.slots.specs.Withdraw.{withdrawn}
 use Rattle.slots.proofs.Refusals.{begin_refused}
 use Rattle.slots.proofs.SoundFacts.{sound_facts, empty_unsound}
 use Rattle.slots.proofs.Keeping.{slot_paired}
 use Rattle.footing.specs.Granted.{Verdict, broken, goes, ends, granted}
 use Rattle.footing.specs.Fitting.{pages_sound, fitting, next_is_new, sound_for_step, verdict}
+use Rattle.ground.proofs.Choice.{by_test}
 use Rattle.index.specs.Step.{Left, of_granted, acted, stepped_task, stepped}
 use Rattle.index.specs.Make.{made}
 use Rattle.index.specs.Open.{opened}
 use Rattle.index.proofs.Refusals.{Answers, granted_answers, changes, step_refused, make_refused, step_length, make_length, open_refused, open_words, opened_told}
 use Rattle.promises.specs.Terms.{Exactly, Blank}
 use Rattle.promises.specs.Report.{Reports}
-use Rattle.promises.specs.Demand1.{BeginDemand, WordsFit, PagesSound, PagesSoundAt, Celled, StepDemand, ReportDemand, WithdrawDemand, MakingInRange, MakeDemand, AloneSound, LowestUnsound, FormsTree, OpenDemand, Demand1}
+use Rattle.promises.specs.Demand1.{BeginDemand, WordsFit, PagesSound, PagesSoundAt, Celled, StepDemand, ReportDemand, MakingInRange, MakeDemand, AloneSound, LowestUnsound, FormsTree, OpenDemand, Demand1}
 use Rattle.promises.proofs.Terms.{blank_is, unblank_is}
 use Rattle.promises.proofs.SoundState.{numbers, sound_is}
 use Rattle.promises.proofs.Report.{reports_so, reports_once}
 use Rattle.promises.proofs.SoundPages.{Sized}
 use Rattle.promises.proofs.NextWant.{sound_for_step_lem}
-use Rattle.promises.proofs.Withdrawing.{withdrawal_leaves}
 use Rattle.promises.proofs.Opening.{lowest_told, lowest_is, none_told, none_is, tree_told, tree_is}
 
 -- A row of a table: an answer, and what it tells. By its number an answer tells what stands beside it; one with no row tells `other`.
@@ -238,10 +236,6 @@ step_tells st ws s =
     (λ b. rw (a, b) (refl, eqb-false (length ws) (pool_length st.k st.n) b)))
     (λ a. rw a refl)
 
--- so every answer of a step tells its row
-step_told : (st : State) (ws : List ℕ) (s : ℕ) {a : Answer} → (stepped st ws s).answer ≡ a → StepTells st ws s (slot_at st s) (slot_at st s).task a
-step_told st ws s e = subst (StepTells st ws s (slot_at st s) (slot_at st s).task) e (step_tells st ws s)
-
 pub step_demand : (st : State) (ws : List ℕ) (s : ℕ) → Celled (slot_at st s) → StepDemand st ws s
 unfolding stepped
 step_demand st ws s cells = record {
@@ -279,7 +273,7 @@ step_demand st ws s cells = record {
     fits = eq-eqb (length ws) (pool_length st.k st.n)
 
     told : {a : Answer} → (stepped st ws s).answer ≡ a → StepTells st ws s (slot_at st s) (slot_at st s).task a
-    told e = step_told st ws s e
+    told e = subst (StepTells st ws s (slot_at st s) (slot_at st s).task) e (step_tells st ws s)
 
 -- what report's answers tell
 abbrev ReportTells : State → ℕ → Answer → Type 0
@@ -333,60 +327,6 @@ report_demand st p = record {
   where
     told : {a : Answer} → reported st p ≡ a → ReportTells st p a
     told e = subst (ReportTells st p) e (report_tells st p)
-
--- what a withdrawal's answers tell
-abbrev WithdrawTells : State → ℕ → Answer → Type 0
-WithdrawTells st s =
-    Tells
-    (row BadState (sound st ≡ false)
-    ∷ row BadSlot ((sound st ≡ true) × (slot_count ≤ s))
-    ∷ row SlotIdle ((sound st ≡ true) × (s < slot_count) × (open_at st s ≡ false))
-    ∷ row Withdrawn ((sound st ≡ true) × (s < slot_count) × (open_at st s ≡ true))
-    ∷ [])
-    ⊥
-
-withdraw_tells : (st : State) (s : ℕ) → WithdrawTells st s (withdrawn st s).answer
-unfolding withdrawn
-withdraw_tells st s =
-    by_test (sound st)
-    (λ a. by_test (ltb s slot_count)
-    (λ b. by_test (open_at st s) (λ c. rw (a, b, c) (refl, ltb-true s slot_count b, refl)) (λ c. rw (a, b, c) (refl, ltb-true s slot_count b, refl)))
-    (λ b. rw (a, b) (refl, ltb-false s slot_count b)))
-    (λ a. rw a refl)
-
--- a refused one leaves the state as given
-withdraw_refused : (st : State) (s : ℕ) → refuses (withdrawn st s).answer ≡ true → (withdrawn st s).state ≡ st
-unfolding withdrawn
-withdraw_refused st s =
-    cond_ind AsGiven (not (sound st)) (λ _ _. refl)
-    (λ _. cond_ind AsGiven (not (ltb s slot_count)) (λ _ _. refl)
-    (λ _. cond_ind AsGiven (open_at st s) (λ _ h. absurd (false≢true h)) (λ _ _. refl)))
-  where
-    AsGiven : Outcome → Type 0
-    AsGiven o = refuses o.answer ≡ true → o.state ≡ st
-
-pub withdraw_demand : (st : State) (s : ℕ) → WithdrawDemand st s
-unfolding withdrawn
-withdraw_demand st s = record {
-  bad_state = (told, λ h. rw h);
-  bad_slot = (told, λ h. rw (h.0, le-ltb s slot_count h.1));
-  slot_idle = (told, λ h. rw (h.0, lt-ltb s slot_count h.1, h.2));
-  withdraws = (told, λ h. rw (h.0, lt-ltb s slot_count h.1, h.2));
-  no_other =
-      by_test (sound st)
-      (λ a. by_test (ltb s slot_count)
-      (λ b. by_test (open_at st s) (λ c. inr (inr (inr (rw (a, b, c))))) (λ c. inr (inr (inl (rw (a, b, c))))))
-      (λ b. inr (inl (rw (a, b)))))
-      (λ a. inl (rw a));
-  as_given = withdraw_refused st s;
-  leaves = λ cells e.
-      let (a, b, c) = told e in
-      rw (a, lt-ltb s slot_count b, c) (withdrawal_leaves st (record { slots = cells.slots; order = cells.order }) (sound_facts st a) s b c);
-  stuck = λ ws e. let (a, _, b, c, _, _) = step_told st ws s e in rw (a, lt-ltb s slot_count b, c);
-}
-  where
-    told : {a : Answer} → (withdrawn st s).answer ≡ a → WithdrawTells st s a
-    told e = subst (WithdrawTells st s) e (withdraw_tells st s)
 
 -- the tests of making, put together and taken apart
 in_range : (k n : ℕ) (ws : List ℕ) → k_in_range k && n_in_range n && eqb (length ws) (pool_length k n) ≡ true → MakingInRange k n ws
@@ -501,4 +441,4 @@ open_demand k n ws = record {
     told e = subst (OpenTells k n ws) e (open_tells k n ws)
 
 pub demand1 : Demand1
-demand1 = record { begin = begin_demand; step = step_demand; report = report_demand; withdraw = withdraw_demand; make = make_demand; opening = open_demand; sound_state = sound_is; numbers = numbers }
+demand1 = record { begin = begin_demand; step = step_demand; report = report_demand; make = make_demand; opening = open_demand; sound_state = sound_is; numbers = numbers }

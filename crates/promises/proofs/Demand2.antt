@@ -29,16 +29,15 @@ use Rattle.slots.specs.declared.State.{State}
 use Rattle.slots.specs.declared.Lock.TheVariants.{Xi}
 use Rattle.slots.specs.declared.Outcome.{Outcome}
 use Rattle.slots.specs.declared.Answer.{Answer}
-use Rattle.slots.specs.declared.Answer.TheVariants.{Waiting, Moved, BadSlot, SlotIdle}
+use Rattle.slots.specs.declared.Answer.TheVariants.{Waiting, Moved, NoRoom, BadSlot, SlotIdle}
 use Rattle.slots.specs.Parts.{is_delete, is_next, is_second, is_third, first_way, held_lock, converting, goes_beside, is_open, held, held_locks, path_of, beside_of, Stand, fresh_stand, holding, stand_of, slot_of, slot_at, open_at, want_at, holds_at, waiting_order, closed_slot, Opened}
 use Rattle.slots.specs.Locks.{lock_held_at, lock_wanted_at, clash}
 use Rattle.slots.specs.Sound.{within_limits}
-use Rattle.slots.specs.Heard.{number_of, changes_nothing, is_one_of, ending}
+use Rattle.slots.specs.Heard.{number_of, changes_nothing, is_one_of, counted_answers, ending}
 use Rattle.slots.specs.Report.{reported}
 use Rattle.slots.specs.Grant.{grants, older_than}
 use Rattle.slots.specs.Book.{begins, goes_on, closes}
 use Rattle.slots.specs.Begin.{begun}
-use Rattle.slots.specs.Withdraw.{withdrawn}
 use Rattle.slots.proofs.SoundFacts.{facts_sound}
 use Rattle.slots.proofs.LockLaws.{among_once, third_not_second}
 use Rattle.slots.proofs.OrderLaws.{order_has_room, leaving_between, waiting_begins, waiting_requeued, waiting_closes}
@@ -47,10 +46,10 @@ use Rattle.footing.specs.Granted.{Verdict, broken, goes, ends, is_safe, answered
 use Rattle.footing.specs.Fitting.{verdict}
 use Rattle.footing.proofs.KeepLaws.{second_safe, regrade_safe}
 use Rattle.index.specs.Step.{Left, left, acted, stepped}
-use Rattle.tree.specs.Tree.{Tr}
+use Rattle.tree.specs.Tree.{Tr, entries_of}
 use Rattle.tree.specs.Change.{written_pages}
 use Rattle.tree.proofs.Words.{fit_writes, outside_words}
-use Rattle.runs.specs.Calls.{Call, begin, step, report, withdraw, called, answers_of}
+use Rattle.runs.specs.Calls.{Call, begin, step, report, called, answers_of}
 use Rattle.runs.specs.Run.{run_from}
 use Rattle.runs.specs.Stance.{Safe, Converting, Stance, Takes, held_due}
 use Rattle.runs.specs.Waits.{Barred}
@@ -61,7 +60,7 @@ use Rattle.runs.proofs.Locking.{paired, held_with}
 use Rattle.runs.proofs.Turning.{scene_ordered, turn_once, in_turn_lem}
 use Rattle.runs.proofs.Stepping.{turned_all}
 use Rattle.runs.proofs.Calls.{StepOf, no_slot, idle, waits, onward, over, step_of, granted_does}
-use Rattle.runs.proofs.Runs.{call_keeps, call_numbers, BeginOf, no_such, busy, blank, begins_so, begin_of, ReportOf, no_page, tells, report_of, WithdrawOf, none_there, shut_already, hangs_up, withdraw_of, holds_after, numbers_after}
+use Rattle.runs.proofs.Runs.{call_keeps, call_numbers, BeginOf, no_such, busy, blank, begins_so, begin_of, ReportOf, no_page, tells, report_of, holds_after, numbers_after}
 use Rattle.runs.proofs.Barring.{coming_above}
 use Rattle.runs.proofs.Progress.{barred, barred_waits, older_other, older_waits, opened}
 use Rattle.runs.proofs.Older.{older_before, before_older}
@@ -69,14 +68,13 @@ use Rattle.runs.proofs.PlainLaws.{none_below, below_none}
 use Rattle.runs.proofs.Verdicts.{EndsIf, still_by, coming_stays}
 use Rattle.runs.proofs.Measure.{Where, at_start, on_the_way, at_the_leaf, in_turns}
 use Rattle.runs.proofs.MeasureLaws.{start_above, low_above, where_slot}
-use Rattle.runs.proofs.Accounts.{ends_so}
+use Rattle.runs.proofs.Agreement.{plain_counted}
 use Rattle.promises.specs.Terms.{Exactly, HoldsAs, GoesWith, BySecond, Converted, SiblingsDone}
 use Rattle.promises.specs.Demand2.{AfterEveryCall, Anew, HasXi, Seen, InTheWay, StepLocks, CallLocks, Words, Demand2Holds}
 use Rattle.promises.proofs.Terms.{in_member, together_told, clash_apart, apart_clash, kind_is, second_named, named_second, third_named, named_third, converts_here, here_converts, holds_as, as_held, sound_kind, wants_as}
 use Rattle.promises.proofs.Known.{known_told, known_from, turn_alone, turn_both}
 use Rattle.promises.proofs.SoundState.{sound_is}
 use Rattle.promises.proofs.Seen.{step_seen}
-use Rattle.promises.proofs.Withdrawing.{withdrawal_leaves, way_after, steps_same}
 
 -- ---- an update by the second way ends
 
@@ -435,14 +433,24 @@ module _ (st : State) (ws : List ℕ) (inv : Invariant st ws) where
       (λ free. level (ap (λ (P : Page). P.level) (inv.forms.forms.others q b free)))
       (e.only q w))
 
-  -- an operation does not end with Waiting
+  -- an operation ends with an answer that ends
+  ends_so : (op : Op) (s : ℕ) (a : Answer) (writes : List Write)
+      → Ended st.k st.n ws inv.height inv.tree (stand_of op (slot_at st s)) a writes → is_one_of a ending ≡ true
+  unfolding member
+  ends_so op s a writes e =
+      ⊎_elim
+      (λ p. or_second (eqb (number_of a) (number_of NoRoom)) (ap (λ (x : Answer). is_one_of x counted_answers) p.answer ∙ plain_counted op (entries_of inv.height inv.tree)))
+      (λ r. ap (λ (x : Answer). is_one_of x ending) r.0.answer)
+      e.how
+
+  -- which is not Waiting
   ends_waiting : (op : Op) (s : ℕ) (a : Answer) (writes : List Write)
       → Ended st.k st.n ws inv.height inv.tree (stand_of op (slot_at st s)) a writes → is_one_of a (Waiting ∷ []) ≡ false
   unfolding member
   ends_waiting op s a writes e =
       false_if_not_true (is_one_of a (Waiting ∷ [])) (λ w.
       let same : number_of a ≡ number_of Waiting = ⊎_elim (λ h. eqb-true (number_of a) (number_of Waiting) h) (λ h. absurd (false≢true h)) (or_cases (eqb (number_of a) (number_of Waiting)) false w) in
-      not_both (ends_so st ws inv s op a writes e) (ap (λ (m : ℕ). member m (map number_of ending)) same))
+      not_both (ends_so op s a writes e) (ap (λ (m : ℕ). member m (map number_of ending)) same))
 
   ended : (s : ℕ) (b : s < slot_count) (op : Op) (a : Answer) (writes : List Write) → Opened st s op → grants st s ≡ true
       → Ended st.k st.n ws inv.height inv.tree (stand_of op (slot_at st s)) a writes
@@ -453,21 +461,21 @@ module _ (st : State) (ws : List ℕ) (inv : Invariant st ws) where
     itself = inr (inr (record {
       op = op;
       opened = runs;
-      answer = ends_so st ws inv s op a writes e;
+      answer = ends_so op s a writes e;
       nothing = ap held here;
       closed = ap (λ (sl : Slot). is_open sl.task) here;
       order = waiting_closes st s order_long (inv.sound.order_names s b (ap is_open runs));
       writes = untouched s op a writes runs e;
       reads = λ other. ap (λ (W : List Write). applied st.k W ws) (e.writers other);
       regrades = λ old told-so q other. unwritten s op a writes e q (λ w. other (e.regrades old told-so q w));
-      stays = λ second. stays_second_lem st ws inv s op b runs g (subst (λ (r : Left). is_one_of r.answer ending ≡ true) (sym told) (ends_so st ws inv s op a writes e)) second;
+      stays = λ second. stays_second_lem st ws inv s op b runs g (subst (λ (r : Left). is_one_of r.answer ending ≡ true) (sym told) (ends_so op s a writes e)) second;
       turned = λ third. (
         (λ changes. converts_here (stand_of op (slot_at st s)) (sym (e.turned (named_third op third)) ∙ changes)),
         (λ own. e.turned (named_third op third) ∙ here_converts (stand_of op (slot_at st s)) own),
       );
       all_xi = λ third own q h.
           let (a', writes', is) = verdict_ends st ws s (verdict st.k st.n ws (stand_of op (slot_at st s)))
-          (subst (λ (r : Left). is_one_of r.answer ending ≡ true) (sym told ∙ granted_does st ws inv s op b runs g) (ends_so st ws inv s op a writes e)) in
+          (subst (λ (r : Left). is_one_of r.answer ending ≡ true) (sym told ∙ granted_does st ws inv s op b runs g) (ends_so op s a writes e)) in
           all_turned st ws inv s op b runs (here_converts (stand_of op (slot_at st s)) own) a' writes' is q (in_member q (held (slot_at st s)) h);
       seen = subst (λ (r : Left). Seen (page_at st.k ws (want_at st s)) r.answer) told (step_seen st ws inv s op b runs g);
     }));
@@ -512,27 +520,11 @@ module _ (st : State) (ws : List ℕ) (inv : Invariant st ws) where
         others = λ u n. slot_other st inv.shaped s b (slot_of (fresh_stand op)) [] 0 u n;
       }))
 
-  withdraw_locks : (s : ℕ) → WithdrawOf st s → CallLocks st ws (withdraw s) (called st ws (withdraw s))
-  unfolding called
-  withdraw_locks s (none_there b e) = subst (λ (r : Outcome). CallLocks st ws (withdraw s) (left r.answer r.state ws)) (sym e) (inl (record { answer = refl; state = refl; words = refl }))
-  withdraw_locks s (shut_already b c e) = subst (λ (r : Outcome). CallLocks st ws (withdraw s) (left r.answer r.state ws)) (sym e) (inl (record { answer = refl; state = refl; words = refl }))
-  withdraw_locks s (hangs_up b o e) =
-      subst (λ (r : Outcome). CallLocks st ws (withdraw s) (left r.answer r.state ws)) (sym e)
-      (inr (record {
-        answer = refl;
-        words = refl;
-        opened = o;
-        leaves = withdrawal_leaves st inv.shaped inv.sound s b o;
-        in_the_way = way_after st inv.shaped inv.sound s b o;
-        same = steps_same st inv.shaped inv.sound s b o ws;
-      }))
-
   call_locks : (c : Call) → CallLocks st ws c (called st ws c)
   unfolding called
   call_locks (begin s op) = begin_locks s op (begin_of st ws inv s op)
   call_locks (step s) = step_locks s (step_of st ws inv s)
   call_locks (report p) = (refl, refl)
-  call_locks (withdraw s) = withdraw_locks s (withdraw_of st ws inv s)
 
   -- ---- what is heard
 
@@ -552,25 +544,18 @@ module _ (st : State) (ws : List ℕ) (inv : Invariant st ws) where
   step_heard s (over op a writes b runs g e done) =
       ap (λ (r : Left). is_one_of r.answer (answers_of (step s))) e
       ∙ or_second (eqb (number_of a) (number_of Waiting)) (or_second (eqb (number_of a) (number_of Moved))
-      (or_second (eqb (number_of a) (number_of BadSlot)) (or_second (eqb (number_of a) (number_of SlotIdle)) (ends_so st ws inv s op a writes done))))
+      (or_second (eqb (number_of a) (number_of BadSlot)) (or_second (eqb (number_of a) (number_of SlotIdle)) (ends_so op s a writes done))))
 
   report_heard : (p : ℕ) → ReportOf st p → is_one_of (reported st p) (answers_of (report p)) ≡ true
   unfolding member
   report_heard p (no_page b e) = ap (λ (a : Answer). is_one_of a (answers_of (report p))) e
   report_heard p (tells b e) = ap (λ (a : Answer). is_one_of a (answers_of (report p))) e
 
-  withdraw_heard : (s : ℕ) → WithdrawOf st s → is_one_of (withdrawn st s).answer (answers_of (withdraw s)) ≡ true
-  unfolding member
-  withdraw_heard s (none_there b e) = ap (λ (r : Outcome). is_one_of r.answer (answers_of (withdraw s))) e
-  withdraw_heard s (shut_already b c e) = ap (λ (r : Outcome). is_one_of r.answer (answers_of (withdraw s))) e
-  withdraw_heard s (hangs_up b o e) = ap (λ (r : Outcome). is_one_of r.answer (answers_of (withdraw s))) e
-
   pub call_heard : (c : Call) → is_one_of (called st ws c).answer (answers_of c) ≡ true
   unfolding called
   call_heard (begin s op) = begin_heard s op (begin_of st ws inv s op)
   call_heard (step s) = step_heard s (step_of st ws inv s)
   call_heard (report p) = report_heard p (report_of st ws inv p)
-  call_heard (withdraw s) = withdraw_heard s (withdraw_of st ws inv s)
 
 -- ---- the words of the rules
 

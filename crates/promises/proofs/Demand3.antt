@@ -1,4 +1,4 @@
--- Demand 3 holds: agreement, accounts, room, no standstill, rounds and counts, read off what holds of every state of a run.
+-- Demand 3 holds: agreement, room, no standstill, rounds and counts, read off what holds of every state of a run.
 use Prim.Native.Nat.{ℕ, ◌*◌, ◌<◌}
 use mathlib.Core.Bool.{true}
 use mathlib.Core.List.{List, [], ◌∷◌, ◌++◌}
@@ -15,15 +15,13 @@ use Rattle.tree.proofs.Sorted.{rises_within}
 use Rattle.tree.proofs.Search.{within_entries}
 use Rattle.runs.specs.Run.{Call, Start, run_from, InWords, Run}
 use Rattle.runs.specs.Plain.{plain}
-use Rattle.runs.specs.Done.{nobody, plain_entries}
+use Rattle.runs.specs.Done.{plain_entries}
 use Rattle.runs.proofs.Invariant.{Invariant}
 use Rattle.runs.proofs.Runs.{holds_after, numbers_after, forms_with, words_before, Ready, start_ready}
 use Rattle.runs.proofs.Progress.{some_can_go, opened}
 use Rattle.runs.proofs.Agreement.{entries_in, same_entries, agreement}
 use Rattle.runs.proofs.PlainLaws.{plain_facts}
 use Rattle.runs.proofs.Rounds.{rounds_close}
-use Rattle.runs.proofs.Accounts.{begun_accounted, listed_on}
-use Rattle.runs.proofs.PassedOver.{passed_over}
 use Rattle.runs.proofs.Counts.{granted_heard, counts_from}
 use Rattle.promises.specs.Demand3.{Agreement, Room, SomeGoes, Demand3Holds}
 use Rattle.promises.proofs.Room.{room}
@@ -88,10 +86,6 @@ demand3 start cs r =
     record {
       agreement = agrees_so start cs r;
       every_moment = λ before rest e. agrees_so start before (run_before start cs before rest e r);
-      passes_over = λ before between s e heard quiet.
-          let (added, list, others) = passed_over start before between s (subst (Run start) e r) heard quiet in
-          record { added = added; list = list; others = others };
-      accounts = λ s. record { begun = begun_accounted start cs r s; ended = listed_on s cs (run_from start cs).answers nobody };
       plain_list = λ ops. plain_facts (plain_entries ops start.entries) (plain_rises ops start.entries (start_rises start (start_ready start r.starts)));
       room = subst (λ (m : ℕ). Room k m st after) numbers.1 (subst (λ (m : ℕ). Room m st.n st after) numbers.0 (room st after inv));
       some_goes = some_goes st after inv;

@@ -4,7 +4,6 @@ pub mod SoundState
 pub mod Known
 pub mod Report
 pub mod Seen
-pub mod Withdrawing
 pub mod Demand2
 pub mod Turned
 pub mod SoundPages

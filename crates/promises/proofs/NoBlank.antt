@@ -27,7 +27,7 @@ use Rattle.footing.specs.Granted.{next_answer}
 use Rattle.index.specs.Step.{stepped}
 use Rattle.tree.specs.Tree.{Tr, entries_of, occurs, PoolForms}
 use Rattle.tree.proofs.SoundPages.{sound_pages}
-use Rattle.runs.specs.Calls.{Call, begin, step, report, withdraw, called, answers_of}
+use Rattle.runs.specs.Calls.{Call, begin, step, report, called, answers_of}
 use Rattle.runs.specs.Run.{run, Start, run_from, InWords, Run}
 use Rattle.runs.specs.Plain.{Reply, plain}
 use Rattle.runs.specs.PlainFacts.{Missing}
@@ -119,7 +119,6 @@ module _ (st : State) (ws : List ℕ) (inv : Invariant st ws) where
   call_names (begin s op) = other_names (begin s op) (called st ws (begin s op)).answer refl (call_heard st ws inv (begin s op))
   call_names (step s) = step_names s (step_does st ws inv s)
   call_names (report p) = other_names (report p) (called st ws (report p)).answer refl (call_heard st ws inv (report p))
-  call_names (withdraw s) = other_names (withdraw s) (called st ws (withdraw s)).answer refl (call_heard st ws inv (withdraw s))
 
 run_names : (cs : List Call) (st : State) (ws : List ℕ) → Invariant st ws → InWords cs
     → all (λ (a : Answer). not (names_blank a)) (run cs st ws).answers ≡ true

@@ -25,7 +25,7 @@ use Rattle.slots.specs.Book.{closes}
 use Rattle.footing.specs.Granted.{next_answer}
 use Rattle.index.specs.Step.{Left, left, stepped}
 use Rattle.tree.specs.Tree.{Tr, entries_of, PoolForms}
-use Rattle.runs.specs.Run.{Call, begin, step, report, withdraw, called, run, run_from, CallInWords, InWords}
+use Rattle.runs.specs.Run.{Call, begin, step, report, called, run, run_from, CallInWords, InWords}
 use Rattle.runs.specs.Plain.{Reply, plain}
 use Rattle.runs.specs.PlainFacts.{Among, FirstFrom, PlainFacts}
 use Rattle.runs.specs.Step.{Ended}
@@ -128,7 +128,6 @@ module _ (st : State) (ws : List ℕ) (inv : Invariant st ws) where
   call_does (begin s op) l t f = keeps (same_entries st.k st.n ws l t inv.height inv.tree f inv.forms)
   call_does (step s) l t f = on_step s (step_does st ws inv s) l t f
   call_does (report p) l t f = keeps (same_entries st.k st.n ws l t inv.height inv.tree f inv.forms)
-  call_does (withdraw s) l t f = keeps (same_entries st.k st.n ws l t inv.height inv.tree f inv.forms)
 
   -- the tree that stands after a call, with the numbers from before
   forms_after : (c : Call) (h : CallInWords c) → PoolForms st.k st.n (called st ws c).words (call_keeps st ws inv c h).height (call_keeps st ws inv c h).tree

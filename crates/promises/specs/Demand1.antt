@@ -1,9 +1,9 @@
 -- Demand 1, call by call: which answer is heard, exactly when, and what is then left.
 -- "Whatever slots, keys, states and page words come in, every call ends, strays nowhere and refuses what it cannot use. Nothing
 -- is left for the caller to check first. A refused call leaves pages, locks and waiting order exactly as found."
--- State, words and numbers are any here: no record asks anything of them but that arrays have the cells that their types say: of a step, its slot's,
--- and where a withdrawal is said to leave a state, that state's. That a call ends and strays nowhere, and that it
--- answers and leaves what `begun`, `stepped`, `reported`, `withdrawn`, `made` and `opened` say, is proved of the code, where no public call has a
+-- State, words and numbers are any here: no record asks anything of them but, of a step, that the slot has the cells
+-- that its type says. That a call ends and strays nowhere, and that it
+-- answers and leaves what `begun`, `stepped`, `reported`, `made` and `opened` say, is proved of the code, where no public call has a
 -- `requires`.
 -- Each record has 01's table for its call, row by row in 01's order. A row is heard exactly if it applies and none before it does.
 use Rattle.std.specs.Prelude.{ℕ, ◌≤◌, ◌<◌, true, false, List, ◌⊎◌, ◌≢◌, ◌≡◌, length, replicate}
@@ -16,14 +16,13 @@ use Rattle.slots.specs.declared.Task.TheVariants.{Closed, Open}
 use Rattle.slots.specs.declared.Slot.{Slot}
 use Rattle.slots.specs.declared.State.{State}
 use Rattle.slots.specs.declared.Lock.{Lock}
-use Rattle.slots.specs.declared.Answer.TheVariants.{Waiting, Begun, Made, Reported, BadState, BadPool, BadSlot, SlotBusy, SlotIdle, Damaged, BadPage, Opened, BadPageInPool, BadTree, BadKey, Withdrawn}
+use Rattle.slots.specs.declared.Answer.TheVariants.{Waiting, Begun, Made, Reported, BadState, BadPool, BadSlot, SlotBusy, SlotIdle, Damaged, BadPage, Opened, BadPageInPool, BadTree, BadKey}
 use Rattle.slots.specs.Heard.{refuses, changes_nothing}
 use Rattle.slots.specs.Parts.{stand_of, slot_at, open_at, idle_state}
 use Rattle.slots.specs.Sound.{sound}
 use Rattle.slots.specs.Grant.{grants}
 use Rattle.slots.specs.Begin.{begun}
 use Rattle.slots.specs.Report.{reported}
-use Rattle.slots.specs.Withdraw.{withdrawn}
 use Rattle.index.specs.Step.{of_granted, stepped}
 use Rattle.index.specs.Make.{made}
 use Rattle.index.specs.Open.{opened}
@@ -32,7 +31,6 @@ use Rattle.runs.specs.PlainFacts.{Missing}
 use Rattle.promises.specs.Terms.{Exactly, Blank}
 use Rattle.promises.specs.SoundState.{Numbers, IsSound}
 use Rattle.promises.specs.Report.{Reports}
-use Rattle.promises.specs.Withdraw.{InCells, WithdrawalLeaves}
 use Rattle.promises.specs.SoundPages.{PageSound, SoundForStep}
 
 -- "Order. Begin: 1, 3, 4."; 02 (viii): 8 "after SlotBusy". Begin is handed no words, so it leaves them.
@@ -101,25 +99,6 @@ pub record ReportDemand (st : State) (p : ℕ) : Type 0 where
       → Exactly (reported st p ≡ Reported kind count lowest) ((sound st ≡ true) × (p < st.n) × Reports st p kind count lowest)
   pub no_other : (reported st p ≡ BadState) ⊎ (reported st p ≡ BadPage) ⊎ ((kind : Lock) × (count : ℕ) × (lowest : ℕ) × (reported st p ≡ Reported kind count lowest))
 
--- 02 (ix): "Checks are BadState, BadSlot, SlotIdle, in that order; the pool is not looked at." A withdrawal is handed no words, so it leaves them: "no
--- word changes".
-pub record WithdrawDemand (st : State) (s : ℕ) : Type 0 where
-  -- 1, "the state is not sound"
-  pub bad_state : Exactly ((withdrawn st s).answer ≡ BadState) (sound st ≡ false)
-  -- 3, "slot above 15"
-  pub bad_slot : Exactly ((withdrawn st s).answer ≡ BadSlot) ((sound st ≡ true) × (slot_count ≤ s))
-  -- 5, of a closed slot
-  pub slot_idle : Exactly ((withdrawn st s).answer ≡ SlotIdle) ((sound st ≡ true) × (s < slot_count) × (open_at st s ≡ false))
-  -- "Let a slot be withdrawn (answer: Withdrawn).": every open one
-  pub withdraws : Exactly ((withdrawn st s).answer ≡ Withdrawn) ((sound st ≡ true) × (s < slot_count) × (open_at st s ≡ true))
-  pub no_other : ((withdrawn st s).answer ≡ BadState) ⊎ ((withdrawn st s).answer ≡ BadSlot) ⊎ ((withdrawn st s).answer ≡ SlotIdle) ⊎ ((withdrawn st s).answer ≡ Withdrawn)
-  -- "A refused call leaves pages, locks and waiting order exactly as found."
-  pub as_given : refuses (withdrawn st s).answer ≡ true → (withdrawn st s).state ≡ st
-  -- otherwise it leaves what `WithdrawalLeaves` says
-  pub leaves : InCells st → (withdrawn st s).answer ≡ Withdrawn → WithdrawalLeaves st s (withdrawn st s).state
-  -- "It also closes a slot stuck at Damaged.": whatever words it met
-  pub stuck : (ws : List ℕ) → (stepped st ws s).answer ≡ Damaged → (withdrawn st s).answer ≡ Withdrawn
-
 -- "k is 1 to 16. .. The pool has N pages, 1 to 1,024, .. and exactly N(4k+3) words."
 pub record MakingInRange (k n : ℕ) (ws : List ℕ) : Type 0 where
   pub k_least : 1 ≤ k
@@ -187,7 +166,6 @@ pub record Demand1 : Type 0 where
   pub begin : (st : State) (s : ℕ) (op : Op) → BeginDemand st s op
   pub step : (st : State) (ws : List ℕ) (s : ℕ) → Celled (slot_at st s) → StepDemand st ws s
   pub report : (st : State) (p : ℕ) → ReportDemand st p
-  pub withdraw : (st : State) (s : ℕ) → WithdrawDemand st s
   pub make : (k n : ℕ) (ws : List ℕ) → MakeDemand k n ws
   pub opening : (k n : ℕ) (ws : List ℕ) → OpenDemand k n ws
   -- a sound state, of which they speak by the rule's test, in plain terms

@@ -6,7 +6,6 @@
 -- 02 (vi), kinds of lock: `AfterEveryCall`, its fields locks and held_as; the third way: `MovesOn`, its field takes; `Ends`, its fields turned and all_xi;
 -- `InTheWay`, conversions.
 -- 02 (vii): "Demands 2 and 3 then also start from an accepted pool": what is said here is said of every start (`IsStart`).
--- 02 (ix), a slot withdrawn: `Withdraws`.
 -- 02 (v), updates by the second way: `AfterEveryCall`, its fields wants_as, second_held and second_above; `MovesOn`, its field taken; `Ends`, its
 -- fields writes and stays.
 use Rattle.std.specs.Prelude.{ℕ, suc, ◌-◌, ◌≤◌, ◌<◌, true, false, not, List, [], ◌∷◌, ◌++◌, ◌⊎◌, ◌≢◌, ◌≡◌, length, get_or, replicate}
@@ -25,23 +24,22 @@ use Rattle.slots.specs.declared.Lock.TheVariants.{None, Xi}
 use Rattle.slots.specs.declared.Slot.{Slot}
 use Rattle.slots.specs.declared.State.{State}
 use Rattle.slots.specs.declared.Answer.{Answer}
-use Rattle.slots.specs.declared.Answer.TheVariants.{Waiting, Moved, Begun, NoRoom, Next as NextLot, Regraded, Withdrawn}
+use Rattle.slots.specs.declared.Answer.TheVariants.{Waiting, Moved, Begun, NoRoom, Next as NextLot, Regraded}
 use Rattle.slots.specs.Parts.{key_of, is_delete, is_next, is_second, is_third, first_way, held_lock, goes_beside, held, held_locks, under, Stand, on_pages, stand_of, slot_at, open_at, want_at, holds_at, waiting_order, Opened}
 use Rattle.slots.specs.Locks.{lock_held, lock_wanted, clash}
-use Rattle.slots.specs.Grant.{older_than, grants}
+use Rattle.slots.specs.Grant.{older_than}
 use Rattle.slots.specs.Sound.{sound}
 use Rattle.slots.specs.Heard.{changes_nothing, is_one_of, ending, writing}
 use Rattle.slots.specs.Book.{leaving}
 use Rattle.footing.specs.Granted.{is_safe, answered_at_once, change_known, pages_in_turn}
-use Rattle.index.specs.Step.{Left, stepped}
+use Rattle.index.specs.Step.{Left}
 use Rattle.tree.specs.Tree.{Tr, occurs, PoolForms}
-use Rattle.runs.specs.Calls.{Call, begin, step, report, withdraw, called, CallInWords, answers_of}
+use Rattle.runs.specs.Calls.{Call, begin, step, report, called, CallInWords, answers_of}
 use Rattle.runs.specs.Run.{Start, run_from, Run}
 use Rattle.runs.specs.Stance.{Safe, Stance, Takes}
 use Rattle.runs.specs.Waits.{Barred, Before}
 use Rattle.runs.specs.PlainFacts.{Among, AllBelow}
 use Rattle.promises.specs.Terms.{Exactly, Holds, GoTogether, HoldsAs, GoesWith, BySecond, ByThird, Converts, WantsXi, WantsAs, Converted, NoMore}
-use Rattle.promises.specs.Withdraw.{WithdrawalLeaves}
 
 -- ---- after every call
 
@@ -181,25 +179,11 @@ pub record Begins (st : State) (ws : List ℕ) (s : ℕ) (op : Op) (after : Left
   pub order : waiting_order after.state ≡ waiting_order st ++ s ∷ []
   pub others : (u : ℕ) → u ≢ s → slot_at after.state u ≡ slot_at st u
 
--- 02 (ix): "A buyer hangs up."
-pub record Withdraws (st : State) (ws : List ℕ) (s : ℕ) (after : Left) : Type 0 where
-  pub answer : after.answer ≡ Withdrawn
-  -- "no word changes", and so no entry
-  pub words : after.words ≡ ws
-  pub opened : open_at st s ≡ true
-  pub leaves : WithdrawalLeaves st s after.state
-  -- in another slot's way are then just those who were, but for the slot itself
-  pub in_the_way : (u : ℕ) → u ≢ s → Exactly (InTheWay after.state u) ((w : InTheWay st u) × (w.slot ≢ s))
-  -- and whoever could be granted before it does after it what he would have done
-  pub same : (u : ℕ) → u ≢ s → grants st u ≡ true
-      → ((stepped after.state ws u).answer ≡ (stepped st ws u).answer) × ((stepped after.state ws u).words ≡ (stepped st ws u).words)
-
 -- by call
 abbrev pub CallLocks : State → List ℕ → Call → Left → Type 0
 CallLocks st ws (begin s op) after = Unchanged st ws after ⊎ Begins st ws s op after
 CallLocks st ws (step s) after = StepLocks st ws s after
 CallLocks st ws (report p) after = (after.state ≡ st) × (after.words ≡ ws)
-CallLocks st ws (withdraw s) after = Unchanged st ws after ⊎ Withdraws st ws s after
 
 -- ---- the words of the rules that are used above, pinned
 

@@ -6,9 +6,8 @@
 -- Next of 02 (i) is among the operations: "Demand 3's sorted list learns this question." So is the regrading of 02 (iv): "Demand 3's
 -- list learns the operation." 02 (v): an update by the second way ends once, whether it began again or not. 02 (vi): "A deletion takes at most 19 grants
 -- and 19 conversions: 16 × 38 = 608 rounds." 02 (vii): "Demands 2 and 3 then also start from an accepted pool, the sorted list beginning with its
--- entries.": what is said here is said of every start (`IsStart`). 02 (ix): "Demand 3's list passes over withdrawn operations, and the rounds are counted from
--- the last begin.": `PassedOver`, `Accounts`, and `Round` of runs.
-use Rattle.std.specs.Prelude.{ℕ, ◌+◌, ◌*◌, ◌≤◌, ◌<◌, true, false, List, ◌∷◌, ◌++◌, ◌⊎◌, ◌≢◌, ◌≡◌, length}
+-- entries.": what is said here is said of every start (`IsStart`).
+use Rattle.std.specs.Prelude.{ℕ, ◌+◌, ◌*◌, ◌≤◌, ◌<◌, true, false, List, ◌++◌, ◌⊎◌, ◌≢◌, ◌≡◌, length}
 use Rattle.ground.specs.Limits.{slot_count, slot_grants, rounds_enough}
 use Rattle.page.specs.Words.{is_leaf}
 use Rattle.page.specs.Place.{has, information}
@@ -18,7 +17,7 @@ use Rattle.slots.specs.declared.Op.TheVariants.{Insert}
 use Rattle.slots.specs.declared.Way.{Way}
 use Rattle.slots.specs.declared.Way.TheVariants.{First, Third}
 use Rattle.slots.specs.declared.State.{State}
-use Rattle.slots.specs.declared.Answer.TheVariants.{Inserted, AlreadyThere, NoRoom, Moved, Withdrawn}
+use Rattle.slots.specs.declared.Answer.TheVariants.{Inserted, AlreadyThere, NoRoom, Moved}
 use Rattle.slots.specs.Parts.{open_at, want_at, Opened}
 use Rattle.slots.specs.Grant.{grants}
 use Rattle.slots.specs.Heard.{changes_nothing}
@@ -26,8 +25,8 @@ use Rattle.index.specs.Step.{Left, stepped}
 use Rattle.tree.specs.Tree.{Tr, entries_of, PoolForms}
 use Rattle.tree.specs.Facts.{page_count}
 use Rattle.tree.specs.Insertion.{tree_room}
-use Rattle.runs.specs.Run.{Call, withdraw, called, Told, run, Start, run_from, Run}
-use Rattle.runs.specs.Done.{Done, nobody, done, plain_answers, plain_entries, ops_of, answers_in, begun_of, ended_of, no_room_of, withdrawn_of, open_of, listed_of}
+use Rattle.runs.specs.Run.{Call, Told, Start, run_from, Run}
+use Rattle.runs.specs.Done.{Done, nobody, done, plain_answers, plain_entries, ops_of, answers_in}
 use Rattle.runs.specs.PlainFacts.{PlainFacts}
 use Rattle.runs.specs.Rounds.{RoundsClose}
 use Rattle.runs.specs.Counts.{CountsFrom}
@@ -49,26 +48,6 @@ pub record Agreement (start : Start) (cs : List Call) (r : Told) : Type 0 where
   pub forms : PoolForms start.state.k start.state.n r.words height tree
   pub only : (l : ℕ) (t : Tr l) → PoolForms start.state.k start.state.n r.words l t → entries_of l t ≡ entries_of height tree
   pub entries : entries_of height tree ≡ plain_entries (ops_of (done_in cs r)) start.entries
-
--- ---- operations that are withdrawn
-
--- what the withdrawal of slot s answers and leaves, called after these
-abbrev pub withdrawal : Start → List Call → ℕ → Left
-withdrawal start before s = called (run_from start before).state (run_from start before).words (withdraw s)
-
--- 02 (ix): "Demand 3's list passes over withdrawn operations". After the calls `before` slot s is withdrawn, and then come the calls `between`, of which none
--- begins an operation in it: what they add to the list is none of its operations. So until an operation is begun there again nothing of the slot is listed.
-pub record PassedOver (start : Start) (before between : List Call) (s : ℕ) : Type 0 where
-  pub added : List Done
-  pub list : done_in (before ++ withdraw s ∷ between) (run_from start (before ++ withdraw s ∷ between)) ≡ done_in before (run_from start before) ++ added
-  pub others : listed_of s added ≡ 0
-
--- What became of the operations that were begun in slot s, as an exact count: each of them is in one place.
-pub record Accounts (s : ℕ) (cs : List Call) (r : Told) : Type 0 where
-  -- each has ended with an answer, or was withdrawn, or is open still
-  pub begun : begun_of s cs r ≡ ended_of s cs r + withdrawn_of s cs r + open_of r.state s
-  -- "list the ended operations, save those answered "no room"": of those that ended each is listed, or was answered so
-  pub ended : ended_of s cs r ≡ listed_of s (done_in cs r) + no_room_of s cs r
 
 -- ---- room
 
@@ -122,12 +101,6 @@ pub record Demand3 (start : Start) (cs : List Call) : Type 0 where
   pub agreement : Agreement start cs (run_from start cs)
   -- "at every moment": it holds of every run, and so after each of a run's calls
   pub every_moment : (before rest : List Call) → cs ≡ before ++ rest → Agreement start before (run_from start before)
-  -- 02 (ix): "Demand 3's list passes over withdrawn operations": where none is begun in the slot again, as the answers tell
-  pub passes_over : (before between : List Call) (s : ℕ) → cs ≡ before ++ withdraw s ∷ between → (withdrawal start before s).answer ≡ Withdrawn
-      → begun_of s between (run between (withdrawal start before s).state (withdrawal start before s).words) ≡ 0
-      → PassedOver start before between s
-  -- slot by slot: nothing that was begun is lost, and what was withdrawn is not listed
-  pub accounts : (s : ℕ) → Accounts s cs (run_from start cs)
   -- what the plain list means
   pub plain_list : (ops : List Op) → PlainFacts (plain_entries ops start.entries)
   -- ""No room" changes nothing and comes exactly when a new key needs more pages than are free."

@@ -21,5 +21,3 @@ pub mod BlankRows
 pub mod Regrading
 pub mod Reopening
 pub mod NoBlank
-pub mod Withdraw
-pub mod WithdrawRows

@@ -22,7 +22,6 @@ use Rattle.slots.specs.declared.Answer.TheVariants.{Waiting, Moved, Begun, BadSl
 use Rattle.slots.specs.Parts.{first_way, Stand, fresh_stand, stand_of, slot_of, slot_at, closed_slot, Opened}
 use Rattle.slots.specs.Heard.{is_one_of, counted_answers}
 use Rattle.slots.specs.Book.{rewritten, begins, goes_on, closes}
-use Rattle.slots.specs.Withdraw.{withdrawn}
 use Rattle.slots.proofs.OrderLaws.{same_or_not}
 use Rattle.slots.proofs.Keeping.{slot_here, slot_other}
 use Rattle.footing.specs.Granted.{next_answer}
@@ -31,14 +30,14 @@ use Rattle.tree.specs.Tree.{Tr, entries_of, PoolForms}
 use Rattle.tree.specs.Facts.{AnyTree}
 use Rattle.tree.proofs.Determined.{pool_determined}
 use Rattle.tree.proofs.Words.{pool_leads}
-use Rattle.runs.specs.Run.{Call, begin, step, report, withdraw, called, Told, run, Start, run_from, InWords, Run}
+use Rattle.runs.specs.Run.{Call, begin, step, report, called, Told, run, Start, run_from, InWords, Run}
 use Rattle.runs.specs.Plain.{Reply, plain}
 use Rattle.runs.specs.Done.{Done, ended, nobody, asks, done, plain_answers, plain_entries, ops_of, answers_in}
 use Rattle.runs.specs.Step.{Ended}
 use Rattle.runs.proofs.Invariant.{Invariant}
 use Rattle.runs.proofs.PlainLaws.{plain_ways}
 use Rattle.runs.proofs.Calls.{StepOf, no_slot, idle, waits, onward, over, step_of, same_op, closed_open}
-use Rattle.runs.proofs.Runs.{BeginOf, no_such, busy, blank, begins_so, begin_of, withdraw_cases, call_keeps, call_numbers, forms_with, Ready, start_ready}
+use Rattle.runs.proofs.Runs.{BeginOf, no_such, busy, blank, begins_so, begin_of, call_keeps, call_numbers, forms_with, Ready, start_ready}
 
 -- the entries of the tree that the words form
 abbrev pub entries_in : (st : State) (ws : List ℕ) → Invariant st ws → List Entry
@@ -196,14 +195,6 @@ module _ (st : State) (ws : List ℕ) (inv : Invariant st ws) (asked : ℕ → O
       subst (λ (r : Left). Knows r.state asked) (sym e) (knows_onward st ws inv s b asked knows op z runs same)
   step_knows s (over op a writes b runs g e how) = subst (λ (r : Left). Knows r.state asked) (sym e) (knows_closed st ws inv s b asked knows)
 
-  -- and after a withdrawal
-  withdraw_knows : (s : ℕ) → Knows (withdrawn st s).state asked
-  withdraw_knows s =
-      ⊎_elim
-      (λ r. subst (λ (next : State). Knows next asked) (sym r.state) knows)
-      (λ h. subst (λ (next : State). Knows next asked) (sym h.state) (knows_closed st ws inv s h.inside asked knows))
-      (withdraw_cases st ws inv s)
-
   -- a step adds what it does to the entries
   abbrev After : ℕ → Type 0
   After s = (es : List Entry) × Adds (entries_in st ws inv) (step s) asked (stepped st ws s) es
@@ -235,20 +226,15 @@ module _ (st : State) (ws : List ℕ) (inv : Invariant st ws) (asked : ℕ → O
         entries,
       )
 
-  -- the entries, where no word changes
-  as_before : (l : ℕ) (t : Tr l) → PoolForms st.k st.n ws l t → entries_of l t ≡ entries_in st ws inv
-  as_before l t f = same_entries st.k st.n ws l t inv.height inv.tree f inv.forms
-
   -- every call
   pub call_adds : (c : Call) → (es : List Entry) × Adds (entries_in st ws inv) c asked (called st ws c) es
       × ((l : ℕ) (t : Tr l) → PoolForms st.k st.n (called st ws c).words l t → entries_of l t ≡ es)
   unfolding called done
-  call_adds (begin s op) = (entries_in st ws inv, begin_adds s op (begin_of st ws inv s op), as_before)
+  call_adds (begin s op) =
+      (entries_in st ws inv, begin_adds s op (begin_of st ws inv s op), λ l t f. same_entries st.k st.n ws l t inv.height inv.tree f inv.forms)
   call_adds (step s) = step_adds s (step_knows s (step_of st ws inv s)) (step_does st ws inv s)
-  call_adds (report p) = (entries_in st ws inv, same_so (report p) (called st ws (report p)) asked knows (λ cs heard. refl), as_before)
-  -- the operation that is withdrawn is passed over
-  call_adds (withdraw s) =
-      (entries_in st ws inv, same_so (withdraw s) (called st ws (withdraw s)) asked (withdraw_knows s) (λ cs heard. refl), as_before)
+  call_adds (report p) =
+      (entries_in st ws inv, same_so (report p) (called st ws (report p)) asked knows (λ cs heard. refl), λ l t f. same_entries st.k st.n ws l t inv.height inv.tree f inv.forms)
 
 -- ---- all calls
 

@@ -1,4 +1,4 @@
--- What holds of a run is kept where a slot begins, goes on, ends or is withdrawn, and by every step.
+-- Every call keeps what holds of a run: begin, step and report, one after the other.
 use Prim.Native.Nat.{ℕ, ◌≤◌, ◌<◌}
 use mathlib.Core.Bool.{Bool, true, false, cond, not, ◌&&◌, false≢true}
 use mathlib.Core.Logic.{◌⊎◌, inl, inr, ⊎_elim, ◌≢◌}
@@ -284,18 +284,6 @@ module _ (st : State) (ws : List ℕ) (inv : Invariant st ws) (s : ℕ) (b : s <
 
       memory_after_lem : page_at st.k (applied st.k writes ws) ≡ memory_after (page_at st.k ws) writes
       memory_after_lem = λ i q. applied_memory st.k st.n writes ws (fit_writes st.k st.n writes e.leads.fitting e.leads.inside) inv.forms.whole q i
-
-  -- Withdrawing: the slot closes, and the others hold what they held, over the same pages.
-  pub withdraw_keeps : open_at st s ≡ true → Invariant (closes st s) ws
-  unfolding closes
-  withdraw_keeps opened =
-      slot_anew closed_slot _ _ ws inv.height inv.tree
-      (closes_shaped st inv.shaped inv.sound s b opened)
-      (closes_sound st inv.shaped inv.sound s b opened)
-      inv.forms
-      inv.no_blank
-      (λ op c. absurd (closed_open c))
-      (λ u op c n runs. (inv.stands u op c runs, inv.locked u op c runs))
 
 -- ---- a step
 

@@ -34,9 +34,9 @@ use Rattle.runs.proofs.Invariant.{Invariant, scene}
 use Rattle.runs.proofs.Runs.{call_keeps}
 use Rattle.runs.proofs.Locking.{paired}
 use Rattle.runs.proofs.Measure.{lowest_of, converted, left_pages, left_turns, Turned, Where, at_start, on_the_way, at_the_leaf, in_turns, converted_done, turned_all, gathers_none, pages_most, turns_most, pages_some, turns_some}
-use Rattle.runs.proofs.MeasureLaws.{undisturbed_pages, undisturbed_turns, Lower, takes_lower, takes_beside, low_at_leaf, lower_left, gathers_fewer, converts_turns, converts_done, goes_on_here, goes_on_k, closes_shut, moved, ended_so, where_slot, not_too_tall}
+use Rattle.runs.proofs.MeasureLaws.{undisturbed_pages, undisturbed_turns, Lower, takes_lower, takes_beside, low_at_leaf, lower_left, gathers_fewer, converts_turns, converts_done, goes_on_here, goes_on_k, closes_here, moved, ended_so, where_slot, not_too_tall}
 use Rattle.runs.proofs.Steps.{Goes}
-use Rattle.runs.proofs.Grants.{ends_later, ends_never, height_now, height_later, none_ends, GrantCall, OtherCall, WithdrawCall, call_cases, Under, undisturbed_open, undisturbed_under, root_level}
+use Rattle.runs.proofs.Grants.{ends_later, height_now, height_later, none_ends, GrantCall, OtherCall, call_cases, Under, undisturbed_open, undisturbed_under, root_level}
 use Rattle.runs.proofs.ThirdSteps.{ThirdStep, takes, turns, answers, changes, third_step, third_straight, third_alone}
 
 -- ---- the counts, call by call
@@ -188,7 +188,7 @@ module _ (s : ℕ) (b : s < slot_count) (c : Call) (st : State) (ws : List ℕ) 
       → (open_at (called st ws c).state s ≡ false) × ((called st ws (step s)).answer ≡ a)
   called_ends a writes e =
       let so = ended_so st ws inv s granted_so a writes e in (
-        subst (λ (r : Left). open_at r.state s ≡ false) (sym (g.does ∙ so)) (closes_shut st inv.shaped s b),
+        subst (λ (r : Left). open_at r.state s ≡ false) (sym (g.does ∙ so)) (ap (λ (slot : Slot). is_open slot.task) (closes_here st inv.shaped s b)),
         ap (λ (r : Left). r.answer) (step_called s st ws ∙ so),
       )
 
@@ -278,18 +278,6 @@ module _ (s : ℕ) (b : s < slot_count) (op : Op) (third : is_third op ≡ true)
           turns_last = λ _. omega arith;
         }
 
-    left_withdrawn : WithdrawCall st ws s c → LeftAfter
-    left_withdrawn w = record {
-      i = 0;
-      j = 0;
-      counted = does_neither s st ws c w.other;
-      pages = λ opened. not_both opened w.closed;
-      turns = λ opened. not_both opened w.closed;
-      goes_on = λ opened. not_both opened w.closed;
-      pages_last = λ _. omega arith;
-      turns_last = λ _. omega arith;
-    }
-
     left_granted : GrantCall st ws s c → ThirdStep st.k st.n ws inv.height inv.tree (standing st) → LeftAfter
     left_granted g (takes z' e new same holds gathers plain) =
         let on = called_on s b c st ws inv op runs g z' e holds in
@@ -346,7 +334,7 @@ module _ (s : ℕ) (b : s < slot_count) (op : Op) (third : is_third op ≡ true)
         }
 
     left_after : LeftAfter
-    left_after = ⊎_elim (λ g. left_granted g (step_third st ws inv runs)) (⊎_elim left_other left_withdrawn) (call_cases st ws inv s b (ap is_open runs) c)
+    left_after = ⊎_elim (λ g. left_granted g (step_third st ws inv runs)) left_other (call_cases st ws inv s b (ap is_open runs) c)
 
     -- ---- what is needed from here on
 
@@ -392,10 +380,6 @@ module _ (s : ℕ) (b : s < slot_count) (op : Op) (third : is_third op ≡ true)
           goes_third s op c cs st ws 0 0 (does_neither s st ws c o.other) (undisturbed_open st ws next after s o.keeps (ap is_open runs))
           m (sides next) (converted (standing next)) m (sides st) (converted (standing st))
           (omega (arith, ap (λ (x : Slot). length (beside_of x)) slot)) (omega (arith, ap (λ (x : Slot). converted (stand_of op x)) slot)) rest
-
-      -- it is withdrawn
-      withdrawn_third : (m : ℕ) → WithdrawCall st ws s c → ThirdNeeds s op m (sides st) (converted (standing st)) (c ∷ cs) st ws
-      withdrawn_third m w ends_so = not_both ends_so (ends_never s c cs st ws w.no_step w.closed)
 
       -- a page taken on the way down, and one beside the path
       took_lower : (m : ℕ) (z' : Stand) → granted_to s st ws c ≡ true → Onward next after s memory z' → converts_at st s ≡ false → beside_of (slot_at st s) ≡ [] → Lower (standing st) z'
@@ -453,11 +437,9 @@ module _ (s : ℕ) (b : s < slot_count) (op : Op) (third : is_third op ≡ true)
   third_way (c ∷ cs) words st ws inv level u =
       ⊎_elim
       (λ g. granted_now (third_way cs words.1 next' after' kept_inv) g (where_slot st ws inv s op b u.runs) (step_third st ws inv u.runs))
-      (⊎_elim
       (λ o.
       other_third c st ws inv u.runs cs (level - 1) o
       (third_way cs words.1 next' after' kept_inv level (undisturbed_under st ws next' after' s op level o.keeps u)))
-      (withdrawn_third c st ws inv u.runs cs (level - 1)))
       (call_cases st ws inv s b (ap is_open u.runs) c)
     where
       next' : State
@@ -530,10 +512,9 @@ module _ (s : ℕ) (b : s < slot_count) (op : Op) (third : is_third op ≡ true)
   third_start (c ∷ cs) words st ws inv runs none =
       ⊎_elim
       (λ g. granted_now g (where_slot st ws inv s op b runs) (step_third st ws inv runs))
-      (⊎_elim
       (λ o.
       let still = undisturbed_open st ws next' after' s o.keeps (ap is_open runs) in
-      let height = height_later s c cs st ws o.other still in
+      let height = height_later s c cs st ws o.other in
       let neither = does_neither s st ws c o.other in
       let rest = third_start cs words.1 next' after' kept_inv (ap (λ (slot : Slot). slot.task) o.keeps.slot ∙ runs) (ap path_of o.keeps.slot ∙ none) in
       record {
@@ -542,13 +523,6 @@ module _ (s : ℕ) (b : s < slot_count) (op : Op) (third : is_third op ≡ true)
         pages = omega (arith, height, pages_on s c cs st ws 0 0 neither still, rest.pages);
         turns = omega (arith, height, turns_on s c cs st ws 0 0 neither still, rest.turns);
       })
-      (λ w.
-      let neither = does_neither s st ws c w.other in
-      record {
-        needed = withdrawn_third c st ws inv runs cs (height_granted s (c ∷ cs) st ws) w;
-        pages = omega (arith, pages_last s c cs st ws 0 0 neither w.closed);
-        turns = omega (arith, turns_last s c cs st ws 0 0 neither w.closed);
-      }))
       (call_cases st ws inv s b (ap is_open runs) c)
     where
       next' : State

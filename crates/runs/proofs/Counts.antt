@@ -31,7 +31,7 @@ use Rattle.runs.proofs.Runs.{BeginOf, no_such, busy, blank, begins_so, begin_of,
 use Rattle.runs.proofs.Measure.{grants_left, beside_first, Where, at_start, on_the_way, at_the_leaf, in_turns}
 use Rattle.runs.proofs.MeasureLaws.{undisturbed_measure, measure_falls, measure_bound, measure_first, measure_second, where_slot, low_above, start_above}
 pub use Rattle.runs.proofs.Grants.{granted_heard}
-use Rattle.runs.proofs.Grants.{grants_on, grants_last, grants_other, grants_none, ends_later, ends_never, height_now, height_later, none_ends, none_granted, begins_here, GrantCall, OtherCall, WithdrawCall, call_cases, Under, WentDown, over, lower, again, grant_down, undisturbed_open, undisturbed_under, root_level}
+use Rattle.runs.proofs.Grants.{grants_on, grants_last, grants_other, ends_later, height_now, height_later, none_ends, none_granted, begins_here, GrantCall, OtherCall, call_cases, Under, WentDown, over, lower, again, grant_down, undisturbed_open, undisturbed_under, root_level}
 use Rattle.runs.proofs.Conversions.{third_counts}
 
 -- So many grants were needed: at least m, and for what goes straight down just m.
@@ -54,12 +54,10 @@ module _ (s : ℕ) (b : s < slot_count) where
       (λ o. let rest = at_most cs words.1 next after kept_inv o in omega (arith, grants_on s c cs st ws g.granted o, rest, falls))
       (λ o. omega (arith, grants_last s c cs st ws g.granted o, (measure_bound st ws inv s b opened).0))
       (true_or_false (open_at next s)))
-      (⊎_elim
       (λ o.
       let still = undisturbed_open st ws next after s o.keeps opened in
       let rest = at_most cs words.1 next after kept_inv still in
       omega (arith, grants_other s c cs st ws o.other still, rest, undisturbed_measure st ws next after s o.keeps))
-      (λ w. omega (arith, grants_none s c cs st ws w.other w.closed)))
       (call_cases st ws inv s b opened c)
 
   -- the same of a call that is granted
@@ -93,13 +91,11 @@ module _ (s : ℕ) (b : s < slot_count) where
   on_the_way (c ∷ cs) words st ws inv op first only level u ends_so =
       ⊎_elim
       (λ g. granted_now (on_the_way cs words.1 next after kept_inv op first only) g (where_slot st ws inv s op b u.runs))
-      (⊎_elim
       (λ o.
       let still = undisturbed_open st ws next after s o.keeps (ap is_open u.runs) in
       let rest = on_the_way cs words.1 next after kept_inv op first only level (undisturbed_under st ws next after s op level o.keeps u)
       (sym (ends_later s c cs st ws still) ∙ ends_so) in
       subst (Needs op (level - 1)) (sym (grants_other s c cs st ws o.other still)) rest)
-      (λ w. not_both ends_so (ends_never s c cs st ws w.no_step w.closed)))
       (call_cases st ws inv s b (ap is_open u.runs) c)
     where
       next : State
@@ -139,21 +135,16 @@ module _ (s : ℕ) (b : s < slot_count) where
   from_start (c ∷ cs) words st ws inv op first only runs none =
       ⊎_elim
       (λ g. granted_now g (where_slot st ws inv s op b runs))
-      (⊎_elim
       (λ o.
       let still = undisturbed_open st ws next after s o.keeps (ap is_open runs) in
       let rest = from_start cs words.1 next after kept_inv op first only (ap (λ (slot : Slot). slot.task) o.keeps.slot ∙ runs) (ap path_of o.keeps.slot ∙ none) in
       let is = grants_other s c cs st ws o.other still in
-      let height = height_later s c cs st ws o.other still in (
+      let height = height_later s c cs st ws o.other in (
         λ ends_so.
             subst (λ (h : ℕ). Needs op h (grants_of s (c ∷ cs) st ws)) (sym height)
             (subst (Needs op (height_granted s cs next after)) (sym is) (rest.0 (sym (ends_later s c cs st ws still) ∙ ends_so))),
         omega (arith, is, height, rest.1),
       ))
-      (λ w. (
-        λ ends_so. not_both ends_so (ends_never s c cs st ws w.no_step w.closed),
-        omega (arith, grants_none s c cs st ws w.other w.closed),
-      )))
       (call_cases st ws inv s b (ap is_open runs) c)
     where
       next : State
@@ -326,18 +317,6 @@ module _ (s : ℕ) (b : s < slot_count) where
         subst (λ (i : ℕ). SecondNeeds op i (c ∷ cs) st ws) (omega arith)
         (goes_second 0 goes m (omega (arith, grants_other s c cs st ws o.other (ap is_open goes))) (second_other o.other goes) rest)
 
-    -- it is withdrawn
-    withdrawn_second : (m : ℕ) → WithdrawCall st ws s c → SecondNeeds op m (c ∷ cs) st ws
-    unfolding begins_again
-    withdrawn_second m w =
-        let never : begins_again s (c ∷ cs) st ws ≡ false = cond-false _ false w.closed in
-        record {
-          straight = λ _ ends_so. not_both ends_so (ends_never s c cs st ws w.no_step w.closed);
-          downward = λ anew. not_both anew never;
-          afresh = λ anew. not_both anew never;
-          together = λ anew. not_both anew never;
-        }
-
   -- on the way down
   second_way : (cs : List Call) → InWords cs → (st : State) (ws : List ℕ) → Invariant st ws → (op : Op) → is_second op ≡ true → (level : ℕ) → Under st ws s op level
       → SecondNeeds op (level - 1) cs st ws
@@ -345,11 +324,9 @@ module _ (s : ℕ) (b : s < slot_count) where
   second_way (c ∷ cs) words st ws inv op second level u =
       ⊎_elim
       (λ g. granted_now (second_way cs words.1 next' after' kept_inv op second) g (where_slot st ws inv s op b u.runs))
-      (⊎_elim
       (λ o.
       other_second op second c cs st ws (level - 1) inv u.runs o
       (second_way cs words.1 next' after' kept_inv op second level (undisturbed_under st ws next' after' s op level o.keeps u)))
-      (withdrawn_second op second c cs st ws (level - 1)))
       (call_cases st ws inv s b (ap is_open u.runs) c)
     where
       next' : State
@@ -381,12 +358,10 @@ module _ (s : ℕ) (b : s < slot_count) where
   second_start (c ∷ cs) words st ws inv op second runs none =
       ⊎_elim
       (λ g. granted_now g (where_slot st ws inv s op b runs))
-      (⊎_elim
       (λ o.
-      subst (λ (m : ℕ). SecondNeeds op m (c ∷ cs) st ws) (sym (height_later s c cs st ws o.other (undisturbed_open st ws next' after' s o.keeps (ap is_open runs))))
+      subst (λ (m : ℕ). SecondNeeds op m (c ∷ cs) st ws) (sym (height_later s c cs st ws o.other))
       (other_second op second c cs st ws (height_granted s cs next' after') inv runs o
       (second_start cs words.1 next' after' kept_inv op second (ap (λ (slot : Slot). slot.task) o.keeps.slot ∙ runs) (ap path_of o.keeps.slot ∙ none))))
-      (withdrawn_second op second c cs st ws (height_granted s (c ∷ cs) st ws)))
       (call_cases st ws inv s b (ap is_open runs) c)
     where
       next' : State

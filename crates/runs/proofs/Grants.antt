@@ -1,5 +1,5 @@
--- Calls one after the other, as the counts of grants see them: a call is a granted step of the slot, or withdraws it, or leaves it undisturbed; and
--- what a grant does on the way down.
+-- Calls one after the other, as the counts of grants see them: a call is a granted step of the slot, or leaves it undisturbed; and what a grant
+-- does on the way down.
 use Prim.Native.Nat.{ℕ, ◌+◌, ◌*◌, ◌≤◌, ◌<◌}
 use mathlib.Core.Bool.{true, false, not}
 use mathlib.Core.List.{List, [], ◌∷◌, reverse}
@@ -23,7 +23,7 @@ use Rattle.slots.specs.declared.Outcome.{Outcome}
 use Rattle.slots.specs.Heard.{changes_nothing}
 use Rattle.slots.specs.Parts.{is_open, is_second, is_third, first_way, path_of, Stand, fresh_stand, stand_of, slot_of, slot_at, open_at, want_at, Opened}
 use Rattle.slots.specs.Grant.{converts_at}
-use Rattle.slots.specs.Book.{begins, goes_on, closes}
+use Rattle.slots.specs.Book.{begins, goes_on}
 use Rattle.slots.specs.Begin.{begun}
 use Rattle.slots.proofs.Keeping.{Shaped, slot_here, slot_other, path_new}
 use Rattle.slots.proofs.OrderLaws.{same_or_not}
@@ -31,15 +31,14 @@ use Rattle.footing.specs.Granted.{at_its_leaf}
 use Rattle.index.specs.Step.{Left, stepped}
 use Rattle.index.proofs.Refusals.{step_refused}
 use Rattle.tree.proofs.Search.{way_facts}
-use Rattle.runs.specs.Calls.{is_step_of}
-use Rattle.runs.specs.Run.{Call, begin, step, report, withdraw, called}
+use Rattle.runs.specs.Run.{Call, begin, step, report, called}
 use Rattle.runs.specs.Stance.{HoldsWith, BeginsAgain}
 use Rattle.runs.specs.Step.{Comes, moves, stops}
 use Rattle.runs.specs.Counts.{granted_to, grants_of, ends_within, height_granted}
 use Rattle.runs.proofs.Invariant.{Invariant}
-use Rattle.runs.proofs.Runs.{BeginOf, no_such, busy, blank, begins_so, begin_of, withdraw_cases}
+use Rattle.runs.proofs.Runs.{BeginOf, no_such, busy, blank, begins_so, begin_of}
 use Rattle.runs.proofs.Measure.{lowest_of, grants_left, left_by_first}
-use Rattle.runs.proofs.MeasureLaws.{Undisturbed, nothing_disturbed, closing_undisturbed, step_undisturbed, measure_falls, Lower, takes_gathers, takes_lower, goes_on_here, goes_on_k, closes_shut, comes, moved, ended_so, after_moving, lower_left}
+use Rattle.runs.proofs.MeasureLaws.{Undisturbed, nothing_disturbed, step_undisturbed, measure_falls, Lower, takes_gathers, takes_lower, goes_on_here, goes_on_k, closes_here, comes, moved, ended_so, after_moving, lower_left}
 use Rattle.runs.proofs.Steps.{Goes, step_cases}
 use Rattle.runs.proofs.Stepping.{at_leaf_test}
 use Rattle.runs.proofs.Verdicts.{coming_ends}
@@ -65,29 +64,17 @@ module _ (s : ℕ) (c : Call) (cs : List Call) (st : State) (ws : List ℕ) wher
   grants_other g o =
       ap₂ (λ (a b : ℕ). a + b) (cond-false 1 0 g) (cond-true (grants_of s cs (called st ws c).state (called st ws c).words) 0 o) ∙ omega arith
 
-  -- a call that closes the slot and grants nothing
-  pub grants_none : granted_to s st ws c ≡ false → open_at (called st ws c).state s ≡ false → grants_of s (c ∷ cs) st ws ≡ 0
-  unfolding grants_of
-  grants_none g o = ap₂ (λ (a b : ℕ). a + b) (cond-false 1 0 g) (cond-false (grants_of s cs (called st ws c).state (called st ws c).words) 0 o)
-
   pub ends_later : open_at (called st ws c).state s ≡ true → ends_within s (c ∷ cs) st ws ≡ ends_within s cs (called st ws c).state (called st ws c).words
   unfolding ends_within
-  ends_later o = cond-true (ends_within s cs (called st ws c).state (called st ws c).words) (is_step_of s c) o
-
-  -- what closes otherwise than by a step has not ended
-  pub ends_never : is_step_of s c ≡ false → open_at (called st ws c).state s ≡ false → ends_within s (c ∷ cs) st ws ≡ false
-  unfolding ends_within
-  ends_never n o = cond-false (ends_within s cs (called st ws c).state (called st ws c).words) (is_step_of s c) o ∙ n
+  ends_later o = cond-true (ends_within s cs (called st ws c).state (called st ws c).words) true o
 
   pub height_now : granted_to s st ws c ≡ true → height_granted s (c ∷ cs) st ws ≡ (page_at st.k ws 0).level
   unfolding height_granted
-  height_now g = cond-true (page_at st.k ws 0).level _ g
+  height_now g = cond-true (page_at st.k ws 0).level (height_granted s cs (called st ws c).state (called st ws c).words) g
 
-  pub height_later : granted_to s st ws c ≡ false → open_at (called st ws c).state s ≡ true
-      → height_granted s (c ∷ cs) st ws ≡ height_granted s cs (called st ws c).state (called st ws c).words
+  pub height_later : granted_to s st ws c ≡ false → height_granted s (c ∷ cs) st ws ≡ height_granted s cs (called st ws c).state (called st ws c).words
   unfolding height_granted
-  height_later g o =
-      cond-false (page_at st.k ws 0).level _ g ∙ cond-true (height_granted s cs (called st ws c).state (called st ws c).words) 0 o
+  height_later g = cond-false (page_at st.k ws 0).level (height_granted s cs (called st ws c).state (called st ws c).words) g
 
 -- before any call
 pub none_ends : (s : ℕ) (st : State) (ws : List ℕ) → ends_within s [] st ws ≡ false
@@ -98,9 +85,9 @@ pub none_granted : (s : ℕ) (st : State) (ws : List ℕ) → grants_of s [] st 
 unfolding grants_of
 none_granted s st ws = refl
 
--- ---- a call is a grant of the slot, or withdraws it, or leaves it undisturbed
+-- ---- a call is a grant of the slot or leaves it undisturbed
 
-pub begins_other : (st : State) → Shaped st → (u : ℕ) → u < slot_count → (op : Op) (s : ℕ) → s ≢ u → slot_at (begins st u op) s ≡ slot_at st s
+begins_other : (st : State) → Shaped st → (u : ℕ) → u < slot_count → (op : Op) (s : ℕ) → s ≢ u → slot_at (begins st u op) s ≡ slot_at st s
 unfolding begins
 begins_other st shaped u b op s n = slot_other st shaped u b (slot_of (fresh_stand op)) st.order st.waiting s n
 
@@ -135,12 +122,6 @@ pub record OtherCall (st : State) (ws : List ℕ) (s : ℕ) (c : Call) : Type 0 
   pub other : granted_to s st ws c ≡ false
   pub keeps : Undisturbed st ws (called st ws c).state (called st ws c).words s
 
--- The call withdraws slot s.
-pub record WithdrawCall (st : State) (ws : List ℕ) (s : ℕ) (c : Call) : Type 0 where
-  pub other : granted_to s st ws c ≡ false
-  pub no_step : is_step_of s c ≡ false
-  pub closed : open_at (called st ws c).state s ≡ false
-
 -- a granted step is heard as one: it is neither refused nor answered Waiting
 pub granted_heard : (st : State) (ws : List ℕ) → Invariant st ws → (s : ℕ) → Goes st s → changes_nothing (stepped st ws s).answer ≡ false
 granted_heard st ws inv s g =
@@ -152,45 +133,26 @@ granted_heard st ws inv s g =
     omega (arith, falls, stays))
 
 module _ (st : State) (ws : List ℕ) (inv : Invariant st ws) (s : ℕ) (b : s < slot_count) (opened : open_at st s ≡ true) where
-  withdraw_call : (u : ℕ) → OtherCall st ws s (withdraw u) ⊎ WithdrawCall st ws s (withdraw u)
+  pub call_cases : (c : Call) → GrantCall st ws s c ⊎ OtherCall st ws s c
   unfolding called
-  withdraw_call u =
-      ⊎_elim
-      (λ r. inl (record { other = refl; keeps = subst (λ (next : State). Undisturbed st ws next ws s) (sym r.state) (nothing_disturbed st ws s) }))
-      (λ h. ⊎_elim
-      (λ e. inr (record {
-        other = refl;
-        no_step = refl;
-        closed = ap (λ (next : State). open_at next s) (h.state ∙ ap (closes st) e) ∙ closes_shut st inv.shaped s b;
-      }))
-      (λ n. inl (record {
-        other = refl;
-        keeps = subst (λ (next : State). Undisturbed st ws next ws s) (sym h.state) (closing_undisturbed st ws inv.shaped u h.inside s (λ e. n (sym e)));
-      }))
-      (same_or_not u s))
-      (withdraw_cases st ws inv u)
-
-  pub call_cases : (c : Call) → GrantCall st ws s c ⊎ OtherCall st ws s c ⊎ WithdrawCall st ws s c
-  unfolding called
-  call_cases (begin u op) = inr (inl (record { other = refl; keeps = begin_undisturbed st ws inv u op s opened (begin_of st ws inv u op) }))
-  call_cases (report p) = inr (inl (record { other = refl; keeps = nothing_disturbed st ws s }))
-  call_cases (withdraw u) = inr (withdraw_call u)
+  call_cases (begin u op) = inr (record { other = refl; keeps = begin_undisturbed st ws inv u op s opened (begin_of st ws inv u op) })
+  call_cases (report p) = inr (record { other = refl; keeps = nothing_disturbed st ws s })
   call_cases (step u) =
       ⊎_elim
-      (λ r. inr (inl (record {
+      (λ r. inr (record {
         other = and_second_fails (eqb u s) (ap not (ap (λ (l : Left). changes_nothing l.answer) r.does ∙ r.nothing));
         keeps = subst (λ (l : Left). Undisturbed st ws l.state l.words s) (sym r.does) (nothing_disturbed st ws s);
-      })))
+      }))
       (λ g. ⊎_elim
       (λ e. inl (record {
         does = ap (stepped st ws) e;
         goes = subst (Goes st) e g;
         granted = and_both (eq-eqb u s e) (subst (λ (i : ℕ). not (changes_nothing (stepped st ws i).answer) ≡ true) (sym e) (not_of_false (granted_heard st ws inv s (subst (Goes st) e g))));
       }))
-      (λ n. inr (inl (record {
+      (λ n. inr (record {
         other = and_first_fails (not (changes_nothing (stepped st ws u).answer)) (ne_eqb u s n);
         keeps = step_undisturbed st ws inv u g s b (λ e. n (sym e));
-      })))
+      }))
       (same_or_not u s))
       (step_cases st ws inv u)
 
@@ -258,7 +220,8 @@ module _ (st : State) (ws : List ℕ) (inv : Invariant st ws) (s : ℕ) (g : Goe
       by_comes (stops a writes e ended) =
           let leaf = coming_ends st.k st.n ws z above a writes e in
           over
-          (subst (λ (r : Left). open_at r.state s ≡ false) (sym (ended_so st ws inv s g a writes e)) (closes_shut st inv.shaped s g.inside))
+          (subst (λ (r : Left). open_at r.state s ≡ false) (sym (ended_so st ws inv s g a writes e))
+          (ap (λ (slot : Slot). is_open slot.task) (closes_here st inv.shaped s g.inside)))
           (omega (arith, wanted, eqb-true (page_at st.k ws (want_at st s)).level 1 leaf))
 
 -- ---- what other calls leave

@@ -30,5 +30,3 @@ pub mod Grants
 pub mod ThirdSteps
 pub mod Conversions
 pub mod Counts
-pub mod Accounts
-pub mod PassedOver

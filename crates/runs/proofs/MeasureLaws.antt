@@ -291,9 +291,6 @@ module _ (st : State) (shaped : Shaped st) (s : ℕ) (b : s < slot_count) where
   unfolding closes
   closes_here = slot_here st shaped s b closed_slot st.order st.waiting
 
-  pub closes_shut : open_at (closes st s) s ≡ false
-  closes_shut = ap (λ (slot : Slot). is_open slot.task) closes_here
-
   pub closes_other : (u : ℕ) → u ≢ s → slot_at (closes st s) u ≡ slot_at st u
   unfolding closes
   closes_other u n = slot_other st shaped s b closed_slot st.order st.waiting u n
@@ -353,7 +350,7 @@ measure_closed st ws s = by_task (slot_at st s).task
     by_task Closed h = refl
     by_task (Open op) h = not_both refl h
 
--- ---- a slot that another's call leaves alone
+-- ---- a slot that another's step leaves alone
 
 -- Slot u is as it was, and its lowest page is on the same level.
 pub record Undisturbed (st : State) (ws : List ℕ) (next : State) (after : List ℕ) (u : ℕ) : Type 0 where
@@ -405,13 +402,6 @@ module _ (st : State) (ws : List ℕ) (next : State) (after : List ℕ) (u : ℕ
 
 pub nothing_disturbed : (st : State) (ws : List ℕ) (u : ℕ) → Undisturbed st ws st ws u
 nothing_disturbed st ws u = record { slot = refl; level = λ _ _. refl }
-
--- where another slot is withdrawn
-pub closing_undisturbed : (st : State) (ws : List ℕ) → Shaped st → (s : ℕ) → s < slot_count → (u : ℕ) → u ≢ s → Undisturbed st ws (closes st s) ws u
-closing_undisturbed st ws shaped s b u n = record {
-  slot = closes_other st shaped s b u n;
-  level = λ _ _. ap (λ (k : ℕ). (page_at k ws (lowest_of (path_of (slot_at st u)))).level) (closes_k st s);
-}
 
 -- ---- a granted step
 

@@ -1,42 +1,33 @@
 -- Rounds: in each round in which a slot is open at its start the sum of the measures falls, so `rounds_enough` rounds close
 -- every slot.
 use Prim.Native.Nat.{ℕ, zero, suc, ◌+◌, ◌-◌, ◌*◌, ◌≤◌, ◌<◌}
-use mathlib.Core.Bool.{true, false, cond, true≢false}
+use mathlib.Core.Bool.{true, false, true≢false}
 use mathlib.Core.List.{List, [], ◌∷◌, ◌++◌}
 use mathlib.Core.Logic.{◌⊎◌, ⊎_elim}
-use mathlib.Core.Path.{◌≡◌, refl, sym, ap, subst, ◌∙◌}
+use mathlib.Core.Path.{◌≡◌, refl, sym, subst}
 use native.Mathlib.Omega.{arith}
 use native.Mathlib.Nat.{suc-mul, not-suc-le-zero, le_of_suc-le-suc, eq-or-lt_of_le}
 use borrow.Author.Tests.{eqb-true}
 use lib.Dec.{eqb}
 use lib.ListN.{length}
 use Rattle.ground.specs.Limits.{slot_count, slot_grants, rounds_enough}
-use Rattle.ground.specs.Tests.{any_below, member}
+use Rattle.ground.specs.Tests.{any_below}
 use Rattle.ground.proofs.Bools.{true_or_false, not_both, or_cases, false_if_not_true}
 use Rattle.ground.proofs.Limits.{rounds_of_slots}
 use Rattle.ground.proofs.Tests.{any_below_at, any_below_false_at}
-use Rattle.slots.specs.declared.Op.{Op}
 use Rattle.slots.specs.declared.State.{State}
-use Rattle.slots.specs.declared.Outcome.{Outcome}
-use Rattle.slots.specs.declared.Answer.TheVariants.{Begun}
-use Rattle.slots.specs.Heard.{is_one_of}
 use Rattle.slots.specs.Parts.{open_at}
 use Rattle.slots.specs.Grant.{grants}
-use Rattle.slots.specs.Book.{closes}
-use Rattle.slots.specs.Begin.{begun}
-use Rattle.slots.specs.Withdraw.{withdrawn}
 use Rattle.slots.proofs.OrderLaws.{same_or_not}
 use Rattle.index.specs.Step.{Left, stepped}
 use Rattle.tree.proofs.Height.{sum_below}
-use Rattle.runs.specs.Run.{Call, begin, step, report, withdraw, called, run}
-use Rattle.runs.specs.Done.{tally}
-use Rattle.runs.specs.Rounds.{NoneBegun, any_turn_of, Round, all_calls, Rounds, RoundsClose}
+use Rattle.runs.specs.Run.{Call, begin, step, report, called, run}
+use Rattle.runs.specs.Rounds.{any_begin, any_step_of, Round, all_calls, Rounds, RoundsClose}
 use Rattle.runs.proofs.Invariant.{Invariant}
 use Rattle.runs.proofs.Progress.{some_can_go}
 use Rattle.runs.proofs.Calls.{step_of, step_keeps}
-use Rattle.runs.proofs.Runs.{BeginOf, no_such, busy, blank, begins_so, begin_of, NotWithdrawn, IsWithdrawn, withdraw_cases, withdrawn_keeps}
 use Rattle.runs.proofs.Measure.{grants_left}
-use Rattle.runs.proofs.MeasureLaws.{closes_shut, measure_bound, measure_closed, undisturbed_measure, closing_undisturbed, measure_stays, measure_falls}
+use Rattle.runs.proofs.MeasureLaws.{measure_bound, measure_closed, measure_stays, measure_falls}
 use Rattle.runs.proofs.Steps.{Rests, Goes, step_cases}
 
 -- ---- sums
@@ -146,134 +137,55 @@ step_no_higher : (st : State) (ws : List ℕ) → (inv : Invariant st ws) → (s
 unfolding all_left
 step_no_higher st ws inv s = sum_most slot_count (grants_left (stepped st ws s).state (stepped st ws s).words) (grants_left st ws) (never_up st ws inv s)
 
--- where a slot is withdrawn it has nothing left, and the others what they had
-closing_left : (st : State) (ws : List ℕ) → Invariant st ws → (s : ℕ) → s < slot_count → (u : ℕ) → u < slot_count → grants_left (closes st s) ws u ≤ grants_left st ws u
-closing_left st ws inv s b u c =
-    ⊎_elim
-    (λ e. omega (arith, measure_closed (closes st s) ws u (ap (open_at (closes st s)) e ∙ closes_shut st inv.shaped s b)))
-    (λ n. omega (arith, undisturbed_measure st ws (closes st s) ws u (closing_undisturbed st ws inv.shaped s b u n)))
-    (same_or_not u s)
-
--- so the sum falls
-withdrawn_lowers : (st : State) (ws : List ℕ) → Invariant st ws → (s : ℕ) → IsWithdrawn st s → all_left (withdrawn st s).state ws < all_left st ws
-unfolding all_left
-withdrawn_lowers st ws inv s h =
-    let some = (measure_bound st ws inv s h.inside h.opened).0 in
-    let none = measure_closed (closes st s) ws s (closes_shut st inv.shaped s h.inside) in
-    subst (λ (next : State). sum_below slot_count (grants_left next ws) < sum_below slot_count (grants_left st ws)) (sym h.state)
-    (sum_less slot_count (grants_left (closes st s) ws) (grants_left st ws) (closing_left st ws inv s h.inside) s h.inside (omega (arith, some, none)))
-
--- no withdrawal raises it
-withdrawn_no_higher : (st : State) (ws : List ℕ) → Invariant st ws → (s : ℕ) → all_left (withdrawn st s).state ws ≤ all_left st ws
-withdrawn_no_higher st ws inv s =
-    ⊎_elim
-    (λ r. subst (λ (next : State). all_left next ws ≤ all_left st ws) (sym r.state) (omega arith))
-    (λ h. let less = withdrawn_lowers st ws inv s h in omega (arith, less))
-    (withdraw_cases st ws inv s)
-
--- where no operation is begun, none is begun behind the first call,
-none_later : (c : Call) (cs : List Call) (st : State) (ws : List ℕ) → NoneBegun (c ∷ cs) st ws → NoneBegun cs (called st ws c).state (called st ws c).words
-unfolding run tally
-none_later c cs st ws none = omega (arith, none)
-
--- and a begin leaves the state
-none_rests : (s : ℕ) (op : Op) (cs : List Call) (st : State) (ws : List ℕ) → NoneBegun (begin s op ∷ cs) st ws → BeginOf st s op → (begun st s op).state ≡ st
-unfolding run called tally member
-none_rests s op cs st ws none (no_such b e) = ap (λ (r : Outcome). r.state) e
-none_rests s op cs st ws none (busy b o e) = ap (λ (r : Outcome). r.state) e
-none_rests s op cs st ws none (blank b c t e) = ap (λ (r : Outcome). r.state) e
-none_rests s op cs st ws none (begins_so b c t e) =
-    let one : ◌≡◌ {A = ℕ} (cond (is_one_of (begun st s op).answer (Begun ∷ [])) 1 0) 1 = ap (λ (r : Outcome). cond (is_one_of r.answer (Begun ∷ [])) 1 0) e in
-    absurd (omega (arith, none, one))
-
--- so the calls go on from where it was
-none_goes_on : (s : ℕ) (op : Op) (cs : List Call) (st : State) (ws : List ℕ) → Invariant st ws → NoneBegun (begin s op ∷ cs) st ws
-    → ((begun st s op).state ≡ st) × NoneBegun cs st ws
-unfolding called
-none_goes_on s op cs st ws inv none =
-    let same = none_rests s op cs st ws none (begin_of st ws inv s op) in
-    (same, subst (λ (next : State). NoneBegun cs next ws) same (none_later (begin s op) cs st ws none))
-
--- Where no operation is begun, calls keep the invariant and raise no sum.
-pub quiet_calls : (cs : List Call) (st : State) (ws : List ℕ) → Invariant st ws → NoneBegun cs st ws
+-- Steps and reports keep the invariant and raise no sum.
+pub quiet_calls : (cs : List Call) → any_begin cs ≡ false → (st : State) (ws : List ℕ) → Invariant st ws
     → Fallen (all_left st ws) (run cs st ws).state (run cs st ws).words
 unfolding run called
-quiet_calls [] st ws inv none = (inv, omega arith)
-quiet_calls (begin s op ∷ cs) st ws inv none =
-    let (same, later) = none_goes_on s op cs st ws inv none in
-    subst (λ (next : State). Fallen (all_left st ws) (run cs next ws).state (run cs next ws).words) (sym same) (quiet_calls cs st ws inv later)
-quiet_calls (report p ∷ cs) st ws inv none = quiet_calls cs st ws inv (none_later (report p) cs st ws none)
-quiet_calls (step s ∷ cs) st ws inv none =
-    let rest = quiet_calls cs (stepped st ws s).state (stepped st ws s).words (step_on st ws inv s) (none_later (step s) cs st ws none) in
+quiet_calls [] quiet st ws inv = (inv, omega arith)
+quiet_calls (begin s op ∷ cs) quiet st ws inv = absurd (true≢false quiet)
+quiet_calls (report p ∷ cs) quiet st ws inv = quiet_calls cs quiet st ws inv
+quiet_calls (step s ∷ cs) quiet st ws inv =
+    let rest = quiet_calls cs quiet (stepped st ws s).state (stepped st ws s).words (step_on st ws inv s) in
     let first = step_no_higher st ws inv s in
     (rest.0, omega (arith, rest.1, first))
-quiet_calls (withdraw s ∷ cs) st ws inv none =
-    let rest = quiet_calls cs (withdrawn st s).state ws (withdrawn_keeps st ws inv s) (none_later (withdraw s) cs st ws none) in
-    let first = withdrawn_no_higher st ws inv s in
-    (rest.0, omega (arith, rest.1, first))
 
--- If a slot that can go is stepped among them, or withdrawn, the sum falls: either another was granted or withdrawn before its turn, or nothing
--- changed until then, and its own step is granted or it is withdrawn itself.
-falls_by : (cs : List Call) (u : ℕ) → u < slot_count → any_turn_of u cs ≡ true
-    → (st : State) (ws : List ℕ) → Invariant st ws → NoneBegun cs st ws → open_at st u ≡ true → grants st u ≡ true
+-- If a slot that can go is stepped among them the sum falls: either another was granted before its step, or nothing changed until
+-- then and its own step is granted.
+falls_by : (cs : List Call) → any_begin cs ≡ false → (u : ℕ) → u < slot_count → any_step_of u cs ≡ true
+    → (st : State) (ws : List ℕ) → Invariant st ws → open_at st u ≡ true → grants st u ≡ true
     → all_left (run cs st ws).state (run cs st ws).words < all_left st ws
 unfolding run called
-falls_by [] u b turn st ws inv none opened goes = absurd (true≢false (sym turn))
-falls_by (begin s op ∷ cs) u b turn st ws inv none opened goes =
-    let (same, later) = none_goes_on s op cs st ws inv none in
-    subst (λ (next : State). all_left (run cs next ws).state (run cs next ws).words < all_left st ws) (sym same)
-    (falls_by cs u b turn st ws inv later opened goes)
-falls_by (report p ∷ cs) u b turn st ws inv none opened goes = falls_by cs u b turn st ws inv (none_later (report p) cs st ws none) opened goes
-falls_by (step s ∷ cs) u b turn st ws inv none opened goes =
+falls_by [] quiet u b stepped-u st ws inv opened goes = absurd (true≢false (sym stepped-u))
+falls_by (begin s op ∷ cs) quiet u b stepped-u st ws inv opened goes = absurd (true≢false quiet)
+falls_by (report p ∷ cs) quiet u b stepped-u st ws inv opened goes = falls_by cs quiet u b stepped-u st ws inv opened goes
+falls_by (step s ∷ cs) quiet u b stepped-u st ws inv opened goes =
     ⊎_elim
     (λ r. subst (λ (l : Left). all_left (run cs l.state l.words).state (run cs l.state l.words).words < all_left st ws) (sym r.does)
-    (falls_by cs u b (later r) st ws inv (subst (λ (l : Left). NoneBegun cs l.state l.words) r.does quiet) opened goes))
-    (λ g. let rest = quiet_calls cs (stepped st ws s).state (stepped st ws s).words (step_on st ws inv s) quiet in
+    (falls_by cs quiet u b (later r) st ws inv opened goes))
+    (λ g. let rest = quiet_calls cs quiet (stepped st ws s).state (stepped st ws s).words (step_on st ws inv s) in
     let first = granted_lowers st ws inv s g in
     omega (arith, rest.1, first))
     (step_cases st ws inv s)
   where
-    quiet : NoneBegun cs (stepped st ws s).state (stepped st ws s).words
-    quiet = none_later (step s) cs st ws none
-
-    later : Rests st ws s → any_turn_of u cs ≡ true
+    later : Rests st ws s → any_step_of u cs ≡ true
     later r =
         ⊎_elim
         (λ same. let e : s ≡ u = eqb-true s u same in
         not_both goes (subst (λ (i : ℕ). grants st i ≡ false) e (r.barred (subst (λ (i : ℕ). i < slot_count) (sym e) b) (subst (λ (i : ℕ). open_at st i ≡ true) (sym e) opened))))
         (λ h. h)
-        (or_cases (eqb s u) (any_turn_of u cs) turn)
-falls_by (withdraw s ∷ cs) u b turn st ws inv none opened goes =
-    ⊎_elim
-    (λ r. subst (λ (next : State). all_left (run cs next ws).state (run cs next ws).words < all_left st ws) (sym r.state)
-    (falls_by cs u b (later r) st ws inv (subst (λ (next : State). NoneBegun cs next ws) r.state quiet) opened goes))
-    (λ h. let rest = quiet_calls cs (withdrawn st s).state ws (withdrawn_keeps st ws inv s) quiet in
-    let first = withdrawn_lowers st ws inv s h in
-    omega (arith, rest.1, first))
-    (withdraw_cases st ws inv s)
-  where
-    quiet : NoneBegun cs (withdrawn st s).state ws
-    quiet = none_later (withdraw s) cs st ws none
-
-    later : NotWithdrawn st s → any_turn_of u cs ≡ true
-    later r =
-        ⊎_elim
-        (λ same. let e : s ≡ u = eqb-true s u same in
-        not_both opened (subst (λ (i : ℕ). open_at st i ≡ false) e (r.shut (subst (λ (i : ℕ). i < slot_count) (sym e) b))))
-        (λ h. h)
-        (or_cases (eqb s u) (any_turn_of u cs) turn)
+        (or_cases (eqb s u) (any_step_of u cs) stepped-u)
 
 -- A round keeps the invariant, and lowers the sum by one at least where there is something left.
-round_falls : (cs : List Call) (st : State) (ws : List ℕ) → Invariant st ws → Round st ws cs
+round_falls : (cs : List Call) (st : State) (ws : List ℕ) → Invariant st ws → Round st cs
     → Fallen (all_left st ws - 1) (run cs st ws).state (run cs st ws).words
 round_falls cs st ws inv round =
-    let quiet = quiet_calls cs st ws inv round.none_begun in (
+    let quiet = quiet_calls cs round.no_begin st ws inv in (
       quiet.0,
       ⊎_elim
           (λ some.
           let found = any_below_at (open_at st) slot_count some in
           let can = some_can_go st ws inv found.0 found.1 found.2 in
-          let falls = falls_by cs can.0 can.1 (round.every_open can.0 can.1 can.2) st ws inv round.none_begun can.2 can.3 in
+          let falls = falls_by cs round.no_begin can.0 can.1 (round.every_open can.0 can.1 can.2) st ws inv can.2 can.3 in
           omega (arith, falls))
           (λ none. let empty : all_left st ws ≡ 0 = nothing_left st ws (any_below_false_at (open_at st) slot_count none) in omega (arith, empty, quiet.1))
           (true_or_false (any_below slot_count (open_at st))),

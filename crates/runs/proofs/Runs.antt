@@ -2,9 +2,7 @@
 use Prim.Native.Nat.{ℕ, ◌≤◌, ◌<◌}
 use mathlib.Core.Bool.{true, false, cond, not, ◌&&◌, false≢true}
 use mathlib.Core.List.{List, [], ◌∷◌, ◌++◌}
-use mathlib.Core.Logic.{◌⊎◌, inl, inr, ⊎_elim}
 use mathlib.Core.Path.{◌≡◌, refl, sym, ap, subst, ◌∙◌}
-use native.Mathlib.Omega.{arith}
 use lib.Dec.{ltb, leb, eqb}
 use lib.ListN.{length}
 use borrow.Author.Tests.{leb-true, ltb-true, ltb-false, eq-eqb}
@@ -17,14 +15,13 @@ use Rattle.slots.specs.declared.Op.{Op}
 use Rattle.slots.specs.declared.Slot.{Slot}
 use Rattle.slots.specs.declared.State.{State}
 use Rattle.slots.specs.declared.Outcome.{Outcome}
-use Rattle.slots.specs.declared.Answer.TheVariants.{Begun, Made, Reported, BadState, BadPool, BadSlot, SlotBusy, SlotIdle, BadPage, BadKey, Withdrawn}
+use Rattle.slots.specs.declared.Answer.TheVariants.{Begun, Made, Reported, BadState, BadPool, BadSlot, SlotBusy, BadPage, BadKey}
 use Rattle.slots.specs.Operations.{blank_tag}
 use Rattle.slots.specs.Parts.{key_of, is_open, open_at, closed_slot, idle_state, Opened}
 use Rattle.slots.specs.Sound.{sound}
 use Rattle.slots.specs.Book.{begins, goes_on, closes}
 use Rattle.slots.specs.Begin.{outcome, begun}
 use Rattle.slots.specs.Report.{holders, lowest_holder, lock_kind, reported}
-use Rattle.slots.specs.Withdraw.{withdrawn}
 use Rattle.slots.proofs.SoundFacts.{facts_sound}
 use Rattle.slots.proofs.Keeping.{same_everywhere, idle_sound, idle_shaped}
 use Rattle.index.specs.Step.{Left, left, stepped}
@@ -34,9 +31,9 @@ use Rattle.tree.specs.Tree.{Tr, entries_of, PoolForms}
 use Rattle.tree.specs.Facts.{empty_tree}
 use Rattle.tree.proofs.Words.{fresh_forms}
 use Rattle.tree.proofs.Opening.{opening_unblank}
-use Rattle.runs.specs.Run.{Call, begin, step, report, withdraw, called, run, Start, IsStart, fresh_pool, accepted_pool, run_from, CallInWords, InWords, Run}
+use Rattle.runs.specs.Run.{Call, begin, step, report, called, run, Start, IsStart, fresh_pool, accepted_pool, run_from, CallInWords, InWords, Run}
 use Rattle.runs.proofs.Invariant.{Invariant}
-use Rattle.runs.proofs.Calls.{StepOf, no_slot, idle, waits, onward, over, step_of, step_keeps, begin_keeps, withdraw_keeps}
+use Rattle.runs.proofs.Calls.{StepOf, no_slot, idle, waits, onward, over, step_of, step_keeps, begin_keeps}
 
 -- What a begin comes to in a run.
 pub data BeginOf (st : State) (s : ℕ) (op : Op) : Type 0 where
@@ -49,27 +46,6 @@ pub data BeginOf (st : State) (s : ℕ) (op : Op) : Type 0 where
 pub data ReportOf (st : State) (p : ℕ) : Type 0 where
   no_page : st.n ≤ p → reported st p ≡ BadPage → ReportOf st p
   tells : p < st.n → reported st p ≡ Reported (lock_kind st p) (holders st p) (lowest_holder st p) → ReportOf st p
-
--- What a withdrawal comes to in a run.
-pub data WithdrawOf (st : State) (s : ℕ) : Type 0 where
-  none_there : slot_count ≤ s → withdrawn st s ≡ outcome BadSlot st → WithdrawOf st s
-  shut_already : s < slot_count → open_at st s ≡ false → withdrawn st s ≡ outcome SlotIdle st → WithdrawOf st s
-  hangs_up : s < slot_count → open_at st s ≡ true → withdrawn st s ≡ outcome Withdrawn (closes st s) → WithdrawOf st s
-
--- In two cases: it leaves the state, its slot being none that is open; or it closes its slot.
-pub record NotWithdrawn (st : State) (s : ℕ) : Type 0 where
-  pub state : (withdrawn st s).state ≡ st
-  pub shut : s < slot_count → open_at st s ≡ false
-
-pub record IsWithdrawn (st : State) (s : ℕ) : Type 0 where
-  pub inside : s < slot_count
-  pub opened : open_at st s ≡ true
-  pub state : (withdrawn st s).state ≡ closes st s
-
-two_cases : (st : State) (s : ℕ) → WithdrawOf st s → NotWithdrawn st s ⊎ IsWithdrawn st s
-two_cases st s (none_there b e) = inl (record { state = ap (λ (r : Outcome). r.state) e; shut = λ c. absurd (omega (arith, b, c)) })
-two_cases st s (shut_already b c e) = inl (record { state = ap (λ (r : Outcome). r.state) e; shut = λ _. c })
-two_cases st s (hangs_up b o e) = inr (record { inside = b; opened = o; state = ap (λ (r : Outcome). r.state) e })
 
 -- what is left of the rule for a closed slot, and for any
 abbrev taken : State → ℕ → Op → Outcome
@@ -109,35 +85,11 @@ module _ (st : State) (ws : List ℕ) (inv : Invariant st ws) where
       (λ y. tells (ltb-true p st.n y) (past ∙ cond-false BadPage _ (not_of_true y)))
       (λ z. no_page (ltb-false p st.n z) (past ∙ cond-true BadPage _ (not_of_false z)))
 
-  pub withdraw_of : (s : ℕ) → WithdrawOf st s
-  unfolding withdrawn
-  withdraw_of s =
-      let hears : Outcome = cond (open_at st s) (outcome Withdrawn (closes st s)) (outcome SlotIdle st) in
-      let past : withdrawn st s ≡ cond (not (ltb s slot_count)) (outcome BadSlot st) hears
-      = cond-false (outcome BadState st) _ (not_of_true (facts_sound st inv.sound)) in
-      by_test (ltb s slot_count)
-      (λ y.
-      let there : withdrawn st s ≡ hears = past ∙ cond-false (outcome BadSlot st) _ (not_of_true y) in
-      by_test (open_at st s)
-      (λ o. hangs_up (ltb-true s slot_count y) o (there ∙ cond-true _ (outcome SlotIdle st) o))
-      (λ c. shut_already (ltb-true s slot_count y) c (there ∙ cond-false (outcome Withdrawn (closes st s)) _ c)))
-      (λ z. none_there (ltb-false s slot_count z) (past ∙ cond-true (outcome BadSlot st) _ (not_of_false z)))
-
-  pub withdraw_cases : (s : ℕ) → NotWithdrawn st s ⊎ IsWithdrawn st s
-  withdraw_cases s = two_cases st s (withdraw_of s)
-
   begun_keeps : (s : ℕ) (op : Op) → key_of op < word_range → BeginOf st s op → Invariant (begun st s op).state ws
   begun_keeps s op key (no_such b e) = subst (λ (r : Outcome). Invariant r.state ws) (sym e) inv
   begun_keeps s op key (busy b o e) = subst (λ (r : Outcome). Invariant r.state ws) (sym e) inv
   begun_keeps s op key (blank b c t e) = subst (λ (r : Outcome). Invariant r.state ws) (sym e) inv
   begun_keeps s op key (begins_so b c t e) = subst (λ (r : Outcome). Invariant r.state ws) (sym e) (begin_keeps st ws inv s b op c t key)
-
-  pub withdrawn_keeps : (s : ℕ) → Invariant (withdrawn st s).state ws
-  withdrawn_keeps s =
-      ⊎_elim
-      (λ r. subst (λ (next : State). Invariant next ws) (sym r.state) inv)
-      (λ h. subst (λ (next : State). Invariant next ws) (sym h.state) (withdraw_keeps st ws inv s h.inside h.opened))
-      (withdraw_cases s)
 
   -- Every call keeps what holds of a run.
   pub call_keeps : (c : Call) → CallInWords c → Invariant (called st ws c).state (called st ws c).words
@@ -145,7 +97,6 @@ module _ (st : State) (ws : List ℕ) (inv : Invariant st ws) where
   call_keeps (begin s op) h = begun_keeps s op h.0 (begin_of s op)
   call_keeps (step s) h = step_keeps st ws inv s (step_of st ws inv s)
   call_keeps (report p) h = inv
-  call_keeps (withdraw s) h = withdrawn_keeps s
 
 -- No call changes k or N.
 abbrev pub Numbers : State → State → Type 0
@@ -166,17 +117,11 @@ stepped_numbers st ws inv s (waits op b runs g e) = subst (λ (r : Left). Number
 stepped_numbers st ws inv s (onward op z b runs g e same stance locked takes) = subst (λ (r : Left). Numbers st r.state) (sym e) (refl, refl)
 stepped_numbers st ws inv s (over op a writes b runs g e ended) = subst (λ (r : Left). Numbers st r.state) (sym e) (refl, refl)
 
-withdrawn_numbers : (st : State) (s : ℕ) → NotWithdrawn st s ⊎ IsWithdrawn st s → Numbers st (withdrawn st s).state
-unfolding closes
-withdrawn_numbers st s (inl r) = subst (Numbers st) (sym r.state) (refl, refl)
-withdrawn_numbers st s (inr h) = subst (Numbers st) (sym h.state) (refl, refl)
-
 pub call_numbers : (st : State) (ws : List ℕ) → Invariant st ws → (c : Call) → Numbers st (called st ws c).state
 unfolding called
 call_numbers st ws inv (begin s op) = begun_numbers st s op (begin_of st ws inv s op)
 call_numbers st ws inv (step s) = stepped_numbers st ws inv s (step_of st ws inv s)
 call_numbers st ws inv (report p) = (refl, refl)
-call_numbers st ws inv (withdraw s) = withdrawn_numbers st s (withdraw_cases st ws inv s)
 
 -- the tree that the words form, by other names of its k and N
 pub forms_with : {k n : ℕ} {st : State} {ws : List ℕ} (inv : Invariant st ws) → (st.k ≡ k) × (st.n ≡ n) → PoolForms k n ws inv.height inv.tree

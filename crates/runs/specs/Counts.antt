@@ -1,7 +1,7 @@
 -- "Granted steps, with h the level of page 0 when it is granted: search and insertion take h, deletion h to 2h-1. So at most 19 a
 -- slot". Next: "It takes at most 2h-1 grants". A regrading goes down as a search does, and takes h. 02 (v), by the second way: "At most 10
 -- + 19 grants". 02 (vi), by the third: "A deletion takes at most 19 grants and 19 conversions". Counted in a run, from where an operation has
--- begun to where it ends. One that is withdrawn, 02 (ix), has no more: whatever is said here without `ends_within` is said of it too.
+-- begun to where it ends.
 use Rattle.std.specs.Prelude.{ℕ, ◌+◌, ◌-◌, ◌*◌, ◌≤◌, Bool, true, false, not, cond, ◌&&◌, List, [], ◌∷◌, ◌≡◌, length}
 use Rattle.ground.specs.Limits.{way_grants, second_grants, slot_grants}
 use Rattle.pool.specs.Pool.{page_at}
@@ -24,26 +24,26 @@ use Rattle.runs.specs.Run.{InWords}
 abbrev pub granted_to : ℕ → State → List ℕ → Call → Bool
 granted_to s st ws c = is_step_of s c && not (changes_nothing (called st ws c).answer)
 
--- how many granted steps the operation of slot s has among these calls, until it ends or is withdrawn
+-- how many granted steps the operation of slot s has among these calls, until it ends
 unfoldable pub grants_of : ℕ → List Call → State → List ℕ → ℕ
 grants_of s [] st ws = 0
 grants_of s (c ∷ cs) st ws =
     let next = called st ws c in
     cond (granted_to s st ws c) 1 0 + cond (open_at next.state s) (grants_of s cs next.state next.words) 0
 
--- the operation of slot s ends among these calls: a step closes it, and not a withdrawal
+-- the operation of slot s ends among these calls
 unfoldable pub ends_within : ℕ → List Call → State → List ℕ → Bool
 ends_within s [] st ws = false
 ends_within s (c ∷ cs) st ws =
     let next = called st ws c in
-    cond (open_at next.state s) (ends_within s cs next.state next.words) (is_step_of s c)
+    cond (open_at next.state s) (ends_within s cs next.state next.words) true
 
 -- "the level of page 0 when it is granted": it is what the first granted step grants; 0 where there is none
 unfoldable pub height_granted : ℕ → List Call → State → List ℕ → ℕ
 height_granted s [] st ws = 0
 height_granted s (c ∷ cs) st ws =
     let next = called st ws c in
-    cond (granted_to s st ws c) (page_at st.k ws 0).level (cond (open_at next.state s) (height_granted s cs next.state next.words) 0)
+    cond (granted_to s st ws c) (page_at st.k ws 0).level (height_granted s cs next.state next.words)
 
 -- ---- the second way
 

@@ -1,17 +1,13 @@
 -- "list the ended operations, save those answered "no room", in the order of their answers": read off a run's own calls and
--- answers. And the plain list worked through them; and how many operations were begun, ended, were withdrawn and are open.
-use Rattle.std.specs.Prelude.{ℕ, ◌+◌, Bool, cond, ◌&&◌, List, [], ◌∷◌, map, eqb}
-use Rattle.ground.specs.Tests.{count}
+-- answers. And the plain list worked through them.
+use Rattle.std.specs.Prelude.{ℕ, cond, List, [], ◌∷◌, map, eqb}
 use Rattle.page.specs.Words.{Entry}
 use Rattle.slots.specs.declared.Op.{Op}
 use Rattle.slots.specs.declared.Op.TheVariants.{Search}
 use Rattle.slots.specs.declared.Answer.{Answer}
-use Rattle.slots.specs.declared.Answer.TheVariants.{NoRoom, Begun, Withdrawn}
-use Rattle.slots.specs.declared.State.{State}
-use Rattle.slots.specs.Heard.{is_one_of, counted_answers, ending}
-use Rattle.slots.specs.Parts.{open_at}
-use Rattle.runs.specs.Calls.{Call, begin, step, report, withdraw, is_begin_of, is_step_of, is_withdraw_of}
-use Rattle.runs.specs.Run.{Told}
+use Rattle.slots.specs.declared.Answer.TheVariants.{Begun}
+use Rattle.slots.specs.Heard.{is_one_of, counted_answers}
+use Rattle.runs.specs.Calls.{Call, begin, step, report}
 use Rattle.runs.specs.Plain.{plain}
 
 -- An operation that has ended: in which slot, which one, and its answer.
@@ -30,15 +26,13 @@ nobody s = Search 0
 abbrev pub asks : ℕ → Op → (ℕ → Op) → ℕ → Op
 asks s op asked u = cond (eqb u s) op (asked u)
 
--- A begin answered Begun asks its operation in its slot; a step answered by one of `counted_answers` ends what was asked there. 02 (ix): "Demand 3's
--- list passes over withdrawn operations": a withdrawal ends nothing, and its slot is not stepped to an end before the next begin there.
+-- A begin answered Begun asks its operation in its slot; a step answered by one of `counted_answers` ends what was asked there.
 unfoldable pub done : List Call → List Answer → (ℕ → Op) → List Done
 done [] heard asked = []
 done (c ∷ cs) [] asked = []
 done (begin s op ∷ cs) (a ∷ heard) asked = done cs heard (cond (is_one_of a (Begun ∷ [])) (asks s op asked) asked)
 done (step s ∷ cs) (a ∷ heard) asked = cond (is_one_of a counted_answers) (ended s (asked s) a ∷ done cs heard asked) (done cs heard asked)
 done (report p ∷ cs) (a ∷ heard) asked = done cs heard asked
-done (withdraw s ∷ cs) (a ∷ heard) asked = done cs heard asked
 
 -- "A plain sorted list, worked through one operation after another": its answers, and its entries at the end
 unfoldable pub plain_answers : List Op → List Entry → List Answer
@@ -54,35 +48,3 @@ ops_of ds = map (λ (d : Done). d.op) ds
 
 abbrev pub answers_in : List Done → List Answer
 answers_in ds = map (λ (d : Done). d.answer) ds
-
--- ---- how many
-
--- the calls of one sort that are answered by one of these
-unfoldable pub tally : (Call → Bool) → List Answer → List Call → List Answer → ℕ
-tally which those [] heard = 0
-tally which those (c ∷ cs) [] = 0
-tally which those (c ∷ cs) (a ∷ heard) = cond (which c && is_one_of a those) 1 0 + tally which those cs heard
-
--- How many operations of slot s these calls began,
-abbrev pub begun_of : ℕ → List Call → Told → ℕ
-begun_of s cs r = tally (is_begin_of s) (Begun ∷ []) cs r.answers
-
--- how many ended with an answer,
-abbrev pub ended_of : ℕ → List Call → Told → ℕ
-ended_of s cs r = tally (is_step_of s) ending cs r.answers
-
--- among them with "no room",
-abbrev pub no_room_of : ℕ → List Call → Told → ℕ
-no_room_of s cs r = tally (is_step_of s) (NoRoom ∷ []) cs r.answers
-
--- how many were withdrawn,
-abbrev pub withdrawn_of : ℕ → List Call → Told → ℕ
-withdrawn_of s cs r = tally (is_withdraw_of s) (Withdrawn ∷ []) cs r.answers
-
--- how many are open: one or none,
-abbrev pub open_of : State → ℕ → ℕ
-open_of st s = cond (open_at st s) 1 0
-
--- and how many a list has.
-abbrev pub listed_of : ℕ → List Done → ℕ
-listed_of s ds = count (λ (d : Done). eqb d.slot s) ds

@@ -9,7 +9,7 @@ use Rattle.slots.specs.declared.State.{State}
 use Rattle.index.specs.Make.{made}
 use Rattle.index.specs.Open.{opened}
 use Rattle.tree.specs.Tree.{Tr, entries_of, PoolForms}
-pub use Rattle.runs.specs.Calls.{Call, begin, step, report, withdraw, CallInWords}
+pub use Rattle.runs.specs.Calls.{Call, begin, step, report, CallInWords}
 unfoldable pub use Rattle.runs.specs.Calls.{called}
 
 -- What is answered, call by call, and what the last call left.

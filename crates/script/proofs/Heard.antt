@@ -10,16 +10,16 @@ use Rattle.slots.specs.declared.Op.{Op}
 use Rattle.slots.specs.declared.Op.TheVariants.{Search}
 use Rattle.slots.specs.declared.State.{State}
 use Rattle.slots.specs.declared.Answer.{Answer}
-use Rattle.slots.specs.declared.Answer.TheVariants.{Waiting, Moved, Found, NotFound, Inserted, AlreadyThere, Deleted, NoSuchKey, NoRoom, Begun, Made, Reported, Next, None, Regraded, BadState, BadPool, BadSlot, SlotBusy, SlotIdle, Damaged, BadPage, Opened, BadPageInPool, BadTree, BadKey, Withdrawn}
+use Rattle.slots.specs.declared.Answer.TheVariants.{Waiting, Moved, Found, NotFound, Inserted, AlreadyThere, Deleted, NoSuchKey, NoRoom, Begun, Made, Reported, Next, None, Regraded, BadState, BadPool, BadSlot, SlotBusy, SlotIdle, Damaged, BadPage, Opened, BadPageInPool, BadTree, BadKey}
 use Rattle.slots.specs.Heard.{number_of, is_one_of}
 use Rattle.lines.specs.declared.Command.{Command}
-use Rattle.lines.specs.declared.Command.TheVariants.{Begin, Step, Withdraw, Bad}
+use Rattle.lines.specs.declared.Command.TheVariants.{Begin, Step, Bad}
 use Rattle.lines.specs.Text.{starts_with}
 use Rattle.lines.specs.Names.{answer_line, bad_line}
 use Rattle.lines.specs.Ends.{first_line}
 use Rattle.talk.specs.Split.{ended, lines_of}
 use Rattle.talk.proofs.OneEach.{answer_line_lem, bad_line_lem}
-use Rattle.runs.specs.Calls.{Call, begin, step, withdraw, called, answers_of}
+use Rattle.runs.specs.Calls.{Call, begin, step, called, answers_of}
 use Rattle.runs.specs.Run.{run, InWords}
 use Rattle.runs.proofs.Invariant.{Invariant}
 use Rattle.runs.proofs.Runs.{call_keeps}
@@ -27,33 +27,21 @@ use Rattle.promises.proofs.Demand2.{call_heard}
 use Rattle.script.specs.Script.{calls_by, said_to}
 use Rattle.script.specs.Promises.{quiet}
 
--- what beginning, stepping and withdrawing hear
+-- what beginning and stepping hear
 abbrev pub spoken : List Answer
-spoken = answers_of (begin 0 (Search 0)) ++ (answers_of (step 0) ++ answers_of (withdraw 0))
+spoken = answers_of (begin 0 (Search 0)) ++ answers_of (step 0)
 
 abbrev pub is_spoken : Answer → Bool
 is_spoken a = is_one_of a spoken
 
 begin_spoken : (a : Answer) (s : ℕ) (op : Op) → is_one_of a (answers_of (begin s op)) ≡ true → is_spoken a ≡ true
 begin_spoken a s op h =
-    member_append (number_of a) (map number_of (answers_of (begin s op))) (map number_of (answers_of (step 0) ++ answers_of (withdraw 0)))
-    ∙ or_first (is_one_of a (answers_of (step 0) ++ answers_of (withdraw 0))) h
-
--- behind those of a beginning
-later_spoken : (a : Answer) → is_one_of a (answers_of (step 0) ++ answers_of (withdraw 0)) ≡ true → is_spoken a ≡ true
-later_spoken a h =
-    member_append (number_of a) (map number_of (answers_of (begin 0 (Search 0)))) (map number_of (answers_of (step 0) ++ answers_of (withdraw 0)))
-    ∙ or_second (is_one_of a (answers_of (begin 0 (Search 0)))) h
+    member_append (number_of a) (map number_of (answers_of (begin s op))) (map number_of (answers_of (step 0))) ∙ or_first (is_one_of a (answers_of (step 0))) h
 
 step_spoken : (a : Answer) (s : ℕ) → is_one_of a (answers_of (step s)) ≡ true → is_spoken a ≡ true
 step_spoken a s h =
-    later_spoken a
-    (member_append (number_of a) (map number_of (answers_of (step s))) (map number_of (answers_of (withdraw 0))) ∙ or_first (is_one_of a (answers_of (withdraw 0))) h)
-
-withdraw_spoken : (a : Answer) (s : ℕ) → is_one_of a (answers_of (withdraw s)) ≡ true → is_spoken a ≡ true
-withdraw_spoken a s h =
-    later_spoken a
-    (member_append (number_of a) (map number_of (answers_of (step 0))) (map number_of (answers_of (withdraw s))) ∙ or_second (is_one_of a (answers_of (step 0))) h)
+    member_append (number_of a) (map number_of (answers_of (begin 0 (Search 0)))) (map number_of (answers_of (step s)))
+    ∙ or_second (is_one_of a (answers_of (begin 0 (Search 0)))) h
 
 -- every answer to the calls of a script
 pub script_hears : (cs : List Command) (st : State) (ws : List ℕ) → Invariant st ws → InWords (calls_by cs) → all is_spoken (run (calls_by cs) st ws).answers ≡ true
@@ -66,10 +54,6 @@ script_hears (Begin s op ∷ cs) st ws inv h =
 script_hears (Step s ∷ cs) st ws inv h =
     let c : Call = step s in
     and_both (step_spoken (called st ws c).answer s (call_heard st ws inv c))
-    (script_hears cs (called st ws c).state (called st ws c).words (call_keeps st ws inv c h.0) h.1)
-script_hears (Withdraw s ∷ cs) st ws inv h =
-    let c : Call = withdraw s in
-    and_both (withdraw_spoken (called st ws c).answer s (call_heard st ws inv c))
     (script_hears cs (called st ws c).state (called st ws c).words (call_keeps st ws inv c h.0) h.1)
 script_hears (Bad ∷ cs) st ws inv h = script_hears cs st ws inv h
 
@@ -102,7 +86,6 @@ answer_quiet Opened h = refl
 answer_quiet (BadPageInPool p) h = refl
 answer_quiet BadTree h = refl
 answer_quiet BadKey h = refl
-answer_quiet Withdrawn h = refl
 
 bad_quiet : quiet (ended (first_line bad_line)) ≡ true
 unfolding starts_with first_line
@@ -126,10 +109,6 @@ said_quiet (Begin s op ∷ cs) (a ∷ heard) h =
     (said_quiet cs heard (and_second (is_spoken a) (all is_spoken heard) h))
 said_quiet (Step s ∷ cs) [] h = refl
 said_quiet (Step s ∷ cs) (a ∷ heard) h =
-    answer_more a (flatten (said_to cs heard)) (and_first (is_spoken a) (all is_spoken heard) h)
-    (said_quiet cs heard (and_second (is_spoken a) (all is_spoken heard) h))
-said_quiet (Withdraw s ∷ cs) [] h = refl
-said_quiet (Withdraw s ∷ cs) (a ∷ heard) h =
     answer_more a (flatten (said_to cs heard)) (and_first (is_spoken a) (all is_spoken heard) h)
     (said_quiet cs heard (and_second (is_spoken a) (all is_spoken heard) h))
 said_quiet (Bad ∷ cs) heard h = bad_more (flatten (said_to cs heard)) (said_quiet cs heard h)

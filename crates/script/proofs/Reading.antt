@@ -16,10 +16,10 @@ use Rattle.ground.proofs.Tests.{all_member}
 use Rattle.slots.specs.declared.State.{State}
 use Rattle.slots.specs.declared.Lock.TheVariants.{None}
 use Rattle.slots.specs.declared.Answer.{Answer}
-use Rattle.slots.specs.declared.Answer.TheVariants.{Waiting, Moved, Found, NotFound, Inserted, AlreadyThere, Deleted, NoSuchKey, NoRoom, Begun, Made, Reported, Next, None as NoLot, Regraded, BadState, BadPool, BadSlot, SlotBusy, SlotIdle, Damaged, BadPage, Opened, BadPageInPool, BadTree, BadKey, Withdrawn}
+use Rattle.slots.specs.declared.Answer.TheVariants.{Waiting, Moved, Found, NotFound, Inserted, AlreadyThere, Deleted, NoSuchKey, NoRoom, Begun, Made, Reported, Next, None as NoLot, Regraded, BadState, BadPool, BadSlot, SlotBusy, SlotIdle, Damaged, BadPage, Opened, BadPageInPool, BadTree, BadKey}
 use Rattle.slots.specs.Heard.{number_of}
 use Rattle.lines.specs.declared.Command.{Command}
-use Rattle.lines.specs.declared.Command.TheVariants.{Begin, Step, Withdraw, Bad}
+use Rattle.lines.specs.declared.Command.TheVariants.{Begin, Step, Bad}
 use Rattle.lines.specs.Text.{bytes, starts_with}
 use Rattle.lines.specs.Meaning.{digits, value}
 use Rattle.lines.specs.Decimal.{decimal}
@@ -70,8 +70,7 @@ read_back line =
     (cond (starts_with (bytes "Opened") line) Opened
     (cond (starts_with (bytes "BadTree") line) BadTree
     (cond (starts_with (bytes "BadKey") line) BadKey
-    (cond (starts_with (bytes "Withdrawn") line) Withdrawn
-    (Reported None 0 0))))))))))))))))))))))))))
+    (Reported None 0 0)))))))))))))))))))))))))
 
 is_report : Answer → Bool
 is_report a = eqb (number_of a) (number_of (Reported None 0 0))
@@ -121,9 +120,8 @@ reads_back Opened = refl
 reads_back (BadPageInPool p) = ap BadPageInPool (number_back p)
 reads_back BadTree = refl
 reads_back BadKey = refl
-reads_back Withdrawn = refl
 
--- beginning, stepping and withdrawing hear no report
+-- beginning and stepping hear no report
 spoken_plain : (a : Answer) → is_spoken a ≡ true → is_report a ≡ false
 unfolding all member is_report
 spoken_plain a h = not-true (is_report a) (all_member (λ n. not (eqb n (number_of (Reported None 0 0)))) (map number_of spoken) refl (number_of a) h)
@@ -171,12 +169,6 @@ answers_once (Begin s op ∷ cs) (b ∷ other) (a ∷ heard) m n h e =
 answers_once (Step s ∷ cs) [] heard m n h e = absurd (omega (arith, m))
 answers_once (Step s ∷ cs) (b ∷ other) [] m n h e = absurd (omega (arith, n))
 answers_once (Step s ∷ cs) (b ∷ other) (a ∷ heard) m n h e =
-    let first = answers_first b a (flatten (said_to cs other)) (flatten (said_to cs heard)) (and_first (is_spoken a) (all is_spoken heard) h) e in
-    ap₂ (λ (x : Answer) (xs : List Answer). x ∷ xs) first.0
-    (answers_once cs other heard (omega (arith, m)) (omega (arith, n)) (and_second (is_spoken a) (all is_spoken heard) h) first.1)
-answers_once (Withdraw s ∷ cs) [] heard m n h e = absurd (omega (arith, m))
-answers_once (Withdraw s ∷ cs) (b ∷ other) [] m n h e = absurd (omega (arith, n))
-answers_once (Withdraw s ∷ cs) (b ∷ other) (a ∷ heard) m n h e =
     let first = answers_first b a (flatten (said_to cs other)) (flatten (said_to cs heard)) (and_first (is_spoken a) (all is_spoken heard) h) e in
     ap₂ (λ (x : Answer) (xs : List Answer). x ∷ xs) first.0
     (answers_once cs other heard (omega (arith, m)) (omega (arith, n)) (and_second (is_spoken a) (all is_spoken heard) h) first.1)

@@ -10,11 +10,10 @@ use Rattle.ground.specs.Limits.{largest_k, largest_n, word_range}
 use Rattle.pool.specs.Pool.{pool_length}
 use Rattle.slots.specs.declared.State.{State}
 use Rattle.slots.specs.Begin.{begun}
-use Rattle.slots.specs.Withdraw.{withdrawn}
 use Rattle.lines.specs.declared.Command.{Command}
-use Rattle.lines.specs.declared.Command.TheVariants.{Begin, Step, Withdraw, Bad}
+use Rattle.lines.specs.declared.Command.TheVariants.{Begin, Step, Bad}
 use Rattle.lines.specs.Meaning.{meaning, largest}
-use Rattle.lines.specs.Forms.{Good, to_search, to_insert, to_delete, to_next, to_regrade, to_step, to_withdraw}
+use Rattle.lines.specs.Forms.{Good, to_search, to_insert, to_delete, to_next, to_regrade, to_step}
 use Rattle.lines.specs.Names.{answer_line, bad_line}
 use Rattle.lines.proofs.Grammar.{means_good}
 use Rattle.index.specs.Step.{stepped}
@@ -34,7 +33,6 @@ unfolding flatten calls_by said_to called run
 command_run (Begin s op) st ws lines rest = ap (λ (bs : List ℕ). answer_line (begun st s op).answer ++ bs) (rest (begun st s op).state ws)
 command_run (Step s) st ws lines rest =
     ap (λ (bs : List ℕ). answer_line (stepped st ws s).answer ++ bs) (rest (stepped st ws s).state (stepped st ws s).words)
-command_run (Withdraw s) st ws lines rest = ap (λ (bs : List ℕ). answer_line (withdrawn st s).answer ++ bs) (rest (withdrawn st s).state ws)
 command_run Bad st ws lines rest = ap (λ (bs : List ℕ). bad_line ++ bs) (rest st ws)
 
 replies_run : (lines : List Line) (st : State) (ws : List ℕ) → replies st ws lines ≡ flatten (said_by lines (run (calls_of lines) st ws).answers)
@@ -63,7 +61,6 @@ good_in_words line rest (to_delete way ss ks hs hk e) h = ((number_word hk.small
 good_in_words line rest (to_next ss ks hs hk e) h = ((number_word hk.small, number_word {n = 0} (omega arith)), h)
 good_in_words line rest (to_regrade way ss ks is hs hk hi e) h = ((number_word hk.small, number_word hi.small), h)
 good_in_words line rest (to_step ss hs e) h = (tt, h)
-good_in_words line rest (to_withdraw ss hs e) h = (tt, h)
 
 -- keys and informations of good lines are words
 pub script_in_words : (lines : List Line) → InWords (calls_of lines)

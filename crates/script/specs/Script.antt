@@ -3,12 +3,12 @@ use Rattle.std.specs.Prelude.{ℕ, ◌≤◌, ◌≡◌, length}
 use mathlib.Core.List.{List, [], ◌∷◌, map, flatten}
 use Rattle.slots.specs.declared.Answer.{Answer}
 use Rattle.lines.specs.declared.Command.{Command}
-use Rattle.lines.specs.declared.Command.TheVariants.{Begin, Step, Withdraw, Bad}
+use Rattle.lines.specs.declared.Command.TheVariants.{Begin, Step, Bad}
 use Rattle.lines.specs.Meaning.{meaning}
 use Rattle.lines.specs.Names.{answer_line, bad_line}
 use Rattle.talk.specs.Split.{Line, ended, unended, lines_of}
 use Rattle.talk.specs.Talk.{program_k, program_pages, blank, most_bytes, program_writes}
-use Rattle.runs.specs.Run.{Call, begin, step, withdraw, Told, Start, fresh_start, run_from, Run}
+use Rattle.runs.specs.Run.{Call, begin, step, Told, Start, fresh_start, run_from, Run}
 
 -- ---- the script
 
@@ -25,7 +25,6 @@ unfoldable pub calls_by : List Command → List Call
 calls_by [] = []
 calls_by (Begin s op ∷ rest) = begin s op ∷ calls_by rest
 calls_by (Step s ∷ rest) = step s ∷ calls_by rest
-calls_by (Withdraw s ∷ rest) = withdraw s ∷ calls_by rest
 calls_by (Bad ∷ rest) = calls_by rest
 
 abbrev pub calls_of : List Line → List Call
@@ -40,8 +39,6 @@ said_to (Begin s op ∷ rest) [] = []
 said_to (Begin s op ∷ rest) (a ∷ heard) = answer_line a ∷ said_to rest heard
 said_to (Step s ∷ rest) [] = []
 said_to (Step s ∷ rest) (a ∷ heard) = answer_line a ∷ said_to rest heard
-said_to (Withdraw s ∷ rest) [] = []
-said_to (Withdraw s ∷ rest) (a ∷ heard) = answer_line a ∷ said_to rest heard
 said_to (Bad ∷ rest) heard = bad_line ∷ said_to rest heard
 
 abbrev pub said_by : List Line → List Answer → List (List ℕ)

@@ -7,7 +7,7 @@ use lib.Dec.{eqb}
 use Rattle.slots.specs.declared.Lock.{Lock}
 use Rattle.slots.specs.declared.Lock.TheVariants.{None, Rho, Xi, UpdaterRho, Alpha}
 use Rattle.slots.specs.declared.Answer.{Answer}
-use Rattle.slots.specs.declared.Answer.TheVariants.{Waiting, Moved, Found, NotFound, Inserted, AlreadyThere, Deleted, NoSuchKey, NoRoom, Begun, Made, Reported, BadState, BadPool, BadSlot, SlotBusy, SlotIdle, Damaged, BadPage, Next, None as NoLot, Regraded, Opened, BadPageInPool, BadTree, BadKey, Withdrawn}
+use Rattle.slots.specs.declared.Answer.TheVariants.{Waiting, Moved, Found, NotFound, Inserted, AlreadyThere, Deleted, NoSuchKey, NoRoom, Begun, Made, Reported, BadState, BadPool, BadSlot, SlotBusy, SlotIdle, Damaged, BadPage, Next, None as NoLot, Regraded, Opened, BadPageInPool, BadTree, BadKey}
 use Rattle.slots.specs.Heard.{lock_number, lock_named, answers_with, number_of, heard}
 
 pub lock_back : (l : Lock) → lock_named (lock_number l) ≡ l
@@ -54,7 +54,6 @@ told_back Opened = refl
 told_back (BadPageInPool p) = refl
 told_back BadTree = refl
 told_back BadKey = refl
-told_back Withdrawn = refl
 
 -- two answers that are heard alike are the same
 pub heard_once : (a b : Answer) → heard a ≡ heard b → a ≡ b

@@ -28,7 +28,7 @@ requeued st s slot =
 unfoldable pub goes_on : State → ℕ → Stand → State
 goes_on st s z = requeued st s (slot_of z)
 
--- "An answer that ends the operation gives up every lock and closes the slot." So does a withdrawal, 02 (ix).
+-- "An answer that ends the operation gives up every lock and closes the slot."
 unfoldable pub closes : State → ℕ → State
 closes st s =
     rewritten st s closed_slot (leaving s (waiting_order st) ++ 0 ∷ drop st.waiting st.order) (st.waiting - 1)

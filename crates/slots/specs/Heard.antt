@@ -9,7 +9,7 @@ use Rattle.slots.specs.declared.Lock.{Lock}
 use Rattle.slots.specs.declared.Lock.TheVariants.{None, Rho, Xi, UpdaterRho, Alpha}
 use Rattle.slots.specs.declared.hearing.Heard.{Heard}
 use Rattle.slots.specs.declared.Answer.{Answer}
-use Rattle.slots.specs.declared.Answer.TheVariants.{Waiting, Moved, Found, NotFound, Inserted, AlreadyThere, Deleted, NoSuchKey, NoRoom, Begun, Made, Reported, BadState, BadPool, BadSlot, SlotBusy, SlotIdle, Damaged, BadPage, Next, None as NoLot, Regraded, Opened, BadPageInPool, BadTree, BadKey, Withdrawn}
+use Rattle.slots.specs.declared.Answer.TheVariants.{Waiting, Moved, Found, NotFound, Inserted, AlreadyThere, Deleted, NoSuchKey, NoRoom, Begun, Made, Reported, BadState, BadPool, BadSlot, SlotBusy, SlotIdle, Damaged, BadPage, Next, None as NoLot, Regraded, Opened, BadPageInPool, BadTree, BadKey}
 
 -- none, ρ, ξ; and those of 02 (vi) behind them
 abbrev pub lock_number : Lock → ℕ
@@ -43,7 +43,7 @@ refusal_of number name values = record { number = number; name = name; values = 
 abbrev refusal : ℕ → String → Said
 refusal number name = refusal_of number name []
 
--- an answer with which nothing has ended: an operation that is withdrawn is broken off
+-- an answer after which nothing has ended
 abbrev notice : ℕ → String → List ℕ → Said
 notice number name values = record { number = number; name = name; values = values; ends = false; writes = false }
 
@@ -82,7 +82,6 @@ said Opened = notice 47 "Opened" []
 said (BadPageInPool p) = refusal_of 9 "BadPageInPool" (p ∷ [])
 said BadTree = refusal 10 "BadTree"
 said BadKey = refusal 8 "BadKey"
-said Withdrawn = notice 48 "Withdrawn" []
 
 -- all answers, each with as many of these values as it has
 abbrev pub answers_with : List ℕ → List Answer
@@ -113,7 +112,6 @@ answers_with vs =
     ∷ BadPageInPool (get_or vs 0 0)
     ∷ BadTree
     ∷ BadKey
-    ∷ Withdrawn
     ∷ []
 
 -- ---- the columns

@@ -7,4 +7,3 @@ pub mod Sound
 pub mod Grant
 pub mod Begin
 pub mod Report
-pub mod Withdraw

@@ -52,6 +52,5 @@ pub fn numbers(answer: Answer) -> Heard
         Answer::BadPageInPool(page) => Heard(9, 1, page, 0, 0),
         Answer::BadTree => Heard(10, 0, 0, 0, 0),
         Answer::BadKey => Heard(8, 0, 0, 0, 0),
-        Answer::Withdrawn => Heard(48, 0, 0, 0, 0),
     }
 }

@@ -115,10 +115,9 @@ pub enum Answer {
     BadPageInPool(u32),
     BadTree,
     BadKey,
-    Withdrawn,
 }
 
-// What beginning an operation or withdrawing it gives, as the rules have it. In the code a state lies in lent words (crate lent).
+// What beginning an operation gives, as the rules have it. In the code a state lies in lent words (crate lent).
 #[derive(Drop)]
 pub struct Outcome {
     pub answer: Answer,

@@ -6,7 +6,7 @@ use Rattle.pool.specs.Pool.{pool_length, fresh}
 use Rattle.slots.specs.declared.Answer.TheVariants.{Made}
 use Rattle.slots.specs.Parts.{idle_state}
 use Rattle.lines.specs.Text.{bytes, starts_with as begins-with}
-use Rattle.lines.specs.Meaning.{digits, value, front, stepping, withdrawing, searching, deleting, asking_next, informing, keying, inserting, asking_regrade, asking_third, asking_second, asking, beginning, meaning}
+use Rattle.lines.specs.Meaning.{digits, value, front, stepping, searching, deleting, asking_next, informing, keying, inserting, asking_regrade, asking_third, asking_second, asking, beginning, meaning}
 use Rattle.lines.specs.Decimal.{digits_within, decimal}
 use Rattle.index.specs.Step.{left}
 use Rattle.index.specs.Make.{made}
@@ -16,7 +16,7 @@ use Rattle.talk.specs.Talk.{replies, program_k, program_pages, blank, opening, m
 
 -- Everything that the program unfolds to: what a call does, what a line means, how an answer is written.
 program : Unit {0}
-unfolding every_call begins-with digits value front stepping withdrawing searching deleting asking_next informing keying inserting asking_regrade asking_third asking_second asking beginning meaning digits_within decimal lines_of replies blank most_bytes program_writes
+unfolding every_call begins-with digits value front stepping searching deleting asking_next informing keying inserting asking_regrade asking_third asking_second asking beginning meaning digits_within decimal lines_of replies blank most_bytes program_writes
 program = tt
 
 -- the program's pool is made, and is fresh
@@ -51,11 +51,6 @@ pub second_way_leaf_example : program_writes (bytes "b 0 i 10 1\nt 0\nb 0 i 20 2
 unfolding program
 second_way_leaf_example = refl
 
--- a buyer hangs up who was the first to want page 0: the insertion behind him goes on, and his own never happened
-pub withdraw_example : program_writes (bytes "b 0 i 12 3\nb 1 i 12 4\nt 1\nw 0\nt 1\nw 0\nw 16\nb 0 s 12\nt 0\n") ≡ bytes "Begun\nBegun\nWaiting\nWithdrawn\nInserted\nSlotIdle\nBadSlot\nBegun\nFound 4\n"
-unfolding program
-withdraw_example = refl
-
 -- "empty input writes nothing"
 pub nothing : program_writes [] ≡ []
 unfolding most_bytes program_writes lines_of replies
@@ -63,5 +58,5 @@ nothing = refl
 
 -- "an unended last one .. gives BadLine", and is not run
 pub unended : program_writes (bytes "\nt 0") ≡ bytes "BadLine\nBadLine\n"
-unfolding most_bytes program_writes lines_of replies begins-with beginning stepping withdrawing meaning
+unfolding most_bytes program_writes lines_of replies begins-with beginning stepping meaning
 unended = refl

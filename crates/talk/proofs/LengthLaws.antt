@@ -11,11 +11,11 @@ use Rattle.slots.specs.Operations.{by_way}
 use Rattle.lines.specs.declared.Command.{Command}
 use Rattle.lines.specs.Text.{bytes}
 use Rattle.lines.specs.Meaning.{meaning}
-use Rattle.lines.specs.Forms.{Good, to_search, to_insert, to_delete, to_next, to_regrade, to_step, to_withdraw}
+use Rattle.lines.specs.Forms.{Good, to_search, to_insert, to_delete, to_next, to_regrade, to_step}
 use Rattle.lines.proofs.Grammar.{means_good}
 use Rattle.talk.specs.Talk.{commanded}
 
--- the shortest good lines are `t` and `w` with a slot of one digit
+-- the shortest good line is `t` with a slot of one digit
 good_long : (line : List ℕ) {c : Command} → Good line c → 3 ≤ length line
 good_long line (to_search ss ks hs hk e) = omega (arith, ap length e, hs.some, length-append ss (bytes " s " ++ ks))
 good_long line (to_insert way ss ks is hs hk hi e) =
@@ -25,7 +25,6 @@ good_long line (to_next ss ks hs hk e) = omega (arith, ap length e, hs.some, len
 good_long line (to_regrade way ss ks is hs hk hi e) =
     omega (arith, ap length e, hs.some, length-append ss (bytes (by_way way " g " " g2 " " g3 ") ++ (ks ++ (bytes " " ++ is))))
 good_long line (to_step ss hs e) = omega (arith, ap length e, hs.some)
-good_long line (to_withdraw ss hs e) = omega (arith, ap length e, hs.some)
 
 pub reply_short : (st : State) (ws line : List ℕ) → length (commanded st ws (meaning line)).said ≤ 32
     → length (commanded st ws (meaning line)).said ≤ 8 * (length line + 1)

@@ -1,25 +1,22 @@
 -- A call and its answer written out leave what the rules say: what is heard of an answer fixes it, and so its line.
 use Prim.Native.Nat.{ℕ, ◌+◌, ◌≤◌}
 use mathlib.Core.List.{List}
-use mathlib.Core.Path.{◌≡◌, refl, ap, ◌∙◌, subst, subst⁻¹}
+use mathlib.Core.Path.{◌≡◌, refl, subst, subst⁻¹}
 use native.Mathlib.Omega.{arith}
 use lib.ListN.{length}
 use Rattle.slots.specs.declared.Op.{Op}
 use Rattle.slots.specs.declared.State.{State}
-use Rattle.slots.specs.declared.Outcome.{Outcome}
 use Rattle.slots.specs.declared.Answer.{Answer}
-use Rattle.slots.specs.Heard.{heard}
 use Rattle.slots.specs.Begin.{begun}
-use Rattle.slots.specs.Withdraw.{withdrawn}
 use Rattle.lent.specs.Words.{state_of}
 use Rattle.slots.proofs.Unique.{heard_once}
 use Rattle.lines.specs.declared.Command.{Command}
-use Rattle.lines.specs.declared.Command.TheVariants.{Begin, Step, Withdraw, Bad}
+use Rattle.lines.specs.declared.Command.TheVariants.{Begin, Step, Bad}
 use Rattle.lines.specs.Text.{laid}
 use Rattle.lines.specs.Names.{answer_line, bad_line}
 use Rattle.index.specs.Step.{stepped}
-use Rattle.index.specs.Statements.{BeginSays, StepSays, WithdrawSays}
-use Rattle.talk.specs.Talk.{AfterLine, after_line, after_call, commanded}
+use Rattle.index.specs.Statements.{BeginSays, StepSays}
+use Rattle.talk.specs.Talk.{after_line, commanded}
 use Rattle.talk.specs.Leaves.{LineLeaves}
 
 -- the line of an answer is written over `out` at a position
@@ -30,21 +27,16 @@ module _ (out : List ℕ) (at : ℕ) {after : List ℕ} {end : ℕ} where
   leaves : (a : Answer) (st : State) (ws : List ℕ) → AnswerStands out at after end a → LineLeaves (after_line (answer_line a) st ws) out at st end ws after
   leaves a st ws w = record { state = refl; words = refl; bytes = w.0; behind = w.1; short = w.2 }
 
-  -- a call that is handed no pool leaves its outcome, and the words as they were
-  call_leaves : (st : State) (ws : List ℕ) (o : Outcome) (c : Command) (r : Answer) {st' : State} {command : Command} → command ≡ c → commanded st ws c ≡ after_call ws o
-      → heard r ≡ heard o.answer → st' ≡ o.state
-      → AnswerStands out at after end r
-      → LineLeaves (commanded st ws command) out at st' end ws after
-  call_leaves st ws o c r {st'} e is said state w =
-      subst⁻¹ (λ (l : AfterLine). LineLeaves l out at st' end ws after) (ap (commanded st ws) e ∙ is)
-      (subst⁻¹ (λ (t : State). LineLeaves (after_call ws o) out at t end ws after) state
-      (leaves o.answer o.state ws (subst (AnswerStands out at after end) (heard_once r o.answer said) w)))
-
   pub begin_leaves : (cells ws : List ℕ) (s : ℕ) (op : Op) {cells' : List ℕ} {command : Command} {r : Answer} → command ≡ Begin s op
       → BeginSays cells s op r cells'
       → AnswerStands out at after end r
       → LineLeaves (commanded (state_of cells) ws command) out at (state_of cells') end ws after
-  begin_leaves cells ws s op {r = r} e says w = call_leaves (state_of cells) ws (begun (state_of cells) s op) (Begin s op) r e refl says.answer says.state w
+  begin_leaves cells ws s op {cells'} {command} {r} e says w =
+      let st : State = state_of cells in
+      let heard : r ≡ (begun st s op).answer = heard_once r (begun st s op).answer says.answer in
+      subst⁻¹ (λ (c : Command). LineLeaves (commanded st ws c) out at (state_of cells') end ws after) e
+      (subst⁻¹ (λ (t : State). LineLeaves (commanded st ws (Begin s op)) out at t end ws after) says.state
+      (leaves (begun st s op).answer (begun st s op).state ws (subst (AnswerStands out at after end) heard w)))
 
   pub step_leaves : (cells ws : List ℕ) (s : ℕ) {cells' ws' : List ℕ} {command : Command} {r : Answer} → command ≡ Step s
       → StepSays cells ws s r cells' ws'
@@ -57,12 +49,6 @@ module _ (out : List ℕ) (at : ℕ) {after : List ℕ} {end : ℕ} where
       (subst⁻¹ (λ (t : State). LineLeaves (commanded st ws (Step s)) out at t end ws' after) says.state
       (subst⁻¹ (λ (v : List ℕ). LineLeaves (commanded st ws (Step s)) out at (stepped st ws s).state end v after) says.words
       (leaves (stepped st ws s).answer (stepped st ws s).state (stepped st ws s).words (subst (AnswerStands out at after end) heard w))))
-
-  pub withdraw_leaves : (cells ws : List ℕ) (s : ℕ) {cells' : List ℕ} {command : Command} {r : Answer} → command ≡ Withdraw s
-      → WithdrawSays cells s r cells'
-      → AnswerStands out at after end r
-      → LineLeaves (commanded (state_of cells) ws command) out at (state_of cells') end ws after
-  withdraw_leaves cells ws s {r = r} e says w = call_leaves (state_of cells) ws (withdrawn (state_of cells) s) (Withdraw s) r e refl says.answer says.state w
 
   pub bad_leaves : (st : State) (ws : List ℕ) {command : Command} → command ≡ Bad
       → (after ≡ laid out at bad_line) × (end ≡ at + length bad_line)

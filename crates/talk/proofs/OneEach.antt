@@ -12,11 +12,10 @@ use Rattle.ground.proofs.Bools.{and_first, and_second, and_both}
 use Rattle.ground.proofs.Tests.{all_append}
 use Rattle.slots.specs.declared.State.{State}
 use Rattle.slots.specs.declared.Answer.{Answer}
-use Rattle.slots.specs.declared.Answer.TheVariants.{Waiting, Moved, Found, NotFound, Inserted, AlreadyThere, Deleted, NoSuchKey, NoRoom, Begun, Made, Reported, Next, None, Regraded, BadState, BadPool, BadSlot, SlotBusy, SlotIdle, Damaged, BadPage, Opened, BadPageInPool, BadTree, BadKey, Withdrawn}
+use Rattle.slots.specs.declared.Answer.TheVariants.{Waiting, Moved, Found, NotFound, Inserted, AlreadyThere, Deleted, NoSuchKey, NoRoom, Begun, Made, Reported, Next, None, Regraded, BadState, BadPool, BadSlot, SlotBusy, SlotIdle, Damaged, BadPage, Opened, BadPageInPool, BadTree, BadKey}
 use Rattle.slots.specs.Begin.{begun}
-use Rattle.slots.specs.Withdraw.{withdrawn}
 use Rattle.lines.specs.declared.Command.{Command}
-use Rattle.lines.specs.declared.Command.TheVariants.{Begin, Step, Withdraw, Bad}
+use Rattle.lines.specs.declared.Command.TheVariants.{Begin, Step, Bad}
 use Rattle.lines.specs.Text.{bytes}
 use Rattle.lines.specs.Meaning.{is_digit, meaning}
 use Rattle.lines.specs.Decimal.{decimal}
@@ -97,7 +96,6 @@ answer_line_lem Opened rest = one_line (bytes "Opened") rest refl
 answer_line_lem (BadPageInPool p) rest = one_line (bytes "BadPageInPool " ++ decimal p) rest (digits_plain (decimal p) (decimal_digital p))
 answer_line_lem BadTree rest = one_line (bytes "BadTree") rest refl
 answer_line_lem BadKey rest = one_line (bytes "BadKey") rest refl
-answer_line_lem Withdrawn rest = one_line (bytes "Withdrawn") rest refl
 
 pub bad_line_lem : (rest : List ℕ) → lines_of (bad_line ++ rest) ≡ ended (first_line bad_line) ∷ lines_of rest
 unfolding all
@@ -107,7 +105,6 @@ module _ (st : State) (ws : List ℕ) where
   command_one : (c : Command) (rest : List ℕ) → length (lines_of ((commanded st ws c).said ++ rest)) ≡ suc (length (lines_of rest))
   command_one (Begin s op) rest = ap length (answer_line_lem (begun st s op).answer rest)
   command_one (Step s) rest = ap length (answer_line_lem (stepped st ws s).answer rest)
-  command_one (Withdraw s) rest = ap length (answer_line_lem (withdrawn st s).answer rest)
   command_one Bad rest = ap length (bad_line_lem rest)
 
   line_one : (line : Line) (rest : List ℕ) → length (lines_of ((answered st ws line).said ++ rest)) ≡ suc (length (lines_of rest))

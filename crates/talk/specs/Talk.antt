@@ -4,9 +4,8 @@ use Rattle.pool.specs.Pool.{pool_length}
 use Rattle.slots.specs.declared.State.{State}
 use Rattle.slots.specs.declared.Outcome.{Outcome}
 use Rattle.slots.specs.Begin.{begun}
-use Rattle.slots.specs.Withdraw.{withdrawn}
 use Rattle.lines.specs.declared.Command.{Command}
-use Rattle.lines.specs.declared.Command.TheVariants.{Begin, Step, Withdraw, Bad}
+use Rattle.lines.specs.declared.Command.TheVariants.{Begin, Step, Bad}
 use Rattle.lines.specs.Meaning.{meaning}
 use Rattle.lines.specs.Names.{answer_line, bad_line, too_long}
 use Rattle.index.specs.Step.{Left, stepped}
@@ -22,18 +21,17 @@ pub record AfterLine : Type 0 where
 abbrev pub after_line : List ℕ → State → List ℕ → AfterLine
 after_line said st ws = record { said = said; state = st; words = ws }
 
--- what a call leaves, its answer written out: one that is handed no pool leaves its words
-abbrev pub after_call : List ℕ → Outcome → AfterLine
-after_call ws r = after_line (answer_line r.answer) r.state ws
+-- what a call leaves, its answer written out
+abbrev pub after_begin : List ℕ → Outcome → AfterLine
+after_begin ws r = after_line (answer_line r.answer) r.state ws
 
 abbrev pub after_step : Left → AfterLine
 after_step r = after_line (answer_line r.answer) r.state r.words
 
 -- a command is the call that it names; what is no command calls nothing and "gives BadLine"
 abbrev pub commanded : State → List ℕ → Command → AfterLine
-commanded st ws (Begin s op) = after_call ws (begun st s op)
+commanded st ws (Begin s op) = after_begin ws (begun st s op)
 commanded st ws (Step s) = after_step (stepped st ws s)
-commanded st ws (Withdraw s) = after_call ws (withdrawn st s)
 commanded st ws Bad = after_line bad_line st ws
 
 -- "Another line, an unended last one, .. gives BadLine"

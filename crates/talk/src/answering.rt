@@ -6,7 +6,7 @@ ghost use Rattle.talk.specs.Talk.{commanded, replies, program_writes};
 ghost use Rattle.talk.specs.Leaves.{LineLeaves, Writes};
 
 use answers::{write_answer, write_bad_line, write_too_long};
-use index::calls::{begin, make, step, withdraw};
+use index::calls::{begin, make, step};
 use lent::STATE;
 use lines::{Command, line_end, read_line};
 
@@ -42,10 +42,6 @@ fn obey(
         }
         Command::Step(slot) => {
             let answer = step(state, words, slot as usize);
-            write_answer(out, at, answer)
-        }
-        Command::Withdraw(slot) => {
-            let answer = withdraw(state, slot as usize);
             write_answer(out, at, answer)
         }
         Command::Bad => write_bad_line(out, at),

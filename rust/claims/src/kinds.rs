@@ -22,20 +22,8 @@ pub fn kind(before: &Moment, call: Call, answer: Answer, after: &Moment) -> Stri
             };
             format!("{} {}{again}{blank}", answer.name(), stand(before, was))
         }
-        (Call::Withdraw(slot), Answer::Withdrawn) => withdrawn(&before.state.slots[slot]),
         _ => answer.name().to_string(),
     }
-}
-
-/// Which operation was withdrawn, and how many pages it held. There may be no words to read.
-fn withdrawn(slot: &Slot) -> String {
-    let converts = if slot.converts() {
-        " that converts"
-    } else {
-        ""
-    };
-    let op = operation(slot);
-    format!("Withdrawn {op}{converts} {}+{}", slot.depth, slot.beside)
 }
 
 /// How many pages an insertion took, and whether the root rose.
@@ -90,8 +78,8 @@ fn side(moment: &Moment, slot: &Slot, height: usize, sibling: u32) -> char {
     }
 }
 
-/// Which operation, and its way, if it is not the first.
-fn operation(slot: &Slot) -> String {
+/// Where an operation stands: which one, how many pages it holds, and if beside its leaf.
+fn stand(moment: &Moment, slot: &Slot) -> String {
     let op = match slot.op {
         Some(Op::Search(_)) => "search",
         Some(Op::Insert(..)) => "insertion",
@@ -104,18 +92,12 @@ fn operation(slot: &Slot) -> String {
         Some(Way::Third) => " by the third way",
         _ => "",
     };
-    format!("{op}{way}")
-}
-
-/// Where an operation stands: which one, how many pages it holds, and if beside its leaf.
-fn stand(moment: &Moment, slot: &Slot) -> String {
     let leaf = match has_leaf(moment, slot) {
         _ if slot.converts() => " that converts",
         true => " at its leaf",
         false => "",
     };
-    let op = operation(slot);
-    format!("{op}{leaf} {}+{}", slot.depth, slot.beside)
+    format!("{op}{way}{leaf} {}+{}", slot.depth, slot.beside)
 }
 
 /// Whether a slot holds or wants a leaf with the key of a blank tag.

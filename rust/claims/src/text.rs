@@ -62,7 +62,6 @@ pub fn call(call: Call) -> String {
     match call {
         Call::Begin(slot, asked) => format!("begin {slot} {}", op(asked)),
         Call::Step(slot) => format!("step {slot}"),
-        Call::Withdraw(slot) => format!("withdraw {slot}"),
         Call::Report(page) => format!("report {page}"),
     }
 }

@@ -1,8 +1,6 @@
 //! The program `drive` as a machine that is given one line after another. `docs/DRIVE.md` has the lines.
 
-use twin::{
-    begin_lent, make_lent, open_lent, report_lent, step_lent, withdraw_lent, Answer, Op, STATE,
-};
+use twin::{begin_lent, make_lent, open_lent, report_lent, step_lent, Answer, Op, STATE};
 
 /// The most words a pool may be given.
 pub const ROOM: usize = 70_000;
@@ -11,7 +9,7 @@ const MOST: usize = 17;
 /// The line that answers what is no line.
 const BAD_LINE: &[u8] = b"BadLine\n";
 
-/// The six calls, as they are or with something wrong.
+/// The five calls, as they are or with something wrong.
 pub trait Calls {
     /// Makes a fresh pool.
     fn make(&self, k: u32, n: u32, state: &mut [u32; STATE], words: &mut [u32]) -> Answer {
@@ -31,11 +29,6 @@ pub trait Calls {
     /// Steps a slot.
     fn step(&self, state: &mut [u32; STATE], words: &mut [u32], slot: usize) -> Answer {
         step_lent(state, words, slot)
-    }
-
-    /// Withdraws a slot. The words are not for it to look at, but a call with something wrong may.
-    fn withdraw(&self, state: &mut [u32; STATE], _words: &mut [u32], slot: usize) -> Answer {
-        withdraw_lent(state, slot)
     }
 
     /// Reports the locks on a page.
@@ -116,8 +109,6 @@ impl<C: Calls> Drive<C> {
                 None => Answer::BadKind,
             },
             (b't', &[slot]) => self.calls.step(state, words, slot as usize),
-            // who hangs up
-            (b'h', &[slot]) => self.calls.withdraw(state, words, slot as usize),
             (b'r', &[page]) => self.calls.report(state, page),
             _ => return None,
         })

@@ -26,7 +26,7 @@ fn the_example_of_the_document() {
             Some((cells.next()?, cells.next()?))
         })
         .collect();
-    assert_eq!(rows.len(), 15);
+    assert_eq!(rows.len(), 12);
     let mut drive = Drive::new(Twin);
     for (line, answer) in rows {
         let mut out = Vec::new();

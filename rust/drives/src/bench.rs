@@ -1,15 +1,14 @@
 //! The lots on the bench and the shortcuts that lose a lot, each as document 01 says it; and the next lot, who waits behind
-//! whom, regrading, updates that go down like readers, a lock that lets readers stay, pools that are opened, the blank tag, and buyers who hang
-//! up, as 02 does.
+//! whom, regrading, updates that go down like readers, a lock that lets readers stay, pools that are opened, and the blank tag, as 02
+//! does.
 
 mod blank_tag;
 mod like_readers;
 mod opening;
 mod third_way;
-mod withdraw;
 
 use twin::Way::{self, First};
-use twin::{kind, Answer, Op, STATE};
+use twin::{kind, Answer, Op};
 
 use crate::program::Program;
 use crate::scene::begin_line;
@@ -17,23 +16,10 @@ use crate::scene::begin_line;
 /// Information throughout, but where a lot is regraded.
 const INFORMATION: u32 = 7;
 
-/// What a call must be answered, and now and then the words of the state and of the pool behind it.
+/// What a call must be answered, and now and then the pool's words behind it.
 struct Expected {
     answer: Answer,
-    state: Option<[u32; STATE]>,
     pool: Option<Vec<u32>>,
-}
-
-impl Expected {
-    /// Whether an answer, and the words behind it where they are told, are so.
-    fn is_told(&self, numbers: &[u32]) -> bool {
-        let told = |start: usize, length: usize| numbers.get(start..start + length);
-        let state = self.state.as_ref();
-        let pool = self.pool.as_ref();
-        told(0, 4) == Some(&self.answer.told()[..])
-            && state.is_none_or(|state| told(4, STATE) == Some(&state[..]))
-            && pool.is_none_or(|pool| told(4 + STATE, pool.len()) == Some(&pool[..]))
-    }
 }
 
 /// A case: its lines, and what each call must be answered.
@@ -134,27 +120,13 @@ impl Case {
     /// A call, and its answer.
     fn call(&mut self, line: &str, answer: Answer) {
         self.lines.push(line.to_string());
-        self.expected.push(Expected {
-            answer,
-            state: None,
-            pool: None,
-        });
+        self.expected.push(Expected { answer, pool: None });
     }
 
     /// The pool's words from the first on must now be these pages.
     fn words(&mut self, pages: &[[u32; 7]]) {
-        self.told(None, pages.concat());
-    }
-
-    /// The words of the state must now be these, and those of the pool from the first on these.
-    fn left(&mut self, state: [u32; STATE], pool: &[u32]) {
-        self.told(Some(state), pool.to_vec());
-    }
-
-    /// What must be told of the last call beside its answer.
-    fn told(&mut self, state: Option<[u32; STATE]>, pool: Vec<u32>) {
         if let Some(last) = self.expected.last_mut() {
-            (last.state, last.pool) = (state, Some(pool));
+            last.pool = Some(pages.concat());
         }
         // all words with the last call
         let call = self.lines.pop().unwrap_or_default();
@@ -205,9 +177,16 @@ impl Case {
             .lines()
             .map(|line| line.split(' ').flat_map(str::parse).collect())
             .collect();
-        let mut told = lines.iter().zip(&self.expected);
-        let same = lines.len() == self.expected.len()
-            && told.all(|(numbers, expected)| expected.is_told(numbers));
+        let agrees = |(numbers, expected): (&Vec<u32>, &Expected)| {
+            let is_pool = |pool: &Vec<u32>| {
+                let start = 4 + twin::STATE;
+                numbers.get(start..start + pool.len()) == Some(&pool[..])
+            };
+            numbers.get(..4) == Some(&expected.answer.told()[..])
+                && expected.pool.as_ref().is_none_or(is_pool)
+        };
+        let same =
+            lines.len() == self.expected.len() && lines.iter().zip(&self.expected).all(agrees);
         (!same).then(|| format!("case {} is answered otherwise:\n{input}{text}", self.name))
     }
 }
@@ -226,7 +205,6 @@ pub fn cases() -> Vec<Case> {
         third_way::cases(),
         opening::cases(),
         blank_tag::cases(),
-        withdraw::cases(),
     ]
     .into_iter()
     .flatten()

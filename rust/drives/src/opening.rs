@@ -94,7 +94,6 @@ pub fn raw_opening(random: &mut Random) -> Scene {
         scene.text("b 3 2 5 7");
         scene.text("t 3");
         scene.text("r 0");
-        scene.text("h 3");
     }
     scene
 }

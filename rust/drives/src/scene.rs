@@ -103,7 +103,6 @@ pub fn call_line(call: Call) -> String {
     match call {
         Call::Begin(slot, op) => begin_line(slot, op.numbers()),
         Call::Step(slot) => format!("t {slot}"),
-        Call::Withdraw(slot) => format!("h {slot}"),
         Call::Report(page) => format!("r {page}"),
     }
 }

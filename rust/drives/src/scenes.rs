@@ -134,10 +134,9 @@ pub(crate) fn next(random: &mut Random, draw: &Draw, scene: &mut Scene, at: usiz
 /// A call with nothing behind it.
 fn any_call(random: &mut Random, draw: &Draw) -> Call {
     let slot = random.below(17) as usize;
-    match random.below(5) {
+    match random.below(4) {
         0 => Call::Begin(slot, operation(random, draw, true, &[])),
         1 => Call::Report(random.below(u64::from(draw.n) + 2) as u32),
-        2 => Call::Withdraw(slot),
         _ => Call::Step(slot),
     }
 }
@@ -186,7 +185,6 @@ fn large(random: &mut Random) -> Scene {
         slots: random.one(&[1, 4, 16, 16]),
         turn: random.from(1000, 4000) as usize,
         readers: random.one(&[0, 30]),
-        hangs_up: random.one(&[0, 2]),
     };
     let mut scene = fresh(random, &draw);
     for at in 0..random.from(500, 3000) as usize {
@@ -458,22 +456,16 @@ fn raw_scene(random: &mut Random, scene: &mut Scene) {
     scene.pool_words(&words);
     scene.state_words(&state);
     for _ in 0..4 {
-        let line = raw_line(random, n);
+        let slot = random.below(17);
+        let line = match random.below(4) {
+            0 => {
+                let kind = random.below(u64::from(kind::LAST) + 2);
+                format!("b {slot} {kind} {} 5", random.below(4))
+            }
+            1 => format!("r {}", random.below(u64::from(n) + 2)),
+            _ => format!("t {slot}"),
+        };
         scene.text(&line);
-    }
-}
-
-/// The line of a call: the kind of operation need not exist.
-fn raw_line(random: &mut Random, n: u32) -> String {
-    let slot = random.below(17);
-    match random.below(5) {
-        0 => {
-            let kind = random.below(u64::from(kind::LAST) + 2);
-            format!("b {slot} {kind} {} 5", random.below(4))
-        }
-        1 => format!("r {}", random.below(u64::from(n) + 2)),
-        2 => format!("h {slot}"),
-        _ => format!("t {slot}"),
     }
 }
 
@@ -532,7 +524,6 @@ fn making(random: &mut Random) -> Scene {
             Call::Begin(3, Op::Insert(4, 5, way)),
             Call::Step(3),
             Call::Report(0),
-            Call::Withdraw(3),
         ] {
             scene.call(call);
         }

@@ -10,8 +10,6 @@ mod like_readers;
 mod opening;
 #[path = "bugs/third_way.rs"]
 mod third_way;
-#[path = "bugs/withdraw.rs"]
-mod withdraw;
 
 use std::fmt::Debug;
 
@@ -29,7 +27,6 @@ use twin::{
     at, begin_lent, free_pages, held_in, held_word, kind, make_lent, page_words, report_lent,
     step_lent, words_of, Answer, Lock, Op, State, STATE,
 };
-use withdraw::{WithdrawBug, WITHDRAW_BUGS};
 
 /// A call that something is wrong with.
 #[derive(Clone, Copy, Debug)]
@@ -539,9 +536,6 @@ fn each_bug_is_found() {
     for bug in BLANK_BUGS.into_iter().chain(BLANK_STATE_BUGS) {
         is_found(bug, &scenes);
     }
-    for bug in WITHDRAW_BUGS {
-        is_found(bug, &scenes);
-    }
 }
 
 /// The check that the bugs of opening are put into is right without them.
@@ -588,7 +582,4 @@ fn a_case_of_the_documents_finds_each_shortcut() {
     THIRD_BUGS.into_iter().for_each(is_refuted::<ThirdBug>);
     OPEN_BUGS.into_iter().for_each(is_refuted::<OpenBug>);
     BLANK_BUGS.into_iter().for_each(is_refuted::<BlankBug>);
-    WITHDRAW_BUGS
-        .into_iter()
-        .for_each(is_refuted::<WithdrawBug>);
 }

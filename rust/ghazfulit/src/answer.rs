@@ -263,10 +263,9 @@ pub enum Refusal {
     BadSlot,
     /// An operation was begun in a slot that is open.
     SlotBusy,
-    /// A slot was stepped or withdrawn that is closed.
+    /// A slot was stepped that is closed.
     SlotIdle,
-    /// The pages that the step would meet are not sound. The slot stays open: it goes on once they are put right, or can be withdrawn
-    /// ([`Index::withdraw`](crate::Index::withdraw)).
+    /// The pages that the step would meet are not sound. The slot stays open.
     Damaged,
     /// A report was asked for a page that the pool does not have.
     BadPage,
@@ -397,10 +396,10 @@ fn refused(answer: Answer) -> Refusal {
     })
 }
 
-/// Reads the answer of a making, an opening, a beginning or a withdrawal.
+/// Reads the answer of a making, an opening or a beginning.
 pub(crate) fn done(answer: Answer) -> Result<(), Refusal> {
     match answer[0] {
-        numbers::MADE | numbers::OPENED | numbers::BEGUN | numbers::WITHDRAWN => Ok(()),
+        numbers::MADE | numbers::OPENED | numbers::BEGUN => Ok(()),
         _ => Err(refused(answer)),
     }
 }

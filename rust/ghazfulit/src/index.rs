@@ -218,27 +218,6 @@ impl<'w> Index<'w> {
         }
     }
 
-    /// Withdraws a slot whose buyer has hung up. Its locks and its want are given up, and it is closed; whoever waited for it goes on. Its operation
-    /// has changed no page yet, for a change is made in the one step that ends it: nothing is half done, and what was answered before stays done.
-    /// A slot whose steps are [`Refusal::Damaged`] can be withdrawn too.
-    ///
-    /// Who loses a buyer and neither steps nor withdraws his slot leaves his locks in the way of all others.
-    ///
-    /// ```
-    /// # use ghazfulit::{Index, Op, Refusal, Step};
-    /// let mut index = Index::new(1, 3)?;
-    /// index.begin(0, Op::insert(10, 7))?;
-    /// index.begin(1, Op::search(10))?;
-    /// assert_eq!(index.step(1)?, Step::Waiting); // for slot 0, and its buyer's connection ends
-    /// index.withdraw(0)?;
-    /// assert_eq!(index.step(1)?, Step::NotFound);
-    /// assert_eq!(index.withdraw(0), Err(Refusal::SlotIdle));
-    /// # Ok::<(), Refusal>(())
-    /// ```
-    pub fn withdraw(&mut self, slot: u32) -> Result<(), Refusal> {
-        done(raw::withdraw(&mut self.state, slot))
-    }
-
     /// The lots from a key on, in the order of their keys, asked for in a closed slot. Each lot is a question of its own
     /// ([`Lots`]): what changes between two of them shows in those that follow.
     ///
@@ -328,7 +307,7 @@ mod tests {
     }
 
     #[test]
-    #[should_panic = "the archive is of version 1, and this crate of version 8"]
+    #[should_panic = "the archive is of version 1, and this crate of version 7"]
     fn another_version_is_refused() {
         hold_version(1);
     }

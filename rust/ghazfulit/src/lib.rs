@@ -79,28 +79,6 @@
 //! # Ok::<(), ghazfulit::Refusal>(())
 //! ```
 //!
-//! A buyer hangs up. His slot is withdrawn: what he holds and wants is given up, and the others go on. Nothing is half done, for a change is made in
-//! one step. A server does this whenever a connection ends: a slot that is neither stepped nor withdrawn keeps its locks, and others wait for it
-//! for ever.
-//!
-//! ```
-//! use ghazfulit::{Index, Op, Refusal, Step};
-//!
-//! let mut index = Index::new(1, 8)?;
-//! for key in [10, 20, 30] {
-//!     index.begin(0, Op::insert(key, 7))?;
-//!     index.finish(0)?;
-//! }
-//! index.begin(0, Op::delete(10))?;
-//! assert_eq!(index.step(0)?, Step::Moved); // it holds page 0
-//! index.begin(1, Op::search(10))?;
-//! assert_eq!(index.finish(1)?, Step::Waiting);
-//! index.withdraw(0)?; // its connection has ended
-//! assert_eq!(index.finish(1)?, Step::Found(7));
-//! assert_eq!(index.withdraw(0), Err(Refusal::SlotIdle)); // the slot is closed, and free for the next buyer
-//! # Ok::<(), Refusal>(())
-//! ```
-//!
 //! What the pool holds can be kept, and opened again: what is handed in is tested whole, and refused where it is not a tree of pages.
 //!
 //! ```

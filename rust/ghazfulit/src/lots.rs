@@ -20,7 +20,7 @@ pub struct Lot {
 #[derive(Clone, Copy, Debug, PartialEq, Eq, Hash)]
 #[non_exhaustive]
 pub enum Stop {
-    /// The question has to wait for another slot, and stays open as long as the [`Lots`] live. Step the others ([`Lots::index`]), and ask again.
+    /// The question has to wait for another slot, and stays open. Step the others ([`Lots::index`]), and ask again.
     Waiting,
     /// The question was refused; nothing more is told.
     Refused(Refusal),
@@ -50,8 +50,6 @@ enum Asked {
     From(u32),
     /// One is open in the slot.
     Open,
-    /// One is open in the slot, but cannot go on: its pages are damaged, say.
-    Stuck,
     /// There is none left.
     All,
 }
@@ -62,18 +60,7 @@ enum Asked {
 /// out or regrade between two questions shows in those that follow. Keys always rise. Who asks to the end hears just once of each
 /// lot, at or above the first key, that was there all the time.
 ///
-/// As long as it lives, the slot is its own. Where it is dropped while a question is open, after [`Stop::Waiting`] or because a step was refused,
-/// that question is withdrawn ([`Index::withdraw`]): the slot is closed then, and its locks are in nobody's way.
-///
-/// ```
-/// # use ghazfulit::{Index, Op, Step, Stop};
-/// let mut index = Index::new(1, 3)?;
-/// index.begin(0, Op::insert(10, 7))?;
-/// assert_eq!(index.lots(1, 0).next(), Some(Err(Stop::Waiting))); // for slot 0; nobody asks on
-/// index.begin(1, Op::search(10))?; // the slot is closed
-/// assert_eq!(index.step(0)?, Step::Inserted);
-/// # Ok::<(), Stop>(())
-/// ```
+/// As long as it lives, the slot is its own. Where it is dropped after [`Stop::Waiting`], its question stays open in the slot.
 #[derive(Debug)]
 pub struct Lots<'i, 'w> {
     index: &'i mut Index<'w>,
@@ -95,16 +82,11 @@ impl<'i, 'w> Lots<'i, 'w> {
 
     /// One question, begun or gone on with.
     fn ask(&mut self) -> Result<Option<Lot>, Stop> {
-        match self.asked {
-            Asked::All | Asked::Stuck => return Ok(None),
-            Asked::From(key) => {
-                // a slot that is not begun in is another's, and not to be withdrawn
-                self.asked = Asked::All;
-                self.index.begin(self.slot, Op::next(key))?;
-            }
+        match std::mem::replace(&mut self.asked, Asked::All) {
+            Asked::All => return Ok(None),
+            Asked::From(key) => self.index.begin(self.slot, Op::next(key))?,
             Asked::Open => {}
         }
-        self.asked = Asked::Stuck;
         match self.index.finish(self.slot)? {
             Step::Next { key, information } => {
                 self.asked = key.checked_add(1).map_or(Asked::All, Asked::From);
@@ -114,20 +96,7 @@ impl<'i, 'w> Lots<'i, 'w> {
                 self.asked = Asked::Open;
                 Err(Stop::Waiting)
             }
-            _ => {
-                self.asked = Asked::All;
-                Ok(None)
-            }
-        }
-    }
-}
-
-/// A question that nobody goes on with would be in the others' way.
-impl Drop for Lots<'_, '_> {
-    fn drop(&mut self) {
-        if matches!(self.asked, Asked::Open | Asked::Stuck) {
-            // where it is refused there is nothing to give up
-            _ = self.index.withdraw(self.slot);
+            _ => Ok(None),
         }
     }
 }

@@ -14,7 +14,7 @@ pub const fn refuses(number: u32) -> bool {
 }
 
 const _: () = assert!(
-    VERSION == 8,
+    VERSION == 7,
     "the header is of another version than this crate"
 );
 const _: () = assert!(

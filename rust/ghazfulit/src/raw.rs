@@ -43,7 +43,6 @@ pub mod archive {
             slot: u32,
             answer: *mut u32,
         );
-        pub fn ghazfulit_withdraw(state: *mut u32, slot: u32, answer: *mut u32);
         pub fn ghazfulit_report(state: *const u32, page: u32, answer: *mut u32);
         pub fn ghazfulit_version() -> u32;
     }
@@ -112,16 +111,6 @@ pub fn step(state: &mut [u32; STATE], words: &mut [u32], slot: u32) -> Answer {
             slot,
             answer.as_mut_ptr(),
         );
-    }
-    answer
-}
-
-/// Withdraws a slot.
-pub fn withdraw(state: &mut [u32; STATE], slot: u32) -> Answer {
-    let mut answer = [0; ANSWER];
-    // SAFETY: as in `make`.
-    unsafe {
-        archive::ghazfulit_withdraw(state.as_mut_ptr(), slot, answer.as_mut_ptr());
     }
     answer
 }

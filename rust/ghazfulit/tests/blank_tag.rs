@@ -1,9 +1,13 @@
 //! The blank tag: who may name lot number 0, and what a page with key 0 is taken for.
 
-mod common;
-
-use common::{changed, e, E};
 use ghazfulit::{numbers, Index, Lot, Op, Refusal, Step, Stop, Way, SLOTS, STATE};
+
+/// The words of case E, k = 1: page 0 above the leaves 1 (10) and 2 (20, 30).
+const E: [u32; 21] = [
+    2, 1, 1, 20, 2, 0, 0, // page 0
+    1, 1, 10, 7, 0, 0, 0, // page 1
+    1, 2, 20, 7, 30, 7, 0, // page 2
+];
 
 /// Every operation that names a lot, by every way that it has.
 fn naming(key: u32) -> Vec<Op> {
@@ -12,6 +16,18 @@ fn naming(key: u32) -> Vec<Op> {
         .into_iter()
         .flat_map(|way| updates.map(|op| op.by(way)));
     [Op::search(key)].into_iter().chain(updates).collect()
+}
+
+/// E, opened.
+fn e() -> Index<'static> {
+    Index::open(1, 3, E.to_vec()).expect("a pool")
+}
+
+/// E with one word changed behind the back of the index.
+fn changed(at: usize, word: u32) -> Index<'static> {
+    let (state, mut words) = e().into_parts();
+    words[at] = word;
+    Index::from_parts(state, words)
 }
 
 #[test]
@@ -111,7 +127,7 @@ fn a_pool_with_key_0_is_not_opened() {
 
 #[test]
 fn its_number_and_text() {
-    assert_eq!(numbers::BAD_KEY, 8);
+    assert_eq!((numbers::BAD_KEY, numbers::VERSION), (8, 7));
     assert_eq!(Refusal::BadKey.number(), 8);
     assert!(numbers::refuses(numbers::BAD_KEY));
     let text = "key 0 is that of a blank tag, and no lot's";

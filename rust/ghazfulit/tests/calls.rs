@@ -92,9 +92,7 @@ fn every_kind_of_the_header_has_a_row() {
 fn a_c_compiler_reads_the_header_so() {
     let held = |(at, row): (usize, Row)| {
         let Row { name, number, .. } = &row;
-        // a withdrawal closes the slot too, but is no step
-        let ends = row.call == "step" && row.slot == "closes";
-        let refuses = *number < 32;
+        let (ends, refuses) = (row.slot == "closes", *number < 32);
         assert_eq!(
             (ends, refuses),
             (numbers::ends(*number), numbers::refuses(*number))
@@ -133,7 +131,6 @@ enum Call {
     Open(u32, u32),
     Begin(u32, u32, u32),
     Step(u32),
-    Withdraw(u32),
     Report(u32),
 }
 
@@ -145,7 +142,6 @@ impl Call {
             Call::Open(..) => ("open", None),
             Call::Begin(slot, ..) => ("begin", Some(slot)),
             Call::Step(slot) => ("step", Some(slot)),
-            Call::Withdraw(slot) => ("withdraw", Some(slot)),
             Call::Report(_) => ("report", None),
         }
     }
@@ -190,7 +186,6 @@ impl Met {
                     archive::ghazfulit_begin(state, slot, kind, key, key + 1, out)
                 }
                 Call::Step(slot) => archive::ghazfulit_step(state, words, length, slot, out),
-                Call::Withdraw(slot) => archive::ghazfulit_withdraw(state, slot, out),
                 Call::Report(page) => archive::ghazfulit_report(state, page, out),
             }
         }
@@ -240,13 +235,6 @@ impl Met {
         });
     }
 
-    /// No row was missed.
-    fn check_all_met(&self) {
-        let missed = self.rows.iter().filter(|(_, met)| !met);
-        let missed: Vec<&Row> = missed.map(|(row, _)| row).collect();
-        assert!(missed.is_empty(), "{missed:?}");
-    }
-
     /// Makes a call on a state or pool with something wrong, and puts all back.
     fn spoiled(&mut self, call: Call, spoil: impl Fn(&mut [u32; STATE], &mut Vec<u32>)) {
         let before = (self.state, self.words.clone());
@@ -273,26 +261,26 @@ fn each_row_is_met_and_nothing_else() {
         met.call(match random.below(8) {
             0 | 1 => Call::Begin(slot, kind, key),
             2 => Call::Report(random.below(6) as u32),
-            3 if random.percent(20) => Call::Withdraw(slot),
             _ => Call::Step(slot),
         });
-        let about = |slot| {
-            let (begin, step) = (Call::Begin(slot, kind, key), Call::Step(slot));
-            [begin, step, Call::Withdraw(slot)]
-        };
-        let [_, step, withdraw] = about(slot);
-        let any = random.one(&about(slot));
+        let (begin, step) = (Call::Begin(slot, kind, key), Call::Step(slot));
         match random.below(40) {
             0 => met.spoiled(step, |_, words| words[0] = 11),
-            1 => met.spoiled(random.one(&[step, withdraw]), |_, words| words.push(0)),
-            2 => met.spoiled(random.one(&[any, any, any, Call::Report(0)]), |state, _| {
+            1 => met.spoiled(step, |_, words| words.push(0)),
+            2 => met.spoiled(random.one(&[begin, step, Call::Report(0)]), |state, _| {
                 state[2] = 17
             }),
-            3 => met.call(random.one(&about(SLOTS))),
+            3 => met.call(random.one(&[Call::Begin(SLOTS, kind, key), Call::Step(SLOTS)])),
             4 => met.call(Call::Begin(slot, random.one(&[0, 12, 31, u32::MAX]), key)),
             5 => met.openings(k, n),
             _ => {}
         }
     }
-    met.check_all_met();
+    let missed: Vec<&Row> = met
+        .rows
+        .iter()
+        .filter(|(_, met)| !met)
+        .map(|(row, _)| row)
+        .collect();
+    assert!(missed.is_empty(), "{missed:?}");
 }

@@ -159,14 +159,10 @@ fn the_lots_end_where_they_are_refused() {
     let mut lots = index.lots(SLOTS, 0);
     assert_eq!(lots.next(), refused(Refusal::BadSlot));
     assert_eq!(lots.next(), None);
-    drop(lots);
     index.begin(2, Op::search(10)).expect("begun");
     let mut lots = index.lots(2, 0);
     assert_eq!(lots.next(), refused(Refusal::SlotBusy));
     assert_eq!(lots.next(), None);
-    drop(lots);
-    // the slot is another's, and goes on
-    assert_eq!(index.finish(2), Ok(Step::Found(11)));
     assert_eq!(
         Stop::from(Refusal::SlotBusy).to_string(),
         "the slot is open"

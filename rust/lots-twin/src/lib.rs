@@ -1,7 +1,7 @@
 //! The little program of documents 01 and 02 as one function from its input to its output.
 
 use twin::Way::{First, Second, Third};
-use twin::{begin, make, page_words, step, withdraw, Answer, Op, State};
+use twin::{begin, make, page_words, step, Answer, Op, State};
 
 /// The most bytes the program reads.
 pub const MOST: usize = 65_536;
@@ -13,7 +13,6 @@ const N: u32 = 64;
 enum Line {
     Begin(u32, Op),
     Step(u32),
-    Withdraw(u32),
 }
 
 /// All the program writes for an input.
@@ -52,7 +51,6 @@ impl Talk {
         let (answer, next) = match line {
             Line::Begin(slot, op) => begin(&self.state, slot as usize, op),
             Line::Step(slot) => step(&self.state, &mut self.words, slot as usize),
-            Line::Withdraw(slot) => withdraw(&self.state, slot as usize),
         };
         self.state = next;
         match answer {
@@ -78,7 +76,6 @@ fn parse(line: &[u8]) -> Option<Line> {
             Some(Line::Begin(number(slot)?, operation(letter, rest)?))
         }
         [b"t", slot] => Some(Line::Step(number(slot)?)),
-        [b"w", slot] => Some(Line::Withdraw(number(slot)?)),
         _ => None,
     }
 }

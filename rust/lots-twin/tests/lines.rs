@@ -113,27 +113,6 @@ fn bad_lines() {
         "t2 0\n",
         "b2 0 s 1\n",
         "i2 0 1 2\n",
-        "w\n",
-        "w \n",
-        "w  0\n",
-        " w 0\n",
-        "w 0 \n",
-        "w 1 2\n",
-        "w 0\r\n",
-        "w\t0\n",
-        "w +0\n",
-        "w -1\n",
-        "w 0x1\n",
-        "w 4294967296\n",
-        "W 0\n",
-        "w2 0\n",
-        "ww 0\n",
-        "w0\n",
-        "w s 0\n",
-        "b 0 w 1\n",
-        "b 0 w\n",
-        "h 0\n",
-        "w 0",
         "b 0 x 1\n",
         "b s 1\n",
         "t 4294967296\n",
@@ -284,32 +263,6 @@ fn the_blank_tag() {
     let next = "b 0 n 0\nt 0\nb 0 i 1 0\nt 0\nb 0 n 00\nt 0\n";
     let told = "Begun\nNone\nBegun\nInserted\nBegun\nNext 1 0\n";
     assert_eq!(written(next), told);
-}
-
-/// A buyer hangs up: he who waits, and he who holds a path. The others go on, and the slot can be used again.
-#[test]
-fn a_buyer_hangs_up() {
-    let input = "b 0 i 12 3\nb 1 s 12\nt 1\nw 0\nt 1\nw 1\nw 0\nb 0 s 12\nw 000\nt 0\n";
-    assert_eq!(
-        written(input),
-        "Begun\nBegun\nWaiting\nWithdrawn\nNotFound\nSlotIdle\nSlotIdle\nBegun\nWithdrawn\nSlotIdle\n"
-    );
-    let mut input = String::new();
-    for key in [10, 20, 30, 40, 50] {
-        input += &format!("b 0 i {key} {key}\nt 0\n");
-    }
-    input += "b 0 d 30\nt 0\nb 1 s 30\nb 2 s 10\nt 1\nw 1\nt 2\nw 0\nt 2\nt 2\nt 1\n";
-    let told = "Begun\nMoved\nBegun\nBegun\nWaiting\nWithdrawn\nWaiting\nWithdrawn\nMoved\nFound 10\nSlotIdle\n";
-    assert!(written(&input).ends_with(told), "{}", written(&input));
-}
-
-#[test]
-fn withdrawals_at_the_edge() {
-    assert_eq!(written("w 000000000000000000015\n"), "SlotIdle\n");
-    assert_eq!(written("w 16\nw 4294967295\n"), "BadSlot\nBadSlot\n");
-    assert_eq!(written("b 15 s 1\nw 15\n"), "Begun\nWithdrawn\n");
-    // an unended line is not run
-    assert_eq!(written("b 15 s 1\nw 15"), "Begun\nBadLine\n");
 }
 
 #[test]

@@ -15,8 +15,6 @@ pub struct Draw {
     pub turn: usize,
     /// How many operations in a hundred only read, beside those that do anyway: they rest on pages that others would convert.
     pub readers: u64,
-    /// How many calls in a hundred withdraw an open slot.
-    pub hangs_up: u64,
 }
 
 /// A pool just made.
@@ -38,7 +36,6 @@ pub fn draw(random: &mut Random) -> Draw {
         slots: random.one(&[1, 2, 3, 4, 6, 16]),
         turn: random.from(20, 160) as usize,
         readers: random.one(&[0, 0, 40, 60]),
-        hangs_up: random.one(&[0, 0, 1, 3]),
     }
 }
 
@@ -49,9 +46,6 @@ pub fn next_call(random: &mut Random, draw: &Draw, moment: &Moment, at: usize) -
     }
     let slot = random.below(draw.slots) as usize;
     let open = moment.open();
-    if !open.is_empty() && random.percent(draw.hangs_up) {
-        return Call::Withdraw(who_hangs_up(random, moment, &open));
-    }
     if !open.contains(&slot) && (open.is_empty() || random.percent(50)) {
         let grows = (at / draw.turn).is_multiple_of(2);
         let op = operation(random, draw, grows, &moment.keys());
@@ -62,24 +56,10 @@ pub fn next_call(random: &mut Random, draw: &Draw, moment: &Moment, at: usize) -
     let converting: Vec<usize> = open.iter().copied().filter(is_converting).collect();
     Call::Step(match random.below(20) {
         // whether it waits or not
-        ..3 if !converting.is_empty() => random.one(&converting),
+        0 | 1 if !converting.is_empty() => random.one(&converting),
         ..16 => random.one(&ready),
         _ => random.one(&open),
     })
-}
-
-/// An open slot; half of the time the one that holds most, beside its path first of all.
-fn who_hangs_up(random: &mut Random, moment: &Moment, open: &[usize]) -> usize {
-    let holds = |slot: &&usize| {
-        let slot = &moment.state.slots[**slot];
-        (slot.beside, slot.depth)
-    };
-    let most = open.iter().max_by_key(holds);
-    let any = random.one(open);
-    match most {
-        Some(&most) if random.percent(50) => most,
-        _ => any,
-    }
 }
 
 /// A `Next` often asks from behind the last key of a leaf, where its second way begins.
@@ -93,12 +73,10 @@ fn behind_leaf(random: &mut Random, moment: &Moment, op: Op) -> Op {
     }
 }
 
-/// A call that is likely refused, or a report, half of them for a page that a slot holds. A blank tag is scanned in any slot, busy or not, and any
-/// slot is withdrawn, open or not.
+/// A call that is likely refused, or a report, half of them for a page that a slot holds. A blank tag is scanned in any slot, busy or not.
 fn odd_call(random: &mut Random, draw: &Draw, moment: &Moment) -> Call {
-    match random.below(6) {
+    match random.below(5) {
         0 => Call::Step(random.below(18) as usize),
-        5 => Call::Withdraw(random.below(18) as usize),
         1 => Call::Begin(
             random.below(18) as usize,
             operation(random, draw, true, &[]),

@@ -7,7 +7,7 @@ use crate::converting::{convert, is_third, spoil_turn};
 use crate::fresh::blank_tag;
 use crate::moment::{any_lock, spoil_lock, Call, Moment};
 
-/// A report, a beginning, a step and a withdrawal on one drawn state, with no words at all.
+/// A report, a beginning and a step on one drawn state, with no words at all.
 pub fn limits(random: &mut Random) -> (Moment, Vec<Call>) {
     let state = drawn_state(random);
     let page = random.below(u64::from(state.n.min(30)) + 2) as u32;
@@ -17,7 +17,6 @@ pub fn limits(random: &mut Random) -> (Moment, Vec<Call>) {
         Call::Report(page),
         Call::Begin(random.below(17) as usize, op),
         Call::Step(random.below(17) as usize),
-        Call::Withdraw(random.below(17) as usize),
     ];
     let words = Vec::new();
     (Moment { state, words }, calls)

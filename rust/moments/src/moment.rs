@@ -2,8 +2,7 @@
 
 use draw::Random;
 use twin::{
-    begin, must_wait, page_words, report, step, withdraw, Answer, Lock, Op, Slot, State, Way, PATH,
-    SIBLINGS,
+    begin, must_wait, page_words, report, step, Answer, Lock, Op, Slot, State, Way, PATH, SIBLINGS,
 };
 
 /// One call of a run.
@@ -11,7 +10,6 @@ use twin::{
 pub enum Call {
     Begin(usize, Op),
     Step(usize),
-    Withdraw(usize),
     Report(u32),
 }
 
@@ -28,7 +26,6 @@ impl Moment {
         let (answer, next) = match call {
             Call::Begin(slot, op) => begin(&self.state, slot, op),
             Call::Step(slot) => step(&self.state, &mut self.words, slot),
-            Call::Withdraw(slot) => withdraw(&self.state, slot),
             Call::Report(page) => (report(&self.state, page), self.state),
         };
         self.state = next;

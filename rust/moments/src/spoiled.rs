@@ -22,8 +22,6 @@ fn middle(random: &mut Random) -> (Draw, Moment) {
     draw.n = random.from(n.0, n.1) as u32;
     draw.keys = random.from(keys.0, keys.1);
     draw.turn = random.from(turn.0, turn.1) as usize;
-    // who holds much shall mostly stay
-    draw.hangs_up = random.one(&[0, 0, 1]);
     let mut moment = made(draw.k, draw.n);
     let calls = random.from(40, 2 * turn.0 + 140) as usize;
     for at in 0.. {
@@ -77,7 +75,7 @@ fn choose(random: &mut Random, moment: &Moment) -> Option<usize> {
     })
 }
 
-/// A single step after some words of the slot's pages were changed; now and then the slot is withdrawn then, and cannot be a second time.
+/// A single step after some words of the slot's pages were changed.
 pub fn spoiled_words(random: &mut Random) -> Option<(Moment, Vec<Call>)> {
     let (draw, mut moment) = middle(random);
     let slot = choose(random, &moment)?;
@@ -93,11 +91,7 @@ pub fn spoiled_words(random: &mut Random) -> Option<(Moment, Vec<Call>)> {
     if random.percent(3) {
         moment.words.pop();
     }
-    let mut calls = vec![Call::Step(slot)];
-    if random.percent(15) {
-        calls.extend([Call::Withdraw(slot); 2]);
-    }
-    Some((moment, calls))
+    Some((moment, vec![Call::Step(slot)]))
 }
 
 /// Changes one thing in a page.
@@ -138,9 +132,8 @@ pub fn spoiled_state(random: &mut Random) -> (Moment, Vec<Call>) {
         .filter(|_| random.percent(70))
         .unwrap_or(random.below(18) as usize);
     let (op, blank) = (operation(random, &draw, true, &[]), blank_tag(random));
-    let call = match random.below(5) {
+    let call = match random.below(4) {
         0 => Call::Begin(slot, random.one(&[op, op, blank])),
-        4 => Call::Withdraw(slot),
         1 => Call::Report(random.below(u64::from(draw.n) + 2) as u32),
         _ => Call::Step(slot),
     };

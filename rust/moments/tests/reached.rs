@@ -10,9 +10,9 @@ use moments::{
 };
 use twin::{is_sound, open, Answer, Lock, Op, Slot, State, Way};
 
-/// A moment's slot that is stepped first, and its answer.
+/// A moment's slot that is stepped, and its answer.
 fn stepped((mut moment, calls): (Moment, Vec<Call>)) -> Option<(Slot, Answer)> {
-    let [Call::Step(number), ..] = calls[..] else {
+    let [Call::Step(number)] = calls[..] else {
         return None;
     };
     let slot = moment.state.slots[number];

@@ -20,10 +20,7 @@ use opening::openings;
 use plot::{svg, Table};
 use proved::Proved;
 use rival::Rival;
-use schedule::{
-    run, run_withdrawing, with_blank_tags, with_others, with_ways, with_withdrawals, HangsUp,
-    Outcome, Program, Schedule,
-};
+use schedule::{run, with_blank_tags, with_others, with_ways, Outcome, Program, Schedule};
 use second::Second;
 
 /// A program by name, as a function from a schedule to its nanoseconds a call and its outcome.
@@ -65,10 +62,7 @@ fn timed<P: Program>(schedule: &Schedule) -> (f64, Outcome) {
     run(&mut program, 1, &schedule.filling);
     let clock = Instant::now();
     let start = now(&clock);
-    let (answers, calls, waiting) = match schedule.hangs_up {
-        HangsUp::Nobody => run(&mut program, schedule.slots, &schedule.ops),
-        some => run_withdrawing(&mut program, schedule.slots, &schedule.ops, some),
-    };
+    let (answers, calls, waiting) = run(&mut program, schedule.slots, &schedule.ops);
     let time = (now(&clock) - start) as f64 / calls as f64;
     let left = program.left();
     (
@@ -145,8 +139,7 @@ fn main() {
 }
 
 /// The next lot, regradings and all ways together: compared, and not timed. In pages of one or two lots updates of the second way often begin
-/// again, and where page 0 is the only page each one does. Then with some of them withdrawn; and, with those programs that refuse something, with
-/// blank tags among them, and with slots withdrawn that are closed or not there.
+/// again, and where page 0 is the only page each one does. Then blank tags among them, with those programs that refuse something.
 fn compare(schedule: &Schedule) {
     let count = schedule.ops.len();
     let small = [64, 1].map(|n| Schedule::draw_with(1, [1, n, 16], count, 5));
@@ -154,9 +147,7 @@ fn compare(schedule: &Schedule) {
     for schedule in small.iter().chain([schedule]) {
         let schedule = with_others(schedule);
         medians(&schedule, 1, &PROGRAMS);
-        medians(&with_withdrawals(&schedule, HangsUp::Open), 1, &PROGRAMS);
         medians(&with_blank_tags(&schedule), 1, &refusing);
-        medians(&with_withdrawals(&schedule, HangsUp::Any), 1, &refusing);
     }
 }
 

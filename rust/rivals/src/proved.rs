@@ -26,11 +26,6 @@ impl Program for Proved {
         self.0.step(slot).map_or_else(refused, Step::told)
     }
 
-    fn withdraw(&mut self, slot: u32) -> Answer {
-        let withdrawn = self.0.withdraw(slot);
-        withdrawn.map_or_else(refused, |()| plain(numbers::WITHDRAWN))
-    }
-
     fn left(&self) -> (Vec<u32>, Vec<u32>) {
         (self.0.state().to_vec(), self.0.words().to_vec())
     }

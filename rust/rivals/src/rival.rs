@@ -122,23 +122,6 @@ impl<L: Layout, const TESTS: bool> Program for Rival<L, TESTS> {
         }
     }
 
-    fn withdraw(&mut self, s: u32) -> Answer {
-        let state = &mut self.state;
-        if TESTS && !state.is_sound() {
-            return plain(numbers::BAD_STATE);
-        }
-        if TESTS && s as usize >= SLOTS {
-            return plain(numbers::BAD_SLOT);
-        }
-        let s = s as usize;
-        if TESTS && state.slot(s).kind == CLOSED {
-            return plain(numbers::SLOT_IDLE);
-        }
-        state.set_slot(s, &Slot::default(), HELD, HELD);
-        state.requeue(s, false);
-        plain(numbers::WITHDRAWN)
-    }
-
     fn left(&self) -> (Vec<u32>, Vec<u32>) {
         (self.state.words().to_vec(), self.words.clone())
     }

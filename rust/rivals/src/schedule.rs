@@ -23,7 +23,6 @@ pub trait Program {
     fn fresh(k: u32, n: u32) -> Self;
     fn begin(&mut self, slot: u32, op: Op) -> Answer;
     fn step(&mut self, slot: u32) -> Answer;
-    fn withdraw(&mut self, slot: u32) -> Answer;
     /// The words of state and pool.
     fn left(&self) -> (Vec<u32>, Vec<u32>);
 }
@@ -36,17 +35,6 @@ pub struct Schedule {
     pub slots: u32,
     pub filling: Vec<Op>,
     pub ops: Vec<Op>,
-    pub hangs_up: HangsUp,
-}
-
-/// Who hangs up.
-#[derive(Clone, Copy, PartialEq, Eq)]
-pub enum HangsUp {
-    Nobody,
-    /// Now and then an open slot.
-    Open,
-    /// Also one that is closed, and one that is not there: who tests refuses that.
-    Any,
 }
 
 impl Schedule {
@@ -78,16 +66,8 @@ impl Schedule {
             slots,
             filling,
             ops,
-            hangs_up: HangsUp::Nobody,
         }
     }
-}
-
-/// The same operations, of which some are withdrawn.
-pub fn with_withdrawals(schedule: &Schedule, hangs_up: HangsUp) -> Schedule {
-    let mut other = schedule.clone();
-    other.hangs_up = hangs_up;
-    other
 }
 
 /// The same operations, but of those at even places a search asks for the next lot and a deletion regrades the lot, and of every three updates
@@ -150,42 +130,12 @@ fn add(answers: u64, answer: Answer) -> u64 {
 /// Runs operations: each slot that is free takes the next, and the slots are stepped in turn. Gives all answers in one number, the calls, and
 /// how many of them were answered Waiting.
 pub fn run<P: Program>(program: &mut P, slots: u32, ops: &[Op]) -> (u64, u64, u64) {
-    run_but(program, slots, ops, |_, _, _, _| None)
-}
-
-/// The same, but that every seventh call or so a slot is withdrawn instead.
-pub fn run_withdrawing<P: Program>(
-    program: &mut P,
-    slots: u32,
-    ops: &[Op],
-    hangs_up: HangsUp,
-) -> (u64, u64, u64) {
-    run_but(program, slots, ops, |program, slot, is_open, calls| {
-        let is_turn = calls % 7 == 3;
-        let beyond = slot + 16 * u32::from(calls % 3 == 0);
-        match hangs_up {
-            HangsUp::Open if is_turn && is_open => Some(program.withdraw(slot)),
-            HangsUp::Any if is_turn => Some(program.withdraw(beyond)),
-            _ => None,
-        }
-    })
-}
-
-/// The same, where something else may be called first.
-fn run_but<P: Program>(
-    program: &mut P,
-    slots: u32,
-    ops: &[Op],
-    first: impl Fn(&mut P, u32, bool, u64) -> Option<Answer>,
-) -> (u64, u64, u64) {
     let (mut answers, mut calls, mut waiting) = (0, 0, 0);
     let mut is_open = [false; 16];
     let (mut next, mut open) = (0, 0);
     loop {
         for slot in 0..slots {
-            let answer = if let Some(answer) = first(program, slot, is_open[slot as usize], calls) {
-                answer
-            } else if is_open[slot as usize] {
+            let answer = if is_open[slot as usize] {
                 program.step(slot)
             } else if next < ops.len() {
                 next += 1;
@@ -200,7 +150,7 @@ fn run_but<P: Program>(
             calls += 1;
             waiting += u64::from(answer[0] == numbers::WAITING);
             answers = add(answers, answer);
-            if numbers::ends(answer[0]) || answer[0] == numbers::WITHDRAWN {
+            if numbers::ends(answer[0]) {
                 is_open[slot as usize] = false;
                 open -= 1;
             }

@@ -1,7 +1,7 @@
 //! The second program, which is written to be read and not for speed.
 
 use ghazfulit::Op;
-use twin::{begin_lent, make_lent, page_words, step_lent, withdraw_lent, STATE};
+use twin::{begin_lent, make_lent, page_words, step_lent, STATE};
 
 use crate::schedule::{Answer, Program};
 
@@ -29,10 +29,6 @@ impl Program for Second {
 
     fn step(&mut self, slot: u32) -> Answer {
         step_lent(&mut self.state, &mut self.words, slot as usize).told()
-    }
-
-    fn withdraw(&mut self, slot: u32) -> Answer {
-        withdraw_lent(&mut self.state, slot as usize).told()
     }
 
     fn left(&self) -> (Vec<u32>, Vec<u32>) {

@@ -1,6 +1,6 @@
 //! What the caller hears: every answer and refusal, its name and its numbers.
 
-/// An answer or refusal of one of the six calls.
+/// An answer or refusal of one of the five calls.
 #[derive(Clone, Copy, Debug, PartialEq, Eq)]
 pub enum Answer {
     BadState,
@@ -39,13 +39,11 @@ pub enum Answer {
     /// The information that was there before.
     Regraded(u32),
     Opened,
-    /// The slot is closed, whatever it was at.
-    Withdrawn,
 }
 
 impl Answer {
     /// Every answer once, with values of 0.
-    const EACH: [Answer; 28] = [
+    const EACH: [Answer; 27] = [
         Answer::BadState,
         Answer::BadPool,
         Answer::BadSlot,
@@ -73,7 +71,6 @@ impl Answer {
         Answer::None,
         Answer::Regraded(0),
         Answer::Opened,
-        Answer::Withdrawn,
     ];
 
     /// The answer's number.
@@ -106,7 +103,6 @@ impl Answer {
             Answer::None => 45,
             Answer::Regraded(_) => 46,
             Answer::Opened => 47,
-            Answer::Withdrawn => 48,
         }
     }
 
@@ -172,7 +168,6 @@ impl Answer {
             Answer::None => "None",
             Answer::Regraded(_) => "Regraded",
             Answer::Opened => "Opened",
-            Answer::Withdrawn => "Withdrawn",
         }
     }
 }

@@ -1,4 +1,4 @@
-//! The six calls, with their refusals in the order of documents 01 and 02.
+//! The five calls, with their refusals in the order of documents 01 and 02.
 
 use crate::answer::Answer;
 use crate::grant::{grant, Outcome};
@@ -112,21 +112,6 @@ fn with_slot(given: &State, slot: usize, written: Slot) -> State {
     }
     state.slots[slot] = written;
     state
-}
-
-/// Withdraws a slot whose buyer has hung up: it gives up what it holds and wants, and closes. No pool is handed in, so that none can be in the
-/// way.
-pub fn withdraw(given: &State, slot: usize) -> (Answer, State) {
-    if !is_sound(given) {
-        return (Answer::BadState, *given);
-    }
-    if slot >= SLOTS {
-        return (Answer::BadSlot, *given);
-    }
-    if given.slots[slot].op.is_none() {
-        return (Answer::SlotIdle, *given);
-    }
-    (Answer::Withdrawn, with_slot(given, slot, Slot::CLOSED))
 }
 
 /// Reports the locks on a page.

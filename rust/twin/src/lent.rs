@@ -1,4 +1,4 @@
-//! The state as lent 32-bit words, in columns, and the six calls over it.
+//! The state as lent 32-bit words, in columns, and the five calls over it.
 //!
 //! | words | what |
 //! |---|---|
@@ -181,19 +181,6 @@ pub fn step_lent(state: &mut [u32; STATE], words: &mut [u32], slot: usize) -> An
         return Answer::BadState;
     };
     let (answer, next) = calls::step(&given, words, slot);
-    if !leaves_all(answer) {
-        write_order(state, &next);
-        write_slot(state, &next, slot);
-    }
-    answer
-}
-
-/// Withdraws a slot.
-pub fn withdraw_lent(state: &mut [u32; STATE], slot: usize) -> Answer {
-    let Some(given) = state_of(state) else {
-        return Answer::BadState;
-    };
-    let (answer, next) = calls::withdraw(&given, slot);
     if !leaves_all(answer) {
         write_order(state, &next);
         write_slot(state, &next, slot);

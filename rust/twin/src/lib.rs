@@ -1,4 +1,4 @@
-//! Document 01, with the requests of 02 that have landed, a second time: the index of lots as six plain calls.
+//! Document 01, with the requests of 02 that have landed, a second time: the index of lots as five plain calls.
 //!
 //! Written from the documents alone, so that it shares nothing with the proved rules.
 //! It decodes every page it reads into lists, changes the lists and writes them back.
@@ -31,10 +31,10 @@ mod second_way;
 mod state;
 
 pub use answer::Answer;
-pub use calls::{begin, make, open, report, step, withdraw};
+pub use calls::{begin, make, open, report, step};
 pub use lent::{
     at, begin_lent, held_in, held_word, make_lent, open_lent, report_lent, row, state_of,
-    step_lent, withdraw_lent, words_of, FRONT, HALF, STATE,
+    step_lent, words_of, FRONT, HALF, STATE,
 };
 pub use lock::Lock;
 pub use locks::must_wait;

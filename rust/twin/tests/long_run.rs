@@ -1,10 +1,10 @@
-//! The long run on the bench: three slots, k = 1, N = 18, up to four levels and back to nothing. And once more with buyers who come and hang up.
+//! The long run on the bench: three slots, k = 1, N = 18, up to four levels and back to nothing.
 
 mod common;
 
 use common::Run;
 use twin::Op::{self, Delete, Insert, Search};
-use twin::{step, Answer, Way};
+use twin::{Answer, Way};
 
 /// The proved table of what is heard in this run.
 const TABLE: &str = include_str!("../../../crates/promises/specs/LongRun.antt");
@@ -92,57 +92,5 @@ fn up_to_four_levels_and_back() {
     assert_eq!(heights, [1, 2, 3, 3, 4, 4, 4, 4, 3, 3, 2, 1, 1]);
     assert_eq!(run.tallest, 4);
     assert_eq!(run.words[0], 1);
-    assert!(run.words[1..].iter().all(|&word| word == 0));
-}
-
-/// Begins each of some operations in slot 7, takes it one step further each time until the next would end it, and withdraws it every time.
-fn come_and_hang_up(run: &mut Run) -> usize {
-    let (state, words) = (run.state, run.words.clone());
-    let mut withdrawn = 0;
-    for op in [
-        Search(9),
-        insert(8),
-        delete(7),
-        Op::Next(5),
-        Delete(13, Way::Third),
-    ] {
-        for steps in 0.. {
-            run.begin(7, op);
-            (0..steps).for_each(|_| assert_eq!(run.step(7), Answer::Moved));
-            let (answer, _) = step(&run.state, &mut run.words.clone(), 7);
-            assert_eq!(run.withdraw(7), Answer::Withdrawn);
-            assert_eq!((run.state, &run.words), (state, &words));
-            withdrawn += 1;
-            if answer != Answer::Moved {
-                break;
-            }
-        }
-    }
-    withdrawn
-}
-
-/// "Demand 3's list passes over withdrawn operations": the run is answered as if they had never been.
-#[test]
-fn the_same_with_buyers_who_hang_up() {
-    let mut run = Run::new(1, 18);
-    let (mut heard, mut withdrawn) = (Vec::new(), 0);
-    for (ops, rounds) in RUN {
-        withdrawn += come_and_hang_up(&mut run);
-        for (slot, op) in ops.into_iter().enumerate() {
-            heard.push(run.begin(slot, op));
-        }
-        // one who wants the top page, behind all three, and is gone before they have ended
-        run.begin(9, delete(8));
-        let steps = (0..3).flat_map(|first| (0..rounds[first]).flat_map(move |_| first..3));
-        for (at, slot) in steps.enumerate() {
-            if at == 1 {
-                assert_eq!(run.withdraw(9), Answer::Withdrawn);
-            }
-            heard.push(run.step(slot));
-            run.check();
-        }
-    }
-    assert_eq!(heard, table());
-    assert!(withdrawn > 150, "{withdrawn}");
     assert!(run.words[1..].iter().all(|&word| word == 0));
 }

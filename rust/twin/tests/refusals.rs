@@ -5,9 +5,7 @@ mod common;
 
 use common::Run;
 use draw::Random;
-use twin::{
-    begin, is_sound, make, page_words, report, step, withdraw, Answer, Lock, Op, Slot, State, Way,
-};
+use twin::{begin, is_sound, make, page_words, report, step, Answer, Lock, Op, State, Way};
 
 /// A run stopped somewhere in the middle.
 fn middle(random: &mut Random, k: u32, n: u32) -> Run {
@@ -22,7 +20,6 @@ fn middle(random: &mut Random, k: u32, n: u32) -> Run {
             3 => run.begin(slot, Op::Search(key)),
             4 => run.begin(slot, Op::Next(key)),
             5 => run.begin(slot, Op::Regrade(key, key + 1, way)),
-            6 if random.percent(20) => run.withdraw(slot),
             _ => run.step(slot),
         };
     }
@@ -103,25 +100,8 @@ fn judge_refusals(random: &mut Random, state: &State, words: &[u32]) {
     if refuses(begun) {
         assert_eq!(next, *state);
     }
-    judge_withdrawal(state, slot);
     let reported = report(state, random.below(40) as u32);
     assert_eq!(reported == Answer::BadState, !is_sound(state));
-}
-
-/// A withdrawal closes the slot and leaves the others as they are, also in a sound state that no run leaves.
-fn judge_withdrawal(state: &State, slot: usize) {
-    let (answer, next) = withdraw(state, slot);
-    assert_eq!(answer == Answer::BadState, !is_sound(state));
-    if refuses(answer) {
-        assert_eq!(next, *state);
-        return;
-    }
-    assert_eq!(answer, Answer::Withdrawn);
-    let mut slots = state.slots;
-    slots[slot] = Slot::CLOSED;
-    assert_eq!(next.slots, slots);
-    assert_eq!(next.waiting + 1, state.waiting);
-    assert!(is_sound(&next));
 }
 
 #[test]

@@ -3,12 +3,10 @@
 use std::iter::Peekable;
 use std::vec::IntoIter;
 
-use twin::{
-    begin, make, open, page_words, report, step, withdraw, Answer, Lock, Op, Slot, State, Way,
-};
+use twin::{begin, make, open, page_words, report, step, Answer, Lock, Op, Slot, State, Way};
 
 /// The proved tables; a name may be defined in another one than it is used in.
-const TABLES: [&str; 12] = [
+const TABLES: [&str; 11] = [
     include_str!("../../../crates/promises/specs/Bench.antt"),
     include_str!("../../../crates/promises/specs/MoreRows.antt"),
     include_str!("../../../crates/promises/specs/LongRun.antt"),
@@ -20,7 +18,6 @@ const TABLES: [&str; 12] = [
     include_str!("../../../crates/promises/specs/ThirdRows.antt"),
     include_str!("../../../crates/promises/specs/OpenRows.antt"),
     include_str!("../../../crates/promises/specs/BlankRows.antt"),
-    include_str!("../../../crates/promises/specs/WithdrawRows.antt"),
 ];
 
 /// What an expression of a table stands for.
@@ -43,7 +40,6 @@ use Value::{List, Number};
 enum Call {
     Begin(usize, Op),
     Step(usize),
-    Withdraw(usize),
     Report(u32),
 }
 
@@ -85,7 +81,6 @@ impl Told {
         let (answer, state) = match *call {
             Value::Call(Call::Begin(slot, op)) => begin(&self.state, slot, op),
             Value::Call(Call::Step(slot)) => step(&self.state, &mut self.words, slot),
-            Value::Call(Call::Withdraw(slot)) => withdraw(&self.state, slot),
             Value::Call(Call::Report(page)) => (report(&self.state, page), self.state),
             _ => panic!("{call:?} is no call"),
         };
@@ -227,7 +222,6 @@ fn answer(name: &str, arguments: &[Value]) -> Option<Value> {
         ("SlotIdle", []) => Answer::SlotIdle,
         ("BadKey", []) => Answer::BadKey,
         ("Opened", []) => Answer::Opened,
-        ("Withdrawn", []) => Answer::Withdrawn,
         ("BadPageInPool", [Number(page)]) => Answer::BadPageInPool(*page),
         ("BadTree", []) => Answer::BadTree,
         _ => return None,
@@ -235,7 +229,7 @@ fn answer(name: &str, arguments: &[Value]) -> Option<Value> {
     Some(Value::Answer(answer))
 }
 
-/// Locks, operations and calls.
+/// Locks, operations, calls and lists of calls.
 fn calls(name: &str, arguments: &[Value]) -> Option<Value> {
     Some(match (name, arguments) {
         ("None", []) => Number(0),
@@ -257,27 +251,18 @@ fn calls(name: &str, arguments: &[Value]) -> Option<Value> {
         }
         ("begin", [Number(slot), Value::Op(op)]) => Value::Call(Call::Begin(*slot as usize, *op)),
         ("step", [Number(slot)]) => Value::Call(Call::Step(*slot as usize)),
-        ("withdraw", [Number(slot)]) => Value::Call(Call::Withdraw(*slot as usize)),
         ("report", [Number(page)]) => Value::Call(Call::Report(*page)),
-        _ => return lists_of_calls(name, arguments),
-    })
-}
-
-fn lists_of_calls(name: &str, arguments: &[Value]) -> Option<Value> {
-    Some(match (name, arguments) {
         ("runs", [Number(slot), Value::Op(op), Number(steps)]) => {
             let begun = Value::Call(Call::Begin(*slot as usize, *op));
             let step = Value::Call(Call::Step(*slot as usize));
             List([vec![begun], vec![step; *steps as usize]].concat())
         }
         ("puts", [Number(key)]) => read(&format!("runs 0 (Insert {key} 7) 1")),
-        ("looks", [List(pages)]) => {
-            let report = |page| applied("report", std::slice::from_ref(page));
-            List(pages.iter().map(report).collect())
-        }
-        ("watched", [Number(steps), pages]) => {
-            let reports = list(&applied("looks", std::slice::from_ref(pages)));
-            let once = [vec![read("step 0")], reports].concat();
+        ("watched", [Number(steps), List(pages)]) => {
+            let reports = pages
+                .iter()
+                .map(|page| applied("report", std::slice::from_ref(page)));
+            let once: Vec<Value> = [read("step 0")].into_iter().chain(reports).collect();
             List(vec![once; *steps as usize].concat())
         }
         _ => return None,
@@ -569,7 +554,6 @@ fn every_row_is_heard() {
         ("thirdRows", 68),
         ("openRows", 33),
         ("blankRows", 28),
-        ("withdrawRows", 24),
     ] {
         let rows = list(&defined(name).expect("it is there"));
         assert_eq!(rows.len(), length, "{name}");
@@ -609,14 +593,4 @@ fn an_opening_is_read() {
     ] {
         assert_eq!(read(&given), read(said), "{given}");
     }
-}
-
-/// How a withdrawal is written in a table.
-#[test]
-fn a_withdrawal_is_read() {
-    let calls = "runs 0 (Insert 25 7 First) 1 ++ (begin 1 (Search 20) ∷ step 1 ∷ withdraw 0 ∷ step 1 ∷ withdraw 0 ∷ withdraw 16 ∷ [])";
-    let said = "heard Begun ∷ heard Moved ∷ heard Begun ∷ heard Waiting ∷ heard Withdrawn ∷ heard Moved ∷ heard SlotIdle ∷ heard BadSlot ∷ []";
-    assert_eq!(read(&format!("answers caseE ({calls})")), read(said));
-    let unsound = "heardIn (run (withdraw 16 ∷ withdraw 0 ∷ []) (idleState 0 0) [])";
-    assert_eq!(read(unsound), read("BadState ∷ BadState ∷ []"));
 }

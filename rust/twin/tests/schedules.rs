@@ -1,4 +1,4 @@
-//! Long random schedules from fresh pools, which are opened anew now and then, with buyers who hang up, and all the demands checked on the way.
+//! Long random schedules from fresh pools, which are opened anew now and then, with all the demands checked on the way.
 
 mod common;
 
@@ -19,8 +19,6 @@ struct Draw {
     /// How many updates in a hundred go the second way, and how many the third.
     seconds: u64,
     thirds: u64,
-    /// How many calls in a thousand withdraw a slot.
-    hangs_up: u64,
 }
 
 impl Draw {
@@ -72,15 +70,17 @@ fn schedule(random: &mut Random, draw: &Draw) -> Run {
         if random.below(u64::from(draw.calls / 6)) == 0 {
             grows = !grows;
         }
-        let slot = random.below(draw.slots) as usize;
-        if random.below(1000) < draw.hangs_up {
-            run.withdraw(gone(random, &run, slot));
-            run.check_tree();
-        } else if random.percent(35) {
+        let mut slot = random.below(draw.slots) as usize;
+        if random.percent(35) {
             let op = operation(random, &run, draw, grows);
             run.begin(slot, op);
         } else {
-            run.step(stepped(random, &run, slot));
+            // with many slots most of them wait; half of the steps shall be granted
+            let ready = run.ready();
+            if !ready.is_empty() && random.percent(50) {
+                slot = random.one(&ready);
+            }
+            run.step(slot);
         }
         if call % draw.check_every == 0 {
             run.check();
@@ -90,39 +90,10 @@ fn schedule(random: &mut Random, draw: &Draw) -> Run {
             run.reopen();
         }
     }
-    // some of those who are left hang up in the midst of the rounds
-    run.finish_but(|run| {
-        let open = run.open();
-        (!open.is_empty() && random.below(500) < draw.hangs_up).then(|| random.one(&open))
-    });
+    run.finish();
     run.check();
     empty(&mut run);
     run
-}
-
-/// Who is stepped: with many slots most of them wait, and half of the steps shall be granted.
-fn stepped(random: &mut Random, run: &Run, slot: usize) -> usize {
-    let (ready, converting) = (run.ready(), run.converting());
-    if !ready.is_empty() && random.percent(50) {
-        random.one(&ready)
-    } else if !converting.is_empty() && random.percent(20) {
-        // whether it waits or not
-        random.one(&converting)
-    } else {
-        slot
-    }
-}
-
-/// Who hangs up: mostly one who holds something or waits for it; now and then any slot, open or not, or one that is not there.
-fn gone(random: &mut Random, run: &Run, slot: usize) -> usize {
-    let open = run.open();
-    let at_work = |slot: &&usize| run.state.slots[**slot].depth > 0;
-    let holding: Vec<usize> = open.iter().filter(at_work).copied().collect();
-    match random.below(10) {
-        0..=5 if !holding.is_empty() => random.one(&holding),
-        6..=8 if !open.is_empty() => random.one(&open),
-        _ => random.one(&[slot, 16]),
-    }
 }
 
 /// Deletes every entry, sixteen at a time: the pool is fresh again.
@@ -154,9 +125,6 @@ struct Reached {
     stayed: u64,
     behind: u64,
     held_up: u64,
-    withdrawn_holding: u64,
-    withdrawn_converting: u64,
-    freed: u64,
 }
 
 impl Reached {
@@ -174,9 +142,6 @@ impl Reached {
         self.stayed += run.stayed;
         self.behind += run.behind;
         self.held_up += run.held_up;
-        self.withdrawn_holding += run.withdrawn_holding;
-        self.withdrawn_converting += run.withdrawn_converting;
-        self.freed += run.freed;
     }
 
     /// What the third way is there for was met often enough.
@@ -185,17 +150,6 @@ impl Reached {
         assert!(self.stayed > 500, "{}", self.stayed);
         assert!(self.behind > 15, "{}", self.behind);
         assert!(self.held_up > 15, "{}", self.held_up);
-    }
-
-    /// Buyers hung up often enough where it matters.
-    fn check_withdrawn(&self) {
-        assert!(self.withdrawn_holding > 500, "{}", self.withdrawn_holding);
-        assert!(
-            self.withdrawn_converting > 30,
-            "{}",
-            self.withdrawn_converting
-        );
-        assert!(self.freed > 500, "{}", self.freed);
     }
 
     /// How often a `Next` had so many pages beside its path, or more.
@@ -223,7 +177,6 @@ fn small_pools() {
             nexts: random.one(&[10, 40]),
             seconds,
             thirds,
-            hangs_up: random.one(&[0, 10, 60]),
         };
         reached.add(&schedule(&mut random, &draw));
     }
@@ -232,7 +185,6 @@ fn small_pools() {
     assert!(reached.again > 1000 && reached.at_once > 1000 && reached.unbarred > 1000);
     assert!(reached.mixed > 1000);
     reached.check_third();
-    reached.check_withdrawn();
 }
 
 #[test]
@@ -262,7 +214,6 @@ fn large_pools() {
             nexts,
             seconds,
             thirds,
-            hangs_up: random.one(&[5, 20]),
         };
         reached.add(&schedule(&mut random, &draw));
     }
@@ -271,11 +222,10 @@ fn large_pools() {
     assert!(reached.again > 1000 && reached.at_once > 1000 && reached.unbarred > 100);
     assert!(reached.mixed > 1000);
     reached.check_third();
-    reached.check_withdrawn();
 }
 
 /// What is heard in a run.
-const HEARD: [&str; 18] = [
+const HEARD: [&str; 16] = [
     "Begun",
     "SlotBusy",
     "BadKey",
@@ -292,8 +242,6 @@ const HEARD: [&str; 18] = [
     "None",
     "Regraded",
     "SlotIdle",
-    "Withdrawn",
-    "BadSlot",
 ];
 
 #[test]
@@ -310,13 +258,10 @@ fn every_kind_of_answer() {
         nexts: 30,
         seconds: 33,
         thirds: 33,
-        hangs_up: 10,
     };
     for _ in 0..draw.calls {
         let slot = random.below(draw.slots) as usize;
-        if random.below(1000) < draw.hangs_up {
-            run.withdraw(gone(&mut random, &run, slot));
-        } else if random.percent(40) {
+        if random.percent(40) {
             let op = operation(&mut random, &run, &draw, true);
             // with the largest key there would always be a next one
             if op.key() < u32::MAX || matches!(op, Op::Next(_)) {

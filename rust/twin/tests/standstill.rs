@@ -1,13 +1,12 @@
-//! Every schedule of three operations in small pools, k = 1 and up to seven pages, the three ways and a `Next` mixed, and at every moment each
-//! of them may hang up: as long as a slot is open some open slot can be granted, and all come to their ends with at most 38 grants each, so
-//! within the rounds.
+//! Every schedule of three operations in small pools, k = 1 and up to seven pages, the three ways and a `Next` mixed: as long as a slot is
+//! open some open slot can be granted, and all come to their ends with at most 38 grants each, so within the rounds.
 
 mod common;
 
 use std::collections::HashMap;
 
 use common::pools::entered;
-use twin::{begin, is_sound, must_wait, step, withdraw, words_of, Answer, Op, State, Way};
+use twin::{begin, is_sound, step, words_of, Answer, Op, State, Way};
 
 /// Where a schedule stands: the state, the pool's words, and how many of the operations have begun in their slots.
 #[derive(Clone)]
@@ -45,20 +44,6 @@ impl Stand {
         (answer != Answer::Waiting).then_some(next)
     }
 
-    /// What follows where an open slot is withdrawn: the pool is as it was, and who could be granted still can.
-    fn without(&self, slot: usize) -> Option<Stand> {
-        self.state.slots[slot].op?;
-        let mut next = self.clone();
-        let answer;
-        (answer, next.state) = withdraw(&self.state, slot);
-        assert_eq!(answer, Answer::Withdrawn);
-        for other in (0..3).filter(|&other| other != slot) {
-            assert_eq!(next.state.slots[other], self.state.slots[other]);
-            assert!(must_wait(&self.state, other) || !must_wait(&next.state, other));
-        }
-        Some(next)
-    }
-
     /// Whether an operation is under way.
     fn is_open(&self) -> bool {
         self.state.slots.iter().any(|slot| slot.op.is_some())
@@ -72,7 +57,6 @@ struct Met {
     conversions: usize,
     /// Stands in which a conversion waits.
     held_up: usize,
-    withdrawals: usize,
     /// The longest way from a start to its end.
     longest: usize,
 }
@@ -103,10 +87,7 @@ impl Search<'_> {
             "{:?}",
             self.ops
         );
-        let gone: Vec<Stand> = (0..3).filter_map(|slot| stand.without(slot)).collect();
-        self.met.withdrawals += gone.len();
-        let followers = steps.iter().map(|(_, next)| next).chain(&gone);
-        let ways = followers.map(|next| 1 + self.longest(next));
+        let ways = steps.iter().map(|(_, next)| 1 + self.longest(next));
         let longest = ways.max().unwrap_or(0);
         self.known.insert(mark, longest);
         longest
@@ -183,7 +164,7 @@ fn a_root_leaf() {
         search(&mut met, n, &[10], &ops);
         search(&mut met, n, &[10, 30], &ops);
     }
-    assert!(met.conversions > 1000 && met.withdrawals > 10_000);
+    assert!(met.conversions > 1000);
 }
 
 #[test]
@@ -193,7 +174,6 @@ fn two_levels() {
         search(&mut met, n, &[10, 20, 30], &at_work(&[10, 20], &[25]));
         search(&mut met, n, &[10, 20, 30], &at_work(&[30], &[5, 15]));
     }
-    assert!(met.withdrawals > 100_000);
     assert!(met.conversions > 10_000 && met.held_up > 1000);
 }
 
@@ -209,7 +189,7 @@ fn three_levels() {
 
 /// Every operation on every key that is there, and on one behind each of them, in pools with and without free pages.
 #[test]
-#[ignore = "it takes nine minutes"]
+#[ignore = "it takes four minutes, built for release"]
 fn every_key() {
     let keys = [10, 20, 30, 40, 50];
     for (n, many) in [
@@ -227,8 +207,8 @@ fn every_key() {
         let mut met = Met::default();
         search(&mut met, n, keys, &at_work(keys, &behind));
         println!(
-            "{n} pages, {many} keys: {} stands, {} conversions, {} held up, {} withdrawals, at most {} calls",
-            met.stands, met.conversions, met.held_up, met.withdrawals, met.longest
+            "{n} pages, {many} keys: {} stands, {} conversions, {} held up, at most {} calls",
+            met.stands, met.conversions, met.held_up, met.longest
         );
     }
 }

@@ -33,11 +33,6 @@ impl Input {
         self.line(format!("t {slot}").as_bytes())
     }
 
-    /// Withdraws a slot.
-    pub fn withdraw(&mut self, slot: usize) -> String {
-        self.line(format!("w {slot}").as_bytes())
-    }
-
     /// The open slots.
     pub fn open(&self) -> Vec<usize> {
         (0..SLOTS)

@@ -1,4 +1,4 @@
-//! Random inputs: operations in many slots at once, stepped in random order, with buyers who hang up and bad lines between them.
+//! Random inputs: operations in many slots at once, stepped in random order, with bad lines between them.
 
 use draw::Random;
 use twin::{Op, Way, BLANK_KEY, SLOTS};
@@ -14,8 +14,6 @@ struct Kind {
     turn: usize,
     /// How many lines of a hundred are spoiled.
     spoiled: u64,
-    /// How many lines of a hundred withdraw an open slot.
-    hangs_up: u64,
 }
 
 /// An input of at most so many bytes; its last line may be unended.
@@ -25,7 +23,6 @@ pub fn random_input(random: &mut Random, most: usize) -> Vec<u8> {
         keys: random.one(&[6, 20, 60, 200, 1000]),
         turn: random.from(20, 1500) as usize,
         spoiled: random.one(&[0, 2, 10, 60]),
-        hangs_up: random.one(&[0, 2, 10]),
     };
     let mut input = Input::default();
     let mut lines = 0;
@@ -58,8 +55,6 @@ fn next_line(random: &mut Random, kind: &Kind, input: &mut Input, grows: bool) {
         input.line(good_line(random, slot, kind, grows).as_bytes());
     } else if !open.contains(&(slot as usize)) && (open.is_empty() || random.percent(50)) {
         input.begin(slot as usize, operation(random, kind, grows));
-    } else if random.percent(kind.hangs_up) {
-        input.withdraw(random.one(&open));
     } else if random.percent(85) {
         let ready = input.ready();
         input.step(random.one(&ready));
@@ -70,11 +65,11 @@ fn next_line(random: &mut Random, kind: &Kind, input: &mut Input, grows: bool) {
 
 /// A line of one of the forms, with zeros before the slot now and then.
 fn good_line(random: &mut Random, slot: u64, kind: &Kind, grows: bool) -> String {
-    let zeros = if random.percent(20) { "000" } else { "" };
-    match random.below(10) {
-        0..=3 => format!("t {zeros}{slot}"),
-        4 | 5 => format!("w {zeros}{slot}"),
-        _ => begin_line(slot, operation(random, kind, grows)),
+    if random.percent(50) {
+        let zeros = if random.percent(20) { "000" } else { "" };
+        format!("t {zeros}{slot}")
+    } else {
+        begin_line(slot, operation(random, kind, grows))
     }
 }
 

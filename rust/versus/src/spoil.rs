@@ -3,7 +3,7 @@
 use draw::Random;
 
 /// Bytes that stand in good lines, or could be taken for some that do.
-const BYTES: &[u8] = b"bbttwhsidng0123456789  \t\r\n+-.,_xBTWSIDNG\0\x7f\xff";
+const BYTES: &[u8] = b"bbttsidng0123456789  \t\r\n+-.,_xBTSIDNG\0\x7f\xff";
 /// Numbers around the largest, and beyond what 64 bits hold.
 const NUMBERS: &[&str] = &[
     "4294967295",

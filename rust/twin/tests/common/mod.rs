@@ -10,8 +10,8 @@ use std::collections::BTreeMap;
 
 use twin::Way::{self, First, Second, Third};
 use twin::{
-    begin, free_pages, is_sound, make, must_wait, open, page_words, read_page, report, step,
-    withdraw, Answer, Lock, Op, Slot, State,
+    begin, free_pages, make, must_wait, open, page_words, read_page, report, step, Answer, Lock,
+    Op, State,
 };
 
 /// The way of an open slot that updates.
@@ -67,10 +67,6 @@ pub struct Run {
     /// How often a want waited for a conversion alone, and how often a conversion waited.
     pub behind: u64,
     pub held_up: u64,
-    /// How often a slot was withdrawn that held pages, that converted, and for which another one waited that could go on then.
-    pub withdrawn_holding: u64,
-    pub withdrawn_converting: u64,
-    pub freed: u64,
 }
 
 impl Run {
@@ -99,9 +95,6 @@ impl Run {
             stayed: 0,
             behind: 0,
             held_up: 0,
-            withdrawn_holding: 0,
-            withdrawn_converting: 0,
-            freed: 0,
         }
     }
 
@@ -169,67 +162,18 @@ impl Run {
         answer
     }
 
-    /// Withdraws, and judges all that 02 (ix) says of it.
-    pub fn withdraw(&mut self, slot: usize) -> Answer {
-        let (answer, next) = withdraw(&self.state, slot);
-        *self.tally.entry(answer.name()).or_default() += 1;
-        let was = self.state.slots.get(slot).copied();
-        let expected = match was {
-            None => Answer::BadSlot,
-            Some(its) if its.op.is_none() => Answer::SlotIdle,
-            Some(_) => Answer::Withdrawn,
-        };
-        assert_eq!(answer, expected);
-        match was {
-            Some(its) if answer == Answer::Withdrawn => self.judge_withdrawn(slot, &its, next),
-            _ => assert_eq!(next, self.state),
-        }
-        answer
-    }
-
-    /// "All its locks and its want go, the slot closes, no word changes, and other slots' holdings and order stay." The sorted list passes over
-    /// it. Who is barred afterwards is just who was barred by somebody else before.
-    fn judge_withdrawn(&mut self, slot: usize, was: &Slot, next: State) {
-        let given = self.state;
-        let others: Vec<usize> = self.others(slot).collect();
-        let barred_else = |&own: &usize| {
-            let mut rest = self.others(own).filter(|&other| other != slot);
-            rest.any(|other| self.bars(other, own))
-        };
-        let (barred, free): (Vec<usize>, Vec<usize>) =
-            others.iter().partition(|own| barred_else(own));
-        let waited = free.iter().filter(|&&own| must_wait(&given, own)).count();
-        let mut expected = given;
-        expected.slots[slot] = Slot::CLOSED;
-        let order = given.order().iter().filter(|&&named| named != slot);
-        for (cell, named) in expected.order.iter_mut().zip(order.chain(&[0])) {
-            *cell = *named;
-        }
-        expected.waiting -= 1;
-        assert_eq!(next, expected);
-        assert!(is_sound(&next));
-        self.withdrawn_holding += u64::from(was.depth > 0);
-        self.withdrawn_converting += u64::from(was.converts());
-        self.freed += waited as u64;
-        self.state = next;
-        assert!(barred.iter().all(|&own| self.is_in_the_way(own)));
-        assert!(free.iter().all(|&own| !self.is_in_the_way(own)));
-        assert!(others
-            .iter()
-            .all(|&own| must_wait(&self.state, own) == barred.contains(&own)));
-    }
-
     /// Whether another slot is in a slot's way, as demand 2 has it: it holds the wanted page with a lock that clashes, or has wanted it
     /// for longer with one that does, or wants it converted. A conversion has only those in its way who hold the page.
     fn is_in_the_way(&self, slot: usize) -> bool {
-        self.others(slot).any(|other| self.bars(other, slot))
-    }
-
-    /// Whether this other slot is.
-    fn bars(&self, other: usize, slot: usize) -> bool {
         let own = &self.state.slots[slot];
-        let converts = own.holds(own.want);
-        self.holds_against(other, slot) || (!converts && self.comes_before(other, slot))
+        let bars = |other| self.holds_against(other, slot) || self.comes_before(other, slot);
+        let stays = |other| self.holds_against(other, slot);
+        let mut others = self.others(slot);
+        if own.holds(own.want) {
+            others.any(stays)
+        } else {
+            others.any(bars)
+        }
     }
 
     /// The other open slots.
@@ -434,27 +378,15 @@ impl Run {
         assert!(is_closed || !self.ready().is_empty());
     }
 
-    /// The open slots.
-    pub fn open(&self) -> Vec<usize> {
-        let is_open = |slot: &usize| self.state.slots[*slot].op.is_some();
-        (0..16).filter(is_open).collect()
-    }
-
-    /// Those that want a page that they hold.
-    pub fn converting(&self) -> Vec<usize> {
-        let converts = |slot: &usize| self.state.slots[*slot].converts();
-        (0..16).filter(converts).collect()
-    }
-
     /// The open slots that need not wait.
     pub fn ready(&self) -> Vec<usize> {
-        let mut open = self.open();
-        open.retain(|&slot| !must_wait(&self.state, slot));
-        open
+        let is_ready =
+            |slot: &usize| self.state.slots[*slot].op.is_some() && !must_wait(&self.state, *slot);
+        (0..16).filter(is_ready).collect()
     }
 
     /// The pages form the tree, it holds the list's entries, of which none is lot number 0, every other page is all zeros.
-    pub fn check_tree(&self) {
+    fn check_tree(&self) {
         let mut seen = vec![false; self.n as usize];
         let mut entries = Vec::new();
         self.walk(0, self.words[0], 0, u64::MAX, &mut seen, &mut entries);
@@ -538,16 +470,8 @@ impl Run {
 
     /// Steps every open slot in rounds until none is open; 608 rounds must do.
     pub fn finish(&mut self) {
-        self.finish_but(|_| None);
-    }
-
-    /// The same with a slot withdrawn before a step, where one is named: the rounds are counted from the last begin, and that is none.
-    pub fn finish_but(&mut self, mut hangs_up: impl FnMut(&Run) -> Option<usize>) {
         for _ in 0..608 {
             for slot in 0..16 {
-                if let Some(gone) = hangs_up(self) {
-                    self.withdraw(gone);
-                }
                 if self.state.slots[slot].op.is_some() {
                     self.step(slot);
                 }

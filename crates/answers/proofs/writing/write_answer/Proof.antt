@@ -2,7 +2,7 @@
 use mathlib.Core.Path.{refl}
 use native.Mathlib.Omega.{arith}
 use lib.Dec.{lit≤}
-use Rattle.slots.specs.declared.Answer.TheVariants.{Waiting, Moved, Found, NotFound, Inserted, AlreadyThere, Deleted, NoSuchKey, NoRoom, Begun, Made, Reported, Next, None, Regraded, BadState, BadPool, BadSlot, SlotBusy, SlotIdle, Damaged, BadPage, Opened, BadPageInPool, BadTree, BadKey, Withdrawn}
+use Rattle.slots.specs.declared.Answer.TheVariants.{Waiting, Moved, Found, NotFound, Inserted, AlreadyThere, Deleted, NoSuchKey, NoRoom, Begun, Made, Reported, Next, None, Regraded, BadState, BadPool, BadSlot, SlotBusy, SlotIdle, Damaged, BadPage, Opened, BadPageInPool, BadTree, BadKey}
 use Rattle.lines.specs.Text.{bytes}
 use Rattle.answers.proofs.Answers.{answered, informed-short, next-short, room}
 use Rattle.answers.proofs.writing.write_answer.Statement.{statement}
@@ -242,15 +242,6 @@ slice-aggregate-write-word-20 c = refl
 write-word-requires-20 : tie.Need-write-word-requires-20
 write-word-requires-20 c κs = room _ _ c.before.before.before.before.before.requires (lit≤ tt)
 
-enum-told-21 : tie.Need-enum-told-21
-enum-told-21 c = c.match.keys27
-
-slice-aggregate-write-word-21 : tie.Need-slice-aggregate-write-word-21
-slice-aggregate-write-word-21 c = refl
-
-write-word-requires-21 : tie.Need-write-word-requires-21
-write-word-requires-21 c κs = room _ _ c.before.before.before.before.before.requires (lit≤ tt)
-
 same_length : tie.Need-same-length
 same_length c = c.before.before.write_word.auto.0
 
@@ -420,12 +411,6 @@ same-length-26 c = c.before.before.write-word20.auto.0
 returns-26 : tie.Need-returns-26
 returns-26 c = answered BadKey c.before.before.before.before.before.before.before.before.args.out.now c.before.before.before.before.before.before.before.before.args.at c.before.before.before.before.before.enum-told20.given.1 c.before.before.write-word20.ensures (lit≤ tt)
 
-same-length-27 : tie.Need-same-length-27
-same-length-27 c = c.before.before.write-word21.auto.0
-
-returns-27 : tie.Need-returns-27
-returns-27 c = answered Withdrawn c.before.before.before.before.before.before.before.before.args.out.now c.before.before.before.before.before.before.before.before.args.at c.before.before.before.before.before.enum-told21.given.1 c.before.before.write-word21.ensures (lit≤ tt)
-
 pub write-answer-spec : {M : Type 1} → statement M
 write-answer-spec =
     tie.close
@@ -508,9 +493,6 @@ write-answer-spec =
     enum-told-20
     slice-aggregate-write-word-20
     write-word-requires-20
-    enum-told-21
-    slice-aggregate-write-word-21
-    write-word-requires-21
     same_length
     returns
     same-length-2
@@ -562,6 +544,4 @@ write-answer-spec =
     same-length-25
     returns-25
     same-length-26
-    returns-26
-    same-length-27
-    returns-27)
+    returns-26)

@@ -32,22 +32,9 @@ returns-2 : tie.Need-returns-2
 unfolding meaning
 returns-2 c = rw (sym c.before.before.before.before.before.goes_on.ensures ∙ c.before.before.before.before.if1.false, sym c.before.before.goes-on2.ensures ∙ c.before.if2.true) c.Read-step.ensures
 
-slice-aggregate-goes-on-3 : tie.Need-slice-aggregate-goes-on-3
-slice-aggregate-goes-on-3 c = search rules
-
-goes-on-requires-3 : tie.Need-goes-on-requires-3
-goes-on-requires-3 c κs = search rules
-
-read-withdraw-requires : tie.Need-read-withdraw-requires
-read-withdraw-requires c κs = begins_fits _ _ (sym c.before.goes-on3.ensures ∙ c.if3.true)
-
 returns-3 : tie.Need-returns-3
 unfolding meaning
-returns-3 c = rw (sym c.before.before.before.before.before.before.before.before.goes_on.ensures ∙ c.before.before.before.before.before.before.before.if1.false, sym c.before.before.before.before.before.goes-on2.ensures ∙ c.before.before.before.before.if2.false, sym c.before.before.goes-on3.ensures ∙ c.before.if3.true) c.read-withdraw.ensures
-
-returns-4 : tie.Need-returns-4
-unfolding meaning
-returns-4 c = rw (sym c.before.before.before.before.before.before.before.goes_on.ensures ∙ c.before.before.before.before.before.before.if1.false, sym c.before.before.before.before.goes-on2.ensures ∙ c.before.before.before.if2.false, sym c.before.goes-on3.ensures ∙ c.if3.false)
+returns-3 c = rw (sym c.before.before.before.before.goes_on.ensures ∙ c.before.before.before.if1.false, sym c.before.goes-on2.ensures ∙ c.if2.false)
 
 pub read-line-spec : {M : Type 1} → statement M
 read-line-spec =
@@ -61,8 +48,4 @@ read-line-spec =
     goes-on-requires-2
     read-step-requires
     returns-2
-    slice-aggregate-goes-on-3
-    goes-on-requires-3
-    read-withdraw-requires
-    returns-3
-    returns-4)
+    returns-3)

@@ -88,9 +88,6 @@ enum-told-18 c = search rules
 enum-told-19 : tie.Need-enum-told-19
 enum-told-19 c = search rules
 
-enum-told-20 : tie.Need-enum-told-20
-enum-told-20 c = search rules
-
 returns : tie.Need-returns
 returns c = sym (ap numbers_of c.enum_told.given.1)
 
@@ -171,9 +168,6 @@ returns-25 c = sym (ap numbers_of c.enum-told18.given.1)
 returns-26 : tie.Need-returns-26
 returns-26 c = sym (ap numbers_of c.enum-told19.given.1)
 
-returns-27 : tie.Need-returns-27
-returns-27 c = sym (ap numbers_of c.enum-told20.given.1)
-
 pub numbers-spec : {M : Type 1} → statement M
 numbers-spec =
     tie.close
@@ -205,7 +199,6 @@ numbers-spec =
     enum-known-answer-7
     enum-told-18
     enum-told-19
-    enum-told-20
     returns
     returns-2
     returns-3
@@ -231,5 +224,4 @@ numbers-spec =
     returns-23
     returns-24
     returns-25
-    returns-26
-    returns-27)
+    returns-26)

@@ -1,6 +1,6 @@
 -- `obey` meets its contract: each command is its call, and the answer is written behind what stands.
 use borrow.Author.Rules.{rules}
-use Rattle.talk.proofs.Obeying.{begin_leaves, step_leaves, withdraw_leaves, bad_leaves}
+use Rattle.talk.proofs.Obeying.{begin_leaves, step_leaves, bad_leaves}
 use Rattle.talk.proofs.answering.obey.Statement.{statement}
 use Rattle.talk.proofs.answering.obey.Tie as tie
 
@@ -27,18 +27,6 @@ step-requires c κs = search rules
 
 write-answer-requires-2 : tie.Need-write-answer-requires-2
 write-answer-requires-2 c κs = search rules
-
-enum-known-command-3 : tie.Need-enum-known-command-3
-enum-known-command-3 c = search rules
-
-cast-withdraw : tie.Need-overflow-cast-withdraw
-cast-withdraw c = search rules
-
-withdraw-requires : tie.Need-withdraw-requires
-withdraw-requires c κs = search rules
-
-write-answer-requires-3 : tie.Need-write-answer-requires-3
-write-answer-requires-3 c κs = search rules
 
 enum_told : tie.Need-enum-told
 enum_told c = search rules
@@ -68,13 +56,6 @@ same-length-4 c = search rules
 
 returns-3 : tie.Need-returns-3
 returns-3 c =
-    withdraw_leaves _ _ _ _ _ c.before.before.before.before.before.before.before.command3.given.1 c.before.before.before.before.withdraw.ensures c.before.before.write-answer3.ensures
-
-same-length-5 : tie.Need-same-length-5
-same-length-5 c = search rules
-
-returns-4 : tie.Need-returns-4
-returns-4 c =
     bad_leaves _ _ _ _ c.before.before.before.before.enum_told.given.1 c.before.before.write-bad-line.ensures
 
 pub obey-spec : {M : Type 1} → statement M
@@ -89,10 +70,6 @@ obey-spec =
     cast-step
     step-requires
     write-answer-requires-2
-    enum-known-command-3
-    cast-withdraw
-    withdraw-requires
-    write-answer-requires-3
     enum_told
     write-bad-line-requires
     same_length
@@ -101,6 +78,4 @@ obey-spec =
     same-length-3
     returns-2
     same-length-4
-    returns-3
-    same-length-5
-    returns-4)
+    returns-3)
