@@ -11,7 +11,7 @@ use ground::HELD;
 use pool::pages::{count_of, neighbour_of};
 
 // Nothing more, this sibling, or the pages held are not those that the rules would have it hold.
-#[derive(Drop)]
+#[derive(Clone, Copy)]
 pub enum Need {
     Nothing,
     Sibling(u32),

@@ -21,7 +21,7 @@ use slots::{Answer, Lock, Op, Slot, Way};
 // The pages are not sound for the step; the slot goes on and wants this page with this lock; the operation ends, and no page is written; or
 // it makes the whole change of an insertion (key, information) or of a deletion (key, information that it answers). A regrading (key, new
 // information) looks its key up where it writes, and changes nothing if it is missing. An update by the second way may begin again.
-#[derive(Drop)]
+#[derive(Clone, Copy)]
 pub enum Course {
     Broken,
     Goes(u32, Lock),

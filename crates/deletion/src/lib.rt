@@ -1,2 +1,4 @@
 // The whole change of a deletion along the pages that it holds.
+#![tactic(auto)]
+
 pub mod deleting;

@@ -13,7 +13,7 @@ use tape::writing::{OUT, put_byte, put_number, put_numbers, put_word, sum};
 pub const ROOM: usize = 70000;
 
 // How many words the pool has, how much is written of an outcome, and how far the output is filled.
-#[derive(Drop)]
+#[derive(Clone, Copy)]
 pub struct Setting {
     pub length: usize,
     pub how: u32,

@@ -6,7 +6,7 @@ use tape::reading::{MOST, Reading, Stand, is_start, start, take};
 use tape::writing::{OUT, flush};
 
 // Between two bytes: the line as far as it is read, and the setting.
-#[derive(Drop)]
+#[derive(Clone, Copy)]
 pub struct Moment {
     pub line: Reading,
     pub setting: Setting,
@@ -57,7 +57,7 @@ fn feed(
 }
 
 // What one piece more leaves, and whether there was one.
-#[derive(Drop)]
+#[derive(Clone, Copy)]
 pub struct Came {
     pub moment: Moment,
     pub more: bool,

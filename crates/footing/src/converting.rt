@@ -19,7 +19,7 @@ use slots::operations::{is_third, key_asked};
 use slots::{Lock, Op, Slot, Under};
 
 // The page that is converted next, or none is left.
-#[derive(Drop)]
+#[derive(Clone, Copy)]
 pub enum Turn {
     Page(u32),
     Done,

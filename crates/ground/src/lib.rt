@@ -1,4 +1,5 @@
 // The ground: the limits of document 01, by name, and the folds that every rule is written with. It has no functions.
+#![tactic(auto)]
 
 // k is 1 to 16, N is 1 to 1,024.
 pub const LARGEST_K: usize = 16;

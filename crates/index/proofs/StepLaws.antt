@@ -260,11 +260,11 @@ says_unsound cells ws s f = same_says BadState (is_unsound (state_of cells) ws s
 
 -- it is
 module _ (cells ws : List ℕ) (s : ℕ) (w : SoundWords cells) where
-  as_read : (l : Left) → l ≡ stepped (as_read cells) ws s → l ≡ stepped (state_of cells) ws s
-  as_read l e = e ∙ ap (λ (st : State). stepped st ws s) (sym w.read)
+  as_state : (l : Left) → l ≡ stepped (as_read cells) ws s → l ≡ stepped (state_of cells) ws s
+  as_state l e = e ∙ ap (λ (st : State). stepped st ws s) (sym w.read)
 
   given : (a : Answer) → left a (as_read cells) ws ≡ stepped (as_read cells) ws s → changes_nothing a ≡ true → StepSays cells ws s a cells ws
-  given a e q = same_says a (ap (λ (st : State). left a st ws) w.read ∙ as_read (left a (as_read cells) ws) e) q
+  given a e q = same_says a (ap (λ (st : State). left a st ws) w.read ∙ as_state (left a (as_read cells) ws) e) q
 
   sound_read : true ≡ sound (as_read cells)
   sound_read = sym (facts_sound (as_read cells) w.facts)
@@ -294,6 +294,6 @@ module _ (cells ws : List ℕ) (s : ℕ) (w : SoundWords cells) where
       says_granted t h =
           let v = here op (get_or cells 0 0) (get_or cells 1 0) ws slot in
           let l : Left = acted (as_read cells) ws s v in
-          left_says l (as_read l (is_granted p read task told t)) h.answer h.state
+          left_says l (as_state l (is_granted p read task told t)) h.answer h.state
           (h.all ∙ acted_cells_lem cells ws s v (verdict_answers (get_or cells 0 0) (get_or cells 1 0) ws (stand_of op slot)))
           h.words

@@ -63,7 +63,7 @@ fn split_root(words: &mut [u32], k: usize, n: usize, p: u32, a: u32, b: u32, s: 
 }
 
 // What became of a page with one pair more: it is written, or it was split and this key goes up.
-#[derive(Drop)]
+#[derive(Clone, Copy)]
 pub enum Settled {
     Done,
     Up(u32),

@@ -1,4 +1,6 @@
 // The state in lent words. k, N, how many wait, the waiting order; then, for each number of a slot, a row of one word a slot.
+#![tactic(auto)]
+
 pub mod book;
 pub mod cells;
 pub mod granting;

@@ -145,15 +145,15 @@ record Lends (start : Start) (cells ws : List ℕ) : Type 0 where
   state : state_of cells ≡ start.state
   words : ws ≡ start.words
 
-opened_lends : (start : Start) (cells ws : List ℕ) → OpenedBy cells ws start → Lends start cells ws
-opened_lends start cells ws (making k n given four tells Made-so) =
+opened_lends : (cells ws : List ℕ) (start : Start) → OpenedBy cells ws start → Lends start cells ws
+opened_lends cells ws start (making k n given four tells Made-so) =
     let range = made_in_range k n given (sym tells.answer ∙ Made-so) in
     record {
       starts = fresh_pool k n given (and_first (k_in_range k && n_in_range n) (eqb (length given) (pool_length k n)) (range_tested k n given range)) range.words;
       state = tells.state;
       words = tells.words;
     }
-opened_lends start cells ws (opening k n four l t tells so forms) = record {
+opened_lends cells ws start (opening k n four l t tells so forms) = record {
   starts = accepted_pool k n ws l t (opened_so k n ws (sym tells.answer ∙ so)) forms;
   state = tells.state;
   words = sym tells.words;
@@ -162,7 +162,7 @@ opened_lends start cells ws (opening k n four l t tells so forms) = record {
 pub library_runs : LibraryRuns
 unfolding run_from
 library_runs start calls last lastWs h =
-    let lends : Lends start h.cells h.words = opened_lends start h.cells h.words h.opened in
+    let lends : Lends start h.cells h.words = opened_lends h.cells h.words start h.opened in
     let g : Goes start.state start.words (calls_in calls) (told_in calls) last lastWs =
     from_here lends.state lends.words (follow_goes calls h.cells h.words last lastWs h.follow) in
     record {

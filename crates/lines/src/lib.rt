@@ -1,11 +1,13 @@
 // The lines of the little program: what a line means.
+#![tactic(auto)]
+
 mod reading;
 
 pub use reading::{line_end, read_line};
 use slots::Op;
 
 // What a line asks for.
-#[derive(Drop)]
+#[derive(Clone, Copy)]
 pub enum Command {
     // slot, operation
     Begin(u32, Op),

@@ -12,21 +12,21 @@ use slots::{Op, Way};
 const LARGEST: u64 = 4294967295;
 
 // A number with the position behind its last digit, or none.
-#[derive(Drop)]
+#[derive(Clone, Copy)]
 pub enum Number {
     Read(u32, usize),
     None,
 }
 
 // A key and information, or none.
-#[derive(Drop)]
+#[derive(Clone, Copy)]
 pub enum LotRead {
     Read(u32, u32),
     None,
 }
 
 // The digits at a position: what they are worth, if that is at most LARGEST, and where they end.
-#[derive(Drop)]
+#[derive(Clone, Copy)]
 pub struct Digits {
     pub worth: u64,
     pub end: usize,

@@ -12,7 +12,7 @@ use pool::pages::level_of;
 const KEYS: u64 = 4294967296;
 
 // What the words are.
-#[derive(Drop)]
+#[derive(Clone, Copy)]
 pub enum Checked {
     // the lowest-numbered page that is not sound by itself
     Unsound(u32),

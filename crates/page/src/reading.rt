@@ -9,14 +9,14 @@ ghost use Rattle.page.specs.Splits.{entry_at};
 ghost use Rattle.page.specs.Words.{view, is_leaf, pairs_from};
 
 // What stands under a key in a leaf.
-#[derive(Drop)]
+#[derive(Clone, Copy)]
 pub enum Lot {
     There(u32),
     Missing,
 }
 
 // The first entry at or above a key: its key and what stands behind it.
-#[derive(Drop)]
+#[derive(Clone, Copy)]
 pub enum Nearest {
     Lot(u32, u32),
     Nothing,

@@ -1,3 +1,5 @@
 // The pool: pages in the lent words.
+#![tactic(auto)]
+
 pub mod lying;
 pub mod pages;

@@ -45,7 +45,7 @@ fn next_free(words: &[u32], k: usize, n: usize, from: usize) -> usize
 }
 
 // What a scan for some free pages finds: whether there are enough, and if so, which.
-#[derive(Drop)]
+#[derive(Clone, Copy)]
 pub struct Taken {
     pub enough: bool,
     pub pages: [u32; NEW],

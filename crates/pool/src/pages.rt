@@ -20,7 +20,7 @@ use sheet::sheets::Sheet;
 use sheet::{sheets, writing};
 
 // The words from one place up to another.
-#[derive(Drop)]
+#[derive(Clone, Copy)]
 pub struct Stretch {
     pub from: usize,
     pub to: usize,

@@ -62,7 +62,7 @@ use Rattle.runs.proofs.Stepping.{turned_all}
 use Rattle.runs.proofs.Calls.{StepOf, no_slot, idle, waits, onward, over, step_of, granted_does}
 use Rattle.runs.proofs.Runs.{call_keeps, call_numbers, BeginOf, no_such, busy, blank, begins_so, begin_of, ReportOf, no_page, tells, report_of, holds_after, numbers_after}
 use Rattle.runs.proofs.Barring.{coming_above}
-use Rattle.runs.proofs.Progress.{barred, barred_waits, older_other, older_waits, opened}
+use Rattle.runs.proofs.Progress.{barred, barred_waits, older_other, older_waits}
 use Rattle.runs.proofs.Older.{older_before, before_older}
 use Rattle.runs.proofs.PlainLaws.{none_below, below_none}
 use Rattle.runs.proofs.Verdicts.{EndsIf, still_by, coming_stays}

@@ -229,8 +229,8 @@ module _ (x : ℕ) where
 
     next_so : (es : List Entry) → OnEntries st ws inv c es → Next-so es
     unfolding member
-    next_so es (keeps e) = (v, subst (Among x v) (sym e) a, ap rises e ∙ r, inl refl)
-    next_so es (ends s op e runs answer after) =
+    next_so _ (keeps e) = (v, subst (Among x v) (sym e) a, ap rises e ∙ r, inl refl)
+    next_so _ (ends s op e runs answer after) =
         let facts = plain_facts (entries_in st ws inv) r in
         let still = plain_keeps x v (entries_in st ws inv) r a op (not_deleted s op e runs answer) in (
           still.now,

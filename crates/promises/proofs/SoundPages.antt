@@ -418,8 +418,8 @@ module _ (op : Op) (k : ℕ) (memory : ℕ → Page) (path beside : List ℕ) (w
   abbrev above : Bool
   above = descends memory (key_of op) (path ++ want ∷ []) && is_none beside
 
-  at_it : Rising memory path → StandsAtLeaf memory path → at_it ≡ true → Stands k memory here
-  at_it s l t =
+  leaf_told : Rising memory path → StandsAtLeaf memory path → at_it ≡ true → Stands k memory here
+  leaf_told s l t =
       let w = way_told memory (key_of op) path s (and_first (descends memory (key_of op) path) helps t) in
       ⊎_elim
       (λ b. let (d, f) = so_far_told op k memory path (reverse path) beside want lock locks sidelocks b in inr (inl (record { deletes = d; at_leaf = l; way = w; siblings = f })))
@@ -436,7 +436,7 @@ module _ (op : Op) (k : ℕ) (memory : ℕ → Page) (path beside : List ℕ) (w
   stands_told : Rising memory (path ++ want ∷ []) → Rising memory path → cond (at_its_leaf memory (reverse path)) at_it above ≡ true → Stands k memory here
   stands_told r s h =
       by_test (at_its_leaf memory (reverse path))
-      (λ l. at_it s (test_at_leaf memory path l) (sym (cond-true at_it above l) ∙ h))
+      (λ l. leaf_told s (test_at_leaf memory path l) (sym (cond-true at_it above l) ∙ h))
       (λ l. inl (down r (λ a. not_both (at_leaf_test memory path a) l) (sym (cond-false at_it above l) ∙ h)))
 
   stands_from : Stands k memory here → cond (at_its_leaf memory (reverse path)) at_it above ≡ true

@@ -85,15 +85,15 @@ module _ (s : ℕ) (b : s < slot_count) where
       (omega (arith, is, e), λ so. omega (arith, is, e))
 
   -- on the way down it is granted one page a level
-  on_the_way : (cs : List Call) → InWords cs → (st : State) (ws : List ℕ) → Invariant st ws → (op : Op) → is_second op ≡ false → is_third op ≡ false → (level : ℕ) → Under st ws s op level
+  going_down : (cs : List Call) → InWords cs → (st : State) (ws : List ℕ) → Invariant st ws → (op : Op) → is_second op ≡ false → is_third op ≡ false → (level : ℕ) → Under st ws s op level
       → ends_within s cs st ws ≡ true → Needs op (level - 1) (grants_of s cs st ws)
-  on_the_way [] words st ws inv op first only level u ends_so = not_both ends_so (none_ends s st ws)
-  on_the_way (c ∷ cs) words st ws inv op first only level u ends_so =
+  going_down [] words st ws inv op first only level u ends_so = not_both ends_so (none_ends s st ws)
+  going_down (c ∷ cs) words st ws inv op first only level u ends_so =
       ⊎_elim
-      (λ g. granted_now (on_the_way cs words.1 next after kept_inv op first only) g (where_slot st ws inv s op b u.runs))
+      (λ g. granted_now (going_down cs words.1 next after kept_inv op first only) g (where_slot st ws inv s op b u.runs))
       (λ o.
       let still = undisturbed_open st ws next after s o.keeps (ap is_open u.runs) in
-      let rest = on_the_way cs words.1 next after kept_inv op first only level (undisturbed_under st ws next after s op level o.keeps u)
+      let rest = going_down cs words.1 next after kept_inv op first only level (undisturbed_under st ws next after s op level o.keeps u)
       (sym (ends_later s c cs st ws still) ∙ ends_so) in
       subst (Needs op (level - 1)) (sym (grants_other s c cs st ws o.other still)) rest)
       (call_cases st ws inv s b (ap is_open u.runs) c)
@@ -182,7 +182,7 @@ module _ (s : ℕ) (b : s < slot_count) where
                 λ ends_so. subst (λ (m : ℕ). Needs op m (grants_of s (c ∷ cs) st ws)) (sym height)
                     (one_more c cs st ws op l g.granted still
                     (subst (λ (m : ℕ). Needs op m (grants_of s cs next after)) less
-                    (on_the_way cs words.1 next after kept_inv op first only (l + 1) under (sym (ends_later s c cs st ws still) ∙ ends_so)))),
+                    (going_down cs words.1 next after kept_inv op first only (l + 1) under (sym (ends_later s c cs st ws still) ∙ ends_so)))),
                 omega (arith, height, grants_on s c cs st ws g.granted still, at_most cs words.1 next after kept_inv still, few first only, ap length none),
               )
           by_down height (again second runs' none' e') = not_both second first

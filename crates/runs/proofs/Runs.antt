@@ -18,7 +18,6 @@ use Rattle.slots.specs.declared.Outcome.{Outcome}
 use Rattle.slots.specs.declared.Answer.TheVariants.{Begun, Made, Reported, BadState, BadPool, BadSlot, SlotBusy, BadPage, BadKey}
 use Rattle.slots.specs.Operations.{blank_tag}
 use Rattle.slots.specs.Parts.{key_of, is_open, open_at, closed_slot, idle_state, Opened}
-use Rattle.slots.specs.Sound.{sound}
 use Rattle.slots.specs.Book.{begins, goes_on, closes}
 use Rattle.slots.specs.Begin.{outcome, begun}
 use Rattle.slots.specs.Report.{holders, lowest_holder, lock_kind, reported}

@@ -547,9 +547,9 @@ module _ (k n : ℕ) (ws : List ℕ) (l : ℕ) (t : Tr l) (z : Stand) (scene : S
   next_locked : (q : ℕ) → WantsWith (page_at k ws) (wants_next here' q (lock_below z.op (page_at k ws z.want)))
   next_locked q = ap (lock_due z.op (page_at k ws)) (sym reached.upward)
 
-  comes_down : Does k n ws l t z (comes_down k (page_at k ws) (free_pages k n ws) z)
+  down_does : Does k n ws l t z (comes_down k (page_at k ws) (free_pages k n ws) z)
   unfolding comes_down
-  comes_down =
+  down_does =
       let Way-of = facts k n ws l t z scene in
       cond_ind (Does k n ws l t z) (is_leaf (page_at k ws z.want))
       (λ y.
@@ -588,7 +588,7 @@ module _ (k n : ℕ) (ws : List ℕ) (l : ℕ) (t : Tr l) (z : Stand) (scene : S
       (besides k (page_at k ws) z)
       (comes_down k (page_at k ws) (free_pages k n ws) z)
       (down_above k (page_at k ws) l t z Way-of down)))
-      comes_down)
+      down_does)
 
 -- ---- the levels of neighbours
 
@@ -677,8 +677,8 @@ module _ (y : ℕ) (way' : Way) (k n : ℕ) (ws : List ℕ) (l : ℕ) (t : Tr l)
     from_leaf_lem : way y l t ≡ leaf ∷ (fathers ++ at.upper)
     from_leaf_lem = at.whole ∙ ap (λ (ps : List ℕ). ps ++ at.upper) at.upward
 
-    at_leaf : at_its_leaf (page_at k ws) (reverse z.path) ≡ true
-    at_leaf =
+    lowest_is_leaf : at_its_leaf (page_at k ws) (reverse z.path) ≡ true
+    lowest_is_leaf =
         ap (at_its_leaf (page_at k ws)) at.upward
         ∙ leaf_is (page_at k ws) y l t beside_facts leaf (fathers ++ at.upper) from_leaf_lem
 
@@ -700,7 +700,7 @@ module _ (y : ℕ) (way' : Way) (k n : ℕ) (ws : List ℕ) (l : ℕ) (t : Tr l)
         (descends (page_at k ws) y z.path
         && (rightly_beside k (page_at k ws) z (reverse z.path) || rightly_across k (page_at k ws) z z.path))
         (descends (page_at k ws) y (z.path ++ z.want ∷ []) && is_none z.beside)
-        at_leaf
+        lowest_is_leaf
         ∙ and_both
         (descends_way (page_at k ws) y l t beside_facts z.path [] at.upper at.whole)
         (or_first (rightly_across k (page_at k ws) z z.path) beside_test))
@@ -739,7 +739,7 @@ module _ (y : ℕ) (way' : Way) (k n : ℕ) (ws : List ℕ) (l : ℕ) (t : Tr l)
           same = refl;
           new = new_here;
           beside = deletes_beside (Delete y way') b.deletes;
-          at_leaf = test_at_leaf (page_at k ws) z.path at_leaf;
+          at_leaf = test_at_leaf (page_at k ws) z.path lowest_is_leaf;
           still = refl;
           locks = refl;
           holds = refl;
@@ -810,7 +810,7 @@ module _ (y : ℕ) (way' : Way) (k n : ℕ) (ws : List ℕ) (l : ℕ) (t : Tr l)
         ∙ cond-true
         (besides k (page_at k ws) z)
         (comes_down k (page_at k ws) (free_pages k n ws) z)
-        at_leaf))
+        lowest_is_leaf))
         beside_does)
 
   deletion_comes : Comes k n ws l t z

@@ -12,7 +12,7 @@ use crate::writing::{copy_words, put_front, wipe};
 use page::reading::{pairs_from, wide};
 
 // The words of at most 50 pairs: two pages joined have 3k+1 at most.
-#[derive(Drop)]
+#[derive(Clone, Copy)]
 pub struct Sheet {
     pub level: u32,
     pub first: u32,

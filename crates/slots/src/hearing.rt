@@ -5,7 +5,7 @@ ghost use Rattle.slots.specs.Heard.{lock_number, numbers_of, listed};
 use crate::{Answer, Lock};
 
 // The number of an answer, how many values it has, and three values, 0 where it has none.
-#[derive(Drop)]
+#[derive(Clone, Copy)]
 pub struct Heard(pub u32, pub u32, pub u32, pub u32, pub u32);
 
 // none, ρ, ξ, updater's ρ, α

@@ -1,4 +1,6 @@
 // Slots and locks: who holds what, who waits for whom. The state and what the caller hears.
+#![tactic(auto)]
+
 pub mod hearing;
 pub mod holding;
 pub mod locking;
@@ -9,7 +11,7 @@ use ground::{HELD, SLOTS};
 
 // How an update goes down: with ξ-locks; as a reader does, and with ξ on its leaf alone; or with α-locks, which let readers stay and are converted to
 // ξ once its change is known.
-#[derive(Drop)]
+#[derive(Clone, Copy)]
 pub enum Way {
     First,
     Second,
@@ -17,7 +19,7 @@ pub enum Way {
 }
 
 // What a buyer asks for. Keys and information are any 32-bit unsigned numbers. An update has a way; who only reads has none.
-#[derive(Drop)]
+#[derive(Clone, Copy)]
 pub enum Op {
     Search(u32),
     // key, information
@@ -30,7 +32,7 @@ pub enum Op {
 }
 
 // A slot is closed, or open with an operation.
-#[derive(Drop)]
+#[derive(Clone, Copy)]
 pub enum Task {
     Closed,
     Open(Op),
@@ -39,7 +41,7 @@ pub enum Task {
 // An open slot holds the pages of its path, from the top downward, and pages beside it: a deletion's siblings, from the leaf's
 // upward, or the second way of a Next, from the top downward; each under a lock of the kind in the same cell of `locks` or `sidelocks`. It
 // wants exactly one more page, with a lock of the kind `lock`. Cells behind a length are not looked at.
-#[derive(Drop)]
+#[derive(Clone, Copy)]
 pub struct Slot {
     pub task: Task,
     pub want: u32,
@@ -53,13 +55,13 @@ pub struct Slot {
 }
 
 // The kind of lock under which a page is held.
-#[derive(Drop)]
+#[derive(Clone, Copy)]
 pub struct Under {
     pub lock: Lock,
 }
 
 // The state that the rules speak of: k, the number of pages, the slots, and the waiting order, oldest first.
-#[derive(Drop)]
+#[derive(Clone, Copy)]
 pub struct State {
     pub k: usize,
     pub n: usize,
@@ -69,7 +71,7 @@ pub struct State {
 }
 
 // Kinds of lock, in the order of their numbers in a report. A new one goes to the end: no number told to a caller changes.
-#[derive(Drop)]
+#[derive(Clone, Copy)]
 pub enum Lock {
     None,
     Rho,
@@ -80,7 +82,7 @@ pub enum Lock {
 
 // What the caller hears: refusals, then answers, in the order of their numbers. A new one goes to the end, whatever its number: so the
 // proofs that go by cases only grow at their end.
-#[derive(Drop)]
+#[derive(Clone, Copy)]
 pub enum Answer {
     BadState,
     BadPool,
@@ -118,7 +120,7 @@ pub enum Answer {
 }
 
 // What beginning an operation gives, as the rules have it. In the code a state lies in lent words (crate lent).
-#[derive(Drop)]
+#[derive(Clone, Copy)]
 pub struct Outcome {
     pub answer: Answer,
     pub state: State,

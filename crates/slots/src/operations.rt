@@ -35,7 +35,7 @@ pub const REGRADES_THIRD: u32 = 11;
 pub const HIGHEST_KIND: u32 = REGRADES_THIRD;
 
 // What three numbers ask for, if the kind exists.
-#[derive(Drop)]
+#[derive(Clone, Copy)]
 pub enum Asked {
     Known(Op),
     Unknown,

@@ -1,2 +1,4 @@
 // The test of a sound state.
+#![tactic(auto)]
+
 pub mod checking;

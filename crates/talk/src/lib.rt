@@ -1,4 +1,5 @@
 // The little program but for its streams: an input in, all that is written out.
+#![tactic(auto)]
 mod answering;
 mod serving;
 

@@ -8,7 +8,7 @@ pub const MOST: usize = 17;
 const LARGEST: u64 = 4294967295;
 
 // How far a line is read.
-#[derive(Drop)]
+#[derive(Clone, Copy)]
 pub enum Stand {
     // nothing of it
     Start,
@@ -27,7 +27,7 @@ pub enum Stand {
 }
 
 // A line as far as it is read; its numbers stand in a lent array.
-#[derive(Drop)]
+#[derive(Clone, Copy)]
 pub struct Reading {
     pub stand: Stand,
     pub letter: u8,

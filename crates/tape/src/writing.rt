@@ -1,6 +1,6 @@
 // Bytes to be written are gathered, and go out when the room is used up or when `flush` is called.
 use answers::write_number;
-use libc::STDOUT_FILENO;
+use std::io::{self, Print};
 
 pub const OUT: usize = 65536;
 
@@ -8,51 +8,57 @@ pub const OUT: usize = 65536;
 const DIGITS: usize = 10;
 
 // Writes out what is gathered.
-pub fn flush(out: &[u8], at: usize) {
+pub fn flush(rt: &impl Print, out: &[u8], at: usize) -> io::Result<()> {
     if at <= out.len() {
-        io::write_all(STDOUT_FILENO, &out[..at]);
+        rt.write_all(&out[..at])?;
     }
+    Ok(())
 }
 
 // One byte more, and the position behind it.
-pub fn put_byte(out: &mut [u8; OUT], at: usize, b: u8) -> usize {
+pub fn put_byte(rt: &impl Print, out: &mut [u8; OUT], at: usize, b: u8) -> io::Result<usize> {
     if OUT <= at {
-        io::write_all(STDOUT_FILENO, out);
+        rt.write_all(out)?;
         out[0] = b;
-        return 1;
+        return Ok(1);
     }
     out[at] = b;
-    at + 1
+    Ok(at + 1)
 }
 
 // A word.
-pub fn put_word(out: &mut [u8; OUT], at: usize, word: &[u8]) -> usize {
+pub fn put_word(rt: &impl Print, out: &mut [u8; OUT], at: usize, word: &[u8]) -> io::Result<usize> {
     let mut end = at;
     let mut i = 0;
     while i < word.len() {
-        end = put_byte(out, end, word[i]);
+        end = put_byte(rt, out, end, word[i])?;
         i += 1;
     }
-    end
+    Ok(end)
 }
 
 // A number in decimal.
-pub fn put_number(out: &mut [u8; OUT], at: usize, n: u32) -> usize {
+pub fn put_number(rt: &impl Print, out: &mut [u8; OUT], at: usize, n: u32) -> io::Result<usize> {
     let mut digits = [0u8; DIGITS];
     let count = write_number(&mut digits, 0, n);
-    put_word(out, at, &digits[..count])
+    put_word(rt, out, at, &digits[..count])
 }
 
 // A space and a number, for each of some words.
-pub fn put_numbers(out: &mut [u8; OUT], at: usize, words: &[u32]) -> usize {
+pub fn put_numbers(
+    rt: &impl Print,
+    out: &mut [u8; OUT],
+    at: usize,
+    words: &[u32],
+) -> io::Result<usize> {
     let mut end = at;
     let mut i = 0;
     while i < words.len() {
-        end = put_byte(out, end, b' ');
-        end = put_number(out, end, words[i]);
+        end = put_byte(rt, out, end, b' ')?;
+        end = put_number(rt, out, end, words[i])?;
         i += 1;
     }
-    end
+    Ok(end)
 }
 
 // The sum of some words: each one counts as 33 of those behind it.

@@ -12,7 +12,7 @@ use lib.Dec.{leb}
 use lib.ListN.{length, take, drop, length-append}
 use lib.Seq.{drop-drop}
 use Rattle.ground.proofs.Choice.{by_test}
-use Rattle.page.specs.Words.{Keyed, Entry, Page, entry, page, μ, keyed}
+use Rattle.page.specs.Words.{Keyed, Entry, Page, entry, μ, keyed}
 use Rattle.page.specs.Place.{place, has}
 use Rattle.page.specs.Splits.{Parted, put}
 use Rattle.pool.specs.Pool.{Write, write}
