@@ -1,11 +1,9 @@
 -- What is read off the last page of the path, above the leaves or at a leaf, tells the course, and the rule says the same of it.
-use Prim.Native.Nat.{ℕ}
 use mathlib.Core.Bool.{true, false}
-use mathlib.Core.List.{List}
 use mathlib.Core.Path.{◌≡◌, refl, sym, ◌∙◌, subst}
 use native.Mathlib.Omega.{arith}
 use Rattle.ground.specs.Limits.{path_holds}
-use Rattle.page.specs.Words.{Page, is_leaf}
+use Rattle.page.specs.Words.{is_leaf}
 use Rattle.pool.specs.Pool.{page_at, free_pages}
 use Rattle.slots.specs.declared.Op.{Op}
 use Rattle.footing.specs.declared.converting.Turn.TheVariants.{Done}

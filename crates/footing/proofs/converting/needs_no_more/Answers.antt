@@ -1,11 +1,8 @@
 -- A deletion's next sibling tells; another operation holds no sibling.
 use Prim.Native.Nat.{ℕ}
-use mathlib.Core.List.{List, [], ◌∷◌}
-use mathlib.Core.Logic.{⊎_elim}
+use mathlib.Core.List.{List}
 use mathlib.Core.Path.{◌≡◌, refl, sym, ap, ◌∙◌}
 use native.Mathlib.Omega.{arith}
-use denote.Enum.Declared.{tag_of}
-use types.Run.{OneOf}
 use Rattle.page.specs.Words.{Page}
 use Rattle.pool.specs.Pool.{page_at}
 use Rattle.change.specs.Held.{leaf_of, fathers_of, need_of}
@@ -14,7 +11,6 @@ use Rattle.slots.specs.declared.Op.{Op}
 use Rattle.slots.specs.declared.Way.{Way}
 use Rattle.slots.specs.declared.Op.TheVariants.{Search, Insert, Delete, Next, Regrade}
 use Rattle.slots.specs.Parts.{beside_of}
-use Rattle.slots.specs.contracts.Op as op
 use Rattle.footing.specs.Granted.{is_nothing, is_none, needs_no_more}
 use Rattle.footing.proofs.ConvertLaws.{none_taken, no_more_deletion}
 use Rattle.footing.proofs.converting.needs_no_more.Goals as goal

@@ -2,12 +2,9 @@
 use Prim.Native.Nat.{ℕ, ◌+◌, ◌-◌, ◌≤◌, ◌<◌}
 use mathlib.Core.Bool.{false}
 use mathlib.Core.List.{List, [], ◌∷◌, ◌++◌}
-use mathlib.Core.Logic.{⊎_elim}
 use mathlib.Core.Path.{◌≡◌, refl, ap}
 use native.Mathlib.Omega.{arith}
 use borrow.Author.Rules.{rules}
-use denote.Enum.Declared.{tag_of}
-use types.Run.{OneOf}
 use lib.ListN.{length, get_or, take}
 use Rattle.ground.specs.Limits.{path_holds}
 use Rattle.ground.specs.Tests.{padded}
@@ -17,7 +14,6 @@ use Rattle.slots.specs.declared.Op.{Op}
 use Rattle.slots.specs.declared.Op.TheVariants.{Search, Insert, Delete, Next, Regrade}
 use Rattle.slots.specs.declared.Way.TheVariants.{First, Second, Third}
 use Rattle.slots.specs.Parts.{is_next, path_of, beside_of, locks_of, sidelocks_of, stand_of}
-use Rattle.slots.specs.contracts.Op as op
 use Rattle.footing.proofs.KeepLaws.{cell_known, leaf_some, beside_added, beside_held}
 use Rattle.footing.proofs.AcrossLaws.{held_top_with, across_idle, is_nothing, across_found, across_ends, across_turns}
 use Rattle.footing.proofs.fitting.fits_across.Goals.{Start}

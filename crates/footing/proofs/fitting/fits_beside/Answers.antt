@@ -2,13 +2,10 @@
 use Prim.Native.Nat.{ℕ, ◌+◌, ◌-◌}
 use mathlib.Core.Bool.{true, false}
 use mathlib.Core.List.{List, [], ◌∷◌, ◌++◌, reverse}
-use mathlib.Core.Logic.{⊎_elim}
 use mathlib.Core.Path.{◌≡◌, refl, sym, ap, ◌∙◌}
 use native.Mathlib.Omega.{arith}
 use borrow.Author.Rules.{rules}
 use borrow.Author.Tests.{eq-eqb, ne_eqb}
-use denote.Enum.Declared.{tag_of}
-use types.Run.{OneOf}
 use lib.ListN.{length, take}
 use Rattle.ground.specs.Limits.{path_holds}
 use Rattle.ground.specs.Tests.{padded}
@@ -18,13 +15,11 @@ use Rattle.change.specs.Held.{Needing, need_of}
 use Rattle.change.specs.declared.needing.Need.{Need}
 use Rattle.change.specs.declared.needing.Need.TheVariants.{Nothing, Sibling, Astray}
 use Rattle.change.proofs.NeedLaws.{path_known}
-use Rattle.change.specs.contracts.needing.Need as need
 use Rattle.slots.specs.declared.Op.{Op}
 use Rattle.slots.specs.declared.Op.TheVariants.{Search, Insert, Delete, Next, Regrade}
 use Rattle.slots.specs.declared.Way.{Way}
 use Rattle.slots.specs.declared.Way.TheVariants.{First, Second, Third}
 use Rattle.slots.specs.Parts.{key_of, is_delete, is_second, path_of, beside_of, locks_of, sidelocks_of, stand_of}
-use Rattle.slots.specs.contracts.Op as op
 use Rattle.footing.specs.Fitting.{is_sibling}
 use Rattle.footing.specs.Standing.{is_there}
 use Rattle.footing.proofs.KeepLaws.{beside_needing, beside_added, beside_held, beside_idle, beside_missing, beside_other, beside_levels}

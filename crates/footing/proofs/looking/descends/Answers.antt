@@ -1,5 +1,4 @@
 -- The pages passed lead each to the next one. A page that does not lead to the next one ends the walk.
-use Prim.Native.Nat.{◌-◌}
 use mathlib.Core.Path.{sym, ◌∙◌}
 use native.Mathlib.Omega.{arith}
 use borrow.Author.Rules.{rules}

@@ -1,5 +1,4 @@
 -- By the second way the level of the page tells; by no other is it read.
-use mathlib.Core.Logic.{⊎_elim}
 use mathlib.Core.Path.{sym, ◌∙◌}
 use Rattle.pool.specs.Pool.{page_at}
 use Rattle.footing.proofs.LookLaws.{below_leaf, below_higher, below_first}

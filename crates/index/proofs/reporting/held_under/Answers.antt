@@ -11,7 +11,7 @@ use Rattle.ground.specs.Tests.{any_below}
 use borrow.Author.Tests.{eq-eqb, ne_eqb}
 use native.Mathlib.Omega.{arith}
 use mathlib.Core.Path.{◌≡◌, sym, ap, ◌∙◌}
-use Prim.Native.Nat.{ℕ, ◌-◌}
+use Prim.Native.Nat.{ℕ}
 use Rattle.index.proofs.reporting.held_under.Goals as goal
 
 pub loop-s-init : goal.loop-s-init

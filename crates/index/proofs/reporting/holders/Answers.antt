@@ -10,10 +10,9 @@ use Rattle.ground.specs.Tests.{member}
 use Rattle.ground.specs.Limits.{slot_count}
 use lib.Bits.{bit_or}
 use native.Mathlib.Omega.{arith}
-use mathlib.Core.Logic.{⊎_elim}
 use mathlib.Core.Path.{◌≡◌, sym, ap, ◌∙◌}
 use mathlib.Core.Bool.{Bool}
-use Prim.Native.Nat.{ℕ, ◌*◌, ◌%◌, ◌^◌, ◌-◌}
+use Prim.Native.Nat.{ℕ, ◌*◌, ◌%◌, ◌^◌}
 use Rattle.index.proofs.reporting.holders.Goals.{then-holds_at, else-holds_at}
 use Rattle.index.proofs.reporting.holders.Goals as goal
 
