@@ -146,8 +146,8 @@ record Lends (start : Start) (cells ws : List ℕ) : Type 0 where
   words : ws ≡ start.words
 
 opened_lends : (cells ws : List ℕ) (start : Start) → OpenedBy cells ws start → Lends start cells ws
-opened_lends cells ws start (making k n given four tells Made-so) =
-    let range = made_in_range k n given (sym tells.answer ∙ Made-so) in
+opened_lends cells ws start (making k n given four tells made_so) =
+    let range = made_in_range k n given (sym tells.answer ∙ made_so) in
     record {
       starts = fresh_pool k n given (and_first (k_in_range k && n_in_range n) (eqb (length given) (pool_length k n)) (range_tested k n given range)) range.words;
       state = tells.state;

@@ -397,8 +397,8 @@ way_comes : (op : Op) (k : ℕ) (memory : ℕ → Page) (free path beside : List
 way_comes op k memory free path beside want lock locks sidelocks locks' path' fathers new n leaf begins kept =
     let test : Bool = is_second op && not (stays_second op k memory want) in
     cond_ind (Comes k memory (stand op path locks beside sidelocks want lock)) test
-    (λ t. let Goes-so = straight_stays op (second_straight op (and_first (is_second op) (not (stays_second op k memory want)) t)) in
-    anew (first_way op) refl (stays k memory free path beside want lock locks sidelocks locks' new n leaf op Goes-so.0 Goes-so.1))
+    (λ t. let goes_so = straight_stays op (second_straight op (and_first (is_second op) (not (stays_second op k memory want)) t)) in
+    anew (first_way op) refl (stays k memory free path beside want lock locks sidelocks locks' new n leaf op goes_so.0 goes_so.1))
     (λ t. first_comes (stand op path' locks' [] [] want lock) want fathers
     (leaf_comes op k memory free path beside want lock locks sidelocks locks' path' fathers new n leaf begins kept t)
     (known_stays op k memory path beside want lock locks sidelocks (stand op path' locks' [] [] want lock) fathers n leaf refl refl))

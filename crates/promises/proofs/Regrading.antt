@@ -224,10 +224,10 @@ module _ (x : ℕ) where
         (answer ∙ ap (λ (o : Op). (plain o (entries_in st ws inv)).answer) deletes ∙ answer_by facts (Delete x way) ∙ facts.deletes x v a) refl)
 
     -- the lot after the call, its information, and that keys still rise
-    abbrev Next-so : List Entry → Type 0
-    Next-so es = (w : ℕ) × Among x w es × (rises es ≡ true) × ((w ≡ v) ⊎ PutBy st ws (c ∷ cs) x w)
+    abbrev NextSo : List Entry → Type 0
+    NextSo es = (w : ℕ) × Among x w es × (rises es ≡ true) × ((w ≡ v) ⊎ PutBy st ws (c ∷ cs) x w)
 
-    next_so : (es : List Entry) → OnEntries st ws inv c es → Next-so es
+    next_so : (es : List Entry) → OnEntries st ws inv c es → NextSo es
     unfolding member
     next_so _ (keeps e) = (v, subst (Among x v) (sym e) a, ap rises e ∙ r, inl refl)
     next_so _ (ends s op e runs answer after) =

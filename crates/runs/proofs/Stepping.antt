@@ -550,7 +550,7 @@ module _ (k n : ℕ) (ws : List ℕ) (l : ℕ) (t : Tr l) (z : Stand) (scene : S
   down_does : Does k n ws l t z (comes_down k (page_at k ws) (free_pages k n ws) z)
   unfolding comes_down
   down_does =
-      let Way-of = facts k n ws l t z scene in
+      let way_of = facts k n ws l t z scene in
       cond_ind (Does k n ws l t z) (is_leaf (page_at k ws z.want))
       (λ y.
       subst
@@ -569,7 +569,7 @@ module _ (k n : ℕ) (ws : List ℕ) (l : ℕ) (t : Tr l) (z : Stand) (scene : S
       (λ f.
       on (wants_next here' (route (key_of z.op) (page_at k ws z.want)) (lock_below z.op (page_at k ws z.want))) refl refl
       (inl (
-        inr (inl (reached_next k (page_at k ws) l t z Way-of path' reached f locks' (lock_below z.op (page_at k ws z.want)))),
+        inr (inl (reached_next k (page_at k ws) l t z way_of path' reached f locks' (lock_below z.op (page_at k ws z.want)))),
         next_locked (route (key_of z.op) (page_at k ws z.want)),
         (kept_plain k (page_at k ws) z plain.0 (upper_lock (reverse z.path) refl f), refl),
       ))
@@ -578,16 +578,16 @@ module _ (k n : ℕ) (ws : List ℕ) (l : ℕ) (t : Tr l) (z : Stand) (scene : S
   down_comes : Comes k n ws l t z
   unfolding granted
   down_comes =
-      let Way-of = facts k n ws l t z scene in
+      let way_of = facts k n ws l t z scene in
       does_comes k n ws l t z scene
-      (down_fitting k (page_at k ws) l t z Way-of down none new scene.locked)
+      (down_fitting k (page_at k ws) l t z way_of down none new scene.locked)
       (subst (Does k n ws l t z)
       (sym
       (cond-false (converts k (page_at k ws) (free_pages k n ws) z) _ new
       ∙ cond-false
       (besides k (page_at k ws) z)
       (comes_down k (page_at k ws) (free_pages k n ws) z)
-      (down_above k (page_at k ws) l t z Way-of down)))
+      (down_above k (page_at k ws) l t z way_of down)))
       down_does)
 
 -- ---- the levels of neighbours
@@ -1172,12 +1172,12 @@ module _ (k n : ℕ) (ws : List ℕ) (l : ℕ) (t : Tr l) (z : Stand) (scene : S
 -- A granted step of a slot that stands as it should.
 pub granted_comes : (k n : ℕ) (ws : List ℕ) (l : ℕ) (t : Tr l) (z : Stand) → Scene k n ws l t z → Comes k n ws l t z
 granted_comes k n ws l t z scene =
-    let Way-of = facts k n ws l t z scene in
+    let way_of = facts k n ws l t z scene in
     ⊎_elim
     (⊎_elim
-    (λ s. down_comes k n ws l t z scene (gathers_new k n ws l t z scene (inl s)) s.no_siblings (starting_down k (page_at k ws) l t z Way-of s))
+    (λ s. down_comes k n ws l t z scene (gathers_new k n ws l t z scene (inl s)) s.no_siblings (starting_down k (page_at k ws) l t z way_of s))
     (⊎_elim
-    (λ c. down_comes k n ws l t z scene (gathers_new k n ws l t z scene (inr (inl c))) c.no_siblings (coming_down k (page_at k ws) l t z Way-of c))
+    (λ c. down_comes k n ws l t z scene (gathers_new k n ws l t z scene (inr (inl c))) c.no_siblings (coming_down k (page_at k ws) l t z way_of c))
     (⊎_elim
     (λ b. stays z.op k n ws l t z scene b)
     (λ c. crosses_over z.op k n ws l t z scene c))))
