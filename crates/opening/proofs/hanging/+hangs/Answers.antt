@@ -40,7 +40,7 @@ hangs-requires t c =
       omega (arith, d.above, c.decreases),
       (
         child_walk d c.pointer_of-child.result c.pointer_of-child.ensures c.loop-i-test.true,
-        (omega (arith, d.above), d.bottom, c.end_of-to.ensures.upper_bound, d.room),
+        (omega (arith, d.above), d.bottom, omega (arith, d.top, c.end_of-to.ensures.upper_bound), d.room),
       ),
     )
 
