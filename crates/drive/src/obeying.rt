@@ -1,11 +1,11 @@
 // What a line asks for, and what it is answered.
-ghost use Rattle.std.specs.Prelude.{◌<◌, ◌^◌};
-ghost use Rattle.io.specs.Counts.{IsPrefixLen};
+ghost use Rattle.std.specs.Prelude.{◌≡◌, ◌<◌, ◌≤◌, ◌^◌, length, take};
 
 use embed::calls::{
     ghazfulit_begin, ghazfulit_make, ghazfulit_open, ghazfulit_report, ghazfulit_step,
 };
 use lent::STATE;
+use std::io::{self, Print};
 use tape::reading::MOST;
 use tape::writing::{OUT, put_byte, put_number, put_numbers, put_word, sum};
 
@@ -29,7 +29,7 @@ fn wide(word: u32) -> usize
 
 // As many of the words as there are, at most so many.
 fn within(most: usize, words: &[u32]) -> usize
-    ensures { IsPrefixLen result words.now }
+    ensures { (result ≤ length words.now) × (result ≡ length (take result words.now)) }
 {
     if most <= words.len() {
         return most;
@@ -67,63 +67,70 @@ fn lay(words: &mut [u32], numbers: &[u32; MOST], count: usize) -> bool {
     true
 }
 
-fn put_answer(out: &mut [u8; OUT], at: usize, answer: [u32; 4]) -> usize {
-    let mut end = put_number(out, at, answer[0]);
-    end = put_byte(out, end, b' ');
-    end = put_number(out, end, answer[1]);
-    end = put_byte(out, end, b' ');
-    end = put_number(out, end, answer[2]);
-    end = put_byte(out, end, b' ');
-    put_number(out, end, answer[3])
+fn put_answer(
+    rt: &impl Print,
+    out: &mut [u8; OUT],
+    at: usize,
+    answer: [u32; 4],
+) -> io::Result<usize> {
+    let mut end = put_number(rt, out, at, answer[0])?;
+    end = put_byte(rt, out, end, b' ')?;
+    end = put_number(rt, out, end, answer[1])?;
+    end = put_byte(rt, out, end, b' ')?;
+    end = put_number(rt, out, end, answer[2])?;
+    end = put_byte(rt, out, end, b' ')?;
+    put_number(rt, out, end, answer[3])
 }
 
-fn put_sum(out: &mut [u8; OUT], at: usize, words: &[u32]) -> usize {
-    let end = put_byte(out, at, b' ');
-    put_number(out, end, sum(words))
+fn put_sum(rt: &impl Print, out: &mut [u8; OUT], at: usize, words: &[u32]) -> io::Result<usize> {
+    let end = put_byte(rt, out, at, b' ')?;
+    put_number(rt, out, end, sum(words))
 }
 
 // The outcome of a call: the answer; with it a sum each of state and pool, or all their words.
 fn outcome(
+    rt: &impl Print,
     given: Setting,
     answer: [u32; 4],
     state: &[u32; STATE],
     words: &[u32],
     out: &mut [u8; OUT],
-) -> Setting {
-    let mut end = put_answer(out, given.end, answer);
+) -> io::Result<Setting> {
+    let mut end = put_answer(rt, out, given.end, answer)?;
     if given.how == 1 {
-        end = put_sum(out, end, state);
-        end = put_sum(out, end, words);
+        end = put_sum(rt, out, end, state)?;
+        end = put_sum(rt, out, end, words)?;
     }
     if given.how == 2 {
-        end = put_numbers(out, end, state);
-        end = put_numbers(out, end, words);
+        end = put_numbers(rt, out, end, state)?;
+        end = put_numbers(rt, out, end, words)?;
     }
-    end = put_byte(out, end, b'\n');
-    Setting {
+    end = put_byte(rt, out, end, b'\n')?;
+    Ok(Setting {
         length: given.length,
         how: given.how,
         end,
-    }
+    })
 }
 
 // The line that answers what is no line.
-pub fn bad_line(given: Setting, out: &mut [u8; OUT]) -> Setting {
-    Setting {
+pub fn bad_line(rt: &impl Print, given: Setting, out: &mut [u8; OUT]) -> io::Result<Setting> {
+    Ok(Setting {
         length: given.length,
         how: given.how,
-        end: put_word(out, given.end, b"BadLine\n"),
-    }
+        end: put_word(rt, out, given.end, b"BadLine\n")?,
+    })
 }
 
 // `m K N`
 fn make(
+    rt: &impl Print,
     given: Setting,
     numbers: &[u32; MOST],
     state: &mut [u32; STATE],
     words: &mut [u32],
     out: &mut [u8; OUT],
-) -> Setting {
+) -> io::Result<Setting> {
     let length = within(given.length, words);
     let mut answer = [0u32; 4];
     ghazfulit_make(
@@ -134,31 +141,33 @@ fn make(
         &mut answer,
     );
     let length = within(given.length, words);
-    outcome(given, answer, state, &words[..length], out)
+    outcome(rt, given, answer, state, &words[..length], out)
 }
 
 // `o K N`
 fn open(
+    rt: &impl Print,
     given: Setting,
     numbers: &[u32; MOST],
     state: &mut [u32; STATE],
     words: &[u32],
     out: &mut [u8; OUT],
-) -> Setting {
+) -> io::Result<Setting> {
     let length = within(given.length, words);
     let mut answer = [0u32; 4];
     ghazfulit_open(numbers[0], numbers[1], state, &words[..length], &mut answer);
-    outcome(given, answer, state, &words[..length], out)
+    outcome(rt, given, answer, state, &words[..length], out)
 }
 
 // `b SLOT KIND KEY INFORMATION`
 fn begin(
+    rt: &impl Print,
     given: Setting,
     numbers: &[u32; MOST],
     state: &mut [u32; STATE],
     words: &[u32],
     out: &mut [u8; OUT],
-) -> Setting {
+) -> io::Result<Setting> {
     let length = within(given.length, words);
     let mut answer = [0u32; 4];
     ghazfulit_begin(
@@ -169,36 +178,38 @@ fn begin(
         numbers[3],
         &mut answer,
     );
-    outcome(given, answer, state, &words[..length], out)
+    outcome(rt, given, answer, state, &words[..length], out)
 }
 
 // `t SLOT`
 fn step(
+    rt: &impl Print,
     given: Setting,
     numbers: &[u32; MOST],
     state: &mut [u32; STATE],
     words: &mut [u32],
     out: &mut [u8; OUT],
-) -> Setting {
+) -> io::Result<Setting> {
     let length = within(given.length, words);
     let mut answer = [0u32; 4];
     ghazfulit_step(state, &mut words[..length], numbers[0], &mut answer);
     let length = within(given.length, words);
-    outcome(given, answer, state, &words[..length], out)
+    outcome(rt, given, answer, state, &words[..length], out)
 }
 
 // `r PAGE`
 fn report(
+    rt: &impl Print,
     given: Setting,
     numbers: &[u32; MOST],
     state: &[u32; STATE],
     words: &[u32],
     out: &mut [u8; OUT],
-) -> Setting {
+) -> io::Result<Setting> {
     let length = within(given.length, words);
     let mut answer = [0u32; 4];
     ghazfulit_report(state, numbers[0], &mut answer);
-    outcome(given, answer, state, &words[..length], out)
+    outcome(rt, given, answer, state, &words[..length], out)
 }
 
 // `w AT WORD..`
@@ -209,46 +220,53 @@ fn lay_words(given: Setting, numbers: &[u32; MOST], count: usize, words: &mut [u
 
 // `p LENGTH WORD`
 fn resize(
+    rt: &impl Print,
     given: Setting,
     asked: u32,
     word: u32,
     words: &mut [u32],
     out: &mut [u8; OUT],
-) -> Setting {
+) -> io::Result<Setting> {
     if words.len() < wide(asked) {
-        return bad_line(given, out);
+        return bad_line(rt, given, out);
     }
     let length = within(wide(asked), words);
     fill(&mut words[..length], word);
-    Setting {
+    Ok(Setting {
         length,
         how: given.how,
         end: given.end,
-    }
+    })
 }
 
 // `q HOW`
-fn choose(given: Setting, how: u32, out: &mut [u8; OUT]) -> Setting {
+fn choose(rt: &impl Print, given: Setting, how: u32, out: &mut [u8; OUT]) -> io::Result<Setting> {
     if 2 < how {
-        return bad_line(given, out);
+        return bad_line(rt, given, out);
     }
-    Setting {
+    Ok(Setting {
         length: given.length,
         how,
         end: given.end,
-    }
+    })
 }
 
 // What was asked is done, or was no line.
-fn done(given: Setting, is_done: bool, out: &mut [u8; OUT]) -> Setting {
+fn done(
+    rt: &impl Print,
+    given: Setting,
+    is_done: bool,
+    out: &mut [u8; OUT],
+) -> io::Result<Setting> {
     if is_done {
-        return given;
+        return Ok(given);
     }
-    bad_line(given, out)
+    bad_line(rt, given, out)
 }
 
 // A line that is no call: it changes what the next call is given, or is no line at all.
 fn change(
+    rt: &impl Print,
     given: Setting,
     letter: u8,
     count: usize,
@@ -256,26 +274,27 @@ fn change(
     state: &mut [u32; STATE],
     words: &mut [u32],
     out: &mut [u8; OUT],
-) -> Setting {
+) -> io::Result<Setting> {
     if letter == b's' {
         let is_done = lay(state, numbers, count);
-        return done(given, is_done, out);
+        return done(rt, given, is_done, out);
     }
     if letter == b'w' {
         let is_done = lay_words(given, numbers, count, words);
-        return done(given, is_done, out);
+        return done(rt, given, is_done, out);
     }
     if letter == b'p' && count == 2 {
-        return resize(given, numbers[0], numbers[1], words, out);
+        return resize(rt, given, numbers[0], numbers[1], words, out);
     }
     if letter == b'q' && count == 1 {
-        return choose(given, numbers[0], out);
+        return choose(rt, given, numbers[0], out);
     }
-    bad_line(given, out)
+    bad_line(rt, given, out)
 }
 
 // What a line asks for.
 pub fn obey(
+    rt: &impl Print,
     given: Setting,
     letter: u8,
     count: usize,
@@ -283,21 +302,21 @@ pub fn obey(
     state: &mut [u32; STATE],
     words: &mut [u32],
     out: &mut [u8; OUT],
-) -> Setting {
+) -> io::Result<Setting> {
     if letter == b't' && count == 1 {
-        return step(given, numbers, state, words, out);
+        return step(rt, given, numbers, state, words, out);
     }
     if letter == b'b' && count == 4 {
-        return begin(given, numbers, state, words, out);
+        return begin(rt, given, numbers, state, words, out);
     }
     if letter == b'r' && count == 1 {
-        return report(given, numbers, state, words, out);
+        return report(rt, given, numbers, state, words, out);
     }
     if letter == b'm' && count == 2 {
-        return make(given, numbers, state, words, out);
+        return make(rt, given, numbers, state, words, out);
     }
     if letter == b'o' && count == 2 {
-        return open(given, numbers, state, words, out);
+        return open(rt, given, numbers, state, words, out);
     }
-    change(given, letter, count, numbers, state, words, out)
+    change(rt, given, letter, count, numbers, state, words, out)
 }

@@ -1,9 +1,12 @@
 // The streams: pieces of input, byte by byte, and what is gathered for output.
 use crate::obeying::{ROOM, Setting, bad_line, obey};
 use lent::STATE;
-use libc::STDIN_FILENO;
+use std::io::{self, Input, Print, Read};
 use tape::reading::{MOST, Reading, Stand, is_start, start, take};
 use tape::writing::{OUT, flush};
+
+// A piece of input has at most so many bytes.
+const PIECE: usize = 65536;
 
 // Between two bytes: the line as far as it is read, and the setting.
 #[derive(Clone, Copy)]
@@ -14,46 +17,57 @@ pub struct Moment {
 
 // Obeys a line that has ended.
 fn ended(
+    rt: &impl Print,
     moment: Moment,
     numbers: &[u32; MOST],
     state: &mut [u32; STATE],
     words: &mut [u32],
     out: &mut [u8; OUT],
-) -> Setting {
+) -> io::Result<Setting> {
     let setting = moment.setting;
     let line = moment.line;
     let stand = line.stand;
     match stand {
-        Stand::Start => setting,
-        Stand::Letter => setting,
-        Stand::Space => setting,
-        Stand::Digits => setting,
-        Stand::Spoiled => setting,
-        Stand::Good => obey(setting, line.letter, line.count, numbers, state, words, out),
-        Stand::Bad => bad_line(setting, out),
+        Stand::Start => Ok(setting),
+        Stand::Letter => Ok(setting),
+        Stand::Space => Ok(setting),
+        Stand::Digits => Ok(setting),
+        Stand::Spoiled => Ok(setting),
+        Stand::Good => obey(
+            rt,
+            setting,
+            line.letter,
+            line.count,
+            numbers,
+            state,
+            words,
+            out,
+        ),
+        Stand::Bad => bad_line(rt, setting, out),
     }
 }
 
 // Reads a piece of input and answers all lines that end in it.
 fn feed(
+    rt: &impl Print,
     given: Moment,
     piece: &[u8],
     numbers: &mut [u32; MOST],
     state: &mut [u32; STATE],
     words: &mut [u32],
     out: &mut [u8; OUT],
-) -> Moment {
+) -> io::Result<Moment> {
     let mut moment = given;
     let mut i = 0;
     while i < piece.len() {
         let line = take(moment.line, numbers, piece[i]);
         let setting = moment.setting;
         let next = Moment { line, setting };
-        let setting = ended(next, numbers, state, words, out);
+        let setting = ended(rt, next, numbers, state, words, out)?;
         moment = Moment { line, setting };
         i += 1;
     }
-    moment
+    Ok(moment)
 }
 
 // What one piece more leaves, and whether there was one.
@@ -64,74 +78,76 @@ pub struct Came {
 }
 
 // Writes out what is gathered.
-fn emptied(moment: Moment, out: &[u8]) -> Moment {
+fn emptied(rt: &impl Print, moment: Moment, out: &[u8]) -> io::Result<Moment> {
     let line = moment.line;
     let setting = moment.setting;
-    flush(out, setting.end);
+    flush(rt, out, setting.end)?;
     let setting = Setting {
         length: setting.length,
         how: setting.how,
         end: 0,
     };
-    Moment { line, setting }
+    Ok(Moment { line, setting })
 }
 
 fn turn(
+    rt: &impl Print,
+    from: &mut impl Read,
     given: Moment,
     numbers: &mut [u32; MOST],
     state: &mut [u32; STATE],
     words: &mut [u32],
     out: &mut [u8; OUT],
-) -> Came {
-    let mut piece = io::large_buffer();
-    let got = libc::read(STDIN_FILENO, &mut piece);
-    if got <= 0 {
-        return Came {
+) -> io::Result<Came> {
+    let mut piece = [0u8; PIECE];
+    let got = from.read(&mut piece)?;
+    if got == 0 {
+        return Ok(Came {
             moment: given,
             more: false,
-        };
+        });
     }
-    let count = io::count(got, &piece);
-    let moment = feed(given, &piece[..count], numbers, state, words, out);
-    Came {
-        moment: emptied(moment, out),
+    let moment = feed(rt, given, &piece[..got], numbers, state, words, out)?;
+    Ok(Came {
+        moment: emptied(rt, moment, out)?,
         more: true,
-    }
+    })
 }
 
-// Until the input ends. A proved loop has to end, and nothing says that an input does: so the turns are counted down, from a
+// Until the input ends. A proved loop has to end, and nothing says that an input does: so the turns are counted, up to a
 // number that no run uses up.
 fn turns(
+    rt: &impl Print,
+    from: &mut impl Read,
     given: Moment,
     numbers: &mut [u32; MOST],
     state: &mut [u32; STATE],
     words: &mut [u32],
     out: &mut [u8; OUT],
-) -> Moment {
+) -> io::Result<Moment> {
     let mut moment = given;
-    let mut left = u64::MAX;
-    while 0 < left {
-        let came = turn(moment, numbers, state, words, out);
+    for _ in 0..u64::MAX {
+        let came = turn(rt, from, moment, numbers, state, words, out)?;
         moment = came.moment;
         if !came.more {
-            return moment;
+            return Ok(moment);
         }
-        left -= 1;
     }
-    moment
+    Ok(moment)
 }
 
 // The input has ended: a last line that is not ended is no line.
-fn finish(moment: Moment, out: &mut [u8; OUT]) {
+fn finish(rt: &impl Print, moment: Moment, out: &mut [u8; OUT]) -> io::Result<()> {
     let line = moment.line;
     if !is_start(line) {
-        let setting = bad_line(moment.setting, out);
-        flush(out, setting.end);
+        let setting = bad_line(rt, moment.setting, out)?;
+        flush(rt, out, setting.end)?;
     }
+    Ok(())
 }
 
 // Reads to the end of the input.
-pub fn serve() {
+pub fn serve(rt: &(impl Input + Print)) -> io::Result<()> {
     let mut numbers = [0u32; MOST];
     let mut state = [0u32; STATE];
     let mut words = [0u32; ROOM];
@@ -143,6 +159,15 @@ pub fn serve() {
     };
     let line = start();
     let moment = Moment { line, setting };
-    let last = turns(moment, &mut numbers, &mut state, &mut words, &mut out);
-    finish(last, &mut out);
+    let mut from = rt.reader();
+    let last = turns(
+        rt,
+        &mut from,
+        moment,
+        &mut numbers,
+        &mut state,
+        &mut words,
+        &mut out,
+    )?;
+    finish(rt, last, &mut out)
 }

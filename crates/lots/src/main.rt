@@ -1,5 +1,8 @@
 // The little program: answers each line of standard input by one.
 #![tactic(auto)]
-fn main() {
-    talk::serve();
+
+use std::io;
+
+fn main(rt: HostRuntime) -> io::Result<()> {
+    talk::serve(&rt)
 }

@@ -1,5 +1,8 @@
 // A listed run of the little program: bad lines of every kind.
 #![tactic(auto)]
-fn main() {
-    talk::serve();
+
+use std::io;
+
+fn main(rt: HostRuntime) -> io::Result<()> {
+    talk::serve(&rt)
 }

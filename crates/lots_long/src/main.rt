@@ -1,5 +1,8 @@
 // A listed run of the little program: one byte too many.
 #![tactic(auto)]
-fn main() {
-    talk::serve();
+
+use std::io;
+
+fn main(rt: HostRuntime) -> io::Result<()> {
+    talk::serve(&rt)
 }

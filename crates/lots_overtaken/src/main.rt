@@ -1,6 +1,9 @@
 // A listed run of the little program: a search overtaken by a split, a deletion that waits for a search, and a lot regraded between
 // two searches of it.
 #![tactic(auto)]
-fn main() {
-    talk::serve();
+
+use std::io;
+
+fn main(rt: HostRuntime) -> io::Result<()> {
+    talk::serve(&rt)
 }

@@ -1,6 +1,9 @@
 // A listed run of the little program: eight searches and one insertion, then two searches, two regradings and an insertion
 // of one lot beside a Next; then updates by the second way among searches, then by the third. Those that only read do not wait for each other.
 #![tactic(auto)]
-fn main() {
-    talk::serve();
+
+use std::io;
+
+fn main(rt: HostRuntime) -> io::Result<()> {
+    talk::serve(&rt)
 }
