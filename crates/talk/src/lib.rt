@@ -1,5 +1,6 @@
 // The little program but for its streams: an input in, all that is written out.
 #![tactic(auto)]
+
 mod answering;
 mod serving;
 
