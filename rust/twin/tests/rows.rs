@@ -597,7 +597,10 @@ fn an_opening_is_read() {
             format!("({}).answer", fresh.replace("1 ∷ 0", "0 ∷ 0")),
             "heard (BadPageInPool 0)",
         ),
-        (format!("({}).answer", opened.replace("10", "20")), "BadTree"),
+        (
+            format!("({}).answer", opened.replace("10", "20")),
+            "BadTree",
+        ),
         (format!("({}).state.n", opened.replace("10", "20")), "0"),
     ] {
         assert_eq!(read(&given), read(said), "{given}");
