@@ -20,13 +20,9 @@ fn main() {
 /// Links the archive: in the folder that GHAZFULIT_ARCHIVE names, or where `link` and the README put it.
 fn link(root: &Path) {
     let machine = env::var("CARGO_CFG_TARGET_ARCH").unwrap_or_default();
-    // the kit's own archives are for x86-64
-    let (place, maker) = match machine.as_str() {
-        "x86_64" => ("target/staticlib", "rt staticlib embed"),
-        _ => ("target/here", "tools/archive-here embed target/here"),
-    };
+    let maker = "tools/archive-here embed target/staticlib";
     let named = env::var("GHAZFULIT_ARCHIVE").map(PathBuf::from);
-    let folder = named.unwrap_or(root.join(place));
+    let folder = named.unwrap_or(root.join("target/staticlib"));
     let archive = folder.join("libembed.a");
     println!("cargo:rerun-if-changed={}", archive.display());
     let Ok(bytes) = fs::read(&archive) else {

@@ -1,4 +1,4 @@
-// The exported calls. A slice is handed in from C as a pointer and a length, an array as a pointer.
+// The public calls over words that the caller lends. Crate `embed_c` exports each by its name.
 ghost use Rattle.std.specs.Prelude.{◌≡◌};
 ghost use Rattle.embed.specs.Statements.{MakeTells, OpenTells, BeginTells, StepTells, ReportTells};
 ghost use Rattle.embed.specs.Version.{library_version};
@@ -12,8 +12,7 @@ use slots::operations::{Asked, asked_by};
 const VERSION: u32 = 7;
 
 // Makes a fresh pool of n pages of width k in the lent words, and an idle state beside it.
-#[unsafe(no_mangle)]
-pub extern "C" fn ghazfulit_make(
+pub fn ghazfulit_make(
     k: u32,
     n: u32,
     state: &mut [u32; STATE],
@@ -27,8 +26,7 @@ pub extern "C" fn ghazfulit_make(
 }
 
 // Opens the words that are handed in as a pool of n pages of width k, with an idle state beside them.
-#[unsafe(no_mangle)]
-pub extern "C" fn ghazfulit_open(
+pub fn ghazfulit_open(
     k: u32,
     n: u32,
     state: &mut [u32; STATE],
@@ -42,8 +40,7 @@ pub extern "C" fn ghazfulit_open(
 }
 
 // Begins an operation in a slot.
-#[unsafe(no_mangle)]
-pub extern "C" fn ghazfulit_begin(
+pub fn ghazfulit_begin(
     state: &mut [u32; STATE],
     slot: u32,
     kind: u32,
@@ -63,13 +60,7 @@ pub extern "C" fn ghazfulit_begin(
 }
 
 // Steps a slot: one lock more, or its answer.
-#[unsafe(no_mangle)]
-pub extern "C" fn ghazfulit_step(
-    state: &mut [u32; STATE],
-    words: &mut [u32],
-    slot: u32,
-    answer: &mut [u32; 4],
-)
+pub fn ghazfulit_step(state: &mut [u32; STATE], words: &mut [u32], slot: u32, answer: &mut [u32; 4])
     ensures { StepTells state.old words.old slot state.new words.new answer.new }
 {
     let heard = step(state, words, slot as usize);
@@ -77,8 +68,7 @@ pub extern "C" fn ghazfulit_step(
 }
 
 // Says who holds a page.
-#[unsafe(no_mangle)]
-pub extern "C" fn ghazfulit_report(state: &[u32; STATE], page: u32, answer: &mut [u32; 4])
+pub fn ghazfulit_report(state: &[u32; STATE], page: u32, answer: &mut [u32; 4])
     ensures { ReportTells state.now page answer.new }
 {
     let heard = report(state, page);
@@ -86,8 +76,7 @@ pub extern "C" fn ghazfulit_report(state: &[u32; STATE], page: u32, answer: &mut
 }
 
 // Says of which version the library is, so that a caller can hold it to the header that he was compiled with.
-#[unsafe(no_mangle)]
-pub extern "C" fn ghazfulit_version() -> u32
+pub fn ghazfulit_version() -> u32
     ensures { result ≡ library_version }
 {
     VERSION

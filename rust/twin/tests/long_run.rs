@@ -40,7 +40,7 @@ const RUN: [Three; 13] = [
 /// The answers of the table, by the names that it gives them.
 fn table() -> Vec<Answer> {
     let rows = TABLE
-        .split("longAnswers =\n")
+        .split("long_answers =\n")
         .nth(1)
         .expect("the table is there");
     let rows = rows.split("[]").next().expect("it has an end");
@@ -62,7 +62,7 @@ fn named(name: &str) -> Answer {
         "there" => Answer::AlreadyThere(7),
         "deleted" => Answer::Deleted(7),
         "missing" => Answer::NoSuchKey,
-        "noPage" => Answer::NoRoom,
+        "no_page" => Answer::NoRoom,
         _ => panic!("the table has another name: {name}"),
     }
 }

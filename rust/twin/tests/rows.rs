@@ -109,6 +109,7 @@ fn defined(name: &str) -> Option<Value> {
 
 fn read(text: &str) -> Value {
     let text = text.replace('(', " ( ").replace(')', " ) ");
+    let text = text.replace('.', " .");
     let tokens: Vec<String> = text.split_whitespace().map(str::to_string).collect();
     let mut tokens = tokens.into_iter().peekable();
     let value = expression(&mut tokens);
@@ -132,17 +133,26 @@ fn expression(tokens: &mut Tokens) -> Value {
     }
 }
 
-/// A name with its arguments, or a value that stands alone, and what is taken out of it.
+/// A name with its arguments, or a value that stands alone.
 fn application(tokens: &mut Tokens) -> Value {
     let head = tokens.next().expect("an expression");
-    let mut value = match standing_alone(&head, tokens) {
-        Some(value) => value,
-        None => applied(&head, &arguments(tokens)),
-    };
-    while let Some(field) = tokens.next_if(|token| token.starts_with('.')) {
+    let alone = standing_alone(&head, tokens);
+    if alone.is_none() && !tokens.peek().is_some_and(|token| is_field(token)) {
+        return applied(&head, &arguments(tokens));
+    }
+    fields(alone.unwrap_or_else(|| applied(&head, &[])), tokens)
+}
+
+/// What is taken out of a value by the fields behind it.
+fn fields(mut value: Value, tokens: &mut Tokens) -> Value {
+    while let Some(field) = tokens.next_if(|token| is_field(token)) {
         value = taken(&value, &field);
     }
     value
+}
+
+fn is_field(token: &str) -> bool {
+    token.starts_with('.')
 }
 
 /// A part of a value, by its name behind the point.
@@ -160,12 +170,11 @@ fn taken(value: &Value, field: &str) -> Value {
 }
 
 fn arguments(tokens: &mut Tokens) -> Vec<Value> {
-    let is_end =
-        |token: &String| [")", "∷", "++"].contains(&token.as_str()) || token.starts_with('.');
+    let is_end = |token: &String| [")", "∷", "++"].contains(&token.as_str());
     let mut arguments = Vec::new();
     while let Some(token) = tokens.next_if(|token| !is_end(token)) {
-        let value = standing_alone(&token, tokens);
-        arguments.push(value.unwrap_or_else(|| applied(&token, &[])));
+        let value = standing_alone(&token, tokens).unwrap_or_else(|| applied(&token, &[]));
+        arguments.push(fields(value, tokens));
     }
     arguments
 }
@@ -281,12 +290,12 @@ fn named(way: &[Value]) -> Way {
 /// Where a row begins, and the row.
 fn place(name: &str, arguments: &[Value]) -> Option<Value> {
     Some(match (name, arguments) {
-        ("idleState", [Number(k), Number(n)]) => Value::State(Box::new(State::empty(*k, *n))),
-        ("slotOpen", [Number(n), Value::Op(op), Number(want), path, beside]) => {
+        ("idle_state", [Number(k), Number(n)]) => Value::State(Box::new(State::empty(*k, *n))),
+        ("slot_open", [Number(n), Value::Op(op), Number(want), path, beside]) => {
             let slot = open_slot(*op, *want, &numbers(path), &numbers(beside));
             state_with(*n, &[slot])
         }
-        ("slotWanting", [Number(n), Value::Op(op), Number(want), Number(lock), path, beside]) => {
+        ("slot_wanting", [Number(n), Value::Op(op), Number(want), Number(lock), path, beside]) => {
             let slot = open_slot(*op, *want, &numbers(path), &numbers(beside));
             state_with(*n, &[slot.wanting(Lock::of(*lock))])
         }
@@ -298,7 +307,7 @@ fn place(name: &str, arguments: &[Value]) -> Option<Value> {
             told.answers(calls);
             Value::Told(Box::new(told))
         }
-        ("heardIn", [Value::Told(told)]) => List(told.heard.clone()),
+        ("heard_in", [Value::Told(told)]) => List(told.heard.clone()),
         ("opened", [Number(k), Number(n), words]) => {
             let words = numbers(words);
             let (answer, state) = open(*k, *n, &words);
@@ -319,27 +328,27 @@ fn place(name: &str, arguments: &[Value]) -> Option<Value> {
             told.answers(calls);
             Value::Told(Box::new(told))
         }
-        ("nextSlot", [Number(n), want, path, second]) => {
+        ("next_slot", [Number(n), want, path, second]) => {
             let operation = Value::Op(Op::Next(25));
-            open_in(*n, operation, [want, path, second], read("tensWords"))
+            open_in(*n, operation, [want, path, second], read("tens_words"))
         }
         ("inserting", [want, path, beside]) => {
             let operation = Value::Op(Op::Insert(65, 7, Way::First));
-            open_in(11, operation, [want, path, beside], read("toSixty"))
+            open_in(11, operation, [want, path, beside], read("to_sixty"))
         }
         ("deleting", [want, path, beside]) => {
             let operation = Value::Op(Op::Delete(10, Way::First));
-            open_in(7, operation, [want, path, beside], read("tensWords"))
+            open_in(7, operation, [want, path, beside], read("tens_words"))
         }
-        ("lookedAt", [operation, path, beside]) => {
+        ("looked_at", [operation, path, beside]) => {
             let held = [&Number(19), path, beside];
             let from = open_in(20, operation.clone(), held, List(Vec::new()));
             applied("answers", &[from, read("report 18 ∷ []")])
         }
         ("standing", [operation, want, lock, path, beside]) => {
             let slot = [&Number(7), operation, want, lock, path, beside].map(Value::clone);
-            let state = applied("slotWanting", &slot);
-            applied("ran", &[List(Vec::new()), state, read("tensWords")])
+            let state = applied("slot_wanting", &slot);
+            applied("ran", &[List(Vec::new()), state, read("tens_words")])
         }
         ("judged", [_, _, _, _, _]) => {
             let from = applied("standing", arguments);
@@ -355,7 +364,7 @@ fn place(name: &str, arguments: &[Value]) -> Option<Value> {
             lay(sidelocks, &mut slot.sibling_locks);
             look_at_five(&[slot])
         }
-        ("carriedOne", [Value::Op(op), Number(lock)]) => {
+        ("carried_one", [Value::Op(op), Number(lock)]) => {
             let slot = open_slot(*op, 6, &[5], &[]);
             look_at_five(&[slot.holding(Lock::of(*lock))])
         }
@@ -363,7 +372,7 @@ fn place(name: &str, arguments: &[Value]) -> Option<Value> {
             let (held, wanted) = (Value::Op(*held), Value::Op(*wanted));
             let held = list(&applied("runs", &[Number(0), held, Number(1)]));
             let wanted = list(&applied("runs", &[Number(1), wanted, Number(1)]));
-            applied("answers", &[read("caseE"), List([held, wanted].concat())])
+            applied("answers", &[read("case_e"), List([held, wanted].concat())])
         }
         ("follows", [Value::Op(older), Value::Op(younger)]) => {
             let calls = [
@@ -372,11 +381,11 @@ fn place(name: &str, arguments: &[Value]) -> Option<Value> {
                 Call::Step(1),
             ];
             let calls = List(calls.map(Value::Call).to_vec());
-            applied("answers", &[read("caseE"), calls])
+            applied("answers", &[read("case_e"), calls])
         }
-        ("standsWith", [Value::Op(op), Number(want), Number(lock), held @ ..]) => {
+        ("stands_with", [Value::Op(op), Number(want), Number(lock), held @ ..]) => {
             let slot = holding(*op, *want, Lock::of(*lock), held);
-            let from = [List(Vec::new()), state_with(7, &[slot]), read("tensWords")];
+            let from = [List(Vec::new()), state_with(7, &[slot]), read("tens_words")];
             applied("ran", &from)
         }
         ("looked", [Value::Op(op), Number(want), Number(lock), held @ ..]) => {
@@ -401,19 +410,19 @@ fn place(name: &str, arguments: &[Value]) -> Option<Value> {
         }
         ("turns", [op, want, held @ ..]) => {
             let wants = [op.clone(), want.clone(), Number(2)];
-            applied("standsWith", &[&wants, held].concat())
+            applied("stands_with", &[&wants, held].concat())
         }
         ("once", [from]) => applied("answers", &[from.clone(), read("step 0 ∷ []")]),
         ("damaged", [from, Number(at), Number(word)]) => with_words(from, *at, &[*word]),
-        ("withPage", [from, Number(page), words]) => with_words(from, page * 7, &numbers(words)),
+        ("with_page", [from, Number(page), words]) => with_words(from, page * 7, &numbers(words)),
         ("answers", [from, List(calls)]) => List(told(from).answers(calls)),
-        ("goingOn", [from, List(calls)]) => {
+        ("going_on", [from, List(calls)]) => {
             let mut told = told(from);
             told.answers(calls);
             Value::Told(Box::new(told))
         }
         ("wide", [n, words]) => {
-            let state = applied("idleState", &[Number(2), n.clone()]);
+            let state = applied("idle_state", &[Number(2), n.clone()]);
             applied("ran", &[List(Vec::new()), state, words.clone()])
         }
         ("paged", [Number(page), new, old]) => {
@@ -442,7 +451,7 @@ fn blank(name: &str, arguments: &[Value]) -> Option<Value> {
         }
         ("meets", [op]) => {
             let begun = applied("runs", &[Number(0), op.clone(), Number(1)]);
-            let held = applied("goingOn", &[read("caseE"), begun]);
+            let held = applied("going_on", &[read("case_e"), begun]);
             let from = applied("damaged", &[held, Number(9), Number(0)]);
             applied("once", &[from])
         }
@@ -464,7 +473,7 @@ fn open_in(n: u32, operation: Value, [want, path, beside]: [&Value; 3], words: V
         path.clone(),
         beside.clone(),
     ];
-    let state = applied("slotOpen", &slot);
+    let state = applied("slot_open", &slot);
     applied("ran", &[List(Vec::new()), state, words])
 }
 
@@ -495,7 +504,7 @@ fn lay(locks: &Value, cells: &mut [Lock]) {
 
 /// What a report for page 5 says of three levels, in which these slots are open.
 fn look_at_five(slots: &[Slot]) -> Value {
-    let from = [List(Vec::new()), state_with(7, slots), read("tensWords")];
+    let from = [List(Vec::new()), state_with(7, slots), read("tens_words")];
     applied("answers", &[applied("ran", &from), read("report 5 ∷ []")])
 }
 
@@ -546,14 +555,14 @@ fn numbers(value: &Value) -> Vec<u32> {
 #[test]
 fn every_row_is_heard() {
     for (name, length) in [
-        ("nextRows", 40),
-        ("regradeRows", 15),
-        ("wideRows", 29),
-        ("damageRows", 58),
-        ("secondRows", 87),
-        ("thirdRows", 68),
-        ("openRows", 33),
-        ("blankRows", 28),
+        ("next_rows", 40),
+        ("regrade_rows", 15),
+        ("wide_rows", 29),
+        ("damage_rows", 58),
+        ("second_rows", 87),
+        ("third_rows", 68),
+        ("open_rows", 33),
+        ("blank_rows", 28),
     ] {
         let rows = list(&defined(name).expect("it is there"));
         assert_eq!(rows.len(), length, "{name}");
@@ -572,24 +581,27 @@ fn an_opening_is_read() {
     let e = "(2 ∷ 1 ∷ 1 ∷ 20 ∷ 2 ∷ 0 ∷ 0 ∷ 1 ∷ 1 ∷ 10 ∷ 7 ∷ 0 ∷ 0 ∷ 0 ∷ 1 ∷ 2 ∷ 20 ∷ 7 ∷ 30 ∷ 7 ∷ 0 ∷ [])";
     let opened = format!("opened 1 3 {e}");
     let fresh = "opened 1 1 (1 ∷ 0 ∷ 0 ∷ 0 ∷ 0 ∷ 0 ∷ 0 ∷ [])";
-    let run = format!("run (runs 0 (Search 20) 2) ({opened} .state) ({opened} .words)");
+    let run = format!("run (runs 0 (Search 20) 2) ({opened}).state ({opened}).words");
     for (given, said) in [
-        (format!("heard ({opened} .answer)"), "heard Opened"),
+        (format!("heard ({opened}).answer"), "heard Opened"),
         (
-            format!("{opened} .state .k ∷ {opened} .state .n ∷ []"),
+            format!("({opened}).state.k ∷ ({opened}).state.n ∷ []"),
             "1 ∷ 3 ∷ []",
         ),
-        (format!("heardIn ({run})"), "Begun ∷ Moved ∷ Found 7 ∷ []"),
+        (format!("heard_in ({run})"), "Begun ∷ Moved ∷ Found 7 ∷ []"),
         (format!("answers ({run}) (step 0 ∷ [])"), "SlotIdle ∷ []"),
-        (format!("heard ({fresh} .answer)"), "heard Opened"),
-        (format!("opened 1 4 {e} .answer"), "BadPool"),
-        ("opened 1 1 [] .answer".to_string(), "BadPool"),
+        (format!("heard ({fresh}).answer"), "heard Opened"),
+        (format!("(opened 1 4 {e}).answer"), "BadPool"),
+        ("(opened 1 1 []).answer".to_string(), "BadPool"),
         (
-            fresh.replace("1 ∷ 0", "0 ∷ 0") + " .answer",
+            format!("({}).answer", fresh.replace("1 ∷ 0", "0 ∷ 0")),
             "heard (BadPageInPool 0)",
         ),
-        (opened.replace("10", "20") + " .answer", "BadTree"),
-        (opened.replace("10", "20") + " .state .n", "0"),
+        (
+            format!("({}).answer", opened.replace("10", "20")),
+            "BadTree",
+        ),
+        (format!("({}).state.n", opened.replace("10", "20")), "0"),
     ] {
         assert_eq!(read(&given), read(said), "{given}");
     }
