@@ -33,6 +33,7 @@ pub struct Digits {
 }
 
 // The position of the first line feed at or behind `from`, or the length.
+#[tactic(auto, using(crate::proofs::Ending::end_none, crate::proofs::Ending::end_here, crate::proofs::Ending::end_on))]
 pub fn line_end(input: &[u8], from: usize) -> usize
     ensures { (result ≡ line_end input.now from) × (from ≤ result) × (result ≤ max from (length input.now)) }
 {
@@ -100,6 +101,7 @@ fn read_digits(line: &[u8], from: usize) -> Digits
 }
 
 // The number at a position: at least one digit, and none above LARGEST.
+#[tactic(auto, using(crate::proofs::NumberLaws::front_empty, crate::proofs::NumberLaws::front_large))]
 fn read_number(line: &[u8], from: usize) -> Number
     requires { from ≤ length line.now }
     ensures { (front_of line.now result ≡ front (drop from line.now)) × (behind result ≤ length line.now) }
