@@ -1,4 +1,3 @@
-pub mod Four
 pub mod Refusals
 pub mod TellLaws
 pub mod Unique
