@@ -1,3 +1,4 @@
+pub mod Four
 pub mod Refusals
 pub mod TellLaws
 pub mod Unique

@@ -1,12 +1,12 @@
 -- What the calls below say, as the exported calls tell it.
 use Prim.Native.Nat.{ℕ}
 use mathlib.Core.List.{List, [], ◌∷◌}
-use mathlib.Core.Path.{◌≡◌, sym, ap, ◌∙◌}
+use mathlib.Core.Path.{◌≡◌, refl, sym, ap, ◌∙◌}
 use lib.ListN.{get_or}
 use Rattle.slots.specs.declared.Op.{Op}
 use Rattle.slots.specs.declared.Answer.{Answer}
 use Rattle.slots.specs.declared.operations.Asked.{Asked}
-use Rattle.slots.specs.declared.operations.Asked.TheVariants.{Known}
+use Rattle.slots.specs.declared.operations.Asked.TheVariants.{Known, Unknown}
 use Rattle.slots.specs.Heard.{heard}
 use Rattle.slots.specs.Operations.{asked_by}
 use Rattle.slots.specs.Begin.{begun}
@@ -16,7 +16,7 @@ use Rattle.index.specs.Step.{stepped}
 use Rattle.index.specs.Make.{made}
 use Rattle.index.specs.Open.{opened}
 use Rattle.index.specs.Statements.{MakeSays, OpenSays, BeginSays, StepSays, ReportSays}
-use Rattle.embed.specs.Told.{told}
+use Rattle.embed.specs.Told.{told, bad_kind}
 use Rattle.embed.proofs.Refusals.{make_stays, open_stays, step_stays, begin_stays}
 use Rattle.embed.specs.Statements.{begin_told, begin_leaves, begin_next, MakeTells, OpenTells, BeginTells, StepTells, ReportTells}
 
@@ -78,3 +78,7 @@ pub begin_tells : (cells : List ℕ) (s kind key information : ℕ) (op : Op) (r
     → BeginTells cells s kind key information cells' heard'
 begin_tells cells s kind key information op r cells' heard' known says e =
     begins_asked cells s kind key information (Known op) cells' heard' known (e ∙ told_heard r (begun (state_of cells) s op).answer says.answer) says.state says.all
+
+pub begin_unknown : (cells : List ℕ) (s kind key information : ℕ) (heard' : List ℕ)
+    → asked_by kind key information ≡ Unknown → heard' ≡ bad_kind → BeginTells cells s kind key information cells heard'
+begin_unknown cells s kind key information heard' unknown e = begins_asked cells s kind key information Unknown cells heard' unknown e refl refl
