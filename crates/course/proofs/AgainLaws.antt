@@ -82,8 +82,8 @@ module _ {x v k n : ℕ} {ws : List ℕ} {stand : Slot} where
   -- by the first and the third way the top page is as it was; by the second the leaf is safe, if the key is missing
   by_way : (way : Way) → SlotStanding (Insert x v way) k n ws stand → begins_again (Insert x v way) k (page_at k ws) (lowest stand) ≡ false
       → has x (page_at k ws (lowest stand)).entries ≡ false → Topped (Insert x v First) k (page_at k ws) (path_of stand)
-  by_way First h stays missing = h.standing.top
-  by_way Third h stays missing = h.standing.top
+  by_way First h _ _ = h.standing.top
+  by_way Third h _ _ = h.standing.top
   by_way Second h stays missing =
       let leaf : ℕ = lowest stand in
       let there : Bool = has x (page_at k ws leaf).entries in
