@@ -30,7 +30,7 @@ fn link(root: &Path) {
     };
     if let Some(other) = other_machine(&bytes, &machine) {
         panic!(
-            "{} is for {other}, and this builds for {machine}: `{maker}` writes one",
+            "{} is for {other}, and this builds for {machine}: `{maker} {machine}` writes one",
             archive.display()
         );
     }
