@@ -41,7 +41,3 @@ pub value-behind : (word spelt : List ℕ) → word ++ ((32 ∷ []) ++ spelt ++ 
 value-behind word spelt =
     sym (append_assoc word ((32 ∷ []) ++ spelt) (10 ∷ []))
     ∙ ap (λ (l : List ℕ). l ++ (10 ∷ [])) (sym (append_assoc word (32 ∷ []) spelt))
-
--- where there is room for 32 bytes, there is room for fewer
-pub room : (at n : ℕ) {long : ℕ} → at + 32 ≤ long → n ≤ 32 → at + n ≤ long
-room at n h k = omega (arith, h, k)

@@ -12,15 +12,13 @@ fn write_word(out: &mut [u8], at: usize, word: &[u8]) -> usize
     requires { at + length word.now ≤ length out.old }
     ensures { (out.new ≡ laid out.old at word.now) × (result ≡ at + length word.now) }
 {
-    let mut i = 0;
-    while i < word.len() {
-        out[at + i] = word[i];
-        i += 1;
-    }
-    at + i
+    let end = at + word.len();
+    out[at..end].copy_from_slice(word);
+    end
 }
 
 // How many digits a number has.
+#[tactic(auto, using(lines::proofs::Decimals::length_one, lines::proofs::Decimals::length_more, lines::proofs::Decimals::decimal_some, lines::proofs::Decimals::word_short))]
 fn digit_count(n: u32) -> usize
     ensures { result ≡ length (decimal n) }
 {
@@ -38,19 +36,17 @@ pub fn write_number(out: &mut [u8], at: usize, n: u32) -> usize
     requires { at + length (decimal n) ≤ length out.old }
     ensures { (out.new ≡ laid out.old at (decimal n)) × (result ≡ at + length (decimal n)) }
 {
-    let count = digit_count(n);
+    let end = at + digit_count(n);
     let mut left = n;
-    let mut i = count;
-    while 10 <= left {
-        i -= 1;
-        out[at + i] = b'0' + (left % 10) as u8;
+    for place in (at..end).rev() {
+        out[place] = b'0' + (left % 10) as u8;
         left /= 10;
     }
-    out[at] = b'0' + left as u8;
-    at + count
+    end
 }
 
 // Writes a word, a number and a line feed.
+#[tactic(auto, using(lines::proofs::Decimals::word_short))]
 fn write_value(out: &mut [u8], at: usize, word: &[u8], n: u32) -> usize
     requires { at + length word.now + 11 ≤ length out.old }
     ensures { (out.new ≡ laid out.old at (word.now ++ decimal n ++ bytes "\n")) × (result ≡ at + length (word.now ++ decimal n ++ bytes "\n")) }
@@ -61,6 +57,7 @@ fn write_value(out: &mut [u8], at: usize, word: &[u8], n: u32) -> usize
 }
 
 // Writes a word, a key, a space, information and a line feed.
+#[tactic(auto, using(lines::proofs::Decimals::word_short))]
 fn write_lot(out: &mut [u8], at: usize, word: &[u8], key: u32, information: u32) -> usize
     requires { at + length word.now + 22 ≤ length out.old }
     ensures { (out.new ≡ laid out.old at (word.now ++ decimal key ++ bytes " " ++ decimal information ++ bytes "\n")) × (result ≡ at + length (word.now ++ decimal key ++ bytes " " ++ decimal information ++ bytes "\n")) }
@@ -71,6 +68,8 @@ fn write_lot(out: &mut [u8], at: usize, word: &[u8], key: u32, information: u32)
 }
 
 // Writes the line of an answer, and gives back the position behind it.
+// Stays: bytes written over a lent row, no `Display`. The contract says which bytes they are, where they end, and that there are at
+// most 32; `LineLeaves` and `Writes` of `talk` need that.
 pub fn write_answer(out: &mut [u8], at: usize, a: Answer) -> usize
     requires { at + 32 ≤ length out.old }
     ensures { (out.new ≡ laid out.old at (answer_line a)) × (result ≡ at + length (answer_line a)) × (length (answer_line a) ≤ 32) }

@@ -1,14 +1,14 @@
 -- What is known of a page that an operation holds, and the path's array as a list that goes upward.
-use Prim.Native.Nat.{ℕ, zero, suc, ◌-◌, ◌≤◌, ◌<◌}
+use Prim.Native.Nat.{ℕ, zero, suc, ◌+◌, ◌-◌, ◌≤◌, ◌<◌}
 use mathlib.Core.Bool.{true, false, or-false}
 use mathlib.Core.List.{List, [], ◌∷◌, ◌++◌, reverse, reverse-append}
-use mathlib.Core.Path.{◌≡◌, refl, sym, ap, ◌∙◌, subst}
+use mathlib.Core.Path.{◌≡◌, refl, sym, ap, ap₂, ◌∙◌, subst}
 use native.Mathlib.Nat.{not-suc-le-zero}
 use native.Mathlib.Omega.{arith}
 use borrow.Author.Tests.{eqb-true}
 use lib.Dec.{eqb}
-use lib.ListN.{length, get_or, take}
-use lib.Seq.{length-take-le, get_or-take, take-suc}
+use lib.ListN.{length, get_or, take, drop}
+use lib.Seq.{length-take-le, get_or-take, get_or-drop, take-suc, take-take}
 use Rattle.ground.specs.Limits.{largest_k, largest_n}
 use Rattle.ground.specs.Tests.{member}
 use Rattle.ground.proofs.Bools.{or_first, or_second}
@@ -24,7 +24,7 @@ use Rattle.page.proofs.ExactLaws.{exact_sound}
 use Rattle.pool.specs.Pool.{pool_length, words_of, page_at}
 use Rattle.pool.specs.Wrapped.{InPool}
 use Rattle.pool.proofs.StretchLaws.{length_words_of}
-use Rattle.change.specs.Held.{HeldPage, Held, Holding, upward}
+use Rattle.change.specs.Held.{HeldPage, Held, Holding, upward, leaf_of, fathers_of}
 
 -- Page p of the pool can be read and written, and its value is sound.
 pub record Known (k n : ℕ) (ws : List ℕ) (p : ℕ) : Type 0 where
@@ -102,6 +102,34 @@ unfolding upward
 upward_father zero path h = absurd (not-suc-le-zero h)
 upward_father (suc i) path h = let e : i ≡ suc i - 1 = omega arith in ap (λ (j : ℕ). get_or path j 0 ∷ upward j path) e
 
+-- of the first pages of a path, `held`, the last two are a page and its father
+module _ (path held pair : List ℕ) {size : ℕ} (part : held ≡ take (length held) path) (two : size ≡ 2) (some : size ≤ length held)
+    (last : pair ≡ drop (length held - size) held) where
+  cell : (i j : ℕ) → length held - size + i ≡ j → j < length held → get_or pair i 0 ≡ get_or path j 0
+  cell i j e l =
+      ap (λ (l : List ℕ). get_or l i 0) last
+      ∙ get_or-drop (length held - size) held i 0
+      ∙ ap₂ (λ (l : List ℕ) (t : ℕ). get_or l t 0) part e
+      ∙ get_or-take (length held) path j 0 l
+
+  pub pair_father : get_or pair 0 0 ≡ get_or path (length held - 1 - 1) 0
+  pair_father = cell 0 (length held - 1 - 1) (omega arith) (omega arith)
+
+  pub pair_page : get_or pair 1 0 ≡ get_or path (length held - 1) 0
+  pair_page = cell 1 (length held - 1) (omega arith) (omega arith)
+
+-- and without the last one they are the first still
+pub held_less : (path held : List ℕ) {rest : List ℕ} → held ≡ take (length held) path → 1 ≤ length held → rest ≡ take (length held - 1) held
+    → (rest ≡ take (length rest) path) × (length rest ≡ length held - 1)
+held_less path held {rest} part some less =
+    let long : length rest ≡ length held - 1 = ap length less ∙ length-take-le (length held - 1) held (omega arith) in (
+      less
+          ∙ ap (take (length held - 1)) part
+          ∙ take-take (length held - 1) (length held) path (omega arith)
+          ∙ ap (λ (m : ℕ). take m path) (sym long),
+      long,
+    )
+
 -- the first pages of a path upward are those pages turned round
 pub upward_reverse : (i : ℕ) (path : List ℕ) → i ≤ length path → upward i path ≡ reverse (take i path)
 unfolding upward
@@ -111,17 +139,31 @@ upward_reverse (suc i) path h =
     ∙ sym (reverse-append (take i path) (get_or path i 0 ∷ []))
     ∙ sym (ap reverse (take-suc path i 0 (omega arith)))
 
+-- the first `depth` cells of an array: their leaf, their fathers and their cells are the array's
+pub upward_taken : (i depth : ℕ) (cells : List ℕ) → i ≤ depth → upward i (take depth cells) ≡ upward i cells
+unfolding upward
+upward_taken zero depth cells h = refl
+upward_taken (suc i) depth cells h =
+    ap₂ (λ (p : ℕ) (up : List ℕ). p ∷ up) (get_or-take depth cells i 0 h) (upward_taken i depth cells (omega arith))
+
+pub leaf_taken : (depth : ℕ) (cells : List ℕ) → 1 ≤ depth → depth ≤ length cells
+    → leaf_of (length (take depth cells)) (take depth cells) ≡ leaf_of depth cells
+leaf_taken depth cells some long =
+    ap (λ (d : ℕ). get_or (take depth cells) (d - 1) 0) (length-take-le depth cells long)
+    ∙ get_or-take depth cells (depth - 1) 0 (omega arith)
+
+pub fathers_taken : (depth : ℕ) (cells : List ℕ) → depth ≤ length cells
+    → fathers_of (length (take depth cells)) (take depth cells) ≡ fathers_of depth cells
+fathers_taken depth cells long =
+    ap (λ (d : ℕ). upward (d - 1) (take depth cells)) (length-take-le depth cells long)
+    ∙ upward_taken (depth - 1) depth cells (omega arith)
+
 -- a page of an insertion's or a regrading's path is held
-pub holding_page : {k n : ℕ} {ws path : List ℕ} {depth : ℕ} → Holding k n ws path depth → (i : ℕ) → i < depth
-    → HeldPage k n ws (get_or path i 0)
-holding_page {path = path} {depth = depth} h i l =
-    let long : depth ≤ length path = omega arith in
-    h.held.each (get_or path i 0)
-    (member_from (get_or path i 0) (take depth path) i 0 (omega (arith, length-take-le depth path long)) (get_or-take depth path i 0 l))
+pub holding_page : {k n : ℕ} {ws path : List ℕ} → Holding k n ws path → (i : ℕ) → i < length path → HeldPage k n ws (get_or path i 0)
+holding_page {path = path} h i l = h.held.each (get_or path i 0) (member_from (get_or path i 0) path i 0 l refl)
 
 -- what is known of it
-pub holding_known : {k n : ℕ} {ws path : List ℕ} {depth : ℕ} → Holding k n ws path depth → (i : ℕ) → i < depth
-    → Known k n ws (get_or path i 0)
+pub holding_known : {k n : ℕ} {ws path : List ℕ} → Holding k n ws path → (i : ℕ) → i < length path → Known k n ws (get_or path i 0)
 holding_known h i l = held_page h.held.width h.held.most h.held.whole (holding_page h i l)
 
 -- one page alone is held

@@ -1,30 +1,26 @@
 -- The rule of what a deletion needs, a page at a time: each law is one way through the rule.
-use Prim.Native.Nat.{ℕ, zero, suc, ◌+◌, ◌-◌, ◌≤◌, ◌<◌}
+use Prim.Native.Nat.{ℕ, zero, suc, ◌-◌, ◌≤◌, ◌<◌}
 use mathlib.Core.Bool.{Bool, true, false, ◌||◌}
 use mathlib.Core.List.{List, [], ◌∷◌}
 use mathlib.Core.Logic.{◌≢◌}
-use mathlib.Core.Path.{◌≡◌, sym, ap, ap₂, ◌∙◌, subst}
+use mathlib.Core.Path.{◌≡◌, refl, sym, ap, ap₂, ◌∙◌, subst}
 use native.Mathlib.Nat.{not-suc-le-zero}
 use native.Mathlib.Omega.{arith}
 use borrow.Author.Tests.{lt-ltb, le-ltb, eq-eqb, ne_eqb}
 use lib.Dec.{eqb, ltb}
-use lib.ListN.{length, get_or, take, drop, length-drop}
-use lib.Seq.{length-take-le}
+use lib.Seq.{take-length}
+use lib.ListN.{length, get_or, take, drop}
 use Rattle.ground.proofs.Choice.{cond-true, cond-false}
-use Rattle.ground.proofs.Padded.{next_cell, no_cell}
+use Rattle.ground.proofs.Bools.{or_first}
+use Rattle.ground.specs.Tests.{member}
+use Rattle.ground.proofs.Tests.{member_from}
+use Rattle.std.proofs.lemmas.List.{nil_from_length}
 use Rattle.page.specs.Words.{Page, μ, is_leaf}
 use Rattle.page.specs.Short.{neighbour}
 use Rattle.change.specs.Deletion.{Need, nothing, sibling, astray, satisfied, needs}
 use Rattle.pool.specs.Pool.{page_at}
-use Rattle.change.specs.Held.{Needing, upward, leaf_of, fathers_of, need_of, satisfied_by}
-use Rattle.change.specs.declared.needing.Need.{Need as Answer}
-use Rattle.change.specs.declared.needing.Need.TheVariants.{Nothing, Astray}
-use Rattle.change.proofs.HeldLaws.{Known, held_known, held_upper, on_path, among_siblings, upward_top, upward_father}
-
--- what the code answers where nothing more is needed
-pub satisfied_by_lem : (left : ℕ) (rest : List ℕ) → left ≡ length rest → need_of (satisfied_by left) ≡ satisfied rest
-satisfied_by_lem left [] e = ap need_of (cond-true Nothing Astray (eq-eqb left 0 e))
-satisfied_by_lem left (s ∷ rest) e = ap need_of (cond-false Nothing Astray (ne_eqb left 0 (λ z. omega arith)))
+use Rattle.change.specs.Held.{Held, Needing, upward, leaf_of, fathers_of}
+use Rattle.change.proofs.HeldLaws.{Known, held_known, held_front, held_back, held_upper, upward_top, upward_father, pair_father, pair_page, held_less}
 
 module _ (k : ℕ) (memory : ℕ → Page) (x p : ℕ) where
   -- the page can lose one
@@ -72,34 +68,41 @@ module _ (k : ℕ) (memory : ℕ → Page) (x p : ℕ) where
           ∙ cond-true _ astray (eq-eqb s (neighbour x (memory f)) beside)
           ∙ cond-false (satisfied siblings) (needs k memory x f up siblings) (le-ltb k (μ (memory s)) h)
 
+module _ (k n : ℕ) (ws path siblings : List ℕ) (x : ℕ) where
+  -- The pages of the path down to the one that loses, `held`, and the siblings left: what is needed is needed by them.
+  pub record Losing (held left : List ℕ) (size : ℕ) : Type 0 where
+    pub two : size ≡ 2
+    pub some : 1 ≤ length held
+    pub long : length held ≤ length path
+    pub part : held ≡ take (length held) path
+    pub left_held : Held k n ws left
+    pub same : needs k (page_at k ws) x (leaf_of (length path) path) (fathers_of (length path) path) siblings
+        ≡ needs k (page_at k ws) x (get_or path (length held - 1) 0) (upward (length held - 1) path) left
+
 -- A deletion that stands at its leaf.
-module _ {k n : ℕ} {ws path : List ℕ} {depth : ℕ} {siblings : List ℕ} {beside : ℕ} (x : ℕ)
-    (h : Needing k n ws path depth siblings beside) where
-  -- what is needed, and what is needed from the page at index i and the sibling at index j on
-  abbrev whole : Need
-  whole = needs k (page_at k ws) x (leaf_of depth path) (fathers_of depth path) (take beside siblings)
+module _ {k n : ℕ} {ws path siblings : List ℕ} (x : ℕ) (h : Needing k n ws path siblings) where
+  -- what is needed, and what is needed from the page at index i on with these siblings left
+  abbrev pub whole : Need
+  whole = needs k (page_at k ws) x (leaf_of (length path) path) (fathers_of (length path) path) siblings
 
-  abbrev from : ℕ → ℕ → Need
-  from i j = needs k (page_at k ws) x (get_or path i 0) (upward i path) (drop j (take beside siblings))
+  abbrev pub from : ℕ → List ℕ → Need
+  from i left = needs k (page_at k ws) x (get_or path i 0) (upward i path) left
 
-  long_path : depth ≤ length path
-  long_path = omega (arith, h.deep, h.path_cells)
-
-  long_beside : beside ≤ length siblings
-  long_beside = omega (arith, h.few, h.beside_cells)
+  -- all siblings are held
+  pub siblings_held : Held k n ws siblings
+  siblings_held = held_back path siblings h.held
 
   -- what is known of a page of the path, and of a sibling
-  pub path_known : (i : ℕ) → i < depth → Known k n ws (get_or path i 0)
+  pub path_known : (i : ℕ) → i < length path → Known k n ws (get_or path i 0)
   path_known i l =
-      held_known h.held (get_or path i 0) (on_path path depth i (take beside siblings) long_path l)
+      held_known (held_front path siblings h.held) (get_or path i 0) (member_from (get_or path i 0) path i 0 l refl)
 
-  pub sibling_known : (j : ℕ) → j < beside → Known k n ws (get_or siblings j 0)
+  pub sibling_known : (j : ℕ) → j < length siblings → Known k n ws (get_or siblings j 0)
   sibling_known j l =
-      held_known h.held (get_or siblings j 0)
-      (among_siblings (take depth path) siblings beside j long_beside l)
+      held_known siblings_held (get_or siblings j 0) (member_from (get_or siblings j 0) siblings j 0 l refl)
 
   -- a father lies above the leaves
-  pub father_upper : (i : ℕ) → 0 < i → i < depth → is_leaf (page_at k ws (get_or path (i - 1) 0)) ≡ false
+  pub father_upper : (i : ℕ) → 0 < i → i < length path → is_leaf (page_at k ws (get_or path (i - 1) 0)) ≡ false
   father_upper zero l d = absurd (not-suc-le-zero l)
   father_upper (suc i) l d =
       let e : suc i - 1 ≡ i = omega arith in
@@ -109,67 +112,108 @@ module _ {k n : ℕ} {ws path : List ℕ} {depth : ℕ} {siblings : List ℕ} {b
       (ne_eqb (page_at k ws (get_or path i 0)).level 1 (λ one. omega arith))
 
   -- and has a reference key
-  pub father_key : (i : ℕ) → 0 < i → i < depth → 1 ≤ μ (page_at k ws (get_or path (i - 1) 0))
+  pub father_key : (i : ℕ) → 0 < i → i < length path → 1 ≤ μ (page_at k ws (get_or path (i - 1) 0))
   father_key i l d = held_upper h.held.least (path_known (i - 1) (omega arith)) (father_upper i l d)
 
-  -- how many siblings are left from index j on
-  left_over : (j : ℕ) → j ≤ beside → beside - j ≡ length (drop j (take beside siblings))
-  left_over j l =
-      omega (arith, length-drop j (take beside siblings), length-take-le beside siblings long_beside)
+  -- of the siblings left the first is known, and those behind it are held
+  pub next_known : {left rest : List ℕ} {s : ℕ} → left ≡ s ∷ rest → Held k n ws left → Known k n ws s
+  unfolding member
+  next_known {left} {rest} {s} e held =
+      held_known held s (ap (member s) e ∙ or_first (member s rest) (eq-eqb s s refl))
 
-  module _ (i j : ℕ) (same : whole ≡ from i j) where
-    -- the page can lose one
-    pub stop_spared : {r : Answer} → j ≤ beside → can_lose k (page_at k ws) x (get_or path i 0) ≡ true → r ≡ satisfied_by (beside - j) → need_of r ≡ whole
-    stop_spared l t e =
-        ap need_of e
-        ∙ satisfied_by_lem (beside - j) (drop j (take beside siblings)) (left_over j l)
-        ∙ sym (same ∙ needs_spared k (page_at k ws) x (get_or path i 0) (upward i path) (drop j (take beside siblings)) t)
+  pub rest_held : {left rest : List ℕ} {s : ℕ} → left ≡ s ∷ rest → Held k n ws left → Held k n ws rest
+  rest_held {left} {rest} {s} e held = held_back (s ∷ []) rest (subst (Held k n ws) e held)
 
-    module _ (short : can_lose k (page_at k ws) x (get_or path i 0) ≡ false) where
-      -- the top of the path cannot, and its father is not held
-      pub stop_top : i ≡ 0 → astray ≡ whole
-      stop_top z =
-          sym
-          (same
-          ∙ ap (λ (up : List ℕ). needs k (page_at k ws) x (get_or path i 0) up (drop j (take beside siblings))) (upward_top i path z)
-          ∙ needs_top k (page_at k ws) x (get_or path i 0) short (drop j (take beside siblings)))
+  -- the last page of those held can lose one, or the rule goes up to the pages above it
+  module _ (p : ℕ) (up left : List ℕ) (same : whole ≡ needs k (page_at k ws) x p up left) where
+    pub stop_spared : can_lose k (page_at k ws) x p ≡ true → {d : Need} → d ≡ satisfied left → d ≡ whole
+    stop_spared t e = e ∙ sym (same ∙ needs_spared k (page_at k ws) x p up left t)
 
-      module _ (below : 0 < i) {w : ℕ} (wanted : w ≡ neighbour x (page_at k ws (get_or path (i - 1) 0))) where
-        -- what is needed, by the father and the siblings left
-        by_father : (rest : List ℕ) → drop j (take beside siblings) ≡ rest
-            → whole ≡ needs k (page_at k ws) x (get_or path i 0) (get_or path (i - 1) 0 ∷ upward (i - 1) path) rest
-        by_father rest e = same ∙ ap₂ (λ (up ss : List ℕ). needs k (page_at k ws) x (get_or path i 0) up ss) (upward_father i path below) e
+  -- the top of the path cannot, and its father is not held
+  pub stop_top : (p : ℕ) (left : List ℕ) → whole ≡ needs k (page_at k ws) x p [] left → can_lose k (page_at k ws) x p ≡ false → astray ≡ whole
+  stop_top p left same short = sym (same ∙ needs_top k (page_at k ws) x p short left)
 
-        -- its sibling is not held yet
-        pub stop_sibling : j ≡ beside → sibling w ≡ whole
-        stop_sibling e =
-            ap sibling wanted
-            ∙ sym (by_father [] (no_cell siblings beside j long_beside (omega arith)) ∙ needs_sibling k (page_at k ws) x (get_or path i 0) short (get_or path (i - 1) 0) (upward (i - 1) path))
+  module _ (p f : ℕ) (up left : List ℕ) (same : whole ≡ needs k (page_at k ws) x p (f ∷ up) left) (short : can_lose k (page_at k ws) x p ≡ false)
+      {w : ℕ} (wanted : w ≡ neighbour x (page_at k ws f)) where
+    by_left : (rest : List ℕ) → left ≡ rest → whole ≡ needs k (page_at k ws) x p (f ∷ up) rest
+    by_left rest e = same ∙ ap (needs k (page_at k ws) x p (f ∷ up)) e
 
-        module _ (more : j < beside) where
-          -- another page is held in its sibling's place
-          pub stop_astray : get_or siblings j 0 ≢ w → astray ≡ whole
-          stop_astray ne =
-              sym
-              (by_father (get_or siblings j 0 ∷ drop (j + 1) (take beside siblings)) (next_cell siblings beside j long_beside more)
-              ∙ needs_astray k (page_at k ws) x (get_or path i 0) short (get_or path (i - 1) 0) (upward (i - 1) path) (get_or siblings j 0)
-              (drop (j + 1) (take beside siblings)) (λ e. ne (e ∙ sym wanted)))
+    -- its sibling is not held yet
+    pub stop_sibling : length left ≡ 0 → sibling w ≡ whole
+    stop_sibling e = ap sibling wanted ∙ sym (by_left [] (nil_from_length left e) ∙ needs_sibling k (page_at k ws) x p short f up)
 
-          module _ (beside-it : get_or siblings j 0 ≡ w) where
-            -- the sibling can spare one
-            pub stop_shares : {r : Answer} → k < μ (page_at k ws (get_or siblings j 0)) → r ≡ satisfied_by (beside - j - 1) → need_of r ≡ whole
-            stop_shares l e =
-                let rest = left_over (j + 1) (omega arith) in
-                ap need_of e
-                ∙ satisfied_by_lem (beside - j - 1) (drop (j + 1) (take beside siblings)) (omega arith)
-                ∙ sym
-                (by_father (get_or siblings j 0 ∷ drop (j + 1) (take beside siblings)) (next_cell siblings beside j long_beside more)
-                ∙ needs_shares k (page_at k ws) x (get_or path i 0) short (get_or path (i - 1) 0) (upward (i - 1) path) (get_or siblings j 0)
-                (drop (j + 1) (take beside siblings)) (beside-it ∙ wanted) l)
+    module _ (s : ℕ) (rest : List ℕ) (next : left ≡ s ∷ rest) where
+      -- another page is held in its sibling's place
+      pub stop_astray : s ≢ w → astray ≡ whole
+      stop_astray ne = sym (by_left (s ∷ rest) next ∙ needs_astray k (page_at k ws) x p short f up s rest (λ e. ne (e ∙ sym wanted)))
 
-            -- the two join, and the father loses one
-            pub goes_up : μ (page_at k ws (get_or siblings j 0)) ≤ k → whole ≡ from (i - 1) (j + 1)
-            goes_up l =
-                by_father (get_or siblings j 0 ∷ drop (j + 1) (take beside siblings)) (next_cell siblings beside j long_beside more)
-                ∙ needs_further k (page_at k ws) x (get_or path i 0) short (get_or path (i - 1) 0) (upward (i - 1) path) (get_or siblings j 0)
-                (drop (j + 1) (take beside siblings)) (beside-it ∙ wanted) l
+      module _ (beside-it : s ≡ w) where
+        -- the sibling can spare one
+        pub stop_shares : k < μ (page_at k ws s) → {d : Need} → d ≡ satisfied rest → d ≡ whole
+        stop_shares l e = e ∙ sym (by_left (s ∷ rest) next ∙ needs_shares k (page_at k ws) x p short f up s rest (beside-it ∙ wanted) l)
+
+        -- the two join, and the father loses one
+        pub goes_up : μ (page_at k ws s) ≤ k → whole ≡ needs k (page_at k ws) x f up rest
+        goes_up l = by_left (s ∷ rest) next ∙ needs_further k (page_at k ws) x p short f up s rest (beside-it ∙ wanted) l
+
+  pub losing_starts : {held : List ℕ} {size : ℕ} → held ≡ path → size ≡ 2 → Losing k n ws path siblings x held siblings size
+  losing_starts {held} {size} e two =
+      subst (λ (l : List ℕ). Losing k n ws path siblings x l siblings size) (sym e)
+      (record { two = two; some = h.some; long = omega arith; part = sym (take-length path); left_held = siblings_held; same = refl })
+
+  module _ {held left : List ℕ} {size : ℕ} (l : Losing k n ws path siblings x held left size) where
+    -- the top alone is left
+    pub at_top : length held < size → whole ≡ needs k (page_at k ws) x (get_or path 0 0) [] left
+    at_top few =
+        let top : length held - 1 ≡ 0 = omega (arith, l.two) in
+        l.same
+        ∙ ap (λ (i : ℕ). from i left) top
+        ∙ ap (λ (up : List ℕ). needs k (page_at k ws) x (get_or path 0 0) up left) (upward_top 0 path refl)
+
+    -- the last one and its father
+    module _ (pair : List ℕ) (more : size ≤ length held) (last : pair ≡ drop (length held - size) held) where
+      below : 0 < length held - 1
+      below = omega (arith, l.two)
+
+      inside : length held - 1 < length path
+      inside = omega (arith, l.long, l.some)
+
+      father : get_or pair 0 0 ≡ get_or path (length held - 1 - 1) 0
+      father = pair_father path held pair l.part l.two more last
+
+      page : get_or pair 1 0 ≡ get_or path (length held - 1) 0
+      page = pair_page path held pair l.part l.two more last
+
+      pub page_known : Known k n ws (get_or pair 1 0)
+      page_known = subst (Known k n ws) (sym page) (path_known (length held - 1) inside)
+
+      pub above_known : Known k n ws (get_or pair 0 0)
+      above_known = subst (Known k n ws) (sym father) (path_known (length held - 1 - 1) (omega arith))
+
+      pub above_upper : is_leaf (page_at k ws (get_or pair 0 0)) ≡ false
+      above_upper = subst (λ (f : ℕ). is_leaf (page_at k ws f) ≡ false) (sym father) (father_upper (length held - 1) below inside)
+
+      pub above_key : 1 ≤ μ (page_at k ws (get_or pair 0 0))
+      above_key = subst (λ (f : ℕ). 1 ≤ μ (page_at k ws f)) (sym father) (father_key (length held - 1) below inside)
+
+      pub here : whole ≡ needs k (page_at k ws) x (get_or pair 1 0) (get_or pair 0 0 ∷ upward (length held - 1 - 1) path) left
+      here =
+          l.same
+          ∙ ap₂ (λ (p : ℕ) (up : List ℕ). needs k (page_at k ws) x p up left) (sym page)
+          (upward_father (length held - 1) path below ∙ ap (λ (f : ℕ). f ∷ upward (length held - 1 - 1) path) (sym father))
+
+      -- the father is next
+      pub loses_on : {held' left' : List ℕ} {size' : ℕ} → size' ≡ size → held' ≡ take (length held - 1) held → Held k n ws left'
+          → whole ≡ needs k (page_at k ws) x (get_or pair 0 0) (upward (length held - 1 - 1) path) left'
+          → Losing k n ws path siblings x held' left' size'
+      loses_on {held'} {left'} e less known same =
+          let (part, long) = held_less path held l.part l.some less in
+          let next : length held - 1 - 1 ≡ length held' - 1 = omega arith in
+          record {
+            two = e ∙ l.two;
+            some = omega (arith, below);
+            long = omega (arith, l.long);
+            part = part;
+            left_held = known;
+            same = same ∙ ap (λ (f : ℕ). needs k (page_at k ws) x f (upward (length held - 1 - 1) path) left') father ∙ ap (λ (i : ℕ). from i left') next;
+          }

@@ -1,80 +1,71 @@
 // Which sibling a deletion at its leaf needs next. A path is given from the top downward, siblings from the leaf's upward.
-ghost use Rattle.std.specs.Prelude.{◌≡◌, ◌||◌, eqb, ltb, take};
+ghost use Rattle.std.specs.Prelude.{◌≡◌, ◌||◌, eqb, ltb, length};
 ghost use Rattle.page.specs.Words.{μ};
 ghost use Rattle.page.specs.Reading.{Readable};
 ghost use Rattle.pool.specs.Pool.{words_of, page_at};
 ghost use Rattle.pool.specs.Wrapped.{InPool};
 ghost use Rattle.change.specs.Deletion as rule;
-ghost use Rattle.change.specs.Held.{Needing, leaf_of, fathers_of, need_of, satisfied_by};
+ghost use Rattle.change.specs.Held.{Needing, leaf_of, fathers_of, need_of};
 
-use ground::HELD;
+use ground::Shape;
 use pool::pages::{count_of, neighbour_of};
 
-// Nothing more, this sibling, or the pages held are not those that the rules would have it hold.
-#[derive(Clone, Copy)]
-pub enum Need {
-    Nothing,
-    Sibling(u32),
-    Astray,
-}
+// The pages held are not those that the rules would have it hold.
+#[derive(Clone, Copy, Debug, PartialEq, Eq)]
+pub struct Astray;
 
-// No more siblings than those needed are held.
-fn satisfied(left: usize) -> Need
-    ensures { result ≡ satisfied_by left }
+// Nothing more is needed, if no sibling beyond those needed is held.
+fn satisfied(left: &[u32]) -> Result<Option<u32>, Astray>
+    ensures { need_of result ≡ rule.satisfied left.now }
 {
-    if left == 0 {
-        return Need::Nothing;
+    if left.is_empty() {
+        Ok(None)
+    } else {
+        Err(Astray)
     }
-    Need::Astray
 }
 
 // Page p can lose one: it is page 0, or it has more than k.
-fn spares(words: &[u32], k: usize, n: usize, p: u32) -> bool
-    requires in_pool { InPool k n p words.now }
-    requires readable { Readable (words_of k p words.now) }
-    ensures { result ≡ eqb p 0 || ltb k (μ (page_at k words.now p)) }
+fn spares(words: &[u32], shape: Shape, p: u32) -> bool
+    requires in_pool { InPool shape.k shape.n p words.now }
+    requires readable { Readable (words_of shape.k p words.now) }
+    ensures { result ≡ eqb p 0 || ltb shape.k (μ (page_at shape.k words.now p)) }
 {
-    if p == 0 {
-        return true;
-    }
-    k < count_of(words, k, n, p)
+    p == 0 || shape.k < count_of(words, shape, p)
 }
 
-// What the deletion of x, which stands at the last page of its path and holds these siblings, needs.
+// What the deletion of x, which stands at the last page of its path and holds these siblings, needs: nothing more, or
+// this sibling.
 pub fn needs(
     words: &[u32],
-    k: usize,
-    n: usize,
+    shape: Shape,
     x: u32,
-    path: &[u32; HELD],
-    depth: usize,
-    siblings: &[u32; HELD],
-    beside: usize,
-) -> Need
-    requires { Needing k n words.now path.now depth siblings.now beside }
-    ensures { need_of result ≡ rule.needs k (page_at k words.now) x (leaf_of depth path.now) (fathers_of depth path.now) (take beside siblings.now) }
+    path: &[u32],
+    siblings: &[u32],
+) -> Result<Option<u32>, Astray>
+    requires { Needing shape.k shape.n words.now path.now siblings.now }
+    ensures { need_of result ≡ rule.needs shape.k (page_at shape.k words.now) x (leaf_of (length path.now) path.now) (fathers_of (length path.now) path.now) siblings.now }
 {
-    let mut i = depth - 1;
-    let mut j = 0;
-    loop {
-        if spares(words, k, n, path[i]) {
-            return satisfied(beside - j);
+    let mut left = siblings;
+    for &[father, p] in path.array_windows::<2>().rev() {
+        if spares(words, shape, p) {
+            return satisfied(left);
         }
-        if i == 0 {
-            return Need::Astray;
-        }
-        let wanted = neighbour_of(words, k, n, path[i - 1], x);
-        if j == beside {
-            return Need::Sibling(wanted);
-        }
-        let s = siblings[j];
+        let wanted = neighbour_of(words, shape, father, x);
+        let Some((&s, rest)) = left.split_first() else {
+            return Ok(Some(wanted));
+        };
         if s != wanted {
-            return Need::Astray;
+            return Err(Astray);
         }
-        if k < count_of(words, k, n, s) {
-            return satisfied(beside - j - 1);
+        if shape.k < count_of(words, shape, s) {
+            return satisfied(rest);
         }
-        i -= 1;
-        j += 1;
+        left = rest;
+    }
+    if spares(words, shape, path[0]) {
+        satisfied(left)
+    } else {
+        Err(Astray)
     }
 }

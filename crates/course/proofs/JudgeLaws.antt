@@ -1,14 +1,14 @@
 -- The rule of a granted step is the rule of where the operation then stands; what the functions of a change may count on there; and
 -- the courses by what was read, as the rule's words.
-use Prim.Native.Nat.{ℕ, suc, ◌+◌, ◌-◌}
+use Prim.Native.Nat.{ℕ, ◌-◌, ◌≤◌, ◌<◌}
 use mathlib.Core.Bool.{Bool, true, false, cond, not, ◌&&◌, ◌||◌, false≢true}
 use mathlib.Core.List.{List, [], ◌∷◌, ◌++◌, reverse, reverse-append}
 use mathlib.Core.Logic.{⊎_elim}
 use mathlib.Core.Path.{◌≡◌, refl, sym, ap, ap₂, ◌∙◌, subst}
 use native.Mathlib.Omega.{arith}
 use lib.Dec.{ltb}
-use lib.ListN.{length, take}
-use lib.Seq.{get_or-take}
+use lib.ListN.{length, get_or}
+use Rattle.std.specs.Prelude.{Option, Some, None}
 use Rattle.ground.specs.Limits.{path_holds}
 use Rattle.ground.specs.Tests.{member}
 use Rattle.ground.proofs.Bools.{not_both, and_first, and_second, and_both, and_first_fails, or_second, or_cases}
@@ -17,14 +17,12 @@ use Rattle.ground.proofs.Padded.{length_padded}
 use Rattle.page.specs.Words.{Page, Entry, is_leaf}
 use Rattle.page.specs.Place.{route, has, information}
 use Rattle.page.specs.Reading.{looked}
-use Rattle.page.specs.declared.reading.Lot.{Lot}
-use Rattle.page.specs.declared.reading.Lot.TheVariants.{There, Missing}
-use Rattle.pool.specs.Pool.{Write, page_at}
+use Rattle.pool.specs.Pool.{Write}
 use Rattle.change.specs.Insertion.{room, insertion}
 use Rattle.change.specs.Regrading.{regrading}
 use Rattle.change.specs.Deletion.{Need, nothing, sibling, astray, needs, deletion}
 use Rattle.change.specs.Held.{Needing, Holding, leaf_of, fathers_of}
-use Rattle.change.proofs.HeldLaws.{Known, held_front, upward_reverse, upward_father, holding_known}
+use Rattle.change.proofs.HeldLaws.{Known, held_front, upward_reverse, upward_father}
 use Rattle.slots.specs.declared.Op.{Op}
 use Rattle.slots.specs.declared.Op.TheVariants.{Search, Insert, Delete, Next, Regrade}
 use Rattle.slots.specs.declared.Way.{Way}
@@ -40,12 +38,11 @@ use Rattle.slots.specs.Parts.{key_of, is_delete, is_next, is_third, held_lock, p
 use Rattle.slots.proofs.LockLaws.{third_not_second, third_not_xi}
 use Rattle.course.specs.declared.judging.Course.{Course}
 use Rattle.course.specs.declared.judging.Course.TheVariants.{Broken, Goes, Regrades, Again}
-use Rattle.footing.specs.declared.converting.Turn.{Turn}
-use Rattle.footing.specs.declared.converting.Turn.TheVariants.{Page as TurnPage, Done}
 use Rattle.footing.specs.Granted.{Verdict, broken, goes, ends, is_safe, lock_below, deletes, by_need, again, stays_second, is_none, change_known, to_convert, by_turn, converted_first, at_leaf, from_leaf, by_way_at_leaf, comes_down, goes_left, besides, converts, at_its_leaf, granted}
 use Rattle.footing.specs.Fitting.{descends, rightly_kept, rightly_beside, same_levels, is_sibling, rightly_across, lock_due, holds_due, fitting_new, rightly_converting, fitting, next_is_new}
 use Rattle.footing.specs.Standing.{SlotStanding, stood, turn_of}
 use Rattle.footing.proofs.LookLaws.{below_first}
+use Rattle.footing.proofs.KeepLaws.{cell_known}
 use Rattle.footing.proofs.AcrossLaws.{across_idle}
 use Rattle.footing.proofs.OnTurn.{converts_facts}
 use Rattle.course.specs.Judged.{on_second, judged_at, begins_again, turn_course, judged, if_new, course_of, ready, next_course, search_course, insert_course, need_course, delete_course, stands_last}
@@ -213,50 +210,45 @@ module _ {op : Op} {k n : ℕ} {ws : List ℕ} {stand : Slot} (h : SlotStanding 
   pub siblings_long : length (beside_of stand) ≡ stand.breadth
   siblings_long = sym (ap (λ (s : Slot). s.breadth) h.exact)
 
-  -- the arrays hold the pages as a deletion asks
-  pub standing_needing : Needing k n ws stand.path stand.depth stand.beside stand.breadth
-  unfolding path_of beside_of
-  standing_needing =
-      let depth = path_long in
-      let beside = siblings_long in
+  -- its pages are in the cells of its arrays
+  pub standing_within : (stand.depth ≤ path_holds) × (stand.breadth ≤ path_holds)
+  standing_within =
       let s = h.standing in
-      record {
-        path_cells = ap length (ap (λ (t : Slot). t.path) h.exact) ∙ length_padded path_holds (path_of stand) s.deep;
-        beside_cells = ap length (ap (λ (t : Slot). t.beside) h.exact) ∙ length_padded path_holds (beside_of stand) (omega (arith, s.deep, s.few));
-        some = omega (arith, s.some);
-        deep = omega (arith, s.deep);
-        few = omega (arith, s.deep, s.few);
-        held = s.held;
-        descends = λ i l.
-            ap (λ (p : ℕ). (page_at k ws p).level) (sym (get_or-take stand.depth stand.path i 0 (omega arith)))
-            ∙ s.descends i (omega arith)
-            ∙ ap (λ (p : ℕ). (page_at k ws p).level + 1) (get_or-take stand.depth stand.path (suc i) 0 l);
-      }
+      (omega (arith, path_long, s.deep), omega (arith, siblings_long, s.deep, s.few))
+
+  pub standing_cells : (stand.depth ≤ length stand.path) × (stand.breadth ≤ length stand.beside)
+  standing_cells =
+      let s = h.standing in
+      let path = ap length (ap (λ (t : Slot). t.path) h.exact) ∙ length_padded path_holds (path_of stand) s.deep in
+      let beside = ap length (ap (λ (t : Slot). t.beside) h.exact) ∙ length_padded path_holds (beside_of stand) (omega (arith, s.deep, s.few)) in
+      (omega (arith, path, standing_within.0), omega (arith, beside, standing_within.1))
+
+  -- its pages are as a deletion asks
+  pub standing_needing : Needing k n ws (path_of stand) (beside_of stand)
+  standing_needing =
+      let s = h.standing in
+      record { some = s.some; deep = s.deep; few = omega (arith, s.deep, s.few); held = s.held; descends = s.descends }
 
   -- and as an insertion and a regrading ask
-  pub standing_holding : Holding k n ws stand.path stand.depth
+  pub standing_holding : Holding k n ws (path_of stand)
   standing_holding =
-      let f = standing_needing in
-      record {
-        cells = f.path_cells;
-        some = f.some;
-        deep = f.deep;
-        held = held_front (take stand.depth stand.path) (take stand.breadth stand.beside) f.held;
-      }
+      let s = h.standing in
+      record { some = s.some; deep = s.deep; held = held_front (path_of stand) (beside_of stand) s.held }
 
   -- the path upward: the leaf, or the page that the operation has come down to, and those above it
   pub stand_upward : reverse (path_of stand) ≡ leaf_of stand.depth stand.path ∷ fathers_of stand.depth stand.path
   unfolding path_of
   stand_upward =
-      let f = standing_needing in
-      sym (upward_reverse stand.depth stand.path (omega (arith, f.path_cells, f.deep)))
-      ∙ upward_father stand.depth stand.path f.some
+      sym (upward_reverse stand.depth stand.path standing_cells.0)
+      ∙ upward_father stand.depth stand.path (omega (arith, path_long, h.standing.some))
 
-  -- what is known of that page
+  -- what is known of a page of the path, and of that one
+  pub stand_page : (i : ℕ) → i < stand.depth → Known k n ws (get_or stand.path i 0)
+  unfolding path_of
+  stand_page i l = cell_known stand.path stand.depth standing_cells.0 standing_holding.held i l
+
   pub stand_known : Known k n ws (leaf_of stand.depth stand.path)
-  stand_known =
-      let f = standing_holding in
-      holding_known f (stand.depth - 1) (omega (arith, f.some))
+  stand_known = stand_page (stand.depth - 1) (omega (arith, path_long, h.standing.some))
 
 -- ---- the courses, as the rule's words
 
@@ -288,18 +280,6 @@ delete_no_next : (x : ℕ) (way : Way) → is_next (Delete x way) ≡ false
 delete_no_next x First = refl
 delete_no_next x Second = refl
 delete_no_next x Third = refl
-
--- a page and none are two turns
-abbrev page_of : Turn → ℕ
-page_of (TurnPage p) = p
-page_of Done = 0
-
-abbrev is_done : Turn → Bool
-is_done (TurnPage p) = false
-is_done Done = true
-
-page_not_done : {p : ℕ} → TurnPage p ≡ Done → ⊥
-page_not_done e = false≢true (ap is_done e)
 
 -- a page below another is wanted with no conversion
 below_new : (op : Op) (P : Page) → is_third op && same_lock (lock_below op P) Xi ≡ false
@@ -334,25 +314,25 @@ module _ (k : ℕ) (memory : ℕ → Page) (free : List ℕ) (stand : Slot) wher
     abbrev turning : Bool
     turning = is_third op && change_known k memory (stand_of op stand) (lowest stand) (above stand)
 
-    turn_done : turn_course op k memory stand ≡ Done → converted_first k memory (stand_of op stand) (lowest stand) (above stand) change ≡ change
+    turn_done : turn_course op k memory stand ≡ None → converted_first k memory (stand_of op stand) (lowest stand) (above stand) change ≡ change
     turn_done e = split turning (to_convert (stand_of op stand)) e
       where
-        split : (b : Bool) (pages : List ℕ) → cond b (turn_of pages) Done ≡ Done → cond b (by_turn (stand_of op stand) change pages) change ≡ change
+        split : (b : Bool) (pages : List ℕ) → cond b (turn_of pages) None ≡ None → cond b (by_turn (stand_of op stand) change pages) change ≡ change
         split true [] e = refl
-        split true (p ∷ pages) e = absurd (page_not_done e)
+        split true (p ∷ pages) e = cc
         split false pages e = refl
 
-    turn_next : {p : ℕ} → turn_course op k memory stand ≡ TurnPage p
+    turn_next : {p : ℕ} → turn_course op k memory stand ≡ Some p
         → (is_third op ≡ true) × (converted_first k memory (stand_of op stand) (lowest stand) (above stand) change ≡ goes (wants_next (stand_of op stand) p Xi))
     turn_next {p} e =
         let told = split turning (to_convert (stand_of op stand)) e in
         (and_first (is_third op) (change_known k memory (stand_of op stand) (lowest stand) (above stand)) told.0, told.1)
       where
-        split : (b : Bool) (pages : List ℕ) → cond b (turn_of pages) Done ≡ TurnPage p
+        split : (b : Bool) (pages : List ℕ) → cond b (turn_of pages) None ≡ Some p
             → (b ≡ true) × (cond b (by_turn (stand_of op stand) change pages) change ≡ goes (wants_next (stand_of op stand) p Xi))
-        split true [] e = absurd (page_not_done (sym e))
-        split true (q ∷ pages) e = (refl, ap (λ (t : Turn). goes (wants_next (stand_of op stand) (page_of t) Xi)) e)
-        split false pages e = absurd (page_not_done (sym e))
+        split true [] e = absurd (cc)
+        split true (q ∷ pages) e = (refl, cc)
+        split false pages e = absurd (cc)
 
   module _ (up : reverse (path_of stand) ≡ lowest stand ∷ above stand) where
     -- what the rule says above the leaves, and at a leaf
@@ -393,7 +373,7 @@ module _ (k : ℕ) (memory : ℕ → Page) (free : List ℕ) (stand : Slot) wher
       judged_stays op stays = judged_leaf op low ∙ cond-false (again op) (converted_first k memory (stand_of op stand) (lowest stand) (above stand) (told_at op)) stays
 
       -- it is a page's
-      pub turn_judges : (op : Op) {p : ℕ} {turn : Turn} → begins_again op k memory (lowest stand) ≡ false → turn ≡ turn_course op k memory stand → turn ≡ TurnPage p
+      pub turn_judges : (op : Op) {p : ℕ} {turn : Option ℕ} → begins_again op k memory (lowest stand) ≡ false → turn ≡ turn_course op k memory stand → turn ≡ Some p
           → Judges op k memory free stand (Goes p Xi)
       turn_judges op {p} stays read page =
           let told = turn_next op (told_at op) (sym read ∙ page) in
@@ -402,17 +382,17 @@ module _ (k : ℕ) (memory : ℕ → Page) (free : List ℕ) (stand : Slot) wher
           (sym (ap if_new (judged_stays op stays ∙ told.1) ∙ cond-true (goes next) broken new), tt)
 
       -- it is none's: the operation does this
-      pub leaf_judges : (op o : Op) (course done : Course) → begins_again op k memory (lowest stand) ≡ false → turn_course op k memory stand ≡ Done → op ≡ o → course ≡ done
+      pub leaf_judges : (op o : Op) (course done : Course) → begins_again op k memory (lowest stand) ≡ false → turn_course op k memory stand ≡ None → op ≡ o → course ≡ done
           → (said o done ≡ if_new (told_at o)) × ready o k memory (path_of stand) done
           → Judges op k memory free stand course
       leaf_judges op o course done stays none told r h =
           let here : begins_again o k memory (lowest stand) ≡ false = subst (λ (q : Op). begins_again q k memory (lowest stand) ≡ false) told stays in
-          let now : turn_course o k memory stand ≡ Done = subst (λ (q : Op). turn_course q k memory stand ≡ Done) told none in
+          let now : turn_course o k memory stand ≡ None = subst (λ (q : Op). turn_course q k memory stand ≡ None) told none in
           subst (λ (q : Op). Judges q k memory free stand course) (sym told)
           (subst (Judges o k memory free stand) (sym r) (h.0 ∙ sym (ap if_new (judged_stays o here ∙ turn_done o (told_at o) now)), h.1))
 
       -- a regrading makes its change there, or finds its key missing
-      pub regrade_judges : (op : Op) (x v : ℕ) (way : Way) (course : Course) → begins_again op k memory (lowest stand) ≡ false → turn_course op k memory stand ≡ Done
+      pub regrade_judges : (op : Op) (x v : ℕ) (way : Way) (course : Course) → begins_again op k memory (lowest stand) ≡ false → turn_course op k memory stand ≡ None
           → op ≡ Regrade x v way → course ≡ Regrades x v
           → Judges op k memory free stand course
       unfolding judged_at at_leaf
@@ -426,8 +406,8 @@ module _ (k : ℕ) (memory : ℕ → Page) (free : List ℕ) (stand : Slot) wher
 
       -- ---- at a leaf, by what stands there under the key
 
-      module _ (op : Op) (lot : Lot) (course : Course) (stays : begins_again op k memory (lowest stand) ≡ false) (none : turn_course op k memory stand ≡ Done) where
-        judges_at : (o : Op) (known : Lot → Course) → lot ≡ looked (key_of o) (memory (lowest stand)).entries → op ≡ o → course ≡ known lot
+      module _ (op : Op) (lot : Option ℕ) (course : Course) (stays : begins_again op k memory (lowest stand) ≡ false) (none : turn_course op k memory stand ≡ None) where
+        judges_at : (o : Op) (known : Option ℕ → Course) → lot ≡ looked (key_of o) (memory (lowest stand)).entries → op ≡ o → course ≡ known lot
             → (said o (known (looked (key_of o) (memory (lowest stand)).entries)) ≡ if_new (told_at o))
             × ready o k memory (path_of stand) (known (looked (key_of o) (memory (lowest stand)).entries))
             → Judges op k memory free stand course
@@ -440,8 +420,8 @@ module _ (k : ℕ) (memory : ℕ → Page) (free : List ℕ) (stand : Slot) wher
             judges_at (Search x) search_course read told r
             (split (has x (memory (lowest stand)).entries) (information x (memory (lowest stand)).entries))
           where
-            split : (b : Bool) (v : ℕ) → (said (Search x) (search_course (cond b (There v) Missing)) ≡ ends (cond b (Found v) NotFound) [])
-                × ready (Search x) k memory (path_of stand) (search_course (cond b (There v) Missing))
+            split : (b : Bool) (v : ℕ) → (said (Search x) (search_course (cond b (Some v) None)) ≡ ends (cond b (Found v) NotFound) [])
+                × ready (Search x) k memory (path_of stand) (search_course (cond b (Some v) None))
             split true v = (refl, tt)
             split false v = (refl, tt)
 
@@ -451,7 +431,7 @@ module _ (k : ℕ) (memory : ℕ → Page) (free : List ℕ) (stand : Slot) wher
             → Judges op k memory free stand course
         unfolding judged_at at_leaf
         insert_judges x v way read told r top =
-            judges_at (Insert x v way) (λ (l : Lot). insert_course l x v) read told r
+            judges_at (Insert x v way) (λ (l : Option ℕ). insert_course l x v) read told r
             (split (has x (memory (lowest stand)).entries) (information x (memory (lowest stand)).entries) top)
           where
             -- once the key is known to be new
@@ -459,8 +439,8 @@ module _ (k : ℕ) (memory : ℕ → Page) (free : List ℕ) (stand : Slot) wher
             change leaf fathers = cond (ltb (length free) (room k memory leaf (path_of stand))) (ends NoRoom []) (ends Inserted (insertion k memory x v free leaf fathers))
 
             split : (b : Bool) (v' : ℕ) → (b ≡ false → Topped (Insert x v First) k memory (path_of stand))
-                → (said (Insert x v way) (insert_course (cond b (There v') Missing) x v) ≡ if_new (cond b (ends (AlreadyThere v') []) (change (lowest stand) (above stand))))
-                × ready (Insert x v way) k memory (path_of stand) (insert_course (cond b (There v') Missing) x v)
+                → (said (Insert x v way) (insert_course (cond b (Some v') None) x v) ≡ if_new (cond b (ends (AlreadyThere v') []) (change (lowest stand) (above stand))))
+                × ready (Insert x v way) k memory (path_of stand) (insert_course (cond b (Some v') None) x v)
             split true v' top = (refl, tt)
             split false v' top = (
               ap (from_leaf change) up
@@ -472,7 +452,7 @@ module _ (k : ℕ) (memory : ℕ → Page) (free : List ℕ) (stand : Slot) wher
             → Judges op k memory free stand course
         unfolding judged_at at_leaf deletes
         delete_judges x way read told r =
-            judges_at (Delete x way) (λ (l : Lot). delete_course k memory x way l stand) read told r (split (has x (memory (lowest stand)).entries) refl)
+            judges_at (Delete x way) (λ (l : Option ℕ). delete_course k memory x way l stand) read told r (split (has x (memory (lowest stand)).entries) refl)
           where
             found : ℕ
             found = information x (memory (lowest stand)).entries
@@ -489,8 +469,8 @@ module _ (k : ℕ) (memory : ℕ → Page) (free : List ℕ) (stand : Slot) wher
             by_needs astray there = (refl, tt)
 
             split : (b : Bool) → has x (memory (lowest stand)).entries ≡ b
-                → (said (Delete x way) (delete_course k memory x way (cond b (There found) Missing) stand)
+                → (said (Delete x way) (delete_course k memory x way (cond b (Some found) None) stand)
                 ≡ if_new (cond b (deletes k memory x (stand_of (Delete x way) stand) (lowest stand) (above stand)) (ends NoSuchKey [])))
-                × ready (Delete x way) k memory (path_of stand) (delete_course k memory x way (cond b (There found) Missing) stand)
+                × ready (Delete x way) k memory (path_of stand) (delete_course k memory x way (cond b (Some found) None) stand)
             split true there = by_needs (needs k memory x (lowest stand) (above stand) (beside_of stand)) there
             split false missing = (refl, tt)

@@ -14,7 +14,7 @@ use Rattle.page.specs.Place.{pointer, at_or_above}
 use Rattle.page.specs.Short.{neighbour}
 use Rattle.page.specs.Reading.{nearest}
 use Rattle.change.specs.Held.{leaf_of, fathers_of}
-use Rattle.change.proofs.HeldLaws.{Known, held_known, among_siblings, upward_reverse, upward_father, holding_known}
+use Rattle.change.proofs.HeldLaws.{Known, held_known, among_siblings, upward_reverse, upward_father}
 use Rattle.slots.specs.declared.Op.{Op}
 use Rattle.slots.specs.declared.Op.TheVariants.{Next}
 use Rattle.slots.specs.declared.Lock.TheVariants.{Rho}
@@ -23,11 +23,11 @@ use Rattle.slots.specs.declared.Slot.{Slot}
 use Rattle.slots.specs.Parts.{path_of, beside_of, Stand, wants_next, stand_of}
 use Rattle.course.specs.declared.judging.Course.{Course}
 use Rattle.course.specs.declared.judging.Course.TheVariants.{Ends}
-use Rattle.footing.specs.declared.converting.Turn.TheVariants.{Done}
+use Rattle.std.specs.Prelude.{None}
 use Rattle.footing.specs.Granted.{Verdict, goes, ends, is_safe, next_answer, crosses, by_nearest, at_leaf}
 use Rattle.footing.specs.Standing.{SlotStanding}
 use Rattle.course.specs.Judged.{on_second, judged_at, begins_again, turn_course, if_new, course_of, ready, next_course, near_course, cross_course, first_course, left_course, nexts_course}
-use Rattle.course.proofs.JudgeLaws.{standing_needing, standing_holding, stand_upward, lowest, above, Judges, next_judges, leaf_judges}
+use Rattle.course.proofs.JudgeLaws.{path_long, standing_cells, stand_upward, stand_page, lowest, above, Judges, next_judges, leaf_judges}
 
 -- ---- what is known where it stands
 
@@ -36,25 +36,23 @@ module _ {op : Op} {k n : ℕ} {ws : List ℕ} {stand : Slot} (h : SlotStanding 
   stand_top : path_of stand ≡ get_or stand.path 0 0 ∷ drop 1 (path_of stand)
   unfolding path_of
   stand_top =
-      let f = standing_needing h in
-      next_cell stand.path stand.depth 0 (omega (arith, f.path_cells, f.deep)) f.some
+      next_cell stand.path stand.depth 0 (standing_cells h).0 (omega (arith, path_long h, h.standing.some))
 
   pub top_known : Known k n ws (get_or stand.path 0 0)
-  top_known = let f = standing_holding h in holding_known f 0 f.some
+  top_known = stand_page h 0 (omega (arith, path_long h, h.standing.some))
 
   -- the page that it was granted last on its second way
   pub second_known : stand.breadth ≢ 0 → Known k n ws (leaf_of stand.breadth stand.beside)
+  unfolding beside_of
   second_known some =
-      let f = standing_needing h in
-      held_known f.held (leaf_of stand.breadth stand.beside)
-      (among_siblings (take stand.depth stand.path) stand.beside stand.breadth (stand.breadth - 1) (omega (arith, f.beside_cells, f.few)) (omega arith))
+      held_known h.standing.held (leaf_of stand.breadth stand.beside)
+      (among_siblings (path_of stand) stand.beside stand.breadth (stand.breadth - 1) (standing_cells h).1 (omega arith))
 
   -- its second way upward: the page that it was granted last, and those above it
   second_upward : stand.breadth ≢ 0 → reverse (beside_of stand) ≡ leaf_of stand.breadth stand.beside ∷ fathers_of stand.breadth stand.beside
   unfolding beside_of
   second_upward some =
-      let f = standing_needing h in
-      sym (upward_reverse stand.breadth stand.beside (omega (arith, f.beside_cells, f.few)))
+      sym (upward_reverse stand.breadth stand.beside (standing_cells h).1)
       ∙ upward_father stand.breadth stand.beside (omega arith)
 
 -- no second way yet
@@ -115,7 +113,7 @@ module _ (k : ℕ) (memory : ℕ → Page) (free : List ℕ) (x : ℕ) (stand : 
 
 -- A Next at its leaf does what the rule says.
 pub next_does : {k n : ℕ} {ws : List ℕ} {stand : Slot} (op : Op) (x : ℕ) (memory : ℕ → Page) (free : List ℕ) (course : Course)
-    → SlotStanding op k n ws stand → is_leaf (memory (lowest stand)) ≡ true → begins_again op k memory (lowest stand) ≡ false → turn_course op k memory stand ≡ Done → op ≡ Next x
+    → SlotStanding op k n ws stand → is_leaf (memory (lowest stand)) ≡ true → begins_again op k memory (lowest stand) ≡ false → turn_course op k memory stand ≡ None → op ≡ Next x
     → course ≡ nexts_course k memory x stand
     → Judges op k memory free stand course
 unfolding judged_at

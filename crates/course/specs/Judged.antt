@@ -1,15 +1,11 @@
 -- What a granted step comes to, said of the pages that the operation stands at: one rule, whether it came down or stood at its
 -- leaf. `proofs/JudgeLaws.antt` shows that it is the rule of a granted step.
-use Rattle.std.specs.Prelude.{ℕ, ◌-◌, Bool, true, false, cond, not, ◌&&◌, List, [], ◌∷◌, reverse, ◌⊎◌, ◌≡◌, ltb, eqb, length, get_or}
+use Rattle.std.specs.Prelude.{ℕ, ◌-◌, Bool, true, false, cond, not, ◌&&◌, List, [], ◌∷◌, reverse, ◌⊎◌, ◌≡◌, ltb, eqb, length, get_or, Option, Some, None}
 use Rattle.ground.specs.Tests.{member}
 use Rattle.page.specs.Words.{Page, is_leaf}
 use Rattle.page.specs.Place.{pointer, route, has, at_or_above}
 use Rattle.page.specs.Short.{neighbour}
 use Rattle.page.specs.Reading.{nearest}
-use Rattle.page.specs.declared.reading.Lot.{Lot}
-use Rattle.page.specs.declared.reading.Lot.TheVariants.{There, Missing}
-use Rattle.page.specs.declared.reading.Nearest.{Nearest}
-use Rattle.page.specs.declared.reading.Nearest.TheVariants.{Lot as TheLot, Nothing}
 use Rattle.change.specs.Insertion.{room, insertion}
 use Rattle.change.specs.Deletion.{Need, nothing, sibling, astray, needs, deletion}
 use Rattle.change.specs.Held.{leaf_of, fathers_of}
@@ -24,8 +20,6 @@ use Rattle.slots.specs.declared.Slot.{Slot}
 use Rattle.slots.specs.Parts.{key_of, is_next, is_second, is_third, held_lock, beside_of, held, Stand, wants_next, stand_of}
 use Rattle.course.specs.declared.judging.Course.{Course}
 use Rattle.course.specs.declared.judging.Course.TheVariants.{Broken, Goes, Ends, Inserts, Deletes, Regrades, Again}
-use Rattle.footing.specs.declared.converting.Turn.{Turn}
-use Rattle.footing.specs.declared.converting.Turn.TheVariants.{Done}
 use Rattle.footing.specs.Granted.{Verdict, broken, goes, ends, is_safe, lock_below, next_answer, again, stays_second, change_known, to_convert, converted_first, at_leaf, from_leaf}
 use Rattle.footing.specs.Standing.{turn_of}
 use Rattle.footing.specs.Fitting.{next_is_new}
@@ -102,39 +96,39 @@ ready op k memory path (Deletes x v) = (is_next op ≡ false) × stands_last mem
 ready op k memory path (Regrades x v) = Unit {0}
 ready op k memory path Again = Unit {0}
 
--- which page is converted next, of an update by the third way whose change is known
-abbrev pub turn_course : Op → ℕ → (ℕ → Page) → Slot → Turn
+-- which page is converted next, if one is left, of an update by the third way whose change is known
+abbrev pub turn_course : Op → ℕ → (ℕ → Page) → Slot → Option ℕ
 turn_course op k memory stand =
     cond (is_third op && change_known k memory (stand_of op stand) (leaf_of stand.depth stand.path) (fathers_of stand.depth stand.path))
     (turn_of (to_convert (stand_of op stand)))
-    Done
+    None
 
 -- The courses by what was read: on to this page with this lock, if it is not held; and, at the leaf, by what stands there under the key.
 abbrev pub next_course : Slot → ℕ → Lock → Course
 next_course stand next lock = cond (member next (held stand)) Broken (Goes next lock)
 
-abbrev pub search_course : Lot → Course
-search_course (There v) = Ends (Found v)
-search_course Missing = Ends NotFound
+abbrev pub search_course : Option ℕ → Course
+search_course (Some v) = Ends (Found v)
+search_course None = Ends NotFound
 
-abbrev pub insert_course : Lot → ℕ → ℕ → Course
-insert_course (There v') x v = Ends (AlreadyThere v')
-insert_course Missing x v = Inserts x v
+abbrev pub insert_course : Option ℕ → ℕ → ℕ → Course
+insert_course (Some v') x v = Ends (AlreadyThere v')
+insert_course None x v = Inserts x v
 
 abbrev pub need_course : Slot → ℕ → Way → ℕ → Need → Course
 need_course stand x way v nothing = Deletes x v
 need_course stand x way v (sibling s) = next_course stand s (held_lock (Delete x way))
 need_course stand x way v astray = Broken
 
-abbrev pub delete_course : ℕ → (ℕ → Page) → ℕ → Way → Lot → Slot → Course
-delete_course k memory x way Missing stand = Ends NoSuchKey
-delete_course k memory x way (There v) stand =
+abbrev pub delete_course : ℕ → (ℕ → Page) → ℕ → Way → Option ℕ → Slot → Course
+delete_course k memory x way None stand = Ends NoSuchKey
+delete_course k memory x way (Some v) stand =
     need_course stand x way v (needs k memory x (leaf_of stand.depth stand.path) (fathers_of stand.depth stand.path) (beside_of stand))
 
 -- A Next by the first entry that was read; without one it goes this further.
-abbrev pub near_course : Course → Nearest → Course
-near_course further (TheLot y v) = Ends (NextLot y v)
-near_course further Nothing = further
+abbrev pub near_course : Course → Option (ℕ × ℕ) → Course
+near_course further (Some (y, v)) = Ends (NextLot y v)
+near_course further None = further
 
 -- its first leaf has none: by the top page of its path
 abbrev pub cross_course : ℕ → (ℕ → Page) → ℕ → Slot → Course

@@ -7,7 +7,6 @@ use mathlib.Core.Path.{◌≡◌, refl, sym, ap, ◌∙◌, subst}
 use native.Mathlib.Omega.{arith}
 use borrow.Author.Tests.{ne_eqb, eqb-true}
 use lib.Dec.{eqb}
-use lib.Seq.{length-take-le, get_or-take}
 use Rattle.ground.specs.Tests.{member}
 use Rattle.ground.proofs.Bools.{not_both, or_cases}
 use Rattle.ground.proofs.Tests.{member_at}
@@ -16,7 +15,7 @@ use Rattle.page.specs.Splits.{with_entries}
 use Rattle.page.proofs.RiseLaws.{key_at}
 use Rattle.page.proofs.PlaceLaws.{place_most, has_place, without_at}
 use Rattle.change.specs.Deletion.{shrunk, deletion}
-use lib.ListN.{length, get_or, take}
+use lib.ListN.{length, get_or}
 use Rattle.ground.proofs.Choice.{same_or_not, cond-false}
 use Rattle.page.specs.Words.{Page, μ, view}
 use Rattle.page.specs.Short.{less_key}
@@ -34,23 +33,23 @@ use Rattle.change.proofs.AppliedLaws.{elsewhere}
 use Rattle.deletion.proofs.ClimbLaws.{climbed_over, shrunk_memory}
 use Rattle.change.proofs.NeedLaws.{path_known, sibling_known, father_key}
 
-module _ {k n : ℕ} {ws : List ℕ} {x : ℕ} {path : List ℕ} {depth : ℕ} {siblings : List ℕ} {beside : ℕ}
-    (h : Deleting k n ws x path depth siblings beside) (b : ℕ) {vs : List ℕ}
-    (done : vs ≡ written k (write (leaf_of depth path) (less_key b (page_at k ws (leaf_of depth path)))) ws) where
+module _ {k n : ℕ} {ws : List ℕ} {x : ℕ} {path siblings : List ℕ}
+    (h : Deleting k n ws x path siblings) (b : ℕ) {vs : List ℕ}
+    (done : vs ≡ written k (write (leaf_of (length path) path) (less_key b (page_at k ws (leaf_of (length path) path)))) ws) where
   abbrev leaf : ℕ
-  leaf = leaf_of depth path
+  leaf = leaf_of (length path) path
 
   abbrev left : Page
   left = less_key b (page_at k ws leaf)
 
-  last : depth - 1 < depth
-  last = let some : 1 ≤ depth = h.held.some in omega arith
+  last : length path - 1 < length path
+  last = let some : 1 ≤ length path = h.held.some in omega arith
 
   pub left_fit : FitWrite k n (write leaf left)
   left_fit =
       record {
-        in_pool = (path_known x h.held (depth - 1) last).in_pool.inside;
-        fits = less_key_fits (sound_fits (path_known x h.held (depth - 1) last).facts) b;
+        in_pool = (path_known x h.held (length path - 1) last).in_pool.inside;
+        fits = less_key_fits (sound_fits (path_known x h.held (length path - 1) last).facts) b;
       }
 
   whole : length vs ≡ pool_length k n
@@ -76,13 +75,13 @@ module _ {k n : ℕ} {ws : List ℕ} {x : ℕ} {path : List ℕ} {depth : ℕ} {
       ∙ words_of_written_same k n leaf left ws left_fit.in_pool h.held.held.whole (length_encode k left left_fit.fits)))
       (exact_encode k left left_fit.fits)
 
-  other : (i : ℕ) → i + 1 < depth → get_or path i 0 ≢ leaf
-  other i l = h.path_apart i (depth - 1) (omega arith) last
+  other : (i : ℕ) → i + 1 < length path → get_or path i 0 ≢ leaf
+  other i l = h.path_apart i (length path - 1) (omega arith) last
 
-  beside_other : (j : ℕ) → j < beside → get_or siblings j 0 ≢ leaf
-  beside_other j l e = h.across (depth - 1) j last l (sym e)
+  beside_other : (j : ℕ) → j < length siblings → get_or siblings j 0 ≢ leaf
+  beside_other j l e = h.across (length path - 1) j last l (sym e)
 
-  level_same : (i : ℕ) → i < depth → (page_at k vs (get_or path i 0)).level ≡ (page_at k ws (get_or path i 0)).level
+  level_same : (i : ℕ) → i < length path → (page_at k vs (get_or path i 0)).level ≡ (page_at k ws (get_or path i 0)).level
   unfolding less_key
   level_same i l =
       ⊎_elim
@@ -90,13 +89,11 @@ module _ {k n : ℕ} {ws : List ℕ} {x : ℕ} {path : List ℕ} {depth : ℕ} {
       subst (λ (t : ℕ). (page_at k vs (get_or path t 0)).level ≡ (page_at k ws (get_or path t 0)).level) (sym e)
       (ap (λ (P : Page). P.level) leaf_value))
       (λ ne. ap (λ (P : Page). P.level) (kept_value (get_or path i 0) (other i (omega arith))))
-      (same_or_not i (depth - 1))
+      (same_or_not i (length path - 1))
 
-  pub leaf_climbs : Climbing k n vs path depth siblings beside
+  pub leaf_climbs : Climbing k n vs path siblings
   leaf_climbs =
       record {
-        path_cells = h.held.path_cells;
-        beside_cells = h.held.beside_cells;
         some = h.held.some;
         deep = h.held.deep;
         few = h.held.few;
@@ -107,7 +104,7 @@ module _ {k n : ℕ} {ws : List ℕ} {x : ℕ} {path : List ℕ} {depth : ℕ} {
             ⊎_elim
             (λ e. subst (λ (t : ℕ). Exact k (words_of k (get_or path t 0) vs)) (sym e) leaf_exact)
             (λ ne. subst (Exact k) (sym (kept (get_or path i 0) (other i (omega arith)))) (path_known x h.held i l).exact)
-            (same_or_not i (depth - 1));
+            (same_or_not i (length path - 1));
         rising =
             λ i l.
             subst (λ (P : Page). rises P.entries ≡ true) (sym (kept_value (get_or path i 0) (other i l)))
@@ -146,13 +143,13 @@ above_index (suc i) path q m =
     (λ later. let found = above_index i path q later in (found.0, omega arith, found.2))
     (or_cases (eqb q (get_or path i 0)) (member q (upward i path)) m)
 
-module _ {k n : ℕ} {ws : List ℕ} {x : ℕ} {path : List ℕ} {depth : ℕ} {siblings : List ℕ} {beside : ℕ}
-    (h : Deleting k n ws x path depth siblings beside) where
+module _ {k n : ℕ} {ws : List ℕ} {x : ℕ} {path siblings : List ℕ}
+    (h : Deleting k n ws x path siblings) where
   abbrev was : Page
-  was = page_at k ws (leaf_of depth path)
+  was = page_at k ws (leaf_of (length path) path)
 
   leaf_rises : rises was.entries ≡ true
-  leaf_rises = let some : 1 ≤ depth = h.held.some in (path_known x h.held (depth - 1) (omega arith)).facts.rising
+  leaf_rises = let some : 1 ≤ length path = h.held.some in (path_known x h.held (length path - 1) (omega arith)).facts.rising
 
   -- x stands just before its place
   pub stands_at : {at : ℕ} → at ≡ place x was.entries → (0 < at) × (at - 1 < μ was)
@@ -173,26 +170,24 @@ module _ {k n : ℕ} {ws : List ℕ} {x : ℕ} {path : List ℕ} {depth : ℕ} {
 
   -- the whole change
   pub deleted : {at : ℕ} {vs out : List ℕ} → at ≡ place x was.entries
-      → vs ≡ written k (write (leaf_of depth path) (less_key (at - 1) was)) ws
-      → out ≡ applied k (shrunk k (page_at k vs) x (fathers_of depth path) (take beside siblings) (leaf_of depth path) (page_at k vs (leaf_of depth path))) vs
-      → out ≡ applied k (deletion k (page_at k ws) x (leaf_of depth path) (fathers_of depth path) (take beside siblings)) ws
+      → vs ≡ written k (write (leaf_of (length path) path) (less_key (at - 1) was)) ws
+      → out ≡ applied k (shrunk k (page_at k vs) x (fathers_of (length path) path) siblings (leaf_of (length path) path) (page_at k vs (leaf_of (length path) path))) vs
+      → out ≡ applied k (deletion k (page_at k ws) x (leaf_of (length path) path) (fathers_of (length path) path) siblings) ws
   unfolding deletion
   deleted {at} {vs} {out} e done climbed =
-      let few : beside ≤ length siblings = omega (arith, h.held.few, h.held.beside_cells) in
       climbed
       ∙ climbed_over x (leaf_climbs h (at - 1) done) ws (less_key (at - 1) was) h.held.held.whole (left_fit h (at - 1) done).fits done
       ∙ ap (λ (list : List Write). applied k list ws)
-      (shrunk_memory k (page_at k vs) (page_at k ws) x (fathers_of depth path) (take beside siblings) (leaf_of depth path) (page_at k vs (leaf_of depth path))
+      (shrunk_memory k (page_at k vs) (page_at k ws) x (fathers_of (length path) path) siblings (leaf_of (length path) path) (page_at k vs (leaf_of (length path) path))
       (λ q m.
-      let found = above_index (depth - 1) path q m in
+      let found = above_index (length path - 1) path q m in
       kept_value h (at - 1) done q
-      (λ z. h.path_apart found.0 (depth - 1) found.1 (let some : 1 ≤ depth = h.held.some in omega arith) (found.2 ∙ z)))
+      (λ z. h.path_apart found.0 (length path - 1) found.1 (let some : 1 ≤ length path = h.held.some in omega arith) (found.2 ∙ z)))
       (λ q m.
-      let found = member_at q (take beside siblings) 0 m in
-      let inside : found.0 < beside = omega (arith, length-take-le beside siblings few) in
+      let found = member_at q siblings 0 m in
       kept_value h (at - 1) done q
       (λ z.
-      h.across (depth - 1) found.0 (let some : 1 ≤ depth = h.held.some in omega arith) inside
-      (sym z ∙ sym found.2 ∙ get_or-take beside siblings found.0 0 inside)))
-      ∙ ap (λ (P : Page). shrunk k (page_at k ws) x (fathers_of depth path) (take beside siblings) (leaf_of depth path) P)
+      h.across (length path - 1) found.0 (let some : 1 ≤ length path = h.held.some in omega arith) found.1
+      (sym z ∙ sym found.2)))
+      ∙ ap (λ (P : Page). shrunk k (page_at k ws) x (fathers_of (length path) path) siblings (leaf_of (length path) path) P)
       (leaf_value h (at - 1) done ∙ lost_x e))

@@ -107,34 +107,32 @@ round k x p P s S f F =
     let right = right_one x F p s in
     cond (ltb k (μ S)) (shares x p P s S f F) (cond (emptied f F b) (collapsing f left right J) (uniting f F b left right J))
 
--- The arrays hold a path and siblings of a deletion whose leaf lost x: every page can be read and written, those above the
+-- These are a path and siblings of a deletion whose leaf lost x: every page can be read and written, those above the
 -- leaf have keys, a sibling lies beside its page and is not empty, and no page stands twice.
-pub record Climbing (k n : ℕ) (ws path : List ℕ) (depth : ℕ) (siblings : List ℕ) (beside : ℕ) : Type 0 where
-  pub path_cells : length path ≡ path_holds
-  pub beside_cells : length siblings ≡ path_holds
-  pub some : 1 ≤ depth
-  pub deep : depth ≤ path_holds
-  pub few : beside ≤ path_holds
+pub record Climbing (k n : ℕ) (ws path siblings : List ℕ) : Type 0 where
+  pub some : 1 ≤ length path
+  pub deep : length path ≤ path_holds
+  pub few : length siblings ≤ path_holds
   pub whole : length ws ≡ pool_length k n
-  pub path_in : (i : ℕ) → i < depth → InPool k n (get_or path i 0) ws
-  pub path_exact : (i : ℕ) → i < depth → Exact k (words_of k (get_or path i 0) ws)
-  pub rising : (i : ℕ) → i + 1 < depth → rises (page_at k ws (get_or path i 0)).entries ≡ true
-  pub key : (i : ℕ) → i + 1 < depth → 1 ≤ μ (page_at k ws (get_or path i 0))
-  pub beside_in : (j : ℕ) → j < beside → InPool k n (get_or siblings j 0) ws
-  pub beside_exact : (j : ℕ) → j < beside → Exact k (words_of k (get_or siblings j 0) ws)
-  pub beside_some : (j : ℕ) → j < beside → 1 ≤ μ (page_at k ws (get_or siblings j 0))
-  pub levels : (i j : ℕ) → j < beside → i + j + 1 ≡ depth → (page_at k ws (get_or path i 0)).level ≡ (page_at k ws (get_or siblings j 0)).level
-  pub path_apart : (i t : ℕ) → i < t → t < depth → get_or path i 0 ≢ get_or path t 0
-  pub beside_apart : (j t : ℕ) → j < t → t < beside → get_or siblings j 0 ≢ get_or siblings t 0
-  pub across : (i j : ℕ) → i < depth → j < beside → get_or path i 0 ≢ get_or siblings j 0
+  pub path_in : (i : ℕ) → i < length path → InPool k n (get_or path i 0) ws
+  pub path_exact : (i : ℕ) → i < length path → Exact k (words_of k (get_or path i 0) ws)
+  pub rising : (i : ℕ) → i + 1 < length path → rises (page_at k ws (get_or path i 0)).entries ≡ true
+  pub key : (i : ℕ) → i + 1 < length path → 1 ≤ μ (page_at k ws (get_or path i 0))
+  pub beside_in : (j : ℕ) → j < length siblings → InPool k n (get_or siblings j 0) ws
+  pub beside_exact : (j : ℕ) → j < length siblings → Exact k (words_of k (get_or siblings j 0) ws)
+  pub beside_some : (j : ℕ) → j < length siblings → 1 ≤ μ (page_at k ws (get_or siblings j 0))
+  pub levels : (i j : ℕ) → j < length siblings → i + j + 1 ≡ length path → (page_at k ws (get_or path i 0)).level ≡ (page_at k ws (get_or siblings j 0)).level
+  pub path_apart : (i t : ℕ) → i < t → t < length path → get_or path i 0 ≢ get_or path t 0
+  pub beside_apart : (j t : ℕ) → j < t → t < length siblings → get_or siblings j 0 ≢ get_or siblings t 0
+  pub across : (i j : ℕ) → i < length path → j < length siblings → get_or path i 0 ≢ get_or siblings j 0
 
--- The arrays hold the pages of a deletion of x that stands at its leaf, and x stands there. A sibling lies beside its page and
+-- These are the pages of a deletion of x that stands at its leaf, and x stands there. A sibling lies beside its page and
 -- is not page 0, and no page stands twice.
-pub record Deleting (k n : ℕ) (ws : List ℕ) (x : ℕ) (path : List ℕ) (depth : ℕ) (siblings : List ℕ) (beside : ℕ) : Type 0 where
-  pub held : Needing k n ws path depth siblings beside
-  pub stands : has x (page_at k ws (leaf_of depth path)).entries ≡ true
-  pub levels : (i j : ℕ) → j < beside → i + j + 1 ≡ depth → (page_at k ws (get_or path i 0)).level ≡ (page_at k ws (get_or siblings j 0)).level
-  pub others : (j : ℕ) → j < beside → get_or siblings j 0 ≢ 0
-  pub path_apart : (i t : ℕ) → i < t → t < depth → get_or path i 0 ≢ get_or path t 0
-  pub beside_apart : (j t : ℕ) → j < t → t < beside → get_or siblings j 0 ≢ get_or siblings t 0
-  pub across : (i j : ℕ) → i < depth → j < beside → get_or path i 0 ≢ get_or siblings j 0
+pub record Deleting (k n : ℕ) (ws : List ℕ) (x : ℕ) (path siblings : List ℕ) : Type 0 where
+  pub held : Needing k n ws path siblings
+  pub stands : has x (page_at k ws (leaf_of (length path) path)).entries ≡ true
+  pub levels : (i j : ℕ) → j < length siblings → i + j + 1 ≡ length path → (page_at k ws (get_or path i 0)).level ≡ (page_at k ws (get_or siblings j 0)).level
+  pub others : (j : ℕ) → j < length siblings → get_or siblings j 0 ≢ 0
+  pub path_apart : (i t : ℕ) → i < t → t < length path → get_or path i 0 ≢ get_or path t 0
+  pub beside_apart : (j t : ℕ) → j < t → t < length siblings → get_or siblings j 0 ≢ get_or siblings t 0
+  pub across : (i j : ℕ) → i < length path → j < length siblings → get_or path i 0 ≢ get_or siblings j 0

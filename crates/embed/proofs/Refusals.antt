@@ -9,10 +9,10 @@ use lib.ListN.{length}
 use Rattle.ground.specs.Limits.{k_in_range, n_in_range}
 use Rattle.ground.proofs.Choice.{cond-true, cond_ind}
 use Rattle.pool.specs.Pool.{pool_length}
+use Rattle.slots.specs.declared.Op.{Op}
 use Rattle.slots.specs.declared.Answer.{Answer}
 use Rattle.slots.specs.declared.State.{State}
-use Rattle.slots.specs.declared.operations.Asked.{Asked}
-use Rattle.slots.specs.declared.operations.Asked.TheVariants.{Known, Unknown}
+use Rattle.std.specs.Prelude.{Option, Some, None}
 use Rattle.slots.specs.Heard.{changes_nothing}
 use Rattle.slots.specs.Parts.{idle_state}
 use Rattle.slots.specs.Begin.{begun}
@@ -38,12 +38,12 @@ step_stays cells ws s heard' e h =
     let a : Answer = (stepped (state_of cells) ws s).answer in
     (lent_stays cells s a (stepped (state_of cells) ws s).state (still heard' a e h), (step_refused (state_of cells) ws s (still heard' a e h)).words)
 
-pub begin_stays : (cells : List ℕ) (s : ℕ) (asked : Asked) (heard' : List ℕ) → heard' ≡ begin_told cells s asked → leaves_all heard' ≡ true
+pub begin_stays : (cells : List ℕ) (s : ℕ) (asked : Option Op) (heard' : List ℕ) → heard' ≡ begin_told cells s asked → leaves_all heard' ≡ true
     → begin_leaves cells s asked ≡ cells
-begin_stays cells s (Known op) heard' e h =
+begin_stays cells s (Some op) heard' e h =
     let a : Answer = (begun (state_of cells) s op).answer in
     lent_stays cells s a (begun (state_of cells) s op).state (still heard' a e h)
-begin_stays cells s Unknown heard' e h = refl
+begin_stays cells s None heard' e h = refl
 
 -- the only answer of a making that changes nothing is its refusal
 make_still : (k n : ℕ) (ws : List ℕ) → changes_nothing (made k n ws).answer ≡ true → AsGiven (idle_state 0 0) ws (made k n ws)

@@ -5,8 +5,7 @@ use mathlib.Core.Path.{◌≡◌, refl, sym, ap, ◌∙◌}
 use lib.ListN.{get_or}
 use Rattle.slots.specs.declared.Op.{Op}
 use Rattle.slots.specs.declared.Answer.{Answer}
-use Rattle.slots.specs.declared.operations.Asked.{Asked}
-use Rattle.slots.specs.declared.operations.Asked.TheVariants.{Known, Unknown}
+use Rattle.std.specs.Prelude.{Option, Some, None}
 use Rattle.slots.specs.Heard.{heard}
 use Rattle.slots.specs.Operations.{asked_by}
 use Rattle.slots.specs.Begin.{begun}
@@ -63,7 +62,7 @@ pub report_tells : (cells : List ℕ) (p : ℕ) (r : Answer) (heard' : List ℕ)
 report_tells cells p r heard' says e = record { answer = e ∙ told_heard r (reported (state_of cells) p) says.answer }
 
 -- a beginning, by what was asked
-begins_asked : (cells : List ℕ) (s kind key information : ℕ) (asked : Asked) (cells' heard' : List ℕ) → asked_by kind key information ≡ asked
+begins_asked : (cells : List ℕ) (s kind key information : ℕ) (asked : Option Op) (cells' heard' : List ℕ) → asked_by kind key information ≡ asked
     → heard' ≡ begin_told cells s asked → state_of cells' ≡ begin_next cells s asked → cells' ≡ begin_leaves cells s asked → BeginTells cells s kind key information cells' heard'
 begins_asked cells s kind key information asked cells' heard' was t next all =
     record {
@@ -74,11 +73,11 @@ begins_asked cells s kind key information asked cells' heard' was t next all =
     }
 
 pub begin_tells : (cells : List ℕ) (s kind key information : ℕ) (op : Op) (r : Answer) (cells' heard' : List ℕ)
-    → asked_by kind key information ≡ Known op → BeginSays cells s op r cells' → heard' ≡ told r
+    → asked_by kind key information ≡ Some op → BeginSays cells s op r cells' → heard' ≡ told r
     → BeginTells cells s kind key information cells' heard'
 begin_tells cells s kind key information op r cells' heard' known says e =
-    begins_asked cells s kind key information (Known op) cells' heard' known (e ∙ told_heard r (begun (state_of cells) s op).answer says.answer) says.state says.all
+    begins_asked cells s kind key information (Some op) cells' heard' known (e ∙ told_heard r (begun (state_of cells) s op).answer says.answer) says.state says.all
 
 pub begin_unknown : (cells : List ℕ) (s kind key information : ℕ) (heard' : List ℕ)
-    → asked_by kind key information ≡ Unknown → heard' ≡ bad_kind → BeginTells cells s kind key information cells heard'
-begin_unknown cells s kind key information heard' unknown e = begins_asked cells s kind key information Unknown cells heard' unknown e refl refl
+    → asked_by kind key information ≡ None → heard' ≡ bad_kind → BeginTells cells s kind key information cells heard'
+begin_unknown cells s kind key information heard' unknown e = begins_asked cells s kind key information None cells heard' unknown e refl refl

@@ -2,10 +2,9 @@
 -- read, every word of the state and every word of the pool. `cells'`, `after` and `heard'` are the lent words that a call leaves.
 -- "A refused call leaves pages, locks and waiting order exactly as found." (demand 1) follows, and is said of making, opening, begin and
 -- step (`kept`): a refused making, by 01, "returns an empty state", and so does a refused opening, by 02 (vii).
-use Rattle.std.specs.Prelude.{ℕ, true, List, ◌≡◌}
+use Rattle.std.specs.Prelude.{ℕ, true, List, ◌≡◌, Option, Some, None}
+use Rattle.slots.specs.declared.Op.{Op}
 use Rattle.slots.specs.declared.State.{State}
-use Rattle.slots.specs.declared.operations.Asked.{Asked}
-use Rattle.slots.specs.declared.operations.Asked.TheVariants.{Known, Unknown}
 use Rattle.slots.specs.Operations.{asked_by}
 use Rattle.slots.specs.Parts.{idle_state}
 use Rattle.slots.specs.Begin.{begun}
@@ -32,17 +31,17 @@ pub record OpenTells (k n : ℕ) (ws cells' heard' : List ℕ) : Type 0 where
   pub kept : leaves_all heard' ≡ true → cells' ≡ state_words (idle_state 0 0)
 
 -- A kind that does not exist is refused before the state is looked at, and leaves all as given.
-abbrev pub begin_told : List ℕ → ℕ → Asked → List ℕ
-begin_told cells s (Known op) = told (begun (state_of cells) s op).answer
-begin_told cells s Unknown = bad_kind
+abbrev pub begin_told : List ℕ → ℕ → Option Op → List ℕ
+begin_told cells s (Some op) = told (begun (state_of cells) s op).answer
+begin_told cells s None = bad_kind
 
-abbrev pub begin_leaves : List ℕ → ℕ → Asked → List ℕ
-begin_leaves cells s (Known op) = lent_after cells s (begun (state_of cells) s op).answer (begun (state_of cells) s op).state
-begin_leaves cells s Unknown = cells
+abbrev pub begin_leaves : List ℕ → ℕ → Option Op → List ℕ
+begin_leaves cells s (Some op) = lent_after cells s (begun (state_of cells) s op).answer (begun (state_of cells) s op).state
+begin_leaves cells s None = cells
 
-abbrev pub begin_next : List ℕ → ℕ → Asked → State
-begin_next cells s (Known op) = (begun (state_of cells) s op).state
-begin_next cells s Unknown = state_of cells
+abbrev pub begin_next : List ℕ → ℕ → Option Op → State
+begin_next cells s (Some op) = (begun (state_of cells) s op).state
+begin_next cells s None = state_of cells
 
 pub record BeginTells (cells : List ℕ) (s kind key information : ℕ) (cells' heard' : List ℕ) : Type 0 where
   pub answer : heard' ≡ begin_told cells s (asked_by kind key information)

@@ -6,7 +6,7 @@ ghost use Rattle.embed.specs.Version.{library_version};
 use crate::telling::{tell, tell_bad_kind};
 use index::calls::{begin, make, open, report, step};
 use lent::STATE;
-use slots::operations::{Asked, asked_by};
+use slots::operations::asked_by;
 
 // The version of these calls.
 const VERSION: u32 = 7;
@@ -50,8 +50,7 @@ pub fn ghazfulit_begin(
 )
     ensures { BeginTells state.old slot kind key information state.new answer.new }
 {
-    let asked = asked_by(kind, key, information);
-    let Asked::Known(op) = asked else {
+    let Some(op) = asked_by(kind, key, information) else {
         tell_bad_kind(answer);
         return;
     };

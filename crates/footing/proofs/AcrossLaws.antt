@@ -1,22 +1,20 @@
 -- The second way of a Next: each law is one way through the rule for the way itself, or for the slot that goes down it.
 use Prim.Native.Nat.{ℕ, ◌≤◌}
-use mathlib.Core.Bool.{Bool, true, false, not, ◌&&◌}
+use mathlib.Core.Bool.{Bool, true, false, ◌&&◌}
 use mathlib.Core.List.{List, [], ◌∷◌, ◌++◌, reverse}
 use mathlib.Core.Logic.{⊎_elim}
 use mathlib.Core.Path.{◌≡◌, refl, sym, ap, ap₂, ◌∙◌, subst}
-use borrow.Author.Tests.{eqb-true, eq-eqb}
+use borrow.Author.Tests.{eqb-true}
 use lib.Dec.{eqb}
 use lib.ListN.{length, get_or, take}
 use Rattle.ground.specs.Tests.{member}
-use Rattle.ground.proofs.Bools.{and_both, and_first_fails, and_second_fails, or_first, or_second, or_cases}
+use Rattle.ground.proofs.Bools.{and_both, and_first_fails, and_second_fails, or_second, or_cases}
 use Rattle.ground.proofs.Padded.{next_cell}
-use Rattle.ground.proofs.Tests.{member_append}
+use Rattle.ground.proofs.Tests.{member_append, member_from, member_here, member_there}
 use Rattle.page.specs.Words.{Entry, Page}
 use Rattle.page.specs.Place.{at_or_above}
-use Rattle.page.specs.Short.{neighbour}
 use Rattle.page.specs.Reading.{nearest}
-use Rattle.page.specs.declared.reading.Nearest.{Nearest}
-use Rattle.page.specs.declared.reading.Nearest.TheVariants.{Lot, Nothing}
+use Rattle.std.specs.Prelude.{Option, is_some, not}
 use Rattle.change.specs.Held.{Held, leaf_of}
 use Rattle.change.proofs.HeldLaws.{held_some, on_path}
 use Rattle.slots.specs.declared.Op.{Op}
@@ -25,41 +23,16 @@ use Rattle.slots.specs.declared.Lock.{Lock}
 use Rattle.slots.specs.declared.Under.{Under}
 use Rattle.slots.specs.Parts.{key_of, is_next, Stand, stand, with_op}
 use Rattle.footing.specs.Granted.{is_safe}
-use Rattle.footing.specs.Fitting.{names_below, is_none, leftmost, turns_right, rightly_across}
+use Rattle.footing.specs.Fitting.{is_none, turns_right, rightly_across}
 use Rattle.footing.proofs.LookLaws.{told_true, told_false, held_two}
 use Rattle.footing.proofs.KeepLaws.{last_first}
 
 -- ---- the way itself
 
-module _ (memory : ℕ → Page) (x top : ℕ) (way : List ℕ) (count : ℕ) (long : count ≤ length way) (some : 1 ≤ count) where
-  -- the way begins with the next child to the right
-  abbrev begins : Bool
-  begins = names_below memory (neighbour x) top (get_or way 0 0)
-
-  by_turn : turns_right memory x top (take count way) ≡ begins && leftmost memory (take count way)
-  by_turn =
-      let first = next_cell way count 0 long some in
-      ap (turns_right memory x top) first ∙ sym (ap (λ (pages : List ℕ). begins && leftmost memory pages) first)
-
-  module _ {answer : Bool} (said : answer ≡ begins) where
-    -- it does not
-    pub turn_stops : not answer ≡ true → false ≡ turns_right memory x top (take count way)
-    turn_stops f = sym (by_turn ∙ and_first_fails (leftmost memory (take count way)) (told_false said f))
-
-    -- it does: the rest of it tells
-    pub turn_goes : {r : Bool} → not answer ≡ false → r ≡ leftmost memory (take count way) → r ≡ turns_right memory x top (take count way)
-    turn_goes t e = e ∙ sym (by_turn ∙ ap (λ (b : Bool). b && leftmost memory (take count way)) (told_true said t))
-
 -- the page above the way, and its first page
-pub held_turn : {k n : ℕ} {ws : List ℕ} (top : ℕ) (way : List ℕ) (count : ℕ) → count ≤ length way → 1 ≤ count
-    → Held k n ws (top ∷ take count way) → Held k n ws (top ∷ get_or way 0 0 ∷ [])
-unfolding member
-held_turn top way count long some held =
-    let first = next_cell way count 0 long some in
-    held_two held top (get_or way 0 0) (or_first (member top (take count way)) (eq-eqb top top refl))
-    (or_second (eqb (get_or way 0 0) top)
-    (subst (λ (pages : List ℕ). member (get_or way 0 0) pages ≡ true) (sym first)
-    (or_first _ (eq-eqb (get_or way 0 0) (get_or way 0 0) refl))))
+pub held_turn : {k n : ℕ} {ws : List ℕ} (top : ℕ) (way : List ℕ) → 1 ≤ length way → Held k n ws (top ∷ way) → Held k n ws (top ∷ get_or way 0 0 ∷ [])
+held_turn top way some held =
+    held_two held top (get_or way 0 0) (member_here top way) (member_there top (get_or way 0 0) way (member_from (get_or way 0 0) way 0 0 some refl))
 
 -- the top page of a path, with the pages beside it
 pub held_top_with : {k n : ℕ} {ws : List ℕ} (path : List ℕ) (depth : ℕ) (more : List ℕ) → depth ≤ length path → 1 ≤ depth
@@ -89,14 +62,10 @@ across_idle k memory z (top ∷ below) f =
     f)
 
 -- what was read at or above a key tells whether there is none
-abbrev pub is_nothing : Nearest → Bool
-is_nothing (Lot y v) = false
-is_nothing Nothing = true
-
-nearest_none : {near : Nearest} (es : List Entry) → near ≡ nearest es → is_nothing near ≡ is_none es
-nearest_none es e = ap is_nothing e ∙ by_entries es
+nearest_none : {near : Option (ℕ × ℕ)} (es : List Entry) → near ≡ nearest es → not (is_some near) ≡ is_none es
+nearest_none es e = ap (λ (near : Option (ℕ × ℕ)). not (is_some near)) e ∙ by_entries es
   where
-    by_entries : (es : List Entry) → is_nothing (nearest es) ≡ is_none es
+    by_entries : (es : List Entry) → not (is_some (nearest es)) ≡ is_none es
     by_entries [] = refl
     by_entries (e ∷ es) = refl
 
@@ -131,20 +100,20 @@ module _ (k : ℕ) (memory : ℕ → Page) (path : List ℕ) (depth : ℕ) (lock
       ap₂ (λ (o : Op) (pages : List ℕ). rightly_across k memory (with_op o z) pages) nexts first
       ∙ ap (λ (p : ℕ). is_none (at_or_above x (memory p).entries) && more && turned) leaf
 
-  module _ {near : Nearest} (read : near ≡ nearest above) where
+  module _ {near : Option (ℕ × ℕ)} (read : near ≡ nearest above) where
     -- the leaf has such a key
-    pub across_found : is_nothing near ≡ false → false ≡ answer
-    across_found f = sym (by_tests ∙ and_first_fails turned (and_first_fails more (sym (nearest_none above read) ∙ f)))
+    pub across_found : is_some near ≡ true → false ≡ answer
+    across_found t = sym (by_tests ∙ and_first_fails turned (and_first_fails more (sym (nearest_none above read) ∙ ap not t)))
 
     module _ {safe : Bool} (said : safe ≡ more) where
       -- the top page has no child to the right
-      pub across_ends : not safe ≡ true → false ≡ answer
+      pub across_ends : safe ≡ false → false ≡ answer
       across_ends f = sym (by_tests ∙ and_first_fails turned (and_second_fails none (told_false said f)))
 
       -- it has one: the way tells
-      pub across_turns : {r : Bool} {taken : List ℕ} → is_nothing near ≡ true → not safe ≡ false → r ≡ turns_right memory x top taken
+      pub across_turns : {r : Bool} {taken : List ℕ} → is_some near ≡ false → safe ≡ true → r ≡ turns_right memory x top taken
           → taken ≡ second ++ want ∷ [] → r ≡ answer
-      across_turns t u e added =
+      across_turns f u e added =
           e
           ∙ ap (turns_right memory x top) added
-          ∙ sym (by_tests ∙ ap (λ (b : Bool). b && turned) (and_both (sym (nearest_none above read) ∙ t) (told_true said u)))
+          ∙ sym (by_tests ∙ ap (λ (b : Bool). b && turned) (and_both (sym (nearest_none above read) ∙ ap not f) (told_true said u)))

@@ -1,48 +1,68 @@
 -- Updates by the third way: which page a sound slot wants as a conversion, and under which kinds it holds the others; whether a change is known;
 -- and the rule for a slot that converts, a test at a time.
-use Prim.Native.Nat.{ℕ, zero, suc, ◌+◌, ◌≤◌, ◌<◌}
+use Prim.Native.Nat.{ℕ, zero, suc, ◌≤◌}
 use mathlib.Core.Bool.{Bool, true, false, cond, not, ◌&&◌, and-true}
 use mathlib.Core.List.{List, [], ◌∷◌, map, reverse}
 use mathlib.Core.Logic.{⊎_elim}
 use mathlib.Core.Path.{◌≡◌, refl, sym, ap, ap₂, ◌∙◌, subst}
 use native.Mathlib.Nat.{not-suc-le-zero}
-use native.Mathlib.Numerals.{add-one}
 use native.Mathlib.Omega.{arith}
-use borrow.Author.Tests.{ne_eqb, not-true}
+use borrow.Author.Tests.{ne_eqb, not-true, not-false}
 use lib.Dec.{eqb}
-use lib.ListN.{length, get_or, take, length-map}
-use lib.Seq.{length-take-le, get_or-take}
+use lib.ListN.{length, take, length-map}
+use Rattle.std.specs.Prelude.{Option, Some, None as Nothing, Result, Ok, Err}
+use Rattle.std.specs.Result.{result_eq}
+use Rattle.change.specs.declared.needing.Astray.{Astray}
+use Rattle.std.specs.Option.{option_eq}
 use Rattle.ground.specs.Tests.{all, member}
-use Rattle.ground.proofs.Bools.{not_both, and_first, and_second, and_both, and_first_fails, and_second_fails, or_cases, not_of_true, not_of_false}
-use Rattle.ground.proofs.Tests.{all_append, all_more, all_stops, all_from_members}
-use Rattle.page.specs.Words.{Entry, Page, is_leaf}
-use Rattle.page.specs.Reading.{looked}
-use Rattle.page.specs.declared.reading.Lot.{Lot}
+use Rattle.ground.proofs.Bools.{not_both, and_first, and_second, and_both, and_first_fails, and_second_fails, or_cases}
+use Rattle.ground.proofs.Tests.{all_append, all_from_members}
+use Rattle.page.specs.Words.{Page, is_leaf}
 use Rattle.change.specs.Deletion.{Need, needs}
-use Rattle.change.specs.Held.{leaf_of, fathers_of}
+use Rattle.change.specs.Held.{leaf_of, fathers_of, need_of}
 use Rattle.slots.specs.declared.Op.{Op}
-use Rattle.slots.specs.declared.Op.TheVariants.{Search, Insert, Delete, Next, Regrade}
+use Rattle.slots.specs.declared.Op.TheVariants.{Delete}
 use Rattle.slots.specs.declared.Way.{Way}
 use Rattle.slots.specs.declared.Task.{Task}
 use Rattle.slots.specs.declared.Task.TheVariants.{Open}
 use Rattle.slots.specs.declared.Lock.{Lock}
-use Rattle.slots.specs.declared.Lock.TheVariants.{None, Xi, Alpha}
+use Rattle.slots.specs.declared.Lock.TheVariants.{None, Rho, Xi, UpdaterRho, Alpha}
 use Rattle.slots.specs.declared.Under.{Under}
 use Rattle.slots.specs.declared.Slot.{Slot}
 use Rattle.slots.specs.Heard.{lock_number}
-use Rattle.slots.specs.Parts.{key_of, is_open, is_second, is_third, held_lock, path_of, beside_of, held, locks_of, sidelocks_of, held_locks, under, Stand, converting, stand_of}
+use denote.Enum.Bare.{sameb}
+use denote.Enum.Declared.{tag_of}
+use Rattle.slots.specs.contracts.Lock.{the_type}
+use Rattle.slots.specs.Parts.{key_of, is_open, is_second, is_third, held_lock, path_of, beside_of, held, locks_of, sidelocks_of, held_locks, Stand, converting, stand_of}
 use Rattle.slots.specs.Locks.{same_lock, lock_held}
 use Rattle.slots.specs.Sound.{wants_rightly, converts_rightly, slot_sound}
 use Rattle.slots.proofs.SoundFacts.{SoundSlot, sound_slot}
 use Rattle.slots.proofs.LockLaws.{among_every, third_alpha, lock_same, can_hold_lem, can_want_lem}
 use Rattle.slots.proofs.Keeping.{Paired, kinds_long}
-use Rattle.footing.specs.declared.converting.Turn.{Turn}
-use Rattle.footing.specs.declared.converting.Turn.TheVariants.{Page as TurnPage, Done}
-use Rattle.footing.specs.Granted.{answered_at_once, is_nothing, is_none, needs_no_more, change_known, locks_in_turn, to_convert, at_its_leaf}
-use Rattle.footing.specs.Fitting.{descends, same_levels, lock_due, holds_due, xi_then_alpha, is_first, rightly_converting}
-use Rattle.footing.specs.Standing.{at_once, turn_of}
+use Rattle.footing.specs.Granted.{is_nothing, is_none, needs_no_more, change_known, locks_in_turn, to_convert, at_its_leaf}
+use Rattle.footing.specs.Fitting.{is_sibling, descends, same_levels, lock_due, holds_due, xi_then_alpha, is_first, rightly_converting}
+use Rattle.footing.specs.Standing.{turn_of}
 use Rattle.footing.proofs.LookLaws.{told_true, told_false, first_due}
-use Rattle.footing.proofs.KeepLaws.{looked_has}
+
+-- ---- kinds of lock
+
+-- two kinds that are compared are the same just where the rule says so
+pub same_kind : (a b : Lock) → sameb the_type a b ≡ same_lock a b
+same_kind a b = ap₂ eqb (number a) (number b)
+  where
+    number : (l : Lock) → tag_of the_type l ≡ lock_number l
+    number None = refl
+    number Rho = refl
+    number Xi = refl
+    number UpdaterRho = refl
+    number Alpha = refl
+
+-- what a branch on two kinds that differ tells of the rule's test
+pub kinds_differ : (a b : Lock) {answer : Bool} → answer ≡ not (sameb the_type a b) → answer ≡ true → same_lock a b ≡ false
+kinds_differ a b e t = sym (same_kind a b) ∙ not-true (sameb the_type a b) (sym e ∙ t)
+
+pub kinds_agree : (a b : Lock) {answer : Bool} → answer ≡ not (sameb the_type a b) → answer ≡ false → same_lock a b ≡ true
+kinds_agree a b e f = sym (same_kind a b) ∙ not-false (sameb the_type a b) (sym e ∙ f)
 
 -- ---- a sound slot
 
@@ -82,7 +102,7 @@ module _ (n : ℕ) {op : Op} (slot : Slot) (task : slot.task ≡ Open op) (sound
       not_both (converts_third ∙ and_both third (ap (λ (l : Lock). same_lock l Xi) xi.1)) new)
       (can_want_lem op slot.lock (subst (λ (t : Task). wants_rightly t slot.lock ≡ true) task facts.rightly))
 
-  pub first_wants : (memory : ℕ → Page) (up : List ℕ) {second : Bool} → second ≡ is_second op → not second ≡ true → converting z ≡ false
+  pub first_wants : (memory : ℕ → Page) (up : List ℕ) {second : Bool} → second ≡ is_second op → second ≡ false → converting z ≡ false
       → true ≡ same_lock slot.lock (lock_due op memory up)
   first_wants memory up said f new =
       let first : is_second op ≡ false = told_false said f in
@@ -90,14 +110,14 @@ module _ (n : ℕ) {op : Op} (slot : Slot) (task : slot.task ≡ Open op) (sound
 
   module _ {third : Bool} (said : third ≡ is_third op) where
     -- by another way it converts nothing, and by the third the kind that it wants tells
-    pub converts_not : not third ≡ true → false ≡ converting z
+    pub converts_not : third ≡ false → false ≡ converting z
     converts_not f = sym (converts_third ∙ and_first_fails wants_xi (told_false said f))
 
-    pub converts_by_kind : {a b : ℕ} → not third ≡ false → a ≡ lock_number slot.lock → b ≡ lock_number Xi → eqb a b ≡ converting z
-    converts_by_kind t e f = ap₂ eqb e f ∙ sym (converts_third ∙ ap (λ (b : Bool). b && wants_xi) (told_true said t))
+    pub converts_by_kind : {same : Bool} → third ≡ true → same ≡ wants_xi → same ≡ converting z
+    converts_by_kind t e = e ∙ sym (converts_third ∙ ap (λ (b : Bool). b && wants_xi) (told_true said t))
 
     -- by another way it holds every page with the kind with which it goes down
-    pub first_holds : Paired z → not third ≡ true → true ≡ holds_due z
+    pub first_holds : Paired z → third ≡ false → true ≡ holds_due z
     first_holds paired f =
         let due : Lock → Bool = λ (l : Lock). same_lock l (held_lock op) in
         sym
@@ -109,54 +129,25 @@ module _ (n : ℕ) {op : Op} (slot : Slot) (task : slot.task ≡ Open op) (sound
     abbrev alphas : List Under → Bool
     alphas locks = all (λ (u : Under). same_lock u.lock Alpha) locks
 
-    by_lists : not third ≡ false → holds_due z ≡ alphas (locks_of slot) && alphas (sidelocks_of slot)
+    by_lists : third ≡ true → holds_due z ≡ alphas (locks_of slot) && alphas (sidelocks_of slot)
     by_lists t =
         ap (λ (l : Lock). all (λ (u : Under). same_lock u.lock l) (held_locks slot)) (third_alpha op (told_true said t))
         ∙ all_append (λ (u : Under). same_lock u.lock Alpha) (locks_of slot) (sidelocks_of slot)
 
     module _ {path : Bool} (on : path ≡ alphas (locks_of slot)) where
-      pub holds_not : not third ≡ false → not path ≡ true → false ≡ holds_due z
+      pub holds_not : third ≡ true → path ≡ false → false ≡ holds_due z
       holds_not t f = sym (by_lists t ∙ and_first_fails (alphas (sidelocks_of slot)) (told_false on f))
 
-      pub holds_beside : {beside : Bool} → not third ≡ false → not path ≡ false → beside ≡ alphas (sidelocks_of slot) → beside ≡ holds_due z
+      pub holds_beside : {beside : Bool} → third ≡ true → path ≡ true → beside ≡ alphas (sidelocks_of slot) → beside ≡ holds_due z
       holds_beside t g e = e ∙ sym (by_lists t ∙ ap (λ (b : Bool). b && alphas (sidelocks_of slot)) (told_true on g))
 
--- ---- one kind in all cells
+-- ---- cells
 
 -- cells are as many as what they stand for
 pub cells_mapped : (A B : Type 0) (f : A → B) (cells : List A) (n : ℕ) → length (map f cells) ≡ n → length cells ≡ n
 cells_mapped A B f cells n e = sym (length-map cells f) ∙ e
 
-module _ (lock : Lock) where
-  -- the test of one cell
-  abbrev kind_is : Under → Bool
-  kind_is u = same_lock u.lock lock
-
-  -- one more, and one of another kind
-  pub kinds_more : (cells : List Under) (i : ℕ) {same : Bool} → i < length cells → all kind_is (take i cells) ≡ true
-      → same ≡ kind_is (get_or cells i (under None)) → not same ≡ false → all kind_is (take (i + 1) cells) ≡ true
-  kinds_more cells i h before said t =
-      ap (λ (j : ℕ). all kind_is (take j cells)) (add-one i) ∙ all_more kind_is cells i (under None) h ∙ and_both before (told_true said t)
-
-  pub kinds_stop : (cells : List Under) (count i : ℕ) {same : Bool} → count ≤ length cells → i < count
-      → same ≡ kind_is (get_or cells i (under None)) → not same ≡ true → all kind_is (take count cells) ≡ false
-  kinds_stop cells count i long h said f =
-      all_stops kind_is (take count cells) (under None) i (omega (arith, length-take-le count cells long))
-      (ap kind_is (get_or-take count cells i (under None) h) ∙ told_false said f)
-
 -- ---- whether the change is known
-
--- what was looked up under the key is answered at once just where the rule says so of the entries
-pub looked_at_once : (op : Op) (es : List Entry) → at_once op (looked (key_of op) es) ≡ answered_at_once op es
-looked_at_once (Search x) es = refl
-looked_at_once (Insert x v way) es = looked_has x es refl
-looked_at_once (Delete x way) es = ap not (looked_has x es refl)
-looked_at_once (Next x) es = refl
-looked_at_once (Regrade x v way) es = ap not (looked_has x es refl)
-
-pub read_at_once : (op : Op) (es : List Entry) {key : ℕ} {lot : Lot} {once : Bool} → key ≡ key_of op → lot ≡ looked key es → once ≡ at_once op lot
-    → once ≡ answered_at_once op es
-read_at_once op es asked read told = told ∙ ap (at_once op) (read ∙ ap (λ (x : ℕ). looked x es) asked) ∙ looked_at_once op es
 
 -- none of the first cells is there just where there are none
 pub none_taken : (cells : List ℕ) (count : ℕ) → count ≤ length cells → eqb count 0 ≡ is_none (take count cells)
@@ -164,22 +155,22 @@ none_taken cells zero h = refl
 none_taken [] (suc count) h = absurd (not-suc-le-zero h)
 none_taken (p ∷ cells) (suc count) h = ne_eqb (suc count) 0 (λ e. omega arith)
 
+-- what a deletion needs, compared with nothing more and with a sibling
+pub needs_nothing : (same : Astray → Astray → Bool) (r : Result (Option ℕ) Astray) → result_eq (option_eq eqb) same r (Ok Nothing) ≡ is_nothing (need_of r)
+needs_nothing same (Ok Nothing) = refl
+needs_nothing same (Ok (Some s)) = refl
+needs_nothing same (Err e) = refl
+
+pub needs_sibling : (same : Astray → Astray → Bool) (r : Result (Option ℕ) Astray) (want : ℕ)
+    → result_eq (option_eq eqb) same r (Ok (Some want)) ≡ is_sibling (need_of r) want
+needs_sibling same (Ok Nothing) want = refl
+needs_sibling same (Ok (Some s)) want = refl
+needs_sibling same (Err e) want = refl
+
 -- a deletion's next sibling tells
 pub no_more_deletion : (k : ℕ) (memory : ℕ → Page) (beside : List ℕ) (leaf : ℕ) (fathers : List ℕ) {op : Op} {x : ℕ} {way : Way} {need : Need}
     → op ≡ Delete x way → need ≡ needs k memory x leaf fathers beside → is_nothing need ≡ needs_no_more op k memory beside leaf fathers
 no_more_deletion k memory beside leaf fathers told e = ap is_nothing e ∙ sym (ap (λ (o : Op). needs_no_more o k memory beside leaf fathers) told)
-
-module _ (k : ℕ) (memory : ℕ → Page) (stand : Stand) (leaf : ℕ) (fathers : List ℕ) {once : Bool} (said : once ≡ answered_at_once stand.op (memory leaf).entries) where
-  abbrev no_more : Bool
-  no_more = needs_no_more stand.op k memory stand.beside leaf fathers
-
-  -- the key is one that is answered at once
-  pub known_answered : once ≡ true → false ≡ change_known k memory stand leaf fathers
-  known_answered t = sym (and_first_fails no_more (not_of_true (sym said ∙ t)))
-
-  -- it is not: the siblings tell
-  pub known_siblings : {r : Bool} → once ≡ false → r ≡ no_more → r ≡ change_known k memory stand leaf fathers
-  known_siblings f e = e ∙ sym (ap (λ (b : Bool). b && no_more) (not_of_false (sym said ∙ f)))
 
 -- ---- the rule for a slot that converts
 
@@ -190,11 +181,7 @@ leaf_fails k memory z (leaf ∷ fathers) f =
     and_first_fails _ (and_first_fails _ (and_first_fails _ (and_first_fails _ (and_first_fails _ (and_first_fails _ (and_second_fails (is_third z.op) f))))))
 
 -- the turn is this page's
-abbrev pub turn_is : ℕ → Turn → Bool
-turn_is want (TurnPage p) = eqb p want
-turn_is want Done = false
-
-pub turn_first : (want : ℕ) (pages : List ℕ) → turn_is want (turn_of pages) ≡ is_first want pages
+pub turn_first : (want : ℕ) (pages : List ℕ) → option_eq eqb (turn_of pages) (Some want) ≡ is_first want pages
 turn_first want [] = refl
 turn_first want (p ∷ pages) = refl
 
@@ -213,11 +200,11 @@ module _ (op : Op) (k : ℕ) (memory : ℕ → Page) (slot : Slot) where
   answer = rightly_converting k memory here (reverse (path_of slot))
 
   -- its path does not end in a leaf
-  pub converting_not_leaf : {leaf : Bool} → leaf ≡ at_its_leaf memory (reverse (path_of slot)) → not leaf ≡ true → false ≡ answer
+  pub converting_not_leaf : {leaf : Bool} → leaf ≡ at_its_leaf memory (reverse (path_of slot)) → leaf ≡ false → false ≡ answer
   converting_not_leaf said f = sym (leaf_fails k memory here (reverse (path_of slot)) (told_false said f))
 
   module _ (third : is_third op ≡ true) (xi : same_lock slot.lock Xi ≡ true) (up : reverse (path_of slot) ≡ leaf_of slot.depth slot.path ∷ fathers_of slot.depth slot.path)
-      {leaf : Bool} (at : leaf ≡ at_its_leaf memory (reverse (path_of slot))) (low : not leaf ≡ false) where
+      {leaf : Bool} (at : leaf ≡ at_its_leaf memory (reverse (path_of slot))) (low : leaf ≡ true) where
     abbrev way : Bool
     way = descends memory (key_of op) (path_of slot)
 
@@ -243,7 +230,7 @@ module _ (op : Op) (k : ℕ) (memory : ℕ → Page) (slot : Slot) where
         ∙ ap (λ (l : List ℕ). way && known && same_levels memory l (beside_of slot) && kinds && next) (sym up)
 
     -- one test that fails
-    module _ {a : Bool} (f : not a ≡ true) where
+    module _ {a : Bool} (f : a ≡ false) where
       pub converting_no_way : {x : ℕ} → x ≡ key_of op → a ≡ descends memory x (path_of slot) → false ≡ answer
       converting_no_way key said =
           sym (by_tests ∙ and_first_fails next (and_first_fails kinds (and_first_fails levels (and_first_fails known (sym (ap (λ (x : ℕ). descends memory x (path_of slot)) key) ∙ told_false said f)))))
@@ -254,14 +241,11 @@ module _ (op : Op) (k : ℕ) (memory : ℕ → Page) (slot : Slot) where
       pub converting_levels : a ≡ levels → false ≡ answer
       converting_levels said = sym (by_tests ∙ and_first_fails next (and_first_fails kinds (and_second_fails (way && known) (told_false said f))))
 
-      pub converting_kinds : a ≡ kinds → false ≡ answer
-      converting_kinds said = sym (by_tests ∙ and_first_fails next (and_second_fails (way && known && levels) (told_false said f)))
-
     -- all of them hold: the turn tells
-    pub converting_turn : {x : ℕ} {a b c d : Bool} {turn : Turn} → x ≡ key_of op → a ≡ descends memory x (path_of slot) → not a ≡ false → b ≡ known → not b ≡ false
-        → c ≡ levels → not c ≡ false → d ≡ kinds → not d ≡ false → turn ≡ turn_of (to_convert here) → turn_is slot.want turn ≡ answer
+    pub converting_turn : {x : ℕ} {a b c d : Bool} {turn : Option ℕ} → x ≡ key_of op → a ≡ descends memory x (path_of slot) → a ≡ true → b ≡ known → b ≡ true
+        → c ≡ levels → c ≡ true → d ≡ kinds → d ≡ true → turn ≡ turn_of (to_convert here) → option_eq eqb turn (Some slot.want) ≡ answer
     converting_turn key p s q t r u e v said =
-        ap (turn_is slot.want) said
+        ap (λ (t : Option ℕ). option_eq eqb t (Some slot.want)) said
         ∙ turn_first slot.want (to_convert here)
         ∙ sym
         (by_tests

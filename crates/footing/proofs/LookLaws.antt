@@ -1,28 +1,32 @@
 -- The pages of a slot, read again one by one: what a page that leads to another tells, a way down link by link, and what a
 -- sound slot and sound pages give the functions that read them.
-use Prim.Native.Nat.{ℕ, suc, zero, ◌+◌, ◌-◌, ◌≤◌, ◌<◌}
-use mathlib.Core.Bool.{Bool, true, false, cond, not, ◌&&◌, ◌||◌, and-true, and_assoc, or-false}
+use Rattle.std.specs.List.{list_all}
+use Rattle.std.specs.Iterator.{AlwaysYields}
+use Rattle.std.specs.Slice.Iter.{windows_rest, windows_size, windows_steps}
+use Rattle.std.specs.declared.slice.Windows.{Windows}
+use Rattle.std.proofs.lemmas.Iterator.{YieldsList}
+use Prim.Native.Nat.{ℕ, suc, zero, ◌+◌, ◌≤◌, ◌<◌}
+use mathlib.Core.Bool.{Bool, true, false, cond, ◌&&◌, ◌||◌, and-true, and_assoc, or-false}
 use mathlib.Core.List.{List, [], ◌∷◌, ◌++◌, reverse, reverse_aux}
 use mathlib.Core.Logic.{◌≢◌, ⊎_elim}
 use mathlib.Core.Path.{◌≡◌, refl, sym, ap, ap₂, ◌∙◌, subst}
 use native.Mathlib.Nat.{not-suc-le-zero, le_of_suc-le-suc}
-use native.Mathlib.Numerals.{add-one}
 use native.Mathlib.Omega.{arith}
-use borrow.Author.Tests.{eqb-true, eq-eqb, ne_eqb, leb-true, not-true, not-false}
+use borrow.Author.Tests.{eqb-true, eq-eqb, ne_eqb, leb-true}
 use lib.Dec.{eqb, leb, ltb}
-use lib.ListN.{length, get_or, take}
-use lib.Seq.{length-take-le, get_or-take}
+use lib.ListN.{length, get_or, take, drop}
+use lib.Seq.{length-take-le}
 use Rattle.ground.specs.Limits.{path_holds, search_holds, regrade_holds, second_holds, sibling_holds}
 use Rattle.ground.specs.Tests.{all, member}
-use Rattle.ground.proofs.Bools.{not_both, and_first, and_second, and_both, and_first_fails, and_second_fails, or_first, or_second, or_cases, false_if_not_true}
+use Rattle.ground.proofs.Bools.{and_first, and_second, and_both, and_first_fails, and_second_fails, or_first, or_second, or_cases}
 use Rattle.ground.proofs.Choice.{cond_ind, cond-true, cond-false}
-use Rattle.ground.proofs.Tests.{all_none, all_append, all_more, all_stops, all_member, below_or_at, member_append, member_from}
+use Rattle.ground.proofs.Tests.{all_append, all_member, member_append, member_from, member_here, member_there}
 use Rattle.page.specs.Words.{Page, is_leaf}
 use Rattle.page.specs.Place.{pointer, route}
 use Rattle.page.specs.Sound.{sound_by_itself}
 use Rattle.pool.specs.Pool.{words_of, page_at}
 use Rattle.change.specs.Held.{Held}
-use Rattle.change.proofs.HeldLaws.{Known, held_known, held_some, held_front, on_path, among_siblings, upward_father, upward_reverse}
+use Rattle.change.proofs.HeldLaws.{Known, held_known, held_some, held_front}
 use Rattle.slots.specs.declared.Op.{Op}
 use Rattle.slots.specs.declared.Op.TheVariants.{Search, Insert, Delete, Next, Regrade}
 use Rattle.slots.specs.declared.Way.TheVariants.{First, Second, Third}
@@ -39,11 +43,19 @@ use Rattle.footing.specs.Fitting.{names_below, pages_sound, leads, descends, rig
 use Rattle.footing.specs.Standing.{Asks, fits, last_leads}
 
 -- what a branch on a test's opposite tells of the test
-pub told_true : {answer test : Bool} → answer ≡ test → not answer ≡ false → test ≡ true
-told_true {answer} e f = sym e ∙ not-false answer f
+pub told_true : {answer test : Bool} → answer ≡ test → answer ≡ true → test ≡ true
+told_true e t = sym e ∙ t
 
-pub told_false : {answer test : Bool} → answer ≡ test → not answer ≡ true → test ≡ false
-told_false {answer} e t = sym e ∙ not-true answer t
+pub told_false : {answer test : Bool} → answer ≡ test → answer ≡ false → test ≡ false
+told_false e f = sym e ∙ f
+
+-- ---- pages one by one
+
+-- the library's word for what all items pass is the rule's
+pub all_listed : {A : Type 0} (p : A → Bool) (xs : List A) → list_all p xs ≡ all p xs
+unfolding all
+all_listed p [] = refl
+all_listed p (x ∷ xs) = ap (λ (b : Bool). p x && b) (all_listed p xs)
 
 -- ---- one page below another
 
@@ -51,17 +63,6 @@ module _ (memory : ℕ → Page) (names : Page → ℕ) (p q : ℕ) where
   -- the test of the levels
   abbrev level_below : Bool
   level_below = eqb (memory p).level ((memory q).level + 1)
-
-  module _ {answer : Bool} (said : answer ≡ level_below) where
-    -- where the levels are wrong it is not so
-    pub below_astray : not answer ≡ true → false ≡ names_below memory names p q
-    below_astray f = sym (and_second_fails (eqb (names (memory p)) q) (told_false said f))
-
-    -- where they are right the page that is named tells
-    pub below_named : not answer ≡ false → {named : ℕ} → named ≡ names (memory p) → eqb named q ≡ names_below memory names p q
-    below_named t e =
-        ap (λ (r : ℕ). eqb r q) e
-        ∙ sym (ap (λ (b : Bool). eqb (names (memory p)) q && b) (told_true said t) ∙ and-true (eqb (names (memory p)) q))
 
   pub below_level : names_below memory names p q ≡ true → (memory p).level ≡ (memory q).level + 1
   below_level t = eqb-true (memory p).level ((memory q).level + 1) (and_second (eqb (names (memory p)) q) level_below t)
@@ -74,6 +75,24 @@ chain link [] = true
 chain link (p ∷ []) = true
 chain link (p ∷ (q ∷ rest)) = link p q && chain link (q ∷ rest)
 
+-- each page but the last with the one behind it: the windows of two
+unfoldable pub links : List ℕ → List (List ℕ)
+links [] = []
+links (p ∷ []) = []
+links (p ∷ (q ∷ rest)) = (p ∷ q ∷ []) ∷ links (q ∷ rest)
+
+windows_give : (path : List ℕ) (s : Windows ℕ) → windows_rest s ≡ path → windows_size s ≡ 2 → AlwaysYields windows_steps (λ w. w.now) s (links path)
+unfolding links
+windows_give [] s e two = λ x t h. omega (arith, h.1.0, ap length e)
+windows_give (p ∷ []) s e two = λ x t h. omega (arith, h.1.0, ap length e)
+windows_give (p ∷ (q ∷ rest)) s e two = (
+  λ t h. omega (arith, h.1.0, ap length e),
+  λ x t h. (h.1.1 ∙ ap₂ (λ (m : ℕ) (ys : List ℕ). take m ys) two e, windows_give (q ∷ rest) t (h.1.2 ∙ ap (drop 1) e) (h.0 ∙ two)),
+)
+
+pub links_given : {s : Windows ℕ} (path : List ℕ) → windows_rest s ≡ path → windows_size s ≡ 2 → YieldsList windows_steps (λ w. w.now) s (links path)
+links_given {s} path e two = record { runs = windows_give path s e two }
+
 module _ (link : ℕ → ℕ → Bool) where
   pub chain_at : (path : List ℕ) → chain link path ≡ true → (i : ℕ) → suc i < length path → link (get_or path i 0) (get_or path (suc i) 0) ≡ true
   unfolding chain
@@ -82,50 +101,12 @@ module _ (link : ℕ → ℕ → Bool) where
   chain_at (p ∷ (q ∷ rest)) t zero h = and_first (link p q) (chain link (q ∷ rest)) t
   chain_at (p ∷ (q ∷ rest)) t (suc i) h = chain_at (q ∷ rest) (and_second (link p q) (chain link (q ∷ rest)) t) i (le_of_suc-le-suc h)
 
-  chain_from : (path : List ℕ) → ((i : ℕ) → suc i < length path → link (get_or path i 0) (get_or path (suc i) 0) ≡ true) → chain link path ≡ true
-  unfolding chain
-  chain_from [] f = refl
-  chain_from (p ∷ []) f = refl
-  chain_from (p ∷ (q ∷ rest)) f = and_both (f 0 (omega arith)) (chain_from (q ∷ rest) (λ i h. f (suc i) (omega arith)))
-
-  -- each of the first i pages of an array is linked to the one behind it
-  abbrev pub Links : List ℕ → ℕ → Type 0
-  Links path i = (j : ℕ) → suc j < i → link (get_or path j 0) (get_or path (suc j) 0) ≡ true
-
-  -- one page has none behind it
-  pub links_one : (path : List ℕ) → Links path 1
-  links_one path j h = absurd (not-suc-le-zero (le_of_suc-le-suc h))
-
-  -- one link more
-  pub links_more : (path : List ℕ) (i : ℕ) {answer : Bool} → 1 ≤ i → Links path i
-      → answer ≡ link (get_or path (i - 1) 0) (get_or path i 0) → not answer ≡ false → Links path (i + 1)
-  links_more path i one f said t =
-      let next : i ≡ suc (i - 1) = omega arith in
-      λ j h. below_or_at (λ (a : ℕ). link (get_or path a 0) (get_or path (suc a) 0) ≡ true) {i = j} {n = i - 1}
-      (omega arith)
-      (λ l. f j (omega arith))
-      (subst (λ (a : ℕ). link (get_or path (i - 1) 0) (get_or path a 0) ≡ true) next (told_true said t))
-
-  -- all links are there
-  pub links_all : (path : List ℕ) (depth i : ℕ) → depth ≤ length path → depth ≤ i → Links path i → chain link (take depth path) ≡ true
-  links_all path depth i long done f =
-      let len : length (take depth path) ≡ depth = length-take-le depth path long in
-      chain_from (take depth path)
-      (λ j h. ap₂ (λ (p q : ℕ). link p q) (get_or-take depth path j 0 (omega arith)) (get_or-take depth path (suc j) 0 (omega arith))
-      ∙ f j (omega arith))
-
-  -- one link is missing
-  pub links_stop : (path : List ℕ) (depth i : ℕ) {answer : Bool} → depth ≤ length path → 1 ≤ i → i < depth
-      → answer ≡ link (get_or path (i - 1) 0) (get_or path i 0) → not answer ≡ true → chain link (take depth path) ≡ false
-  links_stop path depth i long one h said f =
-      let len : length (take depth path) ≡ depth = length-take-le depth path long in
-      let next : suc (i - 1) ≡ i = omega arith in
-      false_if_not_true (chain link (take depth path))
-      (λ t. not_both
-      (sym (ap₂ (λ (p q : ℕ). link p q) (get_or-take depth path (i - 1) 0 (omega arith)) (get_or-take depth path i 0 h))
-      ∙ subst (λ (a : ℕ). link (get_or (take depth path) (i - 1) 0) (get_or (take depth path) a 0) ≡ true) next
-      (chain_at (take depth path) t (i - 1) (omega arith)))
-      (told_false said f))
+  -- it is a way just if all that is beside each other is linked
+  pub links_listed : (path : List ℕ) → list_all (λ (e : List ℕ). link (get_or e 0 0) (get_or e 1 0)) (links path) ≡ chain link path
+  unfolding links chain
+  links_listed [] = refl
+  links_listed (p ∷ []) = refl
+  links_listed (p ∷ (q ∷ rest)) = ap (λ (b : Bool). link p q && b) (links_listed (q ∷ rest))
 
 -- ---- a way by p0
 
@@ -182,6 +163,14 @@ module _ (memory : ℕ → Page) (x : ℕ) where
       ∙ sym (and_assoc link below (last_leads memory x (reverse (q ∷ rest)) want))
       ∙ ap (λ (b : Bool). link && below && b) (last_same rest [] (p ∷ []) q want)
 
+-- what was read of pages that are a path's was read of the path
+pub way_read : (memory : ℕ → Page) (x : ℕ) {pages path : List ℕ} {answer : Bool} → answer ≡ descends memory x pages → pages ≡ path → answer ≡ descends memory x path
+way_read memory x said e = said ∙ ap (descends memory x) e
+
+pub leaf_read : (memory : ℕ → Page) {pages path : List ℕ} {answer : Bool} → answer ≡ at_its_leaf memory (reverse pages) → pages ≡ path
+    → answer ≡ at_its_leaf memory (reverse path)
+leaf_read memory said e = said ∙ ap (λ (path : List ℕ). at_its_leaf memory (reverse path)) e
+
 -- ---- pages held
 
 -- two of the pages held
@@ -194,14 +183,25 @@ held_two {pages = pages} h p q mp mq =
     (λ e. subst (λ (s : ℕ). member s pages ≡ true) (sym (eqb-true r q (sym (or-false (eqb r q)) ∙ e))) mq)
     (or_cases (eqb r p) (eqb r q || false) m))
 
--- one page of a path and the next
-pub held_link : {k n : ℕ} {ws : List ℕ} (path : List ℕ) (depth i : ℕ) → Held k n ws (take depth path) → depth ≤ length path → 1 ≤ i
-    → i < depth → Held k n ws (get_or path (i - 1) 0 ∷ get_or path i 0 ∷ [])
-held_link path depth i h long one l = held_two h (get_or path (i - 1) 0) (get_or path i 0) (on (i - 1) (omega arith)) (on i l)
+-- a page of a way and the one behind it
+pub held_link : {k n : ℕ} {ws path : List ℕ} → Held k n ws path → (i : ℕ) → i < length (links path) → (e : List ℕ) → e ≡ get_or (links path) i e
+    → (length e ≡ 2) × Held k n ws (get_or e 0 0 ∷ get_or e 1 0 ∷ [])
+unfolding links
+held_link {k} {n} {ws} {path} h i l e at =
+    let two = among path i l e at in
+    (two.0, held_two h (get_or e 0 0) (get_or e 1 0) two.1 two.2)
   where
-    on : (j : ℕ) → j < depth → member (get_or path j 0) (take depth path) ≡ true
-    on j b =
-        member_from (get_or path j 0) (take depth path) j 0 (omega (arith, length-take-le depth path long)) (get_or-take depth path j 0 b)
+    Among : List ℕ → List ℕ → Type 0
+    Among way e = (length e ≡ 2) × (member (get_or e 0 0) way ≡ true) × (member (get_or e 1 0) way ≡ true)
+
+    among : (way : List ℕ) (i : ℕ) → i < length (links way) → (e : List ℕ) → e ≡ get_or (links way) i e → Among way e
+    among [] i l e at = absurd (not-suc-le-zero l)
+    among (p ∷ []) i l e at = absurd (not-suc-le-zero l)
+    among (p ∷ (q ∷ rest)) zero l e at =
+        subst (Among (p ∷ (q ∷ rest))) (sym at) (refl, member_here p (q ∷ rest), member_there p q (q ∷ rest) (member_here q rest))
+    among (p ∷ (q ∷ rest)) (suc i) l e at =
+        let below = among (q ∷ rest) i (le_of_suc-le-suc l) e at in
+        (below.0, member_there p (get_or e 0 0) (q ∷ rest) below.1, member_there p (get_or e 1 0) (q ∷ rest) below.2)
 
 module _ {k n : ℕ} {ws : List ℕ} {p q : ℕ} (h : Held k n ws (p ∷ q ∷ [])) where
   -- what is known of the one and of the other
@@ -221,26 +221,8 @@ module _ {k n : ℕ} {ws : List ℕ} {p q : ℕ} (h : Held k n ws (p ∷ q ∷ [
 
 module _ (k n : ℕ) (ws : List ℕ) where
   -- the test of one page
-  abbrev sound_at : ℕ → Bool
+  abbrev pub sound_at : ℕ → Bool
   sound_at p = sound_by_itself k n p (words_of k p ws)
-
-  -- none, one more, and one that is not sound
-  pub pages_none : pages_sound k n ws [] ≡ true
-  unfolding pages_sound
-  pages_none = all_none sound_at
-
-  pub pages_more : (cells : List ℕ) (i : ℕ) {answer : Bool} → i < length cells → pages_sound k n ws (take i cells) ≡ true
-      → answer ≡ sound_at (get_or cells i 0) → not answer ≡ false → pages_sound k n ws (take (i + 1) cells) ≡ true
-  unfolding pages_sound
-  pages_more cells i h before said t =
-      ap (λ (j : ℕ). all sound_at (take j cells)) (add-one i) ∙ all_more sound_at cells i 0 h ∙ and_both before (told_true said t)
-
-  pub pages_stop : (cells : List ℕ) (count i : ℕ) {answer : Bool} → count ≤ length cells → i < count
-      → answer ≡ sound_at (get_or cells i 0) → not answer ≡ true → pages_sound k n ws (take count cells) ≡ false
-  unfolding pages_sound
-  pages_stop cells count i long h said f =
-      all_stops sound_at (take count cells) 0 i (omega (arith, length-take-le count cells long))
-      (ap sound_at (get_or-take count cells i 0 h) ∙ told_false said f)
 
   -- a path, siblings and a wanted page, one after the other
   pages_apart : (path siblings : List ℕ) (want : ℕ)
@@ -254,16 +236,16 @@ module _ (k n : ℕ) (ws : List ℕ) where
     abbrev whole_test : Bool
     whole_test = pages_sound k n ws (path ++ siblings ++ want ∷ [])
 
-    pub path_unsound : {answer : Bool} → answer ≡ pages_sound k n ws path → not answer ≡ true → whole_test ≡ false
+    pub path_unsound : {answer : Bool} → answer ≡ pages_sound k n ws path → answer ≡ false → whole_test ≡ false
     path_unsound said f =
         pages_apart path siblings want ∙ and_first_fails (sound_at want) (and_first_fails (pages_sound k n ws siblings) (told_false said f))
 
-    pub siblings_unsound : {answer : Bool} → answer ≡ pages_sound k n ws siblings → not answer ≡ true → whole_test ≡ false
+    pub siblings_unsound : {answer : Bool} → answer ≡ pages_sound k n ws siblings → answer ≡ false → whole_test ≡ false
     siblings_unsound said f =
         pages_apart path siblings want ∙ and_first_fails (sound_at want) (and_second_fails (pages_sound k n ws path) (told_false said f))
 
     -- the wanted page tells
-    pub want_sound : {a b c : Bool} → a ≡ pages_sound k n ws path → not a ≡ false → b ≡ pages_sound k n ws siblings → not b ≡ false
+    pub want_sound : {a b c : Bool} → a ≡ pages_sound k n ws path → a ≡ true → b ≡ pages_sound k n ws siblings → b ≡ true
         → c ≡ sound_at want → c ≡ whole_test
     want_sound p t s u said =
         said ∙ sym (pages_apart path siblings want ∙ ap (λ (r : Bool). r && sound_at want) (and_both (told_true p t) (told_true s u)))
@@ -306,19 +288,15 @@ pages_of slot = path_of slot ++ beside_of slot ++ slot.want ∷ []
 
 -- where its pages stand among them
 module _ (slot : Slot) where
-  pub path_among : slot.depth ≤ length slot.path → (i : ℕ) → i < slot.depth → member (get_or slot.path i 0) (pages_of slot) ≡ true
-  unfolding path_of
-  path_among long i l =
-      let p : ℕ = get_or slot.path i 0 in
-      member_append p (held slot) (slot.want ∷ []) ∙ or_first (member p (slot.want ∷ [])) (on_path slot.path slot.depth i (beside_of slot) long l)
-
-  sibling_among : slot.breadth ≤ length slot.beside → (j : ℕ) → j < slot.breadth
-      → member (get_or slot.beside j 0) (pages_of slot) ≡ true
-  unfolding beside_of
-  sibling_among long j l =
-      let p : ℕ = get_or slot.beside j 0 in
+  pub path_among : (p : ℕ) → member p (path_of slot) ≡ true → member p (pages_of slot) ≡ true
+  path_among p m =
       member_append p (held slot) (slot.want ∷ [])
-      ∙ or_first (member p (slot.want ∷ [])) (among_siblings (path_of slot) slot.beside slot.breadth j long l)
+      ∙ or_first (member p (slot.want ∷ [])) (member_append p (path_of slot) (beside_of slot) ∙ or_first (member p (beside_of slot)) m)
+
+  sibling_among : (p : ℕ) → member p (beside_of slot) ≡ true → member p (pages_of slot) ≡ true
+  sibling_among p m =
+      member_append p (held slot) (slot.want ∷ [])
+      ∙ or_first (member p (slot.want ∷ [])) (member_append p (path_of slot) (beside_of slot) ∙ or_second (member p (path_of slot)) m)
 
   pub want_among : member slot.want (pages_of slot) ≡ true
   unfolding member
@@ -348,17 +326,21 @@ module _ {k n : ℕ} {ws : List ℕ} {op : Op} {slot : Slot} (h : Asks k n ws op
       (⊎_elim (λ e. or_second (eqb p slot.want) e) (λ e. or_first before (sym (or-false (eqb p slot.want)) ∙ e))
       (or_cases before (eqb p slot.want || false) (sym (member_append p (held slot) (slot.want ∷ [])) ∙ m)))
 
-  pub asks_path : slot.depth ≤ length slot.path → (i : ℕ) → i < slot.depth → get_or slot.path i 0 < n
-  asks_path long i l = asks_inside (get_or slot.path i 0) (path_among slot long i l)
+  pub asks_path : {pages : List ℕ} → pages ≡ path_of slot → (i : ℕ) → i < length pages → get_or pages i 0 < n
+  asks_path {pages} e i l =
+      let p : ℕ = get_or pages i 0 in
+      asks_inside p (path_among slot p (subst (λ (ps : List ℕ). member p ps ≡ true) e (member_from p pages i 0 l refl)))
 
-  pub asks_siblings : slot.breadth ≤ length slot.beside → (j : ℕ) → j < slot.breadth → get_or slot.beside j 0 < n
-  asks_siblings long j l = asks_inside (get_or slot.beside j 0) (sibling_among slot long j l)
+  pub asks_siblings : {pages : List ℕ} → pages ≡ beside_of slot → (j : ℕ) → j < length pages → get_or pages j 0 < n
+  asks_siblings {pages} e j l =
+      let p : ℕ = get_or pages j 0 in
+      asks_inside p (sibling_among slot p (subst (λ (ps : List ℕ). member p ps ≡ true) e (member_from p pages j 0 l refl)))
 
   pub asks_want : slot.want < n
   asks_want = asks_inside slot.want (want_among slot)
 
   -- sound by themselves, they are held
-  pub asks_held : {answer : Bool} → answer ≡ pages_sound k n ws (pages_of slot) → not answer ≡ false → Held k n ws (pages_of slot)
+  pub asks_held : {answer : Bool} → answer ≡ pages_sound k n ws (pages_of slot) → answer ≡ true → Held k n ws (pages_of slot)
   unfolding pages_sound
   asks_held said t =
       record {
@@ -370,20 +352,13 @@ module _ {k n : ℕ} {ws : List ℕ} {op : Op} {slot : Slot} (h : Asks k n ws op
       }
 
   -- and those of its path alone
-  pub asks_path_held : {answer : Bool} → answer ≡ pages_sound k n ws (pages_of slot) → not answer ≡ false → Held k n ws (path_of slot)
+  pub asks_path_held : {answer : Bool} → answer ≡ pages_sound k n ws (pages_of slot) → answer ≡ true → Held k n ws (path_of slot)
   asks_path_held said t =
       held_front (path_of slot) (beside_of slot) (held_front (held slot) (slot.want ∷ []) (asks_held said t))
 
 -- ---- the kind of lock that is due
 
--- ξ is due to who goes by the second way, from level 2
-pub below_leaf : (op : Op) (P : Page) {level : ℕ} → is_second op ≡ true → level ≡ P.level → eqb level 2 ≡ true → lock_below op P ≡ Xi
-below_leaf op P second read two = cond-true Xi (held_lock op) (and_both second (ap (λ (l : ℕ). eqb l 2) (sym read) ∙ two))
-
--- from another level, and to everybody else, the kind under which the operation holds
-pub below_higher : (op : Op) (P : Page) {level : ℕ} → level ≡ P.level → eqb level 2 ≡ false → lock_below op P ≡ held_lock op
-below_higher op P read other = cond-false Xi (held_lock op) (and_second_fails (is_second op) (ap (λ (l : ℕ). eqb l 2) (sym read) ∙ other))
-
+-- to who does not go by the second way it is the kind under which the operation holds
 pub below_first : (op : Op) (P : Page) → is_second op ≡ false → lock_below op P ≡ held_lock op
 below_first op P f = cond-false Xi (held_lock op) (and_first_fails (eqb P.level 2) f)
 
@@ -418,18 +393,12 @@ module _ (memory : ℕ → Page) (x : ℕ) (slot : Slot) where
         ap (λ (j : ℕ). last && is_none (take j slot.beside)) none ∙ and-true last
 
     -- nothing is held
-    pub comes_first : slot.depth ≡ 0 → comes_rightly ≡ true
-    unfolding path_of
-    comes_first top = alone ∙ ap (λ (i : ℕ). last_leads memory x (reverse (take i slot.path)) slot.want) top
+    pub comes_first : path_of slot ≡ [] → comes_rightly ≡ true
+    comes_first top = alone ∙ ap (λ (path : List ℕ). last_leads memory x (reverse path) slot.want) top
 
     -- the last page of the path tells
-    pub comes_last : 0 < slot.depth → slot.depth ≤ length slot.path
-        → comes_rightly ≡ leads memory x (get_or slot.path (slot.depth - 1) 0) slot.want
-    unfolding path_of
-    comes_last some long =
-        alone
-        ∙ ap (λ (up : List ℕ). last_leads memory x up slot.want)
-        (sym (upward_reverse slot.depth slot.path long) ∙ upward_father slot.depth slot.path some)
+    pub comes_last : {p : ℕ} {up : List ℕ} → reverse (path_of slot) ≡ p ∷ up → comes_rightly ≡ leads memory x p slot.want
+    comes_last e = alone ∙ ap (λ (up : List ℕ). last_leads memory x up slot.want) e
 
 -- ---- going down, or at the leaf with one more page to want
 
@@ -463,16 +432,16 @@ module _ (op : Op) (k : ℕ) (memory : ℕ → Page) (slot : Slot) where
   leaf_test = cond (at_its_leaf memory (reverse (path_of slot))) at_leaf_test coming_test
 
   -- one test that fails
-  pub new_not_due : {answer : Bool} → answer ≡ lock_test → not answer ≡ true → fitting_new k memory z ≡ false
+  pub new_not_due : {answer : Bool} → answer ≡ lock_test → answer ≡ false → fitting_new k memory z ≡ false
   unfolding fitting_new
   new_not_due said f = and_first_fails leaf_test (and_first_fails (holds_due z) (told_false said f))
 
-  pub new_not_held : {answer : Bool} → answer ≡ holds_due z → not answer ≡ true → fitting_new k memory z ≡ false
+  pub new_not_held : {answer : Bool} → answer ≡ holds_due z → answer ≡ false → fitting_new k memory z ≡ false
   unfolding fitting_new
   new_not_held said f = and_first_fails leaf_test (and_second_fails lock_test (told_false said f))
 
   module _ {x : ℕ} {down : Bool} (key : x ≡ key_of op) (way : down ≡ way_test x) where
-    pub new_no_way : not down ≡ true → fitting_new k memory z ≡ false
+    pub new_no_way : down ≡ false → fitting_new k memory z ≡ false
     unfolding fitting_new
     new_no_way f =
         let none : way_test (key_of op) ≡ false = sym (ap way_test key) ∙ told_false way f in
@@ -482,11 +451,11 @@ module _ (op : Op) (k : ℕ) (memory : ℕ → Page) (slot : Slot) where
         (descends_snoc memory (key_of op) (path_of slot) slot.want ∙ and_first_fails (last_test (key_of op)) none)))
 
     -- the way down is one for the operation's key
-    pub way_down : not down ≡ false → way_test (key_of op) ≡ true
+    pub way_down : down ≡ true → way_test (key_of op) ≡ true
     way_down t = sym (ap way_test key) ∙ told_true way t
 
-    module _ {due kinds : Bool} (lock : due ≡ lock_test) (l : not due ≡ false) (held : kinds ≡ holds_due z) (m : not kinds ≡ false)
-        (d : not down ≡ false) {leaf : Bool} (at : leaf ≡ at_its_leaf memory (reverse (path_of slot))) where
+    module _ {due kinds : Bool} (lock : due ≡ lock_test) (l : due ≡ true) (held : kinds ≡ holds_due z) (m : kinds ≡ true)
+        (d : down ≡ true) {leaf : Bool} (at : leaf ≡ at_its_leaf memory (reverse (path_of slot))) where
       whichever : fitting_new k memory z ≡ leaf_test
       unfolding fitting_new
       whichever = ap (λ (t : Bool). t && leaf_test) (and_both (told_true lock l) (told_true held m))
@@ -530,17 +499,17 @@ module _ (op : Op) (k n : ℕ) (ws : List ℕ) (slot : Slot) where
   new_test = fitting_new k (page_at k ws) stands
 
   -- one test that fails
-  pub fits_unsound : {answer : Bool} → answer ≡ pages_sound k n ws (pages_of slot) → not answer ≡ true → fits k n ws stands ≡ false
+  pub fits_unsound : {answer : Bool} → answer ≡ pages_sound k n ws (pages_of slot) → answer ≡ false → fits k n ws stands ≡ false
   unfolding fits
   fits_unsound said f = and_first_fails (fitting k (page_at k ws) stands) (told_false said f)
 
-  pub fits_not_kept : {answer : Bool} → answer ≡ kept_test → not answer ≡ true → fits k n ws stands ≡ false
+  pub fits_not_kept : {answer : Bool} → answer ≡ kept_test → answer ≡ false → fits k n ws stands ≡ false
   unfolding fits fitting
   fits_not_kept said f =
       and_second_fails (pages_sound k n ws (pages_of slot)) (and_first_fails (cond (converting stands) converts_test new_test) (told_false said f))
 
-  module _ {sound kept : Bool} (pages : sound ≡ pages_sound k n ws (pages_of slot)) (p : not sound ≡ false) (rightly : kept ≡ kept_test)
-      (q : not kept ≡ false) {converts : Bool} (wants : converts ≡ converting stands) where
+  module _ {sound kept : Bool} (pages : sound ≡ pages_sound k n ws (pages_of slot)) (p : sound ≡ true) (rightly : kept ≡ kept_test)
+      (q : kept ≡ true) {converts : Bool} (wants : converts ≡ converting stands) where
     whole : fits k n ws stands ≡ cond (converting stands) converts_test new_test
     unfolding fits fitting
     whole =

@@ -16,9 +16,10 @@ use Rattle.ground.proofs.Choice.{cond-true, cond-false}
 use Rattle.slots.specs.declared.Lock.{Lock}
 use Rattle.slots.specs.declared.Lock.TheVariants.{None, Rho, Xi, UpdaterRho, Alpha}
 use Rattle.slots.specs.declared.Under.{Under}
-use Rattle.slots.specs.Parts.{under}
+use Rattle.slots.specs.declared.Slot.{Slot}
+use Rattle.slots.specs.Parts.{under, path_of, beside_of, locks_of, sidelocks_of}
 use Rattle.slots.specs.Locks.{same_lock}
-use Rattle.footing.specs.declared.converting.Turn.TheVariants.{Page as TurnPage, Done}
+use Rattle.std.specs.Prelude.{Some, None as Nothing}
 use Rattle.footing.specs.Granted.{in_turn, unconverted}
 use Rattle.footing.specs.Fitting.{xi_then_alpha}
 use Rattle.footing.specs.Standing.{turn_of, may_follow}
@@ -78,6 +79,32 @@ module _ {A : Type 0} (none : A) (cells : List A) (depth : ℕ) (beside : List A
       let none_left : length (take depth cells) ≤ i = omega (arith, length-take-le depth cells long) in
       ap (λ (l : List A). in_turn none l (take breadth beside)) (drop_of_length-le (take depth cells) none_left)
 
+-- ---- the cells of a slot
+
+-- there are as many as it holds pages, and as many kinds of lock
+pub record Kinds (s : Slot) : Type 0 where
+  pub path : s.depth ≤ length s.locks
+  pub beside : s.breadth ≤ length s.sidelocks
+
+pub record Cells (s : Slot) : Type 0 where
+  pub path : s.depth ≤ length s.path
+  pub beside : s.breadth ≤ length s.beside
+  pub kinds : Kinds s
+
+pub kinds_whole : (s : Slot) → s.depth ≤ 10 → s.breadth ≤ 10 → (length s.locks ≡ 10) × (length s.sidelocks ≡ 10) → Kinds s
+kinds_whole s deep few long = record { path = omega arith; beside = omega arith }
+
+pub cells_whole : (s : Slot) → s.depth ≤ 10 → s.breadth ≤ 10
+    → (length s.path ≡ 10) × (length s.locks ≡ 10) × (length s.beside ≡ 10) × (length s.sidelocks ≡ 10) → Cells s
+cells_whole s deep few long = record { path = omega arith; beside = omega arith; kinds = kinds_whole s deep few (long.1, long.3) }
+
+-- the kinds under which it holds the page in cell i of its path, and the one beside that
+abbrev pub kind_at : Slot → ℕ → Lock
+kind_at s i = (get_or s.locks i (under None)).lock
+
+abbrev pub side_at : Slot → ℕ → Lock
+side_at s i = (get_or s.sidelocks (s.depth - 1 - i) (under None)).lock
+
 -- ---- the page that is converted next
 
 -- the first is held with another kind than ξ, or with ξ
@@ -91,57 +118,57 @@ unconverted_on : (p : ℕ) (pages : List ℕ) (u : Under) (locks : List Under) �
 unfolding unconverted
 unconverted_on p pages u locks t = cond-true _ _ t
 
-module _ (path : List ℕ) (locks : List Under) (depth : ℕ) (beside : List ℕ) (sidelocks : List Under) (breadth : ℕ)
-    (deep : depth ≤ length path) (deep' : depth ≤ length locks) (broad : breadth ≤ length beside) (broad' : breadth ≤ length sidelocks) where
+-- what of a slot is left to convert from cell i of its path on
+abbrev pub left_from : Slot → ℕ → List ℕ
+left_from s i = unconverted (in_turn 0 (drop i (path_of s)) (beside_of s)) (in_turn (under None) (drop i (locks_of s)) (sidelocks_of s))
+
+module _ {s : Slot} (whole : Cells s) (i : ℕ) where
   abbrev pages : ℕ → List ℕ
-  pages i = turns_from 0 path depth beside breadth deep broad i
+  pages j = turns_from 0 s.path s.depth s.beside s.breadth whole.path whole.beside j
 
   abbrev kinds : ℕ → List Under
-  kinds i = turns_from (under None) locks depth sidelocks breadth deep' broad' i
+  kinds j = turns_from (under None) s.locks s.depth s.sidelocks s.breadth whole.kinds.path whole.kinds.beside j
 
-  -- what is left to convert from cell i on
-  abbrev left_from : ℕ → List ℕ
-  left_from i = unconverted (pages i) (kinds i)
+  module _ (h : i < s.depth) where
+    -- the page is not converted
+    pub turn_here : same_lock (kind_at s i) Xi ≡ false → turn_of (left_from s i) ≡ Some (get_or s.path i 0)
+    unfolding path_of beside_of locks_of sidelocks_of
+    turn_here f =
+        ap turn_of
+        (ap₂ unconverted (turns_next 0 s.path s.depth s.beside s.breadth whole.path whole.beside i h)
+        (turns_next (under None) s.locks s.depth s.sidelocks s.breadth whole.kinds.path whole.kinds.beside i h)
+        ∙ unconverted_here _ _ _ _ f)
 
-  -- a page is in cell i, a sibling in cell j
-  abbrev kind_at : ℕ → Lock
-  kind_at i = (get_or locks i (under None)).lock
-
-  abbrev side_at : ℕ → Lock
-  side_at j = (get_or sidelocks j (under None)).lock
-
-  -- the page is not converted
-  pub turn_here : (i : ℕ) → i < depth → same_lock (kind_at i) Xi ≡ false → turn_of (left_from i) ≡ TurnPage (get_or path i 0)
-  turn_here i h f =
-      ap turn_of
-      (ap₂ unconverted (turns_next 0 path depth beside breadth deep broad i h) (turns_next (under None) locks depth sidelocks breadth deep' broad' i h)
-      ∙ unconverted_here _ _ _ _ f)
-
-  module _ (i : ℕ) (h : i < depth) (t : same_lock (kind_at i) Xi ≡ true) where
-    -- it is, and has no sibling
-    pub turn_alone : breadth ≤ depth - 1 - i → left_from i ≡ left_from (i + 1)
-    turn_alone l =
-        ap₂ unconverted (turns_alone 0 path depth beside breadth deep broad i h l) (turns_alone (under None) locks depth sidelocks breadth deep' broad' i h l)
-        ∙ unconverted_on _ _ _ _ t
-
-    module _ (l : depth - 1 - i < breadth) where
-      with_sibling : left_from i ≡ unconverted (get_or beside (depth - 1 - i) 0 ∷ pages (i + 1)) (get_or sidelocks (depth - 1 - i) (under None) ∷ kinds (i + 1))
-      with_sibling =
-          ap₂ unconverted (turns_both 0 path depth beside breadth deep broad i h l) (turns_both (under None) locks depth sidelocks breadth deep' broad' i h l)
+    module _ (t : same_lock (kind_at s i) Xi ≡ true) where
+      -- it is, and has no sibling
+      pub turn_alone : s.breadth ≤ s.depth - 1 - i → left_from s i ≡ left_from s (i + 1)
+      unfolding path_of beside_of locks_of sidelocks_of
+      turn_alone l =
+          ap₂ unconverted (turns_alone 0 s.path s.depth s.beside s.breadth whole.path whole.beside i h l)
+          (turns_alone (under None) s.locks s.depth s.sidelocks s.breadth whole.kinds.path whole.kinds.beside i h l)
           ∙ unconverted_on _ _ _ _ t
 
-      -- its sibling is not
-      pub turn_beside : same_lock (side_at (depth - 1 - i)) Xi ≡ false → turn_of (left_from i) ≡ TurnPage (get_or beside (depth - 1 - i) 0)
-      turn_beside f = ap turn_of (with_sibling ∙ unconverted_here _ _ _ _ f)
+      module _ (l : s.depth - 1 - i < s.breadth) where
+        with_sibling : left_from s i ≡ unconverted (get_or s.beside (s.depth - 1 - i) 0 ∷ pages (i + 1)) (get_or s.sidelocks (s.depth - 1 - i) (under None) ∷ kinds (i + 1))
+        unfolding path_of beside_of locks_of sidelocks_of
+        with_sibling =
+            ap₂ unconverted (turns_both 0 s.path s.depth s.beside s.breadth whole.path whole.beside i h l)
+            (turns_both (under None) s.locks s.depth s.sidelocks s.breadth whole.kinds.path whole.kinds.beside i h l)
+            ∙ unconverted_on _ _ _ _ t
 
-      -- both are
-      pub turn_both : same_lock (side_at (depth - 1 - i)) Xi ≡ true → left_from i ≡ left_from (i + 1)
-      turn_both u = with_sibling ∙ unconverted_on _ _ _ _ u
+        -- its sibling is not
+        pub turn_beside : same_lock (side_at s i) Xi ≡ false → turn_of (left_from s i) ≡ Some (get_or s.beside (s.depth - 1 - i) 0)
+        turn_beside f = ap turn_of (with_sibling ∙ unconverted_here _ _ _ _ f)
+
+        -- both are
+        pub turn_both : same_lock (side_at s i) Xi ≡ true → left_from s i ≡ left_from s (i + 1)
+        unfolding path_of beside_of locks_of sidelocks_of
+        turn_both u = with_sibling ∙ unconverted_on _ _ _ _ u
 
   -- none is left
-  pub turn_none : (i : ℕ) → depth ≤ i → turn_of (left_from i) ≡ Done
-  unfolding unconverted
-  turn_none i h = ap (λ (ps : List ℕ). turn_of (unconverted ps (kinds i))) (turns_done 0 path depth beside breadth deep broad i h)
+  pub turn_none : s.depth ≤ i → turn_of (left_from s i) ≡ Nothing
+  unfolding unconverted path_of beside_of locks_of sidelocks_of
+  turn_none h = ap (λ (ps : List ℕ). turn_of (unconverted ps (kinds i))) (turns_done 0 s.path s.depth s.beside s.breadth whole.path whole.beside i h)
 
 -- ---- ξ, then α
 
@@ -178,45 +205,48 @@ follow_not false Xi locks f = not_both refl f
 follow_not false UpdaterRho locks f = refl
 follow_not false Alpha locks f = not_both refl f
 
-module _ (locks : List Under) (depth : ℕ) (sidelocks : List Under) (breadth : ℕ) (deep : depth ≤ length locks) (broad : breadth ≤ length sidelocks) where
-  -- what is asked from cell i on
-  abbrev follow_from : Bool → ℕ → Bool
-  follow_from alpha i = follow alpha (turns_from (under None) locks depth sidelocks breadth deep broad i)
+-- what is asked from cell i of a slot's path on
+abbrev pub follow_from : Slot → Bool → ℕ → Bool
+follow_from s alpha i = follow alpha (in_turn (under None) (drop i (locks_of s)) (sidelocks_of s))
 
-  abbrev lock_at : ℕ → Lock
-  lock_at i = (get_or locks i (under None)).lock
+module _ {s : Slot} (whole : Kinds s) (alpha : Bool) (i : ℕ) where
+  abbrev after : List Under
+  after = turns_from (under None) s.locks s.depth s.sidelocks s.breadth whole.path whole.beside (i + 1)
 
-  abbrev sidelock_at : ℕ → Lock
-  sidelock_at j = (get_or sidelocks j (under None)).lock
-
-  module _ (alpha : Bool) (i : ℕ) (h : i < depth) where
+  module _ (h : i < s.depth) where
     -- the page may not come next
-    pub follow_stops : may_follow (lock_at i) alpha ≡ false → follow_from alpha i ≡ false
-    follow_stops f = ap (follow alpha) (turns_next (under None) locks depth sidelocks breadth deep broad i h) ∙ follow_not alpha (lock_at i) _ f
+    pub follow_stops : may_follow (kind_at s i) alpha ≡ false → follow_from s alpha i ≡ false
+    unfolding locks_of sidelocks_of
+    follow_stops f =
+        ap (follow alpha) (turns_next (under None) s.locks s.depth s.sidelocks s.breadth whole.path whole.beside i h) ∙ follow_not alpha (kind_at s i) _ f
 
-    module _ (t : may_follow (lock_at i) alpha ≡ true) where
+    module _ (t : may_follow (kind_at s i) alpha ≡ true) where
       -- it may, and has no sibling
-      pub follow_alone : breadth ≤ depth - 1 - i → follow_from alpha i ≡ follow_from (same_lock (lock_at i) Alpha) (i + 1)
-      follow_alone l = ap (follow alpha) (turns_alone (under None) locks depth sidelocks breadth deep broad i h l) ∙ follow_on alpha (lock_at i) _ t
+      pub follow_alone : s.breadth ≤ s.depth - 1 - i → follow_from s alpha i ≡ follow_from s (same_lock (kind_at s i) Alpha) (i + 1)
+      unfolding locks_of sidelocks_of
+      follow_alone l =
+          ap (follow alpha) (turns_alone (under None) s.locks s.depth s.sidelocks s.breadth whole.path whole.beside i h l) ∙ follow_on alpha (kind_at s i) _ t
 
-      module _ (l : depth - 1 - i < breadth) where
-        then_sibling : follow_from alpha i
-            ≡ follow (same_lock (lock_at i) Alpha) (under (sidelock_at (depth - 1 - i)) ∷ turns_from (under None) locks depth sidelocks breadth deep broad (i + 1))
-        then_sibling = ap (follow alpha) (turns_both (under None) locks depth sidelocks breadth deep broad i h l) ∙ follow_on alpha (lock_at i) _ t
+      module _ (l : s.depth - 1 - i < s.breadth) where
+        then_sibling : follow_from s alpha i ≡ follow (same_lock (kind_at s i) Alpha) (under (side_at s i) ∷ after)
+        unfolding locks_of sidelocks_of
+        then_sibling =
+            ap (follow alpha) (turns_both (under None) s.locks s.depth s.sidelocks s.breadth whole.path whole.beside i h l) ∙ follow_on alpha (kind_at s i) _ t
 
         -- its sibling may not
-        pub follow_stops_beside : may_follow (sidelock_at (depth - 1 - i)) (same_lock (lock_at i) Alpha) ≡ false → follow_from alpha i ≡ false
-        follow_stops_beside f = then_sibling ∙ follow_not (same_lock (lock_at i) Alpha) (sidelock_at (depth - 1 - i)) _ f
+        pub follow_stops_beside : may_follow (side_at s i) (same_lock (kind_at s i) Alpha) ≡ false → follow_from s alpha i ≡ false
+        follow_stops_beside f = then_sibling ∙ follow_not (same_lock (kind_at s i) Alpha) (side_at s i) _ f
 
         -- both may
-        pub follow_both : may_follow (sidelock_at (depth - 1 - i)) (same_lock (lock_at i) Alpha) ≡ true
-            → follow_from alpha i ≡ follow_from (same_lock (sidelock_at (depth - 1 - i)) Alpha) (i + 1)
-        follow_both u = then_sibling ∙ follow_on (same_lock (lock_at i) Alpha) (sidelock_at (depth - 1 - i)) _ u
+        pub follow_both : may_follow (side_at s i) (same_lock (kind_at s i) Alpha) ≡ true
+            → follow_from s alpha i ≡ follow_from s (same_lock (side_at s i) Alpha) (i + 1)
+        unfolding locks_of sidelocks_of
+        follow_both u = then_sibling ∙ follow_on (same_lock (kind_at s i) Alpha) (side_at s i) _ u
 
   -- none is left
-  pub follow_done : (alpha : Bool) (i : ℕ) → depth ≤ i → follow_from alpha i ≡ true
-  unfolding xi_then_alpha all
-  follow_done alpha i h = ap (follow alpha) (turns_done (under None) locks depth sidelocks breadth deep broad i h) ∙ of_none alpha
+  pub follow_done : s.depth ≤ i → follow_from s alpha i ≡ true
+  unfolding locks_of sidelocks_of xi_then_alpha all
+  follow_done h = ap (follow alpha) (turns_done (under None) s.locks s.depth s.sidelocks s.breadth whole.path whole.beside i h) ∙ of_none alpha
     where
       of_none : (b : Bool) → follow b [] ≡ true
       of_none true = refl

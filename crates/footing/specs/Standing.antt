@@ -1,20 +1,16 @@
 -- What a granted step asks of its arguments, where the operation stands once its want is granted, and what is then known of
 -- the pages that it holds.
-use Rattle.std.specs.Prelude.{ℕ, suc, ◌+◌, ◌≤◌, ◌<◌, Bool, true, false, cond, not, ◌&&◌, ◌||◌, List, [], ◌∷◌, ◌++◌, reverse, ◌⊎◌, ◌≢◌, ◌≡◌, length, get_or}
+use Rattle.std.specs.Prelude.{ℕ, suc, ◌+◌, ◌≤◌, ◌<◌, Bool, true, false, cond, not, ◌&&◌, ◌||◌, List, [], ◌∷◌, ◌++◌, reverse, ◌⊎◌, ◌≢◌, ◌≡◌, length, get_or, Option, Some, None, is_some}
 use Rattle.ground.specs.Limits.{largest_k, largest_n, path_holds}
 use Rattle.ground.specs.Tests.{distinct}
 use Rattle.page.specs.Words.{Page}
 use Rattle.pool.specs.Pool.{pool_length, page_at}
 use Rattle.change.specs.Held.{Held}
-use Rattle.page.specs.declared.reading.Lot.{Lot}
-use Rattle.page.specs.declared.reading.Lot.TheVariants.{There, Missing}
 use Rattle.slots.specs.declared.Op.{Op}
 use Rattle.slots.specs.declared.Op.TheVariants.{Search, Insert, Delete, Next, Regrade}
 use Rattle.slots.specs.declared.Lock.{Lock}
 use Rattle.slots.specs.declared.Lock.TheVariants.{Xi, Alpha}
 use Rattle.slots.specs.Locks.{same_lock}
-use Rattle.footing.specs.declared.converting.Turn.{Turn}
-use Rattle.footing.specs.declared.converting.Turn.TheVariants.{Page as TurnPage, Done}
 use Rattle.slots.specs.declared.Task.TheVariants.{Open}
 use Rattle.slots.specs.declared.Slot.{Slot}
 use Rattle.slots.specs.declared.Under.{Under}
@@ -85,23 +81,18 @@ pub record SlotStanding (op : Op) (k n : ℕ) (ws : List ℕ) (stand : Slot) : T
 
 -- ---- the third way
 
--- a lot is there
-abbrev pub is_there : Lot → Bool
-is_there (There v) = true
-is_there Missing = false
-
 -- what is answered at once, by what was looked up under the key
-abbrev pub at_once : Op → Lot → Bool
+abbrev pub at_once : Op → Option ℕ → Bool
 at_once (Search x) lot = true
-at_once (Insert x v way) lot = is_there lot
-at_once (Delete x way) lot = not (is_there lot)
+at_once (Insert x v way) lot = is_some lot
+at_once (Delete x way) lot = not (is_some lot)
 at_once (Next x) lot = true
-at_once (Regrade x v way) lot = not (is_there lot)
+at_once (Regrade x v way) lot = not (is_some lot)
 
--- the page whose turn it is
-abbrev pub turn_of : List ℕ → Turn
-turn_of [] = Done
-turn_of (p ∷ pages) = TurnPage p
+-- the page whose turn it is, if one is left
+abbrev pub turn_of : List ℕ → Option ℕ
+turn_of [] = None
+turn_of (p ∷ pages) = Some p
 
 -- behind ξ comes ξ or α, behind α only α
 abbrev pub may_follow : Lock → Bool → Bool

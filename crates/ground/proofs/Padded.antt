@@ -85,10 +85,6 @@ padded_at n xs i = filled_at 0 n xs i
 pub padded_set : (n : ℕ) (xs : List ℕ) (i v : ℕ) → length xs ≡ i → i < n → set (padded n xs) i v ≡ padded n (xs ++ v ∷ [])
 padded_set n xs i v len h = filled_set 0 n xs i v len h
 
-pub padded_add : (n : ℕ) (cells : List ℕ) (i a : ℕ) → i < n → i ≤ length cells
-    → set (padded n (take i cells)) i a ≡ padded n (take i cells ++ a ∷ [])
-padded_add n cells i a h j = filled_add 0 n cells i a h j
-
 pub padded_more : (n : ℕ) (cells : List ℕ) (i : ℕ) → i < n → i < length cells
     → set (padded n (take i cells)) i (get_or cells i 0) ≡ padded n (take (i + 1) cells)
 padded_more n cells i h j = filled_more 0 n cells i h j

@@ -11,6 +11,7 @@ use borrow.Author.Tests.{ltb-true, ltb-false, eqb-true, eq-eqb, ne_eqb, not-true
 use lib.Dec.{eqb, ltb}
 use lib.ListN.{length, get_or, take, drop, length-append, length-take, take-append-drop, get_or-append}
 use lib.Seq.{take-suc, get_or-append_seam, get_or-take, drop-append-le}
+use Rattle.std.specs.List.{list_any}
 use Rattle.ground.specs.Tests.{all, count, member, distinct, apart, all_below, any_below, count_below, list_below, first_below}
 use Rattle.ground.proofs.Bools.{and_first, and_second, and_both, and_fails, or_first, or_second, or_cases, not_of_false, true_or_false, not_both, same_if_true_together, false_if_not_true}
 use Rattle.ground.proofs.Choice.{cond_ind, cond-true, cond-false}
@@ -92,6 +93,15 @@ module _ {A : Type 0} (p : A → Bool) where
       one_more false e = omega arith
 
 -- ---- a number stands in a list
+
+-- the library's test for an element
+pub member_any : (x : ℕ) (xs : List ℕ) → list_any (λ (y : ℕ). eqb y x) xs ≡ member x xs
+unfolding member
+member_any x [] = refl
+member_any x (y ∷ xs) =
+    ap₂ (λ (b c : Bool). b || c)
+    (same_if_true_together (eqb y x) (eqb x y) (λ h. eq-eqb x y (sym (eqb-true y x h))) (λ h. eq-eqb y x (sym (eqb-true x y h))))
+    (member_any x xs)
 
 -- no number stands in an empty list
 pub member_none : (x : ℕ) → member x [] ≡ false

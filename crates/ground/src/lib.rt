@@ -1,5 +1,8 @@
-// The ground: the limits of document 01, by name, and the folds that every rule is written with. It has no functions.
+// The ground: the limits of document 01, by name, how a pool is laid out, and the folds that every rule is written with. It has no functions.
 #![tactic(auto)]
+
+ghost use Rattle.std.specs.Prelude.{◌≤◌};
+ghost use Rattle.ground.specs.Limits.{largest_k, largest_n};
 
 // k is 1 to 16, N is 1 to 1,024.
 pub const LARGEST_K: usize = 16;
@@ -20,3 +23,12 @@ pub const NEW: usize = 11;
 
 // The key on a blank tag, which is no lot's.
 pub const BLANK_KEY: u32 = 0;
+
+// How a pool is laid out: its width k and the number of its pages, neither above its limit.
+#[derive(Clone, Copy)]
+pub struct Shape {
+    pub k: usize,
+    pub n: usize,
+    ghost width: { k ≤ largest_k },
+    ghost most: { n ≤ largest_n },
+}

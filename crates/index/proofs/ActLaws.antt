@@ -4,33 +4,33 @@ use Prim.Native.Nat.{ℕ, ◌+◌, ◌-◌, ◌*◌, ◌≤◌, ◌<◌}
 use mathlib.Core.Bool.{Bool, true, false, cond}
 use mathlib.Core.List.{List, [], ◌∷◌, ◌++◌, reverse}
 use mathlib.Core.Logic.{◌⊎◌, inl, inr, ⊎_elim}
-use mathlib.Core.Path.{◌≡◌, refl, sym, ap, ◌∙◌, subst}
+use mathlib.Core.Path.{◌≡◌, refl, sym, ap, ap₂, ◌∙◌, subst}
 use native.Mathlib.Omega.{arith}
 use borrow.Author.Tests.{leb-true, leb-false, ltb-true, lt-ltb, le-ltb}
 use lib.Dec.{ltb}
 use lib.ListN.{length, get_or, take, drop, replicate, length-append, length-drop, length-take, take-append-drop}
-use lib.Seq.{length-take-le, get_or-take, take_at}
+use lib.Seq.{length-take-le, take_at}
 use Rattle.ground.specs.Limits.{largest_n, slot_count, path_holds, most_new}
 use Rattle.ground.specs.Tests.{member, distinct, filled}
 use Rattle.ground.proofs.Bools.{or_first, or_second, false_if_not_true}
 use Rattle.ground.proofs.Choice.{cond-true, cond-false}
 use Rattle.ground.proofs.Tests.{member_append, member_from, not_member_at, distinct_front, distinct_back, distinct_apart, distinct_at, distinct_join, apart_member, apart_from, list_below_distinct}
+use Rattle.std.specs.Prelude.{Some, None}
 use Rattle.page.specs.Words.{Page, Entry, μ}
 use Rattle.page.specs.Place.{has, information}
 use Rattle.page.specs.Reading.{looked}
 use Rattle.page.specs.Splits.{with_entries}
-use Rattle.page.specs.declared.reading.Lot.TheVariants.{There, Missing}
 use Rattle.page.proofs.RegradeLaws.{regraded_none}
 use Rattle.pool.specs.Pool.{Write, write, written, page_at, free_pages, is_free, applied}
 use Rattle.pool.specs.Scan.{Scanned}
-use Rattle.pool.specs.declared.lying.Taken.{Taken}
 use Rattle.pool.proofs.LyingLaws.{scanned_at}
 use Rattle.pool.proofs.PagesLaws.{written_same}
 use Rattle.pool.proofs.FreeLaws.{Free, free_pages_at, free_pages_free}
 use Rattle.change.specs.Insertion.{room, insertion}
 use Rattle.change.specs.Deletion.{deletion}
 use Rattle.change.specs.Regrading.{regrading}
-use Rattle.change.proofs.HeldLaws.{held_known}
+use Rattle.change.specs.Held.{Holding, leaf_of, fathers_of}
+use Rattle.change.proofs.HeldLaws.{Known, held_known, holding_known, leaf_taken, fathers_taken}
 use Rattle.insertion.specs.Inserting.{Inserting}
 use Rattle.insertion.proofs.InsertLaws.{insertion_same}
 use Rattle.deletion.specs.Deleting.{Deleting}
@@ -55,63 +55,88 @@ use Rattle.footing.specs.Granted.{Verdict, ends, at_leaf, from_leaf}
 use Rattle.footing.specs.Standing.{SlotStanding}
 use Rattle.course.specs.Judged.{course_of, ready, stands_last}
 use Rattle.course.proofs.StandLaws.{Topped}
-use Rattle.course.proofs.JudgeLaws.{path_long, siblings_long, standing_needing, standing_holding, stand_upward, stand_known}
-use Rattle.index.specs.Acting.{Leaves, Acts, MayInsert, wanting, stand_leaf, stand_fathers, lacks_room, room_answer, after_insertion, after_deletion, regrade_answer, after_regrading}
+use Rattle.course.proofs.JudgeLaws.{path_long, siblings_long, standing_within, standing_cells, standing_needing, standing_holding, stand_upward, stand_known}
+use Rattle.index.specs.Acting.{InCells, Leaves, Acts, MayInsert, wanting, stand_leaf, stand_fathers, lacks_room, room_answer, after_insertion, after_deletion, regrade_answer, after_regrading}
+
+-- ---- the pages of a slot's path as a list of their own
+
+pub lent_long : {stand : Slot} → InCells stand → {path : List ℕ} → path ≡ path_of stand → length path ≡ stand.depth
+unfolding path_of
+lent_long {stand} c e = ap length e ∙ length-take-le stand.depth stand.path c.path
+
+module _ {stand : Slot} (c : InCells stand) (some : 1 ≤ stand.depth) {path : List ℕ} (e : path ≡ path_of stand) where
+  lent_leaf : leaf_of (length path) path ≡ stand_leaf stand
+  unfolding path_of
+  lent_leaf = ap (λ (p : List ℕ). leaf_of (length p) p) e ∙ leaf_taken stand.depth stand.path some c.path
+
+  lent_fathers : fathers_of (length path) path ≡ stand_fathers stand
+  unfolding path_of
+  lent_fathers = ap (λ (p : List ℕ). fathers_of (length p) p) e ∙ fathers_taken stand.depth stand.path c.path
+
+-- the words that a deletion leaves, with both lists as lists of their own
+pub deletion_told : (k : ℕ) (ws : List ℕ) {stand : Slot} (x : ℕ) → InCells stand → 1 ≤ length (path_of stand)
+    → {path beside : List ℕ} → path ≡ path_of stand → beside ≡ beside_of stand
+    → applied k (deletion k (page_at k ws) x (leaf_of (length path) path) (fathers_of (length path) path) beside) ws ≡ after_deletion k ws x stand
+deletion_told k ws {stand} x c some {path} {beside} e f =
+    let long : 1 ≤ stand.depth = omega (arith, some, lent_long c refl) in
+    ap (λ (b : List ℕ). applied k (deletion k (page_at k ws) x (leaf_of (length path) path) (fathers_of (length path) path) b) ws) f
+    ∙ ap₂ (λ (leaf : ℕ) (up : List ℕ). applied k (deletion k (page_at k ws) x leaf up (beside_of stand)) ws) (lent_leaf c long e) (lent_fathers c long e)
+
+-- what is known of the leaf of a path
+pub leaf_known : {k n : ℕ} {ws : List ℕ} {stand : Slot} → InCells stand → Holding k n ws (path_of stand) → Known k n ws (stand_leaf stand)
+leaf_known {k} {n} {ws} {stand} c h =
+    let long = lent_long c refl in
+    let some : 1 ≤ stand.depth = omega (arith, h.some, long) in
+    subst (Known k n ws) (lent_leaf c some refl) (holding_known h (length (path_of stand) - 1) (omega (arith, h.some)))
 
 -- ---- an operation that stands somewhere
 
+pub stand_cells : {op : Op} {k n : ℕ} {ws : List ℕ} {stand : Slot} → SlotStanding op k n ws stand → InCells stand
+stand_cells h = record { deep = (standing_within h).0; few = (standing_within h).1; path = (standing_cells h).0 }
+
+stand_some : {op : Op} {k n : ℕ} {ws : List ℕ} {stand : Slot} → SlotStanding op k n ws stand → 1 ≤ stand.depth
+stand_some h = omega (arith, h.standing.some, path_long h)
+
 module _ {op : Op} {k n : ℕ} {ws : List ℕ} {stand : Slot} (h : SlotStanding op k n ws stand) where
-  -- what stands in the lists stands in the arrays
-  path_cell : (i : ℕ) → i < stand.depth → get_or (path_of stand) i 0 ≡ get_or stand.path i 0
-  unfolding path_of
-  path_cell i l = get_or-take stand.depth stand.path i 0 l
-
-  sibling_cell : (j : ℕ) → j < stand.breadth → get_or (beside_of stand) j 0 ≡ get_or stand.beside j 0
-  unfolding beside_of
-  sibling_cell j l = get_or-take stand.breadth stand.beside j 0 l
-
   -- a deletion may be made of the key that stands at its leaf
   stand_deleting : (x : ℕ) → is_next op ≡ false → stands_last (page_at k ws) x (reverse (path_of stand))
-      → Deleting k n ws x stand.path stand.depth stand.beside stand.breadth
+      → Deleting k n ws x (path_of stand) (beside_of stand)
   stand_deleting x no_next there =
       let s = h.standing in
-      let longPath = path_long h in
-      let longSiblings = siblings_long h in
+      let path : List ℕ = path_of stand in
+      let beside : List ℕ = beside_of stand in
       record {
         held = standing_needing h;
-        stands = subst (stands_last (page_at k ws) x) (stand_upward h) there;
-        levels = λ i j l e.
-            ap (λ (p : ℕ). (page_at k ws p).level) (sym (path_cell i (omega arith)))
-            ∙ s.levels no_next i j (omega arith) (omega arith)
-            ∙ ap (λ (p : ℕ). (page_at k ws p).level) (sibling_cell j l);
-        others = λ j l e. s.others no_next j (omega arith) (sibling_cell j l ∙ e);
-        path_apart = λ i t l u e. distinct_at (path_of stand) 0 (distinct_front (path_of stand) (beside_of stand) s.different) i t l (omega arith)
-            (path_cell i (omega arith) ∙ e ∙ sym (path_cell t u));
-        beside_apart = λ j t l u e. distinct_at (beside_of stand) 0 (distinct_back (path_of stand) (beside_of stand) s.different) j t l (omega arith)
-            (sibling_cell j (omega arith) ∙ e ∙ sym (sibling_cell t u));
+        stands =
+            subst (λ (p : ℕ). has x (page_at k ws p).entries ≡ true) (sym (lent_leaf (stand_cells h) (stand_some h) refl))
+            (subst (stands_last (page_at k ws) x) (stand_upward h) there);
+        levels = λ i j l e. s.levels no_next i j (omega arith) (omega arith);
+        others = λ j l e. s.others no_next j (omega arith) e;
+        path_apart = λ i t l u e. distinct_at path 0 (distinct_front path beside s.different) i t l u e;
+        beside_apart = λ j t l u e. distinct_at beside 0 (distinct_back path beside s.different) j t l u e;
         across = λ i j l u e.
-            let on = member_from (get_or stand.path i 0) (path_of stand) i 0 (omega arith) (path_cell i l) in
-            let off = apart_member (path_of stand) (beside_of stand) (distinct_apart (path_of stand) (beside_of stand) s.different) (get_or stand.path i 0) on in
-            not_member_at (get_or stand.path i 0) (beside_of stand) 0 off j (omega arith) (sibling_cell j u ∙ sym e);
+            let p : ℕ = get_or path i 0 in
+            let off = apart_member path beside (distinct_apart path beside s.different) p (member_from p path i 0 l refl) in
+            not_member_at p beside 0 off j u (sym e);
       }
 
 -- ---- pages found by a scan
 
-module _ (k n : ℕ) (ws : List ℕ) {need : ℕ} {r : Taken} (found : Scanned need (free_pages k n ws) r) (all : r.enough ≡ true) where
+module _ (k n : ℕ) (ws : List ℕ) {need : ℕ} {pages : List ℕ} (found : Scanned need (free_pages k n ws) (Some pages)) where
   -- as many are free
   free_enough : need ≤ length (free_pages k n ws)
-  free_enough = leb-true need (length (free_pages k n ws)) (sym found.enough ∙ all)
+  free_enough = leb-true need (length (free_pages k n ws)) (sym found.enough)
 
   -- they are the first of the free ones
-  taken_first : take need r.pages ≡ take need (free_pages k n ws)
+  taken_first : take need pages ≡ take need (free_pages k n ws)
   unfolding filled
   taken_first =
-      ap (take need) (found.pages all)
+      ap (take need) found.pages
       ∙ take_at (take need (free_pages k n ws)) (replicate (most_new - length (take need (free_pages k n ws))) 0) need
       (length-take-le need (free_pages k n ws) free_enough)
 
   -- each of them is free
-  taken_free : (p : ℕ) → member p (take need r.pages) ≡ true → Free k n ws p
+  taken_free : (p : ℕ) → member p (take need pages) ≡ true → Free k n ws p
   taken_free p m =
       let front = take need (free_pages k n ws) in
       let back = drop need (free_pages k n ws) in
@@ -120,7 +145,7 @@ module _ (k n : ℕ) (ws : List ℕ) {need : ℕ} {r : Taken} (found : Scanned n
       (member_append p front back ∙ or_first (member p back) (sym (ap (member p) taken_first) ∙ m)))
 
   -- none is taken twice
-  taken_distinct : distinct (take need r.pages) ≡ true
+  taken_distinct : distinct (take need pages) ≡ true
   unfolding free_pages
   taken_distinct =
       ap distinct taken_first
@@ -128,10 +153,10 @@ module _ (k n : ℕ) (ws : List ℕ) {need : ℕ} {r : Taken} (found : Scanned n
       (subst (λ (l : List ℕ). distinct l ≡ true) (sym (take-append-drop need (free_pages k n ws))) (list_below_distinct (is_free k ws) n))
 
   -- each of them is one of the pool
-  taken_inside : (t : ℕ) → t < need → get_or r.pages t 0 < n
+  taken_inside : (t : ℕ) → t < need → get_or pages t 0 < n
   taken_inside t l =
       let many = free_enough in
-      subst (λ (p : ℕ). p < n) (sym (scanned_at found all t l)) (free_pages_at k n ws t 0 (omega arith)).in_pool
+      subst (λ (p : ℕ). p < n) (sym (scanned_at found t l)) (free_pages_at k n ws t 0 (omega arith)).in_pool
 
 -- ---- an insertion
 
@@ -139,68 +164,89 @@ module _ (k n : ℕ) (ws : List ℕ) {need : ℕ} {r : Taken} (found : Scanned n
 stand_inserting : {op : Op} {k n : ℕ} {ws : List ℕ} {stand : Slot} (x v : ℕ) → SlotStanding op k n ws stand
     → Topped (Insert x v First) k (page_at k ws) (path_of stand) → MayInsert k n ws stand
 stand_inserting {k = k} {ws = ws} {stand = stand} x v h top =
-    let some : 0 < stand.depth = omega (arith, h.standing.some, path_long h) in
     record {
+      cells = stand_cells h;
       holding = standing_holding h;
       different = distinct_front (path_of stand) (beside_of stand) h.standing.different;
-      top = subst (λ (p : ℕ). (p ≡ 0) ⊎ (μ (page_at k ws p) < 2 * k)) (path_cell h 0 some)
-          (⊎_elim inl (λ e. inr (ltb-true (μ (page_at k ws (get_or (path_of stand) 0 0))) (2 * k) e)) top);
+      top = ⊎_elim inl (λ e. inr (ltb-true (μ (page_at k ws (get_or (path_of stand) 0 0))) (2 * k) e)) top;
     }
 
--- The pages that the count of room asks for are found.
+-- the words after the change with new pages from this list
+abbrev change_with : ℕ → List ℕ → ℕ → ℕ → Slot → List ℕ → List ℕ
+change_with k ws x v stand free = applied k (insertion k (page_at k ws) x v free (stand_leaf stand) (stand_fathers stand)) ws
+
+-- An insertion that stands here, with the pages of its path as a list of their own, and the count of room.
 module _
-    {k n : ℕ} {ws : List ℕ} {stand : Slot} (h : MayInsert k n ws stand)
-    {need : ℕ} {r : Taken} (found : Scanned need (free_pages k n ws) r) (count : need ≡ room k (page_at k ws) (stand_leaf stand) (path_of stand))
+    {k n : ℕ} {ws : List ℕ} {stand : Slot} (h : MayInsert k n ws stand) {path : List ℕ} (e : path ≡ path_of stand)
+    {need : ℕ} (count : need ≡ room k (page_at k ws) (leaf_of (length path) path) path)
   where
-    -- no page held is free
-    held_taken : r.enough ≡ true → (p : ℕ) → member p (path_of stand) ≡ true → member p (take need r.pages) ≡ false
-    unfolding path_of
-    held_taken all p m =
-        let known = held_known h.holding.held p m in
-        false_if_not_true (member p (take need r.pages))
-        (λ t. let low = (taken_free k n ws found all p t).level in
-        let high = known.facts.lowest in
-        omega arith)
+    some : 1 ≤ stand.depth
+    some = omega (arith, h.holding.some, lent_long h.cells refl)
 
-    -- so the change may be made
-    pub taken_inserting : need ≤ stand.depth + 1 → r.enough ≡ true → Inserting k n ws stand.path stand.depth r.pages
-    unfolding path_of path_holds most_new
-    taken_inserting few all =
-        let deep = h.holding.deep in
-        let here : List ℕ = path_of stand in
-        subst (λ (m : ℕ). m ≤ most_new → ((t : ℕ) → t < m → get_or r.pages t 0 < n) → distinct (here ++ take m r.pages) ≡ true → Inserting k n ws stand.path stand.depth r.pages)
-        (sym count)
-        (λ most inside apart. record { holding = h.holding; top = h.top; cells = found.cells; enough = most; inside = inside; apart = apart })
-        (omega arith)
-        (taken_inside k n ws found all)
-        (distinct_join here (take need r.pages) h.different (taken_distinct k n ws found all)
-        (apart_from here (take need r.pages) (held_taken all)))
+    -- it is the rule's
+    room_told : need ≡ room k (page_at k ws) (stand_leaf stand) (path_of stand)
+    room_told = count ∙ ap₂ (λ (leaf : ℕ) (held : List ℕ). room k (page_at k ws) leaf held) (lent_leaf h.cells some e) e
 
-    -- for this key and information
-    module _ (x v : ℕ) where
-      -- the words after the change with new pages from this list
-      abbrev changed : List ℕ → List ℕ
-      changed free = applied k (insertion k (page_at k ws) x v free (stand_leaf stand) (stand_fathers stand)) ws
+    -- too few pages are free for it
+    pub room_lacks : Scanned need (free_pages k n ws) None → (x v : ℕ) → (NoRoom ≡ room_answer k n ws stand) × (ws ≡ after_insertion k n ws x v stand)
+    room_lacks found x v =
+        let few = leb-false need (length (free_pages k n ws)) (sym found.enough) in
+        let lacks : lacks_room k n ws stand ≡ true =
+        lt-ltb (length (free_pages k n ws)) (room k (page_at k ws) (stand_leaf stand) (path_of stand)) (omega (arith, room_told)) in
+        (sym (cond-true NoRoom Inserted lacks), sym (cond-true ws (change_with k ws x v stand (free_pages k n ws)) lacks))
 
-      -- too few pages are free
-      pub room_lacks : r.enough ≡ false → (NoRoom ≡ room_answer k n ws stand) × (ws ≡ after_insertion k n ws x v stand)
-      room_lacks none =
-          let few = leb-false need (length (free_pages k n ws)) (sym found.enough ∙ none) in
-          let lacks : lacks_room k n ws stand ≡ true = lt-ltb (length (free_pages k n ws)) (room k (page_at k ws) (stand_leaf stand) (path_of stand)) (omega arith) in
-          (sym (cond-true NoRoom Inserted lacks), sym (cond-true ws (changed (free_pages k n ws)) lacks))
+    -- the pages that it asks for are found
+    module _ {pages : List ℕ} (found : Scanned need (free_pages k n ws) (Some pages)) where
+      -- no page held is free
+      held_taken : (p : ℕ) → member p (path_of stand) ≡ true → member p (take need pages) ≡ false
+      held_taken p m =
+          let known = held_known h.holding.held p m in
+          false_if_not_true (member p (take need pages))
+          (λ t. let low = (taken_free k n ws found p t).level in
+          let high = known.facts.lowest in
+          omega arith)
 
-      -- the change was made with the pages found, which are those that the rule takes
-      pub room_enough : need ≤ stand.depth + 1 → r.enough ≡ true → {after : List ℕ} → after ≡ changed r.pages
+      -- so the change may be made
+      pub taken_inserting : need ≤ length path + 1 → Inserting k n ws path pages
+      unfolding path_holds most_new
+      taken_inserting few =
+          let deep = h.holding.deep in
+          let here : List ℕ = path_of stand in
+          subst (λ (m : ℕ). m ≤ most_new → ((t : ℕ) → t < m → get_or pages t 0 < n) → distinct (path ++ take m pages) ≡ true → Inserting k n ws path pages)
+          (sym count)
+          (λ most inside apart.
+          record {
+            holding = subst (Holding k n ws) (sym e) h.holding;
+            top = subst (λ (ps : List ℕ). (get_or ps 0 0 ≡ 0) ⊎ (μ (page_at k ws (get_or ps 0 0)) < 2 * k)) (sym e) h.top;
+            cells = found.cells;
+            enough = most;
+            inside = inside;
+            apart = apart;
+          })
+          (omega (arith, ap length e))
+          (taken_inside k n ws found)
+          (subst (λ (ps : List ℕ). distinct (ps ++ take need pages) ≡ true) (sym e)
+          (distinct_join here (take need pages) h.different (taken_distinct k n ws found)
+          (apart_from here (take need pages) held_taken)))
+
+      -- and for this key and information it was made, with the pages found, which are those that the rule takes
+      pub room_enough : (x v : ℕ) → need ≤ length path + 1 → {after : List ℕ}
+          → after ≡ applied k (insertion k (page_at k ws) x v pages (leaf_of (length path) path) (fathers_of (length path) path)) ws
           → (Inserted ≡ room_answer k n ws stand) × (after ≡ after_insertion k n ws x v stand)
-      unfolding path_of
-      room_enough few all made =
-          let many = free_enough k n ws found all in
-          let room_is : lacks_room k n ws stand ≡ false = le-ltb (length (free_pages k n ws)) (room k (page_at k ws) (stand_leaf stand) (path_of stand)) (omega arith) in
-          let agree : (t : ℕ) → t < room k (page_at k ws) (stand_leaf stand) (path_of stand) → get_or (free_pages k n ws) t 0 ≡ get_or r.pages t 0
-          = λ t l. sym (scanned_at found all t (omega arith)) in
-          let same = insertion_same x v (taken_inserting few all) (free_pages k n ws) agree in (
+      room_enough x v few made =
+          let many = free_enough k n ws found in
+          let room_is : lacks_room k n ws stand ≡ false =
+          le-ltb (length (free_pages k n ws)) (room k (page_at k ws) (stand_leaf stand) (path_of stand)) (omega (arith, room_told)) in
+          let agree : (t : ℕ) → t < room k (page_at k ws) (leaf_of (length path) path) path → get_or (free_pages k n ws) t 0 ≡ get_or pages t 0
+          = λ t l. sym (scanned_at found t (omega arith)) in
+          let same = insertion_same x v (taken_inserting few) (free_pages k n ws) agree in (
             sym (cond-false NoRoom Inserted room_is),
-            made ∙ sym (ap (λ (ws' : List Write). applied k ws' ws) same) ∙ sym (cond-false ws (changed (free_pages k n ws)) room_is),
+            made
+                ∙ sym (ap (λ (ws' : List Write). applied k ws' ws) same)
+                ∙ ap₂ (λ (leaf : ℕ) (up : List ℕ). applied k (insertion k (page_at k ws) x v (free_pages k n ws) leaf up) ws)
+                (lent_leaf h.cells some e)
+                (lent_fathers h.cells some e)
+                ∙ sym (cond-false ws (change_with k ws x v stand (free_pages k n ws)) room_is),
           )
 
 -- ---- a regrading
@@ -390,7 +436,7 @@ module _ (cells : List ℕ) {ws : List ℕ} {s : ℕ} {op : Op} {stand : Slot} (
       writes : List Write
       writes = regrading memory x v (stand_leaf stand)
 
-      split : (b : Bool) → has x es ≡ b → answer ≡ regrade_answer (cond b (There (information x es)) Missing)
+      split : (b : Bool) → has x es ≡ b → answer ≡ regrade_answer (cond b (Some (information x es)) None)
           → Leaves cells ws s (cond b (ends (Regraded (information x es)) writes) (ends NoSuchKey [])) answer cells' words
       split true there h = record { answer = h; state = ap state_of e ∙ closed_state; all = e; words = made }
       split false missing h = record { answer = h; state = ap state_of e ∙ closed_state; all = e; words = made ∙ regraded_nothing a.stands x v missing }
@@ -402,7 +448,7 @@ module _ {st : State} {ws : List ℕ} {s : ℕ} {op : Op} {stand : Slot} (a : Ac
     inserts_stands {x} {v} is = stand_inserting x v a.stands (subst (ready op st.k (page_at st.k ws) (path_of stand)) is fit)
 
     pub deletes_stands : {x v : ℕ} → course ≡ Deletes x v
-        → Deleting st.k st.n ws x stand.path stand.depth stand.beside stand.breadth
+        → Deleting st.k st.n ws x (path_of stand) (beside_of stand)
     deletes_stands {x = x} is =
         let sure = subst (ready op st.k (page_at st.k ws) (path_of stand)) is fit in
         stand_deleting a.stands x sure.0 sure.1

@@ -8,12 +8,13 @@ use borrow.Author.Tests.{leb-true, eqb-true}
 use lib.Dec.{leb, eqb}
 use lib.ListN.{length, set, replicate}
 use Rattle.ground.specs.Limits.{largest_k, k_in_range, largest_n, n_in_range}
-use Rattle.ground.proofs.Bools.{and_first, and_second, and_first_fails}
+use Rattle.ground.proofs.Bools.{and_first, and_second}
 use Rattle.ground.proofs.Choice.{cond-true, cond-false}
 use Rattle.pool.specs.Pool.{pool_length, start, fresh}
 use Rattle.pool.proofs.StretchLaws.{pool_length_start, ends_in_pool}
-use Rattle.opening.specs.declared.checking.Checked.{Checked}
-use Rattle.opening.specs.declared.checking.Checked.TheVariants.{Unsound, Tree, NoTree}
+use Rattle.std.specs.Prelude.{⊤, Result, Ok, Err}
+use Rattle.opening.specs.declared.checking.Fault.{Fault}
+use Rattle.opening.specs.declared.checking.Fault.TheVariants.{Unsound, NoTree}
 use Rattle.opening.specs.Opening.{checked}
 use Rattle.opening.specs.Marks.{Handed}
 use Rattle.slots.specs.declared.Answer.{Answer}
@@ -34,9 +35,6 @@ is_pool k n ws = k_in_range k && n_in_range n && eqb (length ws) (pool_length k 
 
 -- the numbers were tested
 module _ (k n : ℕ) (ws : List ℕ) {r : Bool} (in_range : r ≡ k_in_range k && n_in_range n) where
-  pub range_fails : r ≡ false → false ≡ is_pool k n ws
-  range_fails f = sym (and_first_fails (eqb (length ws) (pool_length k n)) (sym in_range ∙ f))
-
   pub range_most : r ≡ true → (k ≤ largest_k) × (n ≤ largest_n)
   range_most t =
       let both = sym in_range ∙ t in (
@@ -98,7 +96,7 @@ opened_says l e answer state all words =
     }
 
 -- where the words are a pool's, the check decides
-opened_as_lem : (k n : ℕ) (ws : List ℕ) (found : Checked) → is_pool k n ws ≡ true → found ≡ checked k n ws → opened k n ws ≡ opened_as k n ws found
+opened_as_lem : (k n : ℕ) (ws : List ℕ) (found : Result ⊤ Fault) → is_pool k n ws ≡ true → found ≡ checked k n ws → opened k n ws ≡ opened_as k n ws found
 unfolding opened
 opened_as_lem k n ws found good e = cond-true (opened_as k n ws (checked k n ws)) (left BadPool (idle_state 0 0) ws) good ∙ ap (opened_as k n ws) (sym e)
 
@@ -139,14 +137,14 @@ module _ (cells : List ℕ) (long : length cells ≡ state_length) {cleared : Li
     open_refuses bad = open_empty BadPool (cond-false (opened_as k n ws (checked k n ws)) (left BadPool (idle_state 0 0) ws) bad)
 
     module _ (good : is_pool k n ws ≡ true) where
-      pub open_names : {p : ℕ} → Unsound p ≡ checked k n ws → OpenSays k n ws (BadPageInPool p) cleared
-      open_names {p} e = open_empty (BadPageInPool p) (opened_as_lem k n ws (Unsound p) good e)
+      pub open_names : {p : ℕ} → Err (Unsound p) ≡ checked k n ws → OpenSays k n ws (BadPageInPool p) cleared
+      open_names {p} e = open_empty (BadPageInPool p) (opened_as_lem k n ws (Err (Unsound p)) good e)
 
-      pub open_none : NoTree ≡ checked k n ws → OpenSays k n ws BadTree cleared
-      open_none e = open_empty BadTree (opened_as_lem k n ws NoTree good e)
+      pub open_none : Err NoTree ≡ checked k n ws → OpenSays k n ws BadTree cleared
+      open_none e = open_empty BadTree (opened_as_lem k n ws (Err NoTree) good e)
 
-      pub open_done : Tree ≡ checked k n ws → OpenSays k n ws Opened (set (set cleared 0 k) 1 n)
-      open_done e = opened_says (left Opened (idle_state k n) ws) (opened_as_lem k n ws Tree good e) refl (ap state_of (idle_cells k n) ∙ idle_state_lem k n) (idle_cells k n) refl
+      pub open_done : Ok tt ≡ checked k n ws → OpenSays k n ws Opened (set (set cleared 0 k) 1 n)
+      open_done e = opened_says (left Opened (idle_state k n) ws) (opened_as_lem k n ws (Ok tt) good e) refl (ap state_of (idle_cells k n) ∙ idle_state_lem k n) (idle_cells k n) refl
 
       -- what the check asks
       pub open_handed : Handed k n ws

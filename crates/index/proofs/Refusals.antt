@@ -16,8 +16,9 @@ use Rattle.pool.proofs.FreshLaws.{length_fresh}
 use Rattle.page.specs.Words.{Entry, Page, is_leaf}
 use Rattle.page.specs.Place.{has, at_or_above}
 use Rattle.pool.specs.Pool.{pool_length, page_at, free_pages}
-use Rattle.opening.specs.declared.checking.Checked.{Checked}
-use Rattle.opening.specs.declared.checking.Checked.TheVariants.{Unsound, Tree, NoTree}
+use Rattle.std.specs.Prelude.{⊤, Result, Ok, Err}
+use Rattle.opening.specs.declared.checking.Fault.{Fault}
+use Rattle.opening.specs.declared.checking.Fault.TheVariants.{Unsound, NoTree}
 use Rattle.opening.specs.Opening.{lowest_unsound, checked}
 use Rattle.opening.proofs.CheckLaws.{none_found, checked_unsound}
 use Rattle.change.specs.Insertion.{room}
@@ -172,10 +173,10 @@ make_refused k n ws =
 -- What an opening can come to: refused it leaves the words and the empty state, accepted the words and every slot closed.
 module _ (k n : ℕ) (ws : List ℕ) (P : Left → Type 0) where
   opened_as_lem : P (left Opened (idle_state k n) ws) → ((p : ℕ) → P (left (BadPageInPool p) (idle_state 0 0) ws)) → P (left BadTree (idle_state 0 0) ws)
-      → (c : Checked) → P (opened_as k n ws c)
-  opened_as_lem accepted page tree (Unsound p) = page p
-  opened_as_lem accepted page tree Tree = accepted
-  opened_as_lem accepted page tree NoTree = tree
+      → (c : Result ⊤ Fault) → P (opened_as k n ws c)
+  opened_as_lem accepted page tree (Err (Unsound p)) = page p
+  opened_as_lem accepted page tree (Ok _) = accepted
+  opened_as_lem accepted page tree (Err NoTree) = tree
 
   pub opened_ind : (k_in_range k && n_in_range n && eqb (length ws) (pool_length k n) ≡ true → P (left Opened (idle_state k n) ws))
       → P (left BadPool (idle_state 0 0) ws) → ((p : ℕ) → P (left (BadPageInPool p) (idle_state 0 0) ws)) → P (left BadTree (idle_state 0 0) ws)

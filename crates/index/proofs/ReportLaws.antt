@@ -60,14 +60,16 @@ lock_held_lem slot p l o =
 abbrev pub under_at : State → ℕ → Lock → ℕ → Bool
 under_at st p lock s = holds_at st s p && eqb (lock_number (lock_held_at st s p)) (lock_number lock)
 
--- The number of the lock under which slot s holds page p was found: it is the one looked for, if the slot holds the page under that kind.
-pub number_told : (ws : List ℕ) (s p found number : ℕ) → s < row_length → is_lock_number number ≡ true → lock_named found ≡ lock_held (slot_in ws s) p
-    → eqb found number ≡ under_at (as_read ws) p (lock_named number) s
-number_told ws s p found number inside t told =
-    let kind : Lock = lock_named number in
+-- the number of a lock that was found is the one looked for, if the lock is
+pub number_told : (found number : ℕ) (l : Lock) → is_lock_number number ≡ true → lock_named found ≡ l → eqb found number ≡ same_lock l (lock_named number)
+number_told found number l t told =
     let is = names number t in
-    ap (eqb found) (sym is.back)
-    ∙ same_number kind is.lock found
-    ∙ ap (λ (l : Lock). same_lock l kind) told
-    ∙ lock_held_lem (slot_in ws s) p kind is.lock
+    ap (eqb found) (sym is.back) ∙ same_number (lock_named number) is.lock found ∙ ap (λ (k : Lock). same_lock k (lock_named number)) told
+
+-- the lock under which slot s holds page p is of this kind, if the slot holds the page under that kind
+pub held_told : (ws : List ℕ) (s p number : ℕ) → s < row_length → is_lock_number number ≡ true
+    → same_lock (lock_held (slot_in ws s) p) (lock_named number) ≡ under_at (as_read ws) p (lock_named number) s
+held_told ws s p number inside t =
+    let kind : Lock = lock_named number in
+    lock_held_lem (slot_in ws s) p kind (names number t).lock
     ∙ ap (λ (slot : Slot). member p (held slot) && same_lock (lock_held slot p) kind) (sym (slot_read ws s inside))

@@ -1,10 +1,8 @@
 -- What the functions that carry a course out ask and promise. A slot's arrays stand for the rule's lists as they do for a change.
-use Rattle.std.specs.Prelude.{ℕ, ◌*◌, ◌≤◌, ◌<◌, Bool, true, cond, List, ◌⊎◌, ◌≡◌, ltb, length, get_or}
-use Rattle.ground.specs.Limits.{slot_count}
+use Rattle.std.specs.Prelude.{ℕ, ◌*◌, ◌≤◌, ◌<◌, Bool, true, cond, List, ◌⊎◌, ◌≡◌, ltb, length, get_or, Option, Some, None}
+use Rattle.ground.specs.Limits.{slot_count, path_holds}
 use Rattle.ground.specs.Tests.{member, distinct}
 use Rattle.page.specs.Words.{μ}
-use Rattle.page.specs.declared.reading.Lot.{Lot}
-use Rattle.page.specs.declared.reading.Lot.TheVariants.{There, Missing}
 use Rattle.pool.specs.Pool.{page_at, free_pages, applied}
 use Rattle.change.specs.Insertion.{room, insertion}
 use Rattle.change.specs.Deletion.{deletion}
@@ -46,12 +44,19 @@ pub record Acts (st : State) (ws : List ℕ) (s : ℕ) (op : Op) (stand : Slot) 
   pub waits : Waits st s
   pub stands : SlotStanding op st.k st.n ws stand
 
+-- The pages that the slot holds are in the cells of its arrays.
+pub record InCells (stand : Slot) : Type 0 where
+  pub deep : stand.depth ≤ path_holds
+  pub few : stand.breadth ≤ path_holds
+  pub path : stand.depth ≤ length stand.path
+
 -- What the whole change of an insertion asks, whichever way it came down: the pages of its path lie in the slot's array, none stands
 -- there twice, and the top one is page 0 or has space.
 pub record MayInsert (k n : ℕ) (ws : List ℕ) (stand : Slot) : Type 0 where
-  pub holding : Holding k n ws stand.path stand.depth
+  pub cells : InCells stand
+  pub holding : Holding k n ws (path_of stand)
   pub different : distinct (path_of stand) ≡ true
-  pub top : (get_or stand.path 0 0 ≡ 0) ⊎ (μ (page_at k ws (get_or stand.path 0 0)) < 2 * k)
+  pub top : (get_or (path_of stand) 0 0 ≡ 0) ⊎ (μ (page_at k ws (get_or (path_of stand) 0 0)) < 2 * k)
 
 -- the slot with another want, under this kind of lock
 abbrev pub wanting : ℕ → Lock → Slot → Slot
@@ -83,9 +88,9 @@ abbrev pub after_deletion : ℕ → List ℕ → ℕ → Slot → List ℕ
 after_deletion k ws x stand = applied k (deletion k (page_at k ws) x (stand_leaf stand) (stand_fathers stand) (beside_of stand)) ws
 
 -- what a regrading answers, by what stood under its key, and the words that it leaves
-abbrev pub regrade_answer : Lot → Answer
-regrade_answer (There old) = Regraded old
-regrade_answer Missing = NoSuchKey
+abbrev pub regrade_answer : Option ℕ → Answer
+regrade_answer (Some old) = Regraded old
+regrade_answer None = NoSuchKey
 
 abbrev pub after_regrading : ℕ → List ℕ → ℕ → ℕ → Slot → List ℕ
 after_regrading k ws x v stand = applied k (regrading (page_at k ws) x v (stand_leaf stand)) ws

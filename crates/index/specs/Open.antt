@@ -1,9 +1,9 @@
 -- Opening a pool that somebody hands us, for every argument. 02 (vii).
-use Rattle.std.specs.Prelude.{ℕ, cond, ◌&&◌, List, eqb, length}
+use Rattle.std.specs.Prelude.{ℕ, cond, ◌&&◌, List, eqb, length, ⊤, Result, Ok, Err}
 use Rattle.ground.specs.Limits.{k_in_range, n_in_range}
 use Rattle.pool.specs.Pool.{pool_length}
-use Rattle.opening.specs.declared.checking.Checked.{Checked}
-use Rattle.opening.specs.declared.checking.Checked.TheVariants.{Unsound, Tree, NoTree}
+use Rattle.opening.specs.declared.checking.Fault.{Fault}
+use Rattle.opening.specs.declared.checking.Fault.TheVariants.{Unsound, NoTree}
 use Rattle.opening.specs.Opening.{checked}
 use Rattle.slots.specs.declared.Answer.TheVariants.{BadPool, Opened, BadPageInPool, BadTree}
 use Rattle.slots.specs.Parts.{idle_state}
@@ -11,10 +11,10 @@ use Rattle.index.specs.Step.{Left, left}
 
 -- "A refusal leaves the words as given, returns the empty state, and gives the lowest-numbered page that is not sound by itself ..; if all are,
 -- it says BadTree. Acceptance gives a state with all slots closed."
-abbrev pub opened_as : ℕ → ℕ → List ℕ → Checked → Left
-opened_as k n ws (Unsound p) = left (BadPageInPool p) (idle_state 0 0) ws
-opened_as k n ws Tree = left Opened (idle_state k n) ws
-opened_as k n ws NoTree = left BadTree (idle_state 0 0) ws
+abbrev pub opened_as : ℕ → ℕ → List ℕ → Result ⊤ Fault → Left
+opened_as k n ws (Err (Unsound p)) = left (BadPageInPool p) (idle_state 0 0) ws
+opened_as k n ws (Ok _) = left Opened (idle_state k n) ws
+opened_as k n ws (Err NoTree) = left BadTree (idle_state 0 0) ws
 
 -- "These are refusals 9 (BadPageInPool, with the page) and 10 (BadTree), after BadPool."
 unfoldable pub opened : ℕ → ℕ → List ℕ → Left

@@ -4,7 +4,7 @@ ghost use Rattle.page.specs.Reading.{looked};
 ghost use Rattle.pool.specs.Pool.{page_at, free_pages};
 ghost use Rattle.change.specs.Held.{Holding};
 ghost use Rattle.deletion.specs.Deleting.{Deleting};
-ghost use Rattle.slots.specs.Parts.{path_of, first_way, fresh_stand, stand_of};
+ghost use Rattle.slots.specs.Parts.{path_of, beside_of, first_way, fresh_stand, stand_of};
 ghost use Rattle.slots.specs.Book.{requeued, goes_on};
 ghost use Rattle.lent.specs.Layout.{column_length};
 ghost use Rattle.lent.specs.Words.{as_read, known, laid_into};
@@ -12,17 +12,17 @@ ghost use Rattle.lent.specs.Holds.{InHalves};
 ghost use Rattle.footing.specs.Fitting.{verdict};
 ghost use Rattle.footing.specs.Standing.{Asks};
 ghost use Rattle.course.specs.Judged.{course_of, ready};
-ghost use Rattle.index.specs.Acting.{Waits, Acts, Leaves, MayInsert, wanting, stand_leaf, room_answer, after_insertion, after_deletion, regrade_answer, after_regrading};
+ghost use Rattle.index.specs.Acting.{Waits, Acts, InCells, Leaves, MayInsert, wanting, stand_leaf, room_answer, after_insertion, after_deletion, regrade_answer, after_regrading};
 
 use course::judging::{Course, judge};
 use course::standing::stands;
 use deletion::deleting::delete;
 use footing::fitting::fits;
+use ground::Shape;
 use insertion::inserting::{insert, room};
 use lent::book::{closes, requeues};
 use lent::cells::sized;
 use lent::{PAGES, STATE, WIDTH};
-use page::reading::Lot;
 use pool::lying::take_pages;
 use pool::pages::regrade_at;
 use slots::making::fresh_slot;
@@ -30,43 +30,37 @@ use slots::operations::first_way;
 use slots::{Answer, Lock, Op, Slot};
 
 // The whole change of an insertion, if there is room. Room is counted before anything is written.
-fn insert_lot(words: &mut [u32], k: usize, n: usize, x: u32, v: u32, stand: Slot) -> Answer
-    requires { MayInsert k n words.old stand }
-    ensures value { result ≡ room_answer k n words.old stand }
-    ensures words_after { words.new ≡ after_insertion k n words.old x v stand }
+fn insert_lot(words: &mut [u32], shape: Shape, x: u32, v: u32, stand: Slot) -> Answer
+    requires { MayInsert shape.k shape.n words.old stand }
+    ensures value { result ≡ room_answer shape.k shape.n words.old stand }
+    ensures words_after { words.new ≡ after_insertion shape.k shape.n words.old x v stand }
 {
-    let path = stand.path;
-    let depth = stand.depth;
-    let need = room(words, k, n, &path, depth);
-    let taken = take_pages(words, k, n, need);
-    if !taken.enough {
+    let path = stand.path_pages();
+    let need = room(words, shape, path);
+    let Some(pages) = take_pages(words, shape, need) else {
         return Answer::NoRoom;
-    }
-    let pages = taken.pages;
-    insert(words, k, n, x, v, &path, depth, &pages);
+    };
+    insert(words, shape, x, v, path, &pages);
     Answer::Inserted
 }
 
 // The whole change of a deletion.
-fn delete_lot(words: &mut [u32], k: usize, n: usize, x: u32, stand: Slot)
-    requires { Deleting k n words.old x stand.path stand.depth stand.beside stand.breadth }
-    ensures { words.new ≡ after_deletion k words.old x stand }
+fn delete_lot(words: &mut [u32], shape: Shape, x: u32, stand: Slot)
+    requires { InCells stand × Deleting shape.k shape.n words.old x (path_of stand) (beside_of stand) }
+    ensures { words.new ≡ after_deletion shape.k words.old x stand }
 {
-    let path = stand.path;
-    let beside = stand.beside;
-    delete(words, k, n, x, &path, stand.depth, &beside, stand.breadth);
+    delete(words, shape, x, stand.path_pages(), stand.beside_pages());
 }
 
 // The whole change of a regrading: one word of its leaf, if its key is there.
-fn regrade_lot(words: &mut [u32], k: usize, n: usize, x: u32, v: u32, stand: Slot) -> Answer
-    requires { Holding k n words.old stand.path stand.depth }
-    ensures value { result ≡ regrade_answer (looked x (page_at k words.old (stand_leaf stand)).entries) }
-    ensures words_after { words.new ≡ after_regrading k words.old x v stand }
+fn regrade_lot(words: &mut [u32], shape: Shape, x: u32, v: u32, stand: Slot) -> Answer
+    requires { InCells stand × Holding shape.k shape.n words.old (path_of stand) }
+    ensures value { result ≡ regrade_answer (looked x (page_at shape.k words.old (stand_leaf stand)).entries) }
+    ensures words_after { words.new ≡ after_regrading shape.k words.old x v stand }
 {
-    let path = stand.path;
-    match regrade_at(words, k, n, path[stand.depth - 1], x, v) {
-        Lot::There(old) => Answer::Regraded(old),
-        Lot::Missing => Answer::NoSuchKey,
+    match regrade_at(words, shape, stand.path[stand.depth - 1], x, v) {
+        Some(old) => Answer::Regraded(old),
+        None => Answer::NoSuchKey,
     }
 }
 
@@ -75,21 +69,10 @@ fn go_on(state: &mut [u32; STATE], s: usize, stand: Slot, next: u32, lock: Lock)
     requires { (Waits (as_read state.old) s) × (stand.depth ≤ column_length) × (stand.breadth ≤ column_length) × InHalves stand }
     ensures { state.new ≡ laid_into state.old s (requeued (as_read state.old) s (wanting next lock stand)) }
 {
-    let task = stand.task;
-    let path = stand.path;
-    let locks = stand.locks;
-    let beside = stand.beside;
-    let sidelocks = stand.sidelocks;
     let slot = Slot {
-        task,
         want: next,
         lock,
-        path,
-        locks,
-        depth: stand.depth,
-        beside,
-        sidelocks,
-        breadth: stand.breadth,
+        ..stand
     };
     requeues(state, s, slot);
 }
@@ -117,8 +100,10 @@ fn act(
     ensures { Leaves state.old words.old s (course_of (as_read state.old).k (page_at (as_read state.old).k words.old) (free_pages (as_read state.old).k (as_read state.old).n words.old) (stand_of op stand) course) result state.new words.new }
 {
     sized(state);
-    let k = state[WIDTH] as usize;
-    let n = state[PAGES] as usize;
+    let shape = Shape {
+        k: state[WIDTH] as usize,
+        n: state[PAGES] as usize,
+    };
     match course {
         Course::Broken => Answer::Damaged,
         Course::Goes(next, lock) => {
@@ -130,17 +115,17 @@ fn act(
             answer
         }
         Course::Inserts(x, v) => {
-            let answer = insert_lot(words, k, n, x, v, stand);
+            let answer = insert_lot(words, shape, x, v, stand);
             closes(state, s);
             answer
         }
         Course::Deletes(x, v) => {
-            delete_lot(words, k, n, x, stand);
+            delete_lot(words, shape, x, stand);
             closes(state, s);
             Answer::Deleted(v)
         }
         Course::Regrades(x, v) => {
-            let answer = regrade_lot(words, k, n, x, v, stand);
+            let answer = regrade_lot(words, shape, x, v, stand);
             closes(state, s);
             answer
         }
@@ -163,12 +148,14 @@ pub fn granted_step(
     requires asks { Asks (as_read state.old).k (as_read state.old).n words.old op slot }
     ensures { Leaves state.old words.old s (verdict (as_read state.old).k (as_read state.old).n words.old (stand_of op slot)) result state.new words.new }
 {
-    let k = state[WIDTH] as usize;
-    let n = state[PAGES] as usize;
-    if !fits(words, k, n, op, slot) {
+    let shape = Shape {
+        k: state[WIDTH] as usize,
+        n: state[PAGES] as usize,
+    };
+    if !fits(words, shape, op, slot) {
         return Answer::Damaged;
     }
-    let stand = stands(words, k, n, op, slot);
-    let course = judge(words, k, n, op, stand);
+    let stand = stands(words, shape, op, slot);
+    let course = judge(words, shape, op, stand);
     act(state, words, s, op, stand, course)
 }

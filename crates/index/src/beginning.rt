@@ -4,7 +4,7 @@ ghost use Rattle.index.specs.Statements.{BeginSays};
 use ground::SLOTS;
 use lent::STATE;
 use lent::book::begins;
-use lent::cells::{kind_at, sized};
+use lent::cells::{Column, sized};
 use slots::operations::blank_tag;
 use slots::{Answer, Op};
 use soundness::checking::is_sound;
@@ -20,7 +20,7 @@ pub fn begin(state: &mut [u32; STATE], s: usize, op: Op) -> Answer
     if SLOTS <= s {
         return Answer::BadSlot;
     }
-    if kind_at(state, s) != 0 {
+    if (Column { cells: state, s }).kind() != 0 {
         return Answer::SlotBusy;
     }
     if blank_tag(op) {

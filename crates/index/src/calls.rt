@@ -7,13 +7,11 @@ ghost use Rattle.index.specs.Statements.{MakeSays, OpenSays, StepSays};
 use crate::acting::granted_step;
 pub use crate::beginning::begin;
 pub use crate::reporting::report;
-use ground::SLOTS;
+use ground::{SLOTS, Shape};
 use lent::book::clear;
-use lent::cells::sized;
-use lent::granting::grants;
-use lent::lifting::slot_at;
+use lent::cells::{Column, sized};
 use lent::{PAGES, STATE, WIDTH};
-use opening::checking::{Checked, check};
+use opening::checking::{Fault, check};
 use pool::lying::{make_fresh, start_of};
 use slots::locking::lock_table;
 use slots::{Answer, Task};
@@ -23,10 +21,7 @@ use soundness::checking::{is_sound, numbers_in_range};
 fn is_pool(words: &[u32], k: usize, n: usize) -> bool
     ensures { result ≡ k_in_range k && n_in_range n && eqb (length words.now) (pool_length k n) }
 {
-    if !numbers_in_range(k, n) {
-        return false;
-    }
-    words.len() == start_of(k, n)
+    numbers_in_range(k, n) && words.len() == start_of(Shape { k, n }, n)
 }
 
 // Makes a fresh pool of n pages of width k in the lent words, and an idle state beside it.
@@ -53,11 +48,10 @@ pub fn open(k: usize, n: usize, state: &mut [u32; STATE], words: &[u32]) -> Answ
     if !is_pool(words, k, n) {
         return Answer::BadPool;
     }
-    let found = check(words, k, n);
-    match found {
-        Checked::Unsound(p) => Answer::BadPageInPool(p),
-        Checked::NoTree => Answer::BadTree,
-        Checked::Tree => {
+    match check(words, Shape { k, n }) {
+        Err(Fault::Unsound(p)) => Answer::BadPageInPool(p),
+        Err(Fault::NoTree) => Answer::BadTree,
+        Ok(()) => {
             state[WIDTH] = k as u32;
             state[PAGES] = n as u32;
             Answer::Opened
@@ -74,19 +68,18 @@ pub fn step(state: &mut [u32; STATE], words: &mut [u32], s: usize) -> Answer
     }
     let k = state[WIDTH] as usize;
     let n = state[PAGES] as usize;
-    let whole = is_pool(words, k, n);
-    if !whole {
+    if !is_pool(words, k, n) {
         return Answer::BadPool;
     }
     if SLOTS <= s {
         return Answer::BadSlot;
     }
-    let slot = slot_at(state, s);
-    let task = slot.task;
-    let Task::Open(op) = task else {
+    let column = Column { cells: state, s };
+    let slot = column.slot();
+    let Task::Open(op) = slot.task else {
         return Answer::SlotIdle;
     };
-    if !grants(state, s, lock_table()) {
+    if !column.grants(lock_table()) {
         return Answer::Waiting;
     }
     granted_step(state, words, s, op, slot)

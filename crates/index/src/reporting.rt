@@ -1,15 +1,16 @@
 // The lock report for a page: which kind of lock, how many slots hold it, and the lowest-numbered of them.
-ghost use Rattle.std.specs.Prelude.{◌≡◌, true};
+ghost use Rattle.std.specs.Prelude.{◌≡◌, ◌<◌, true};
 ghost use Rattle.slots.specs.Heard.{lock_named};
 ghost use Rattle.slots.specs.Report.{holders_mask, held_under, lock_kind};
+ghost use Rattle.lent.specs.Layout.{row_length};
 ghost use Rattle.lent.specs.Words.{as_read};
 ghost use Rattle.lent.specs.Holds.{WithinRows, is_lock_number};
 ghost use Rattle.index.specs.Statements.{ReportSays};
 
 use ground::SLOTS;
 use lent::STATE;
-use lent::cells::n_of;
-use lent::granting::{ALPHA, RHO, UPDATER_RHO, XI, held_lock_at, holds_at};
+use lent::cells::{Column, n_of};
+use lent::granting::{ALPHA, RHO, UPDATER_RHO, XI};
 use slots::{Answer, Lock};
 use soundness::checking::is_sound;
 
@@ -19,12 +20,10 @@ fn holders(cells: &[u32; STATE], p: u32) -> u16
     ensures { result ≡ holders_mask (as_read cells.now) p }
 {
     let mut mask = 0u16;
-    let mut s = 0;
-    while s < SLOTS {
-        if holds_at(cells, s, p) {
-            mask = mask | (1u16 << s);
+    for s in 0..SLOTS {
+        if (Column { cells, s }).holds(p) {
+            mask |= 1u16 << s;
         }
-        s += 1;
     }
     mask
 }
@@ -34,14 +33,11 @@ fn held_under(cells: &[u32; STATE], p: u32, lock: u32) -> bool
     requires { WithinRows cells.now × (is_lock_number lock ≡ true) }
     ensures { result ≡ held_under (as_read cells.now) p (lock_named lock) }
 {
-    let mut s = 0;
-    while s < SLOTS {
-        if held_lock_at(cells, s, p) == lock {
-            return true;
-        }
-        s += 1;
-    }
-    false
+    (0..SLOTS).any(
+        |s|
+            requires { (s < row_length) × WithinRows cells.now }
+        { Column { cells, s }.held_lock(p) == lock },
+    )
 }
 
 // The first kind that page p is held under, of ξ, α, updater's ρ and ρ; none, if nobody holds it.
@@ -50,18 +46,16 @@ fn lock_kind(cells: &[u32; STATE], p: u32) -> Lock
     ensures { result ≡ lock_kind (as_read cells.now) p }
 {
     if held_under(cells, p, XI) {
-        return Lock::Xi;
+        Lock::Xi
+    } else if held_under(cells, p, ALPHA) {
+        Lock::Alpha
+    } else if held_under(cells, p, UPDATER_RHO) {
+        Lock::UpdaterRho
+    } else if held_under(cells, p, RHO) {
+        Lock::Rho
+    } else {
+        Lock::None
     }
-    if held_under(cells, p, ALPHA) {
-        return Lock::Alpha;
-    }
-    if held_under(cells, p, UPDATER_RHO) {
-        return Lock::UpdaterRho;
-    }
-    if held_under(cells, p, RHO) {
-        return Lock::Rho;
-    }
-    Lock::None
 }
 
 // What page p is held by.
@@ -75,7 +69,7 @@ pub fn report(state: &[u32; STATE], p: u32) -> Answer
         return Answer::BadPage;
     }
     let mask = holders(state, p);
-    let count = u16::count_ones(mask);
-    let lowest = u16::trailing_zeros(mask);
+    let count = mask.count_ones();
+    let lowest = mask.trailing_zeros();
     Answer::Reported(lock_kind(state, p), count, lowest)
 }

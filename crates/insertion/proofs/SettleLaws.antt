@@ -8,6 +8,7 @@ use native.Mathlib.Omega.{arith}
 use borrow.Author.Tests.{eq-eqb}
 use lib.Dec.{leb}
 use lib.ListN.{drop}
+use Rattle.std.specs.Prelude.{Some, None}
 use Rattle.ground.specs.Tests.{member}
 use Rattle.ground.proofs.Bools.{or_first}
 use Rattle.page.specs.Words.{Page, entry, μ}
@@ -20,7 +21,6 @@ use Rattle.pool.specs.Wrapped.{InPool}
 use Rattle.change.specs.Insertion.{lowest, settled}
 use Rattle.change.specs.Held.{Held}
 use Rattle.insertion.specs.Inserting.{grown, settled_as}
-use Rattle.insertion.specs.declared.inserting.Settled.TheVariants.{Done, Up}
 use Rattle.sheet.specs.declared.sheets.Sheet.{Sheet}
 use Rattle.change.proofs.HeldLaws.{Known, held_known}
 use Rattle.change.proofs.RuleLaws.{settled_fits, settled_splits, settled_raises}
@@ -117,7 +117,7 @@ over_level at key value F holds = ap (λ (P : Page). P.level) holds.value ∙ pu
 module _ (k x key value p a : ℕ) (F : Page) (at m : ℕ) (ws : List ℕ) (there : at ≡ place x F.entries) (counted : m ≡ μ F) where
   -- it fits
   pub settle_done : {after : List ℕ} → m < 2 * k → after ≡ written k (write p (put at (entry key value) F)) ws
-      → settled_as k p (grown x key value F) a ws after Done
+      → settled_as k p (grown x key value F) a ws after None
   settle_done h e =
       (omega (arith, grown_μ x key value F), e ∙ ap (λ (P : Page). written k (write p P) ws) (put_grown x at key value F there))
 
@@ -125,7 +125,7 @@ module _ (k x key value p a : ℕ) (F : Page) (at m : ℕ) (ws : List ℕ) (ther
   pub settle_up : {s : Sheet} {up : ℕ} {after : List ℕ} → 2 * k ≤ m → OnSheet (put at (entry key value) F) s
       → up ≡ (split k (sheet_page s)).between
       → after ≡ applied k (write a (split k (sheet_page s)).right ∷ write p (split k (sheet_page s)).left ∷ []) ws
-      → settled_as k p (grown x key value F) a ws after (Up up)
+      → settled_as k p (grown x key value F) a ws after (Some up)
   settle_up {s} h holds e f =
       let same : sheet_page s ≡ grown x key value F = holds.value ∙ put_grown x at key value F there in (
         omega (arith, grown_μ x key value F),

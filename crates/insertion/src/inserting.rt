@@ -1,6 +1,8 @@
 // An insertion's whole change: the room that it needs, and the writes, from the leaf upward.
 // A path is given from the top downward; `pages` are the new pages, as taken.
-ghost use Rattle.std.specs.Prelude.{◌≡◌, [], ◌∷◌, ◌+◌, ◌*◌, ◌≤◌, ◌<◌, take};
+#![tactic(auto, unfolding(ground::specs::Limits::largest_k, ground::specs::Limits::tallest, ground::specs::Limits::word_range, ground::specs::Limits::path_holds))]
+
+ghost use Rattle.std.specs.Prelude.{◌≡◌, [], ◌∷◌, ◌+◌, ◌*◌, ◌≤◌, ◌<◌, length};
 ghost use Rattle.ground.specs.Limits.{tallest};
 ghost use Rattle.page.specs.Words.{entry, μ};
 ghost use Rattle.page.specs.Splits.{split, raised};
@@ -11,142 +13,107 @@ ghost use Rattle.change.specs.Insertion as rule;
 ghost use Rattle.change.specs.Held.{Held, Holding, leaf_of, fathers_of};
 ghost use Rattle.insertion.specs.Inserting.{Inserting, grown, settled_as};
 
-use ground::{HELD, NEW};
+use ground::{NEW, Shape};
 use pool::pages::{count_of, lay_left_at, lay_right_at, lay_root_at, over_of, place_of, put_in_at};
 use sheet::sheets::{Sheet, cut_key};
 
 // How many pages the insertion needs: none, or one for each full page held, and one more if page 0 is full.
-pub fn room(words: &[u32], k: usize, n: usize, path: &[u32; HELD], depth: usize) -> usize
-    requires { Holding k n words.now path.now depth }
-    ensures value { result ≡ rule.room k (page_at k words.now) (leaf_of depth path.now) (take depth path.now) }
-    ensures upper_bound { result ≤ depth + 1 }
+pub fn room(words: &[u32], shape: Shape, path: &[u32]) -> usize
+    requires { Holding shape.k shape.n words.now path.now }
+    ensures value { result ≡ rule.room shape.k (page_at shape.k words.now) (leaf_of (length path.now) path.now) path.now }
+    ensures upper_bound { result ≤ length path.now + 1 }
 {
-    let leaf = path[depth - 1];
-    if count_of(words, k, n, leaf) < 2 * k {
+    let leaf = path[path.len() - 1];
+    if count_of(words, shape, leaf) < 2 * shape.k {
         return 0;
     }
-    let mut full: usize = 0;
-    let mut root: usize = 0;
-    let mut i = 0;
-    while i < depth {
-        let p = path[i];
-        i += 1;
-        if count_of(words, k, n, p) == 2 * k {
+    let mut full = 0;
+    let mut root = false;
+    for &p in path {
+        if count_of(words, shape, p) == 2 * shape.k {
             full += 1;
-            if p == 0 {
-                root = 1;
-            }
+            root |= p == 0;
         }
     }
-    full + root
+    full + usize::from(root)
 }
 
 // A page with one pair too many: the right half goes to page a, the left half stays.
-fn split_to(words: &mut [u32], k: usize, n: usize, p: u32, a: u32, s: Sheet)
-    requires in_pool { (InPool k n p words.old) × (InPool k n a words.old) }
-    requires le_k { (1 ≤ k) × (s.count ≡ 2 * k + 1) }
-    ensures { words.new ≡ applied k (write a (split k (sheet_page s)).right ∷ write p (split k (sheet_page s)).left ∷ []) words.old }
+fn split_to(words: &mut [u32], shape: Shape, p: u32, a: u32, s: Sheet)
+    requires in_pool { (InPool shape.k shape.n p words.old) × (InPool shape.k shape.n a words.old) }
+    requires le_k { (1 ≤ shape.k) × (s.count ≡ 2 * shape.k + 1) }
+    ensures { words.new ≡ applied shape.k (write a (split shape.k (sheet_page s)).right ∷ write p (split shape.k (sheet_page s)).left ∷ []) words.old }
 {
-    lay_right_at(words, k, n, a, k, s);
-    lay_left_at(words, k, n, p, k, s);
+    lay_right_at(words, shape, a, shape.k, s);
+    lay_left_at(words, shape, p, shape.k, s);
 }
 
 // Page 0 with one pair too many: the halves go to pages a and b, and page 0 rises a level.
-fn split_root(words: &mut [u32], k: usize, n: usize, p: u32, a: u32, b: u32, s: Sheet)
-    requires in_pool { (InPool k n p words.old) × (InPool k n a words.old) × (InPool k n b words.old) }
-    requires le_k { (1 ≤ k) × (s.count ≡ 2 * k + 1) × (s.level ≤ tallest) }
-    ensures { words.new ≡ applied k (write a (split k (sheet_page s)).left ∷ write b (split k (sheet_page s)).right ∷ write p (raised (sheet_page s) a (split k (sheet_page s)).between b) ∷ []) words.old }
+fn split_root(words: &mut [u32], shape: Shape, p: u32, a: u32, b: u32, s: Sheet)
+    requires in_pool { (InPool shape.k shape.n p words.old) × (InPool shape.k shape.n a words.old) × (InPool shape.k shape.n b words.old) }
+    requires le_k { (1 ≤ shape.k) × (s.count ≡ 2 * shape.k + 1) × (s.level ≤ tallest) }
+    ensures { words.new ≡ applied shape.k (write a (split shape.k (sheet_page s)).left ∷ write b (split shape.k (sheet_page s)).right ∷ write p (raised (sheet_page s) a (split shape.k (sheet_page s)).between b) ∷ []) words.old }
 {
-    lay_left_at(words, k, n, a, k, s);
-    lay_right_at(words, k, n, b, k, s);
-    lay_root_at(words, k, n, p, s.level, a, cut_key(k, s), b);
+    lay_left_at(words, shape, a, shape.k, s);
+    lay_right_at(words, shape, b, shape.k, s);
+    lay_root_at(words, shape, p, s.level, a, cut_key(shape.k, s), b);
 }
 
-// What became of a page with one pair more: it is written, or it was split and this key goes up.
-#[derive(Clone, Copy)]
-pub enum Settled {
-    Done,
-    Up(u32),
-}
-
-// The pair is put into page p, at the place of x. Its father is held. A page with one pair too many is split.
+// The pair is put into page p, at the place of x. Its father is held. A page with one pair too many is split, and then this
+// key goes up.
 fn settle(
     words: &mut [u32],
-    k: usize,
-    n: usize,
+    shape: Shape,
     x: u32,
     p: u32,
     key: u32,
     value: u32,
     a: u32,
-) -> Settled
-    requires held { Held k n words.old (p ∷ []) }
-    requires a_lt_n { 2 * k ≤ μ (page_at k words.old p) → a < n }
-    ensures { settled_as k p (grown x key value (page_at k words.old p)) a words.old words.new result }
+) -> Option<u32>
+    requires held { Held shape.k shape.n words.old (p ∷ []) }
+    requires a_lt_n { 2 * shape.k ≤ μ (page_at shape.k words.old p) → a < shape.n }
+    ensures { settled_as shape.k p (grown x key value (page_at shape.k words.old p)) a words.old words.new result }
 {
-    let at = place_of(words, k, n, p, x);
-    if count_of(words, k, n, p) < 2 * k {
-        put_in_at(words, k, n, p, at, key, value);
-        return Settled::Done;
+    let at = place_of(words, shape, p, x);
+    if count_of(words, shape, p) < 2 * shape.k {
+        put_in_at(words, shape, p, at, key, value);
+        return None;
     }
-    let s = over_of(words, k, n, p, at, key, value);
-    split_to(words, k, n, p, a, s);
-    Settled::Up(cut_key(k, s))
+    let s = over_of(words, shape, p, at, key, value);
+    split_to(words, shape, p, a, s);
+    Some(cut_key(shape.k, s))
 }
 
 // The same for the top of a path: a page with one pair too many is page 0.
-fn settle_top(
-    words: &mut [u32],
-    k: usize,
-    n: usize,
-    x: u32,
-    p: u32,
-    key: u32,
-    value: u32,
-    a: u32,
-    b: u32,
-)
-    requires held { Held k n words.old (p ∷ []) }
-    requires a_lt_n { 2 * k ≤ μ (page_at k words.old p) → (a < n) × (b < n) }
-    ensures { words.new ≡ applied k (rule.settled k (page_at k words.old) x (a ∷ b ∷ []) [] p (grown x key value (page_at k words.old p))) words.old }
+fn settle_top(words: &mut [u32], shape: Shape, x: u32, p: u32, key: u32, value: u32, a: u32, b: u32)
+    requires held { Held shape.k shape.n words.old (p ∷ []) }
+    requires a_lt_n { 2 * shape.k ≤ μ (page_at shape.k words.old p) → (a < shape.n) × (b < shape.n) }
+    ensures { words.new ≡ applied shape.k (rule.settled shape.k (page_at shape.k words.old) x (a ∷ b ∷ []) [] p (grown x key value (page_at shape.k words.old p))) words.old }
 {
-    let at = place_of(words, k, n, p, x);
-    if count_of(words, k, n, p) < 2 * k {
-        put_in_at(words, k, n, p, at, key, value);
+    let at = place_of(words, shape, p, x);
+    if count_of(words, shape, p) < 2 * shape.k {
+        put_in_at(words, shape, p, at, key, value);
         return;
     }
-    let s = over_of(words, k, n, p, at, key, value);
-    split_root(words, k, n, p, a, b, s);
+    let s = over_of(words, shape, p, at, key, value);
+    split_root(words, shape, p, a, b, s);
 }
 
 // The whole change.
-pub fn insert(
-    words: &mut [u32],
-    k: usize,
-    n: usize,
-    x: u32,
-    v: u32,
-    path: &[u32; HELD],
-    depth: usize,
-    pages: &[u32; NEW],
-)
-    requires { Inserting k n words.old path.now depth pages.now }
-    ensures { words.new ≡ applied k (rule.insertion k (page_at k words.old) x v pages.now (leaf_of depth path.now) (fathers_of depth path.now)) words.old }
+pub fn insert(words: &mut [u32], shape: Shape, x: u32, v: u32, path: &[u32], pages: &[u32; NEW])
+    requires { Inserting shape.k shape.n words.old path.now pages.now }
+    ensures { words.new ≡ applied shape.k (rule.insertion shape.k (page_at shape.k words.old) x v pages.now (leaf_of (length path.now) path.now) (fathers_of (length path.now) path.now)) words.old }
 {
-    let mut i = depth - 1;
     let mut key = x;
     let mut value = v;
-    let mut t = 0;
-    while 0 < i {
-        let a = pages[t];
-        let r = settle(words, k, n, x, path[i], key, value, a);
-        let Settled::Up(up) = r else {
+    for (&a, &p) in pages.iter().zip(path[1..].iter().rev()) {
+        let Some(up) = settle(words, shape, x, p, key, value, a) else {
             return;
         };
         key = up;
         value = a;
-        t += 1;
-        i -= 1;
     }
-    settle_top(words, k, n, x, path[0], key, value, pages[t], pages[t + 1]);
+    let a = pages[path.len() - 1];
+    let b = pages[path.len()];
+    settle_top(words, shape, x, path[0], key, value, a, b);
 }

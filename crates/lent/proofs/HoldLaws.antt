@@ -1,6 +1,6 @@
 -- Laws of looking for a page in the other slots: tops first, then the slots that hold more; and that this is the rule's test of
 -- clashing locks; and the walk over older wants.
-use Prim.Native.Nat.{ℕ, zero, suc, ◌+◌, ◌-◌, ◌≤◌, ◌<◌}
+use Prim.Native.Nat.{ℕ, zero, suc, ◌+◌, ◌≤◌, ◌<◌}
 use mathlib.Core.Bool.{Bool, true, false, cond, not, ◌&&◌, ◌||◌, false≢true, or-false}
 use mathlib.Core.Path.{◌≡◌, refl, sym, ap, ap₂, ◌∙◌, subst}
 use mathlib.Core.List.{List, [], ◌∷◌, ◌++◌}
@@ -8,20 +8,23 @@ use native.Mathlib.Omega.{arith}
 use native.Mathlib.Numerals.{add-one}
 use lib.Dec.{eqb, leb, ltb}
 use lib.ListN.{length, get_or, take, get_or-eq_default}
-use lib.Seq.{length-take-le}
-use borrow.Author.Tests.{ltb-false, leb-true, eq-eqb, eqb-true, ne_eqb}
+use lib.Seq.{length-take-le, take_all}
+use borrow.Author.Tests.{ltb-false, leb-true, eqb-true}
 use Rattle.ground.specs.Limits.{slot_count}
 use Rattle.ground.specs.Tests.{all_below, any_below, member}
-use Rattle.ground.proofs.Bools.{not_both, and_second, and_first_fails, and_second_fails, or_first, or_first_fails, or_second_fails, not_of_true}
+use Rattle.ground.proofs.Bools.{not_both, and_second, and_first_fails, or_first, or_first_fails, or_second_fails}
 use Rattle.ground.proofs.Choice.{by_test, cond-true}
-use Rattle.ground.proofs.Tests.{member_none, any_below_more, any_below_same, any_below_fails, any_below_false_at, all_below_same, all_below_more, all_below_at}
+use Rattle.std.specs.List.{list_any, range_with_len}
+use Rattle.std.proofs.lemmas.List.FromFn.{length-range_with_len, get_or-range_with_len}
+use Rattle.std.proofs.lemmas.List.Folds.{list_any_more}
+use Rattle.ground.proofs.Tests.{member_none, any_below_none, any_below_more, any_below_same, any_below_fails, any_below_false_at, all_below_same, all_below_more, all_below_at}
 use Rattle.slots.specs.declared.Lock.{Lock}
 use Rattle.slots.specs.declared.Lock.TheVariants.{None, Rho, Xi, UpdaterRho, Alpha}
 use Rattle.slots.specs.declared.Under.{Under}
 use Rattle.slots.specs.declared.Slot.{Slot}
 use Rattle.slots.specs.Parts.{under, held, held_locks, path_of, beside_of, locks_of, sidelocks_of, holds_at, waiting_order}
 use Rattle.slots.specs.Heard.{lock_number, lock_named}
-use Rattle.slots.specs.Locks.{lock_among, lock_held, lock_held_at, same_lock, lock_table, in_row, clash, no_clash_on}
+use Rattle.slots.specs.Locks.{lock_among, lock_held, lock_held_at, same_lock, in_row, clash, no_clash_on}
 use Rattle.slots.specs.Grant.{clashing_want, converts_at, conversion_on, no_clash, no_older, no_conversion}
 use Rattle.slots.proofs.LockLaws.{is_lock, clash_swap, among_none, among_first, among_behind}
 use Rattle.slots.proofs.HoldingLaws.{no_older_from, older_end, older_here, older_stops, older_more, order_names}
@@ -34,6 +37,21 @@ use Rattle.lent.proofs.StateLaws.{slot_read, length_column, column_cell, length_
 
 pub any_on : (p : ℕ → Bool) (n : ℕ) → any_below (n + 1) p ≡ any_below n p || p n
 any_on p n = ap (λ (m : ℕ). any_below m p) (add-one n) ∙ any_below_more p n
+
+-- what the numbers of a range are asked, one behind the other
+any_passed : (p : ℕ → Bool) (n i : ℕ) → i ≤ n → list_any p (take i (range_with_len 0 n)) ≡ any_below i p
+any_passed p n zero h = sym (any_below_none p)
+any_passed p n (suc i) h =
+    let long : length (range_with_len 0 n) ≡ n = length-range_with_len 0 n in
+    let here : get_or (range_with_len 0 n) i 0 ≡ i = get_or-range_with_len 0 n i 0 (omega arith) ∙ omega arith in
+    ap (λ (m : ℕ). list_any p (take m (range_with_len 0 n))) (sym (add-one i))
+    ∙ list_any_more p (range_with_len 0 n) i 0 (omega arith)
+    ∙ ap₂ (λ (a b : Bool). a || b) (any_passed p n i (omega arith)) (ap p here)
+    ∙ sym (any_below_more p i)
+
+pub any_in_range : (p : ℕ → Bool) (n : ℕ) → list_any p (range_with_len 0 n) ≡ any_below n p
+any_in_range p n =
+    ap (list_any p) (sym (take_all n (range_with_len 0 n) (omega (arith, length-range_with_len 0 n)))) ∙ any_passed p n n (omega arith)
 
 pub all_on : (p : ℕ → Bool) (n : ℕ) → all_below (n + 1) p ≡ all_below n p && p n
 all_on p n = ap (λ (m : ℕ). all_below m p) (add-one n) ∙ all_below_more p n
@@ -97,46 +115,6 @@ same_number Alpha o i = by_number (λ (j : ℕ). eqb j 4 ≡ same_lock (lock_nam
 -- a row has a place for each kind, and none for no lock
 none_in : (row : List Bool) → length row ≡ 4 → in_row row None ≡ false
 none_in row four = get_or-eq_default row false (omega arith)
-
--- what it says of a number, place by place
-pub row_told : (row : List Bool) → length row ≡ 4 → (i : ℕ)
-    → eqb i 1 && get_or row 0 false || eqb i 2 && get_or row 1 false || eqb i 3 && get_or row 2 false || eqb i 4 && get_or row 3 false ≡ in_row row (lock_named i)
-row_told row four =
-    by_number (λ (i : ℕ). eqb i 1 && get_or row 0 false || eqb i 2 && get_or row 1 false || eqb i 3 && get_or row 2 false || eqb i 4 && get_or row 3 false ≡ in_row row (lock_named i))
-    (or-false (get_or row 0 false || false || false) ∙ or-false (get_or row 0 false || false) ∙ or-false (get_or row 0 false))
-    (or-false (get_or row 1 false || false) ∙ or-false (get_or row 1 false))
-    (or-false (get_or row 2 false))
-    refl
-    (λ i a b c d. rw (a, b, c, d) (sym (none_in row four)))
-
--- the row of a number that is no kind
-empty_row : (lock : Lock) → in_row (false ∷ false ∷ false ∷ false ∷ []) lock ≡ clash None lock
-empty_row None = refl
-empty_row Rho = refl
-empty_row Xi = refl
-empty_row UpdaterRho = refl
-empty_row Alpha = refl
-
-pub row_zero : {number : ℕ} → number ≡ 0 → RowOf number (false ∷ false ∷ false ∷ false ∷ [])
-row_zero e lock = empty_row lock ∙ ap (λ (i : ℕ). clash (lock_named i) lock) (sym e)
-
-pub row_high : {number : ℕ} → 4 < number → RowOf number (false ∷ false ∷ false ∷ false ∷ [])
-row_high {number} h lock =
-    empty_row lock
-    ∙ ap (λ (l : Lock). clash l lock)
-    (sym (none_named number (other 1 (omega arith)) (other 2 (omega arith)) (other 3 (omega arith)) (other 4 (omega arith))))
-  where
-    other : (n : ℕ) → n < 5 → eqb number n ≡ false
-    other n low = ne_eqb number n (λ e. absurd (omega arith))
-
--- the rows of the four kinds
-pub row_kind : (number : ℕ) → (number ≡ 0 → ⊥) → number ≤ 4 → RowOf number (get_or lock_table (number - 1) [])
-row_kind zero some few lock = absurd (some refl)
-row_kind (suc zero) some few lock = refl
-row_kind (suc (suc zero)) some few lock = refl
-row_kind (suc (suc (suc zero))) some few lock = refl
-row_kind (suc (suc (suc (suc zero)))) some few lock = refl
-row_kind (suc (suc (suc (suc (suc n))))) some few lock = absurd (omega arith)
 
 -- ---- the lock under which a slot holds a page
 
@@ -245,21 +223,6 @@ module _ (ws : List ℕ) (s : ℕ) (row : List Bool) (four : length row ≡ 4) (
       (sym (any_below_fails (deep_holds ws s row p) row_length
       (λ t b. and_first_fails (other_holds ws s row p t) (any_below_false_at (is_deep ws) row_length (sym d ∙ n) t b))))
 
--- a slot that holds more than one page, by its tests
-module _ (ws : List ℕ) (s : ℕ) (row : List Bool) (p t : ℕ) where
-  pub deep_not : is_deep ws t ≡ false → false ≡ deep_holds ws s row p t
-  deep_not e = sym (and_first_fails (other_holds ws s row p t) e)
-
-  pub deep_own : t ≡ s → false ≡ deep_holds ws s row p t
-  deep_own e = sym (and_second_fails (is_deep ws t) (and_first_fails (in_row row (lock_held (slot_in ws t) p)) (not_of_true (eq-eqb t s e))))
-
-  -- what the row says of the number of its lock
-  pub deep_is : (number : ℕ) {b : Bool} → is_deep ws t ≡ true → eqb t s ≡ false → lock_named number ≡ lock_held (slot_in ws t) p → b ≡ in_row row (lock_named number) → b ≡ deep_holds ws s row p t
-  deep_is number d n named e =
-      e
-      ∙ ap (in_row row) named
-      ∙ sym (ap₂ (λ (x y : Bool). x && (not y && in_row row (lock_held (slot_in ws t) p))) d n)
-
 -- ---- kinds of tasks
 
 pub by_kind : (P : ℕ → Type 0) → P 0 → P 1 → P 2 → P 3 → P 4 → P 5 → P 6 → P 7 → P 8 → P 9 → P 10 → P 11 → (n : ℕ) → n ≤ highest_kind → P n
@@ -320,21 +283,6 @@ no_clash_words ws s h row says {want} w said =
     (sym (ap (λ (x : Slot). x.lock) (slot_read ws s h)))
 
 -- ---- conversions
-
--- slot t by its tests
-module _ (ws : List ℕ) (s p t : ℕ) where
-  pub converts_not : {want : ℕ} → want ≡ cell ws want_row t → (want ≡ p → ⊥) → false ≡ other_converts ws s p t
-  converts_not w n =
-      sym (and_second_fails (not (eqb t s)) (and_first_fails (member p (held (slot_in ws t))) (ne_eqb (cell ws want_row t) p (λ e. n (w ∙ e)))))
-
-  pub converts_own : t ≡ s → false ≡ other_converts ws s p t
-  converts_own e = sym (and_first_fails (eqb (cell ws want_row t) p && member p (held (slot_in ws t))) (not_of_true (eq-eqb t s e)))
-
-  pub converts_is : {want : ℕ} {b : Bool} → want ≡ cell ws want_row t → want ≡ p → (t ≡ s → ⊥) → b ≡ member p (held (slot_in ws t)) → b ≡ other_converts ws s p t
-  converts_is w e n said =
-      said
-      ∙ sym
-      (ap₂ (λ (x y : Bool). not x && (y && member p (held (slot_in ws t)))) (ne_eqb t s n) (eq-eqb (cell ws want_row t) p (sym w ∙ e)))
 
 -- who holds no page converts none
 only_holders : (o w k m : Bool) → (k ≡ false → m ≡ false) → o && w && k ≡ false → o && (w && m) ≡ false

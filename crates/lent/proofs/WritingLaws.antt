@@ -1,17 +1,26 @@
 -- Laws of the waiting order written in place, and that what a call on a slot writes is the rule's next state in words.
-use Prim.Native.Nat.{ℕ, suc, ◌+◌, ◌-◌, ◌<◌}
-use mathlib.Core.Path.{◌≡◌, refl, sym, ap, ◌∙◌}
+use Prim.Native.Nat.{ℕ, suc, ◌+◌, ◌-◌, ◌<◌, ◌≤◌}
+use native.Mathlib.Numerals.{add-one}
+use mathlib.Core.Path.{◌≡◌, refl, sym, ap, ap₂, ◌∙◌, subst}
+use mathlib.Core.Logic.{◌≢◌}
+use mathlib.Core.Bool.{true, false}
+use Rattle.std.proofs.Common.{Option, Some, None}
+use Rattle.std.proofs.lemmas.List.{drop-take}
+use Rattle.std.specs.List.{AllWithin, HoldsAt, copy_within}
+use Rattle.std.specs.Option.{MatchOption, IsSome}
+use Rattle.ground.specs.Tests.{member}
+use Rattle.ground.proofs.Tests.{member_at, not_member_from}
+use Rattle.slots.proofs.OrderLaws.{leaving_between}
 use mathlib.Core.List.{List, [], ◌∷◌, ◌++◌}
 use native.Mathlib.Omega.{arith}
 use lib.ListN.{length, get_or, take, drop, set, length-append, length-drop, take-append-drop}
 use borrow.Rule.Slice.PartMut.{put_mid}
-use lib.Seq.{length-take-le, set-append_left, get_or-append-add, get_or-drop}
+use lib.Seq.{length-take-le, set-append_left, set_at, drop-cons, get_or-take, take-take}
 use Rattle.slots.specs.declared.Op.{Op}
 use Rattle.slots.specs.declared.Slot.{Slot}
 use Rattle.slots.specs.Parts.{fresh_stand, slot_of, closed_slot, waiting_order}
 use Rattle.slots.specs.Heard.{lock_number}
 use Rattle.slots.specs.Book.{leaving, begins, requeued, closes}
-use Rattle.slots.proofs.MakingLaws.{gap_at}
 use Rattle.lent.specs.Layout.{waiting_at, order_from, row_length, kind_row, want_row, lock_row, depth_row, breadth_row, path_row, beside_row, state_length}
 use Rattle.lent.specs.Words.{address, order_in, as_read, kind_of, key_in, information_in, hold_words, spread, slot_laid, order_laid, laid_into}
 use Rattle.lent.proofs.SpreadLaws.{spread_append}
@@ -37,21 +46,52 @@ joined ws w s long h =
 
 -- ---- one leaves
 
--- behind the gap the order is as it was
-pub gap_read : (order : List ℕ) (at i : ℕ) → at < i → i < length order → get_or (gap_at order at (i - 1)) i 0 ≡ get_or order i 0
-unfolding gap_at
-gap_read order at i behind inside =
-    let m : ℕ = i - 1 in
-    let front : List ℕ = take at order ++ drop (at + 1) (take (m + 1) order) in
+-- the first place at which slot s stands in an order, if it stands there
+abbrev pub FirstOf : ℕ → List ℕ → Option ℕ → Type 0
+FirstOf s order found =
+    MatchOption found (AllWithin (λ t. t ≢ s) order 0 (length order))
+    (λ i. (i < length order) × HoldsAt (λ t. t ≡ s) order i × AllWithin (λ t. t ≢ s) order 0 i)
+
+pub stands_some : (s : ℕ) (order : List ℕ) (found : Option ℕ) → member s order ≡ true → FirstOf s order found → IsSome found
+stands_some s order None here first =
+    let there = member_at s order 0 here in
+    absurd (first there.0 0 (omega arith) there.1 there.2)
+stands_some s order (Some i) here first = refl
+
+-- the order is cut there
+pub stands_at : (s : ℕ) (cells : List ℕ) (w i : ℕ) {found : Option ℕ} → w ≤ length cells → found ≡ Some i → FirstOf s (take w cells) found
+    → (i < w) × (leaving s (take w cells) ≡ take i cells ++ drop (i + 1) (take w cells))
+stands_at s cells w i fits e first =
+    let order : List ℕ = take w cells in
+    let long : length order ≡ w = length-take-le w cells fits in
+    let f : (i < length order) × HoldsAt (λ t. t ≡ s) order i × AllWithin (λ t. t ≢ s) order 0 i = subst (FirstOf s order) e first in
+    let before : member s (take i order) ≡ false =
+    not_member_from s (take i order) 0 (λ k h same. let below : k < i = omega (arith, length-take-le i order (omega arith)) in
+    f.2 k 0 (omega arith) below (sym (get_or-take i order k 0 below) ∙ same)) in (
+      omega arith,
+      ap (leaving s) (sym (take-append-drop i order) ∙ ap (λ (l : List ℕ). take i order ++ l) (drop-cons order i 0 f.0 ∙ ap (λ (x : ℕ). x ∷ drop (suc i) order) (f.1 0)))
+          ∙ leaving_between s (take i order) (drop (suc i) order) before
+          ∙ ap₂ (λ (l : List ℕ) (n : ℕ). l ++ drop n order) (take-take i w cells (omega arith)) (sym (add-one i)),
+    )
+
+-- those behind place `at` moved one place forward, and the last place written
+pub closed_up : (order : List ℕ) (at w last : ℕ) → at < w → w ≤ length order
+    → set (copy_within order (at + 1) w at) (w - 1) last ≡ (take at order ++ drop (at + 1) (take w order)) ++ last ∷ drop w order
+closed_up order at w last behind fits =
+    let n : ℕ = w - (at + 1) in
+    let front : List ℕ = take at order ++ take n (drop (at + 1) order) in
     let a : length (take at order) ≡ at = length-take-le at order (omega arith) in
-    let b : length (take (m + 1) order) ≡ m + 1 = length-take-le (m + 1) order (omega arith) in
-    let long : length front ≡ m = length-append (take at order) (drop (at + 1) (take (m + 1) order)) ∙ omega (arith, length-drop (at + 1) (take (m + 1) order)) in
-    let same : i ≡ length front + 1 = omega arith in
-    let back : m + 1 ≡ i = omega arith in
-    ap (λ (j : ℕ). get_or (front ++ drop m order) j 0) same
-    ∙ get_or-append-add front (drop m order) 1 0
-    ∙ get_or-drop m order 1 0
-    ∙ ap (λ (j : ℕ). get_or order j 0) back
+    let b : length (take n (drop (at + 1) order)) ≡ n = length-take-le n (drop (at + 1) order) (omega (arith, length-drop (at + 1) order)) in
+    let long : length front ≡ w - 1 = length-append (take at order) (take n (drop (at + 1) order)) ∙ omega arith in
+    let there : at + n ≡ w - 1 = omega arith in
+    let next : suc (w - 1) ≡ w = omega arith in
+    let moved : at + 1 + n ≡ w = omega arith in
+    ap (λ (m : ℕ). set (front ++ drop m order) (w - 1) last) there
+    ∙ ap (λ (l : List ℕ). set (front ++ l) (w - 1) last) (drop-cons order (w - 1) 0 (omega arith))
+    ∙ set_at front (get_or order (w - 1) 0) (drop (suc (w - 1)) order) last (w - 1) long
+    ∙ ap (λ (m : ℕ). front ++ last ∷ drop m order) next
+    ∙ ap (λ (l : List ℕ). (take at order ++ l) ++ last ∷ drop w order)
+    (sym (drop-take (at + 1) n order) ∙ ap (λ (m : ℕ). drop (at + 1) (take m order)) moved)
 
 -- the order alone written anew
 pub left_laid : (ws order : List ℕ) → length ws ≡ state_length → put_mid order_from row_length ws order ≡ order_laid ws (get_or ws waiting_at 0) order

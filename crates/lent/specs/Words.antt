@@ -1,13 +1,12 @@
 -- The state as words: k, N, how many wait, the waiting order, and for each number of a slot one row of words, a word a slot.
 -- How the rules' state is read from the words, how it is written, and what a call leaves.
-use Rattle.std.specs.Prelude.{ℕ, zero, suc, ◌+◌, ◌*◌, ◌/◌, ◌%◌, Bool, cond, List, [], ◌∷◌, ◌++◌, leb, get_or, take, drop, set}
+use Rattle.std.specs.Prelude.{ℕ, zero, suc, ◌+◌, ◌*◌, ◌/◌, ◌%◌, Bool, cond, List, [], ◌∷◌, ◌++◌, Option, Some, None, leb, get_or, take, drop, set}
 use Rattle.ground.specs.Limits.{slot_count}
 use Rattle.ground.specs.Tests.{all_below}
-use Rattle.slots.specs.declared.operations.Asked.{Asked}
-use Rattle.slots.specs.declared.operations.Asked.TheVariants.{Known, Unknown}
+use Rattle.slots.specs.declared.Op.{Op}
 use Rattle.slots.specs.declared.Task.{Task}
 use Rattle.slots.specs.declared.Task.TheVariants.{Closed, Open}
-use Rattle.slots.specs.declared.Lock.TheVariants.{None}
+use Rattle.slots.specs.declared.Lock.TheVariants.{None as NoLock}
 use Rattle.slots.specs.declared.Under.{Under}
 use Rattle.slots.specs.declared.Slot.{Slot}
 use Rattle.slots.specs.declared.State.{State}
@@ -47,9 +46,9 @@ unfoldable pub lock_column : List ℕ → ℕ → ℕ → List Under
 lock_column ws r s = list_of column_length (λ (j : ℕ). under (lock_named (number_in (cell ws (r + j) s))))
 
 -- the task that three numbers ask for; a kind that does not exist stands for none
-abbrev pub task_of : Asked → Task
-task_of (Known op) = Open op
-task_of Unknown = Closed
+abbrev pub task_of : Option Op → Task
+task_of (Some op) = Open op
+task_of None = Closed
 
 -- "closed, or open with an operation enum carrying key and information"
 abbrev pub task_from : ℕ → ℕ → ℕ → Task
@@ -107,7 +106,7 @@ hold_word p u = p + page_range * lock_number u.lock
 
 -- a column of them
 unfoldable pub hold_words : List ℕ → List Under → List ℕ
-hold_words pages locks = list_of column_length (λ (j : ℕ). hold_word (get_or pages j 0) (get_or locks j (under None)))
+hold_words pages locks = list_of column_length (λ (j : ℕ). hold_word (get_or pages j 0) (get_or locks j (under NoLock)))
 
 -- the numbers of a slot, row by row
 abbrev pub rows_of : Slot → List ℕ

@@ -7,7 +7,7 @@ ghost use Rattle.lent.specs.Layout.{waiting_at, row_length, column_length, state
 ghost use Rattle.lent.specs.Words.{order_in, as_read, order_laid, laid_into};
 ghost use Rattle.lent.specs.Holds.{InHalves};
 
-use crate::cells::{sized, waiting_of};
+use crate::cells::waiting_of;
 use crate::lifting::lay;
 use crate::{ORDER, ROWS_FROM, STATE, WAITING};
 use slots::making::{closed_slot, fresh_slot};
@@ -17,11 +17,7 @@ use slots::{Op, Slot};
 pub fn clear(cells: &mut [u32])
     ensures { cells.new ≡ replicate (length cells.old) 0 }
 {
-    let mut i = 0;
-    while i < cells.len() {
-        cells[i] = 0;
-        i += 1;
-    }
+    cells.fill(0);
 }
 
 // Where slot s stands among the first `waiting` of the order.
@@ -29,14 +25,7 @@ fn standing(order: &[u32], waiting: usize, s: u32) -> usize
     requires { (waiting ≤ length order.now) × (member s (take waiting order.now) ≡ true) }
     ensures { (result < waiting) × (leaving s (take waiting order.now) ≡ take result order.now ++ drop (result + 1) (take waiting order.now)) }
 {
-    let mut i = 0;
-    while i + 1 < waiting {
-        if order[i] == s {
-            break;
-        }
-        i += 1;
-    }
-    i
+    order[..waiting].iter().position(|t| *t == s).unwrap()
 }
 
 // Slot s leaves the first `waiting` of the order, and `last` stands in the cell left over.
@@ -45,11 +34,7 @@ fn leave(order: &mut [u32], waiting: usize, s: u32, last: u32)
     ensures { order.new ≡ leaving s (take waiting order.old) ++ last ∷ drop waiting order.old }
 {
     let at = standing(order, waiting, s);
-    let mut i = at + 1;
-    while i < waiting {
-        order[i - 1] = order[i];
-        i += 1;
-    }
+    order.copy_within(at + 1..waiting, at);
     order[waiting - 1] = last;
 }
 
@@ -66,7 +51,6 @@ fn join_order(cells: &mut [u32; STATE], waiting: usize, s: usize)
     requires { (waiting < row_length) × (s < row_length) }
     ensures { cells.new ≡ order_laid cells.old (waiting + 1) (set (order_in cells.old) waiting s) }
 {
-    sized(cells);
     cells[waiting + ORDER] = s as u32;
     cells[WAITING] = (waiting + 1) as u32;
 }
@@ -76,7 +60,6 @@ pub fn begins(cells: &mut [u32; STATE], s: usize, op: Op)
     requires { (s < row_length) × (get_or cells.old waiting_at 0 < row_length) }
     ensures { cells.new ≡ laid_into cells.old s (begins (as_read cells.old) s op) }
 {
-    sized(cells);
     let waiting = waiting_of(cells);
     join_order(cells, waiting, s);
     lay(cells, s, fresh_slot(op));
@@ -87,7 +70,6 @@ pub fn requeues(cells: &mut [u32; STATE], s: usize, slot: Slot)
     requires { (s < row_length) × (get_or cells.old waiting_at 0 ≤ row_length) × (member s (waiting_order (as_read cells.old)) ≡ true) × (slot.depth ≤ column_length) × (slot.breadth ≤ column_length) × InHalves slot }
     ensures { cells.new ≡ laid_into cells.old s (requeued (as_read cells.old) s slot) }
 {
-    sized(cells);
     let waiting = waiting_of(cells);
     leave_order(cells, waiting, s as u32, s as u32);
     lay(cells, s, slot);
@@ -98,7 +80,6 @@ pub fn closes(cells: &mut [u32; STATE], s: usize)
     requires { (s < row_length) × (get_or cells.old waiting_at 0 ≤ row_length) × (member s (waiting_order (as_read cells.old)) ≡ true) }
     ensures { cells.new ≡ laid_into cells.old s (closes (as_read cells.old) s) }
 {
-    sized(cells);
     let waiting = waiting_of(cells);
     leave_order(cells, waiting, s as u32, 0);
     cells[WAITING] = (waiting - 1) as u32;

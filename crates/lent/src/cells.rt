@@ -9,27 +9,13 @@ use crate::{
 };
 use ground::SLOTS;
 
-pub fn wide(x: u32) -> usize
-    ensures { result ≡ x }
-{
-    x as usize
-}
-
 // The words are as many as a state has.
 pub fn sized(cells: &[u32])
     requires { length cells.now ≡ state_length }
     ensures { length cells.now ≡ state_length }
 {}
 
-// The word in a row of slot s.
-pub fn word_at(cells: &[u32; STATE], row: usize, s: usize) -> u32
-    requires { (row < row_count) × (s < row_length) }
-    ensures { result ≡ cell cells.now row s }
-{
-    cells[ROWS_FROM + SLOTS * row + s]
-}
-
-// The same, written.
+// A word is written in a row of slot s.
 pub fn put(cells: &mut [u32; STATE], row: usize, s: usize, x: u32)
     requires { (row < row_count) × (s < row_length) }
     ensures { cells.new ≡ set cells.old (address row s) x }
@@ -41,21 +27,21 @@ pub fn put(cells: &mut [u32; STATE], row: usize, s: usize, x: u32)
 pub fn k_of(cells: &[u32; STATE]) -> usize
     ensures { result ≡ get_or cells.now k_at 0 }
 {
-    wide(cells[WIDTH])
+    cells[WIDTH] as usize
 }
 
 // N.
 pub fn n_of(cells: &[u32; STATE]) -> usize
     ensures { result ≡ get_or cells.now n_at 0 }
 {
-    wide(cells[PAGES])
+    cells[PAGES] as usize
 }
 
 // How many wait.
 pub fn waiting_of(cells: &[u32; STATE]) -> usize
     ensures { result ≡ get_or cells.now waiting_at 0 }
 {
-    wide(cells[WAITING])
+    cells[WAITING] as usize
 }
 
 // The slot at place i of the waiting order.
@@ -63,47 +49,7 @@ pub fn order_at(cells: &[u32; STATE], i: usize) -> usize
     requires { i < row_length }
     ensures { result ≡ get_or cells.now (i + order_from) 0 }
 {
-    wide(cells[i + ORDER])
-}
-
-// The kind of task of slot s.
-pub fn kind_at(cells: &[u32; STATE], s: usize) -> u32
-    requires { s < row_length }
-    ensures { result ≡ cell cells.now kind_row s }
-{
-    word_at(cells, KIND, s)
-}
-
-// The page that it wants.
-pub fn want_at(cells: &[u32; STATE], s: usize) -> u32
-    requires { s < row_length }
-    ensures { result ≡ cell cells.now want_row s }
-{
-    word_at(cells, WANT, s)
-}
-
-// The number of the lock that it wants it with.
-pub fn wanted_lock_at(cells: &[u32; STATE], s: usize) -> u32
-    requires { s < row_length }
-    ensures { result ≡ cell cells.now lock_row s }
-{
-    word_at(cells, LOCK, s)
-}
-
-// How many pages are on its path.
-pub fn depth_at(cells: &[u32; STATE], s: usize) -> u32
-    requires { s < row_length }
-    ensures { result ≡ cell cells.now depth_row s }
-{
-    word_at(cells, DEPTH, s)
-}
-
-// How many pages it holds beside its path.
-pub fn breadth_at(cells: &[u32; STATE], s: usize) -> u32
-    requires { s < row_length }
-    ensures { result ≡ cell cells.now breadth_row s }
-{
-    word_at(cells, BREADTH, s)
+    cells[i + ORDER] as usize
 }
 
 // The page of a held page's word, and the number of the kind of its lock.
@@ -119,10 +65,62 @@ pub fn number_in(word: u32) -> u32
     word / PAGE_RANGE
 }
 
-// The word of the top page of its path.
-pub fn top_at(cells: &[u32; STATE], s: usize) -> u32
-    requires { s < row_length }
-    ensures { result ≡ cell cells.now path_row s }
-{
-    word_at(cells, PATH, s)
+// One slot's words, read where they lie.
+#[derive(Clone, Copy)]
+pub struct Column<'a> {
+    pub cells: &'a [u32; STATE],
+    pub s: usize,
+    ghost in_row: { s < row_length },
+}
+
+impl Column<'_> {
+    // The word in a row.
+    pub fn word(self, row: usize) -> u32
+        requires { row < row_count }
+        ensures { result ≡ cell self.entry.cells.now row self.entry.s }
+    {
+        self.cells[ROWS_FROM + SLOTS * row + self.s]
+    }
+
+    // The kind of its task.
+    pub fn kind(self) -> u32
+        ensures { result ≡ cell self.entry.cells.now kind_row self.entry.s }
+    {
+        self.word(KIND)
+    }
+
+    // The page that it wants.
+    pub fn want(self) -> u32
+        ensures { result ≡ cell self.entry.cells.now want_row self.entry.s }
+    {
+        self.word(WANT)
+    }
+
+    // The number of the lock that it wants it with.
+    pub fn wanted_lock(self) -> u32
+        ensures { result ≡ cell self.entry.cells.now lock_row self.entry.s }
+    {
+        self.word(LOCK)
+    }
+
+    // How many pages are on its path.
+    pub fn depth(self) -> u32
+        ensures { result ≡ cell self.entry.cells.now depth_row self.entry.s }
+    {
+        self.word(DEPTH)
+    }
+
+    // How many pages it holds beside its path.
+    pub fn breadth(self) -> u32
+        ensures { result ≡ cell self.entry.cells.now breadth_row self.entry.s }
+    {
+        self.word(BREADTH)
+    }
+
+    // The word of the top page of its path.
+    pub fn top(self) -> u32
+        ensures { result ≡ cell self.entry.cells.now path_row self.entry.s }
+    {
+        self.word(PATH)
+    }
 }

@@ -5,136 +5,93 @@ ghost use Rattle.lent.specs.Holds.{InHalves};
 ghost use Rattle.slots.specs.Heard.{lock_named};
 ghost use Rattle.lent.specs.Words.{column, lock_column, task_from, slot_in, kind_of, key_in, information_in, hold_word, hold_words, spread, slot_laid};
 
-use crate::cells::{
-    breadth_at, depth_at, kind_at, number_in, page_in, put, want_at, wanted_lock_at, wide, word_at,
-};
+use crate::cells::{Column, number_in, page_in, put};
 use crate::granting::{ALPHA, RHO, UPDATER_RHO, XI};
 use crate::{
     BESIDE, BREADTH, DEPTH, INFORMATION, KEY, LOCK, PAGE_RANGE, PATH, ROWS_FROM, STATE, WANT,
 };
 use ground::{HELD, SLOTS};
-use slots::hearing::lock_number;
-use slots::operations::{Asked, asked_by, information_asked, key_asked, kind_asked};
+use slots::operations::{asked_by, information_asked, key_asked, kind_asked};
 use slots::{Lock, Slot, Task, Under};
 
 // The task of this kind.
 fn task_of(kind: u32, key: u32, information: u32) -> Task
     ensures { result ≡ task_from kind key information }
 {
-    match asked_by(kind, key, information) {
-        Asked::Known(op) => Task::Open(op),
-        Asked::Unknown => Task::Closed,
-    }
+    asked_by(kind, key, information).map_or(Task::Closed, Task::Open)
 }
 
 // The lock of this number. A number that is no kind stands for none.
 fn read_lock(number: u32) -> Lock
     ensures { result ≡ lock_named number }
 {
-    if number == RHO {
-        return Lock::Rho;
+    match number {
+        RHO => Lock::Rho,
+        XI => Lock::Xi,
+        UPDATER_RHO => Lock::UpdaterRho,
+        ALPHA => Lock::Alpha,
+        _ => Lock::None,
     }
-    if number == XI {
-        return Lock::Xi;
-    }
-    if number == UPDATER_RHO {
-        return Lock::UpdaterRho;
-    }
-    if number == ALPHA {
-        return Lock::Alpha;
-    }
-    Lock::None
 }
 
-// The pages in ten rows of slot s.
-fn column_of(cells: &[u32; STATE], row: usize, s: usize) -> [u32; HELD]
-    requires { (row ≤ beside_row) × (s < row_length) }
-    ensures { result ≡ column cells.now row s }
-{
-    let mut pages = [0u32; HELD];
-    let mut j = 0;
-    while j < HELD {
-        pages[j] = page_in(word_at(cells, row + j, s));
-        j += 1;
+impl Column<'_> {
+    // The pages in ten rows.
+    fn pages(self, row: usize) -> [u32; HELD]
+        requires { row ≤ beside_row }
+        ensures { result ≡ column self.entry.cells.now row self.entry.s }
+    {
+        let mut pages = [0u32; HELD];
+        // Stays: for both columns, since the proof of the kinds does not close where the array is made by `from_fn`.
+        for j in 0..HELD {
+            pages[j] = page_in(self.word(row + j));
+        }
+        pages
     }
-    pages
-}
 
-// And the kinds of their locks.
-fn locks_of(cells: &[u32; STATE], row: usize, s: usize) -> [Under; HELD]
-    requires { (row ≤ beside_row) × (s < row_length) }
-    ensures { result ≡ lock_column cells.now row s }
-{
-    let mut locks = [Under { lock: Lock::None }; HELD];
-    let mut j = 0;
-    while j < HELD {
-        let lock = read_lock(number_in(word_at(cells, row + j, s)));
-        locks[j] = Under { lock };
-        j += 1;
+    // And the kinds of their locks.
+    fn locks(self, row: usize) -> [Under; HELD]
+        requires { row ≤ beside_row }
+        ensures { result ≡ lock_column self.entry.cells.now row self.entry.s }
+    {
+        let mut locks = [Under { lock: Lock::None }; HELD];
+        for j in 0..HELD {
+            locks[j].lock = read_lock(number_in(self.word(row + j)));
+        }
+        locks
     }
-    locks
-}
 
-// The task of slot s.
-pub fn task_at(cells: &[u32; STATE], s: usize) -> Task
-    requires { s < row_length }
-    ensures { result ≡ (slot_in cells.now s).task }
-{
-    let kind = kind_at(cells, s);
-    let key = word_at(cells, KEY, s);
-    let information = word_at(cells, INFORMATION, s);
-    task_of(kind, key, information)
-}
+    // The task of the slot.
+    fn task(self) -> Task
+        ensures { result ≡ (slot_in self.entry.cells.now self.entry.s).task }
+    {
+        task_of(self.kind(), self.word(KEY), self.word(INFORMATION))
+    }
 
-// Slot s.
-pub fn slot_at(cells: &[u32; STATE], s: usize) -> Slot
-    requires { s < row_length }
-    ensures { result ≡ slot_in cells.now s }
-{
-    let task = task_at(cells, s);
-    let lock = read_lock(wanted_lock_at(cells, s));
-    let path = column_of(cells, PATH, s);
-    let locks = locks_of(cells, PATH, s);
-    let beside = column_of(cells, BESIDE, s);
-    let sidelocks = locks_of(cells, BESIDE, s);
-    Slot {
-        task,
-        want: want_at(cells, s),
-        lock,
-        path,
-        locks,
-        depth: wide(depth_at(cells, s)),
-        beside,
-        sidelocks,
-        breadth: wide(breadth_at(cells, s)),
+    // The slot.
+    pub fn slot(self) -> Slot
+        ensures { result ≡ slot_in self.entry.cells.now self.entry.s }
+    {
+        Slot {
+            task: self.task(),
+            want: self.want(),
+            lock: read_lock(self.wanted_lock()),
+            path: self.pages(PATH),
+            locks: self.locks(PATH),
+            depth: self.depth() as usize,
+            beside: self.pages(BESIDE),
+            sidelocks: self.locks(BESIDE),
+            breadth: self.breadth() as usize,
+        }
     }
 }
 
 // The numbers of a task: its kind, its key, its information.
-fn kind_of(task: Task) -> u32
-    ensures { result ≡ kind_of task }
+fn numbers_of(task: Task) -> (u32, u32, u32)
+    ensures { (result.0 ≡ kind_of task) × (result.1 ≡ key_in task) × (result.2 ≡ information_in task) }
 {
     match task {
-        Task::Closed => 0,
-        Task::Open(op) => kind_asked(op),
-    }
-}
-
-fn key_of(task: Task) -> u32
-    ensures { result ≡ key_in task }
-{
-    match task {
-        Task::Closed => 0,
-        Task::Open(op) => key_asked(op),
-    }
-}
-
-fn information_of(task: Task) -> u32
-    ensures { result ≡ information_in task }
-{
-    match task {
-        Task::Closed => 0,
-        Task::Open(op) => information_asked(op),
+        Task::Closed => (0, 0, 0),
+        Task::Open(op) => (kind_asked(op), key_asked(op), information_asked(op)),
     }
 }
 
@@ -143,9 +100,7 @@ fn lay_task(cells: &mut [u32; STATE], s: usize, task: Task)
     requires { s < row_length }
     ensures { cells.new ≡ spread cells.old 0 s (kind_of task ∷ key_in task ∷ information_in task ∷ []) }
 {
-    let kind = kind_of(task);
-    let key = key_of(task);
-    let information = information_of(task);
+    let (kind, key, information) = numbers_of(task);
     cells[ROWS_FROM + s] = kind;
     cells[ROWS_FROM + SLOTS * KEY + s] = key;
     cells[ROWS_FROM + SLOTS * INFORMATION + s] = information;
@@ -156,8 +111,7 @@ fn hold_word(page: u32, under: Under) -> u32
     requires { page < page_range }
     ensures { result ≡ hold_word page under }
 {
-    let lock = under.lock;
-    page + PAGE_RANGE * lock_number(lock)
+    page + PAGE_RANGE * u32::from(under.lock)
 }
 
 // Ten pages with the kinds of their locks, down the column of slot s.
@@ -171,10 +125,8 @@ fn lay_column(
     requires { (row ≤ beside_row) × (s < row_length) × ((i : ℕ) → get_or pages i 0 < page_range) }
     ensures { cells.new ≡ spread cells.old row s (hold_words pages locks) }
 {
-    let mut j = 0;
-    while j < HELD {
+    for j in 0..HELD {
         put(cells, row + j, s, hold_word(pages[j], locks[j]));
-        j += 1;
     }
 }
 
@@ -183,17 +135,11 @@ pub fn lay(cells: &mut [u32; STATE], s: usize, slot: Slot)
     requires { (s < row_length) × (slot.depth ≤ column_length) × (slot.breadth ≤ column_length) × InHalves slot }
     ensures { cells.new ≡ slot_laid cells.old s slot }
 {
-    let task = slot.task;
-    lay_task(cells, s, task);
+    lay_task(cells, s, slot.task);
     put(cells, WANT, s, slot.want);
-    let lock = slot.lock;
-    put(cells, LOCK, s, lock_number(lock));
+    put(cells, LOCK, s, u32::from(slot.lock));
     put(cells, DEPTH, s, slot.depth as u32);
     put(cells, BREADTH, s, slot.breadth as u32);
-    let path = slot.path;
-    let locks = slot.locks;
-    lay_column(cells, PATH, s, path, locks);
-    let beside = slot.beside;
-    let sidelocks = slot.sidelocks;
-    lay_column(cells, BESIDE, s, beside, sidelocks);
+    lay_column(cells, PATH, s, slot.path, slot.locks);
+    lay_column(cells, BESIDE, s, slot.beside, slot.sidelocks);
 }

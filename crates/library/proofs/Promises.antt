@@ -15,12 +15,11 @@ use Rattle.ground.proofs.Choice.{cond_ind, by_test}
 use Rattle.ground.proofs.Tests.{all_member}
 use Rattle.pool.specs.Pool.{pool_length}
 use Rattle.page.specs.Words.{Entry}
+use Rattle.std.specs.Prelude.{Option, Some, None}
 use Rattle.slots.specs.declared.Op.{Op}
 use Rattle.slots.specs.declared.State.{State}
 use Rattle.slots.specs.declared.Answer.{Answer}
 use Rattle.slots.specs.declared.Answer.TheVariants.{Made, Opened}
-use Rattle.slots.specs.declared.operations.Asked.{Asked}
-use Rattle.slots.specs.declared.operations.Asked.TheVariants.{Known, Unknown}
 use Rattle.slots.specs.Heard.{number_of, is_one_of}
 use Rattle.slots.specs.Operations.{kind_number, operations, of_kind, asked_by}
 use Rattle.slots.specs.Parts.{slot_at, closed_slot}
@@ -79,12 +78,12 @@ more st ws c cs four fours last lastWs e g = record {
 }
 
 -- a beginning, by what was asked
-begin_more : (cells ws : List ℕ) (s : ℕ) (asked : Asked) (cells' four : List ℕ) (cs : List Call) (fours : List (List ℕ)) (last lastWs : List ℕ)
+begin_more : (cells ws : List ℕ) (s : ℕ) (asked : Option Op) (cells' four : List ℕ) (cs : List Call) (fours : List (List ℕ)) (last lastWs : List ℕ)
     → four ≡ begin_told cells s asked → state_of cells' ≡ begin_next cells s asked → Goes (state_of cells') ws cs fours last lastWs
     → Goes (state_of cells) ws (begins_with s asked cs) (told_first four asked fours) last lastWs
 unfolding called
-begin_more cells ws s (Known op) cells' four cs fours last lastWs e next g = more (state_of cells) ws (begin s op) cs four fours last lastWs e (from_here next refl g)
-begin_more cells ws s Unknown cells' four cs fours last lastWs e next g = from_here next refl g
+begin_more cells ws s (Some op) cells' four cs fours last lastWs e next g = more (state_of cells) ws (begin s op) cs four fours last lastWs e (from_here next refl g)
+begin_more cells ws s None cells' four cs fours last lastWs e next g = from_here next refl g
 
 follow_goes : (calls : List Went) (cells ws last lastWs : List ℕ) → Follow cells ws calls last lastWs
     → Goes (state_of cells) ws (calls_in calls) (told_in calls) last lastWs
@@ -105,7 +104,7 @@ follow_goes (reports p four ∷ rest) cells ws last lastWs h =
 each_in_words : (s kind : ℕ) (cs : List Call) → InWords cs → (ops : List Op) → InWords (map (begin s) ops) → InWords (begins_with s (of_kind kind ops) cs)
 each_in_words s kind cs h [] none = h
 each_in_words s kind cs h (op ∷ ops) (first, others) =
-    cond_ind (λ (a : Asked). InWords (begins_with s a cs)) (eqb kind (kind_number op)) (λ _. (first, h)) (λ _. each_in_words s kind cs h ops others)
+    cond_ind (λ (a : Option Op). InWords (begins_with s a cs)) (eqb kind (kind_number op)) (λ _. (first, h)) (λ _. each_in_words s kind cs h ops others)
 
 asked_in_words : (s kind key information : ℕ) (cs : List Call) → key < word_range → information < word_range → InWords cs
     → InWords (begins_with s (asked_by kind key information) cs)

@@ -1,12 +1,11 @@
 -- Calls of the library, one after the other, each lent the words that the last one left, are a run. So the demands on runs are
 -- demands on the library: on the words that it leaves and the numbers that it tells.
-use Rattle.std.specs.Prelude.{ℕ, ◌<◌, Bool, true, not, ◌&&◌, List, [], ◌∷◌, map, ◌≡◌, eqb, get_or}
+use Rattle.std.specs.Prelude.{ℕ, ◌<◌, Bool, true, not, ◌&&◌, List, [], ◌∷◌, map, ◌≡◌, eqb, get_or, Option, Some, None}
 use Rattle.ground.specs.Limits.{word_range, blank_key}
 use Rattle.ground.specs.Tests.{all, member}
 use Rattle.page.specs.Words.{Entry}
+use Rattle.slots.specs.declared.Op.{Op}
 use Rattle.slots.specs.declared.Answer.TheVariants.{Made, Opened, BadState, BadPool, Damaged, Next}
-use Rattle.slots.specs.declared.operations.Asked.{Asked}
-use Rattle.slots.specs.declared.operations.Asked.TheVariants.{Known, Unknown}
 use Rattle.slots.specs.Heard.{number_of}
 use Rattle.slots.specs.Operations.{asked_by}
 use Rattle.lent.specs.Words.{state_of}
@@ -57,9 +56,9 @@ pub record Served (start : Start) (calls : List Went) (last lastWs : List ℕ) :
 -- ---- the run
 
 -- An operation begun; a kind that does not exist is told so, changes nothing, and is passed over.
-abbrev pub begins_with : ℕ → Asked → List Call → List Call
-begins_with s (Known op) rest = begin s op ∷ rest
-begins_with s Unknown rest = rest
+abbrev pub begins_with : ℕ → Option Op → List Call → List Call
+begins_with s (Some op) rest = begin s op ∷ rest
+begins_with s None rest = rest
 
 -- the calls of the rules
 unfoldable pub calls_in : List Went → List Call
@@ -68,9 +67,9 @@ calls_in (begins s kind key information cells' four ∷ rest) = begins_with s (a
 calls_in (steps s cells' ws' four ∷ rest) = step s ∷ calls_in rest
 calls_in (reports p four ∷ rest) = report p ∷ calls_in rest
 
-abbrev pub told_first : List ℕ → Asked → List (List ℕ) → List (List ℕ)
-told_first four (Known op) rest = four ∷ rest
-told_first four Unknown rest = rest
+abbrev pub told_first : List ℕ → Option Op → List (List ℕ) → List (List ℕ)
+told_first four (Some op) rest = four ∷ rest
+told_first four None rest = rest
 
 -- the four numbers told to each of them
 unfoldable pub told_in : List Went → List (List ℕ)

@@ -26,21 +26,21 @@ digit_high b t = leb-true b 57 (and_second (leb 48 b) (leb b 57) t)
 pub digit_between : (b : ℕ) → 48 ≤ b → b ≤ 57 → is_digit b ≡ true
 digit_between b low high = and_both (le-leb 48 b low) (le-leb b 57 high)
 
--- ---- the digits at a position of a line
+-- ---- the digits from a position on
 
-module _ (line : List ℕ) (at : ℕ) where
-  pub digits_none : length line ≤ at → digits (drop at line) ≡ []
+module _ (bs : List ℕ) (at : ℕ) where
+  pub digits_none : length bs ≤ at → digits (drop at bs) ≡ []
   unfolding digits
-  digits_none h = rw (drop_of_length-le line h)
+  digits_none h = rw (drop_of_length-le bs h)
 
-  pub digits_stop : at < length line → is_digit (get_or line at 0) ≡ false → digits (drop at line) ≡ []
+  pub digits_stop : at < length bs → is_digit (get_or bs at 0) ≡ false → digits (drop at bs) ≡ []
   unfolding digits
-  digits_stop h f = rw (drop-cons line at 0 h, f)
+  digits_stop h f = rw (drop-cons bs at 0 h, f)
 
-  pub digits_on : at < length line → is_digit (get_or line at 0) ≡ true
-      → digits (drop at line) ≡ get_or line at 0 ∷ digits (drop (at + 1) line)
+  pub digits_on : at < length bs → is_digit (get_or bs at 0) ≡ true
+      → digits (drop at bs) ≡ get_or bs at 0 ∷ digits (drop (at + 1) bs)
   unfolding digits
-  digits_on h t = rw (drop-cons line at 0 h, t, add-one at)
+  digits_on h t = rw (drop-cons bs at 0 h, t, add-one at)
 
 -- ---- what digits are worth
 
@@ -56,28 +56,28 @@ value_snoc (e ∷ es) d =
 
 -- ---- the loop that passes digits
 
--- the digits passed from `from` up to `at`, and what they are worth as far as it counts
-pub record Passing (line : List ℕ) (from at worth : ℕ) : Type 0 where
+-- the digits passed up to `at`, and what they are worth as far as it counts
+pub record Passing (bs : List ℕ) (at worth : ℕ) : Type 0 where
   pub passed : List ℕ
-  pub whole : digits (drop from line) ≡ passed ++ digits (drop at line)
-  pub place : at ≡ from + length passed
+  pub whole : digits bs ≡ passed ++ digits (drop at bs)
+  pub place : at ≡ length passed
   pub alike : Alike worth (value passed)
   pub small : worth ≤ 10 * largest + 9
-  pub within : at ≤ length line
+  pub within : at ≤ length bs
 
-module _ (line : List ℕ) (from : ℕ) where
-  pub passing_start : from ≤ length line → Passing line from from 0
+module _ (bs : List ℕ) where
+  pub passing_start : Passing bs 0 0
   unfolding value
-  passing_start h = record { passed = []; whole = refl; place = omega arith; alike = refl; small = omega arith; within = h }
+  passing_start = record { passed = []; whole = refl; place = refl; alike = refl; small = omega arith; within = omega arith }
 
   -- one digit more
-  pub passing_on : {at worth w : ℕ} → Passing line from at worth → at < length line → is_digit (get_or line at 0) ≡ true
-      → Capped worth (get_or line at 0) w → Passing line from (at + 1) w
+  pub passing_on : {at worth w : ℕ} → Passing bs at worth → at < length bs → is_digit (get_or bs at 0) ≡ true
+      → Capped worth (get_or bs at 0) w → Passing bs (at + 1) w
   passing_on {at} {worth} {w} p h t g =
-      let b : ℕ = get_or line at 0 in
+      let b : ℕ = get_or bs at 0 in
       record {
         passed = p.passed ++ b ∷ [];
-        whole = p.whole ∙ ap (λ (l : List ℕ). p.passed ++ l) (digits_on line at h t) ∙ sym (append_assoc p.passed (b ∷ []) (digits (drop (at + 1) line)));
+        whole = p.whole ∙ ap (λ (l : List ℕ). p.passed ++ l) (digits_on bs at h t) ∙ sym (append_assoc p.passed (b ∷ []) (digits (drop (at + 1) bs)));
         place = omega (arith, p.place, length-append p.passed (b ∷ []));
         alike = omega (arith, p.alike, g.alike, value_snoc p.passed b);
         small = omega (arith, g.small, p.small);
@@ -85,11 +85,11 @@ module _ (line : List ℕ) (from : ℕ) where
       }
 
   -- no digit follows
-  pub passing_done : {at worth : ℕ} → Passing line from at worth → digits (drop at line) ≡ [] → Counted line from worth at
+  pub passing_done : {at worth : ℕ} → Passing bs at worth → digits (drop at bs) ≡ [] → Counted bs worth at
   passing_done {at} {worth} p e =
-      let all : digits (drop from line) ≡ p.passed = p.whole ∙ ap (λ (l : List ℕ). p.passed ++ l) e ∙ append-nil p.passed in
+      let all : digits bs ≡ p.passed = p.whole ∙ ap (λ (l : List ℕ). p.passed ++ l) e ∙ append-nil p.passed in
       record {
-        ends = p.place ∙ ap (λ (l : List ℕ). from + length l) (sym all);
+        ends = p.place ∙ ap length (sym all);
         alike = p.alike ∙ ap (λ (l : List ℕ). Prim.Native.Nat.min (value l) (largest + 1)) (sym all);
         within = p.within;
       }

@@ -1,11 +1,11 @@
--- Laws of a word laid over a row of bytes: one byte more, a word copied byte by byte, and two words one behind the other.
+-- Laws of a word laid over a row of bytes: one byte more, and two words one behind the other.
 use Prim.Native.Nat.{ℕ, suc, ◌+◌, ◌≤◌, ◌<◌}
 use mathlib.Core.List.{List, [], ◌∷◌, ◌++◌, append_assoc}
 use mathlib.Core.Path.{◌≡◌, sym, ap, ap₂, ◌∙◌}
 use native.Mathlib.Numerals.{add-one}
 use native.Mathlib.Omega.{arith}
-use lib.ListN.{length, get_or, take, drop, set, length-append, length-set}
-use lib.Seq.{take-length, length-take-le, paste, paste-suc, take_at, drop_at, drop-drop, drop-cons, take-set-le, drop-set-lt, get_or-set_same, set_split, append_snoc}
+use lib.ListN.{length, take, drop, set, length-append, length-set}
+use lib.Seq.{length-take-le, take_at, drop_at, drop-drop, drop-cons, take-set-le, drop-set-lt, get_or-set_same, set_split, append_snoc}
 use Rattle.lines.specs.Text.{laid}
 
 module _ (out : List ℕ) (at : ℕ) where
@@ -43,22 +43,6 @@ module _ (out : List ℕ) (at : ℕ) where
       let both : n + length w ≡ at + length (v ++ w) = omega (arith, length-append v w) in
       ap₂ (λ (l r : List ℕ). l ++ w ++ r) front end
       ∙ ap₂ (λ (l : List ℕ) (k : ℕ). l ++ drop k out) (append_assoc (take at out) v w) both
-
--- a word that is copied byte by byte: one byte more
-pub copied_more : (out₀ : List ℕ) (at : ℕ) (word : List ℕ) {out : List ℕ} {i : ℕ} → out ≡ paste out₀ at word i → at + i < length out₀
-    → i < length word → set out (at + i) (get_or word i 0) ≡ paste out₀ at word (i + 1)
-copied_more out₀ at word {out} {i} e h k =
-    ap (λ (l : List ℕ). set l (at + i) (get_or word i 0)) e
-    ∙ paste-suc out₀ at word i 0 h k
-    ∙ ap (paste out₀ at word) (sym (add-one i))
-
--- all of the word is copied
-pub copied_all : (out₀ : List ℕ) (at : ℕ) (word : List ℕ) {out : List ℕ} {i : ℕ} → out ≡ paste out₀ at word i → i ≡ length word
-    → out ≡ laid out₀ at word
-copied_all out₀ at word e n =
-    e
-    ∙ ap (paste out₀ at word) n
-    ∙ ap (λ (w : List ℕ). take at out₀ ++ w ++ drop (at + length word) out₀) (take-length word)
 
 -- a word written, and another behind it
 pub laid_two : (out : List ℕ) (at : ℕ) (v w : List ℕ) {one two : List ℕ} {next : ℕ} → at ≤ length out → one ≡ laid out at v

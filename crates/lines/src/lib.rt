@@ -3,7 +3,7 @@
 
 mod reading;
 
-pub use reading::{line_end, read_line};
+pub use reading::{LARGEST, grown, line_end, read_line};
 use slots::Op;
 
 // What a line asks for.

@@ -1,6 +1,6 @@
 -- The whole pool: every page that is met is on a level, so it had no mark before the walk; and a page that has no mark after it is neither met nor all zeros.
 use Prim.Native.Nat.{ℕ, zero, suc, ◌≤◌, ◌<◌}
-use mathlib.Core.Bool.{Bool, true, false, cond, not, ◌&&◌, ◌||◌}
+use mathlib.Core.Bool.{Bool, true, false, not, ◌&&◌, ◌||◌}
 use mathlib.Core.List.{List, [], ◌∷◌, map}
 use mathlib.Core.Logic.{◌≢◌, ⊎_elim}
 use mathlib.Core.Path.{◌≡◌, refl, sym, ap, ◌∙◌, subst}
@@ -82,7 +82,7 @@ module _ {k n : ℕ} {ws : List ℕ} (pool : AllSound k n ws) where
       (λ e. on_none k n ws q inside pool.handed.whole (pool.sound q inside) (eqb-true (page_at k ws q).level 0 e))
       (λ z. eq-eqb (page_at k ws q).level 0 (zero_level k n ws q inside pool.handed.whole z))
 
-  module _ (marks : List ℕ) (long : n ≤ length marks) (free : (q : ℕ) → q < n → get_or marks q 0 ≡ free_mark k ws q) where
+  module _ (marks : List Bool) (long : n ≤ length marks) (free : (q : ℕ) → q < n → get_or marks q false ≡ free_mark k ws q) where
     abbrev pages : List ℕ
     pages = met (page_at k ws) (depth k ws) 0
 
@@ -94,11 +94,7 @@ module _ {k n : ℕ} {ws : List ℕ} (pool : AllSound k n ws) where
 
     -- before the walk just the pages that are all zeros have a mark
     marked_free : (q : ℕ) → q < n → marked marks q ≡ is_zero k ws q
-    marked_free q inside = ap (λ (v : ℕ). not (eqb v 0)) (free q inside) ∙ told (eqb (page_at k ws q).level 0) ∙ zero_is q inside
-      where
-        told : (b : Bool) → not (eqb (cond b 1 0) 0) ≡ b
-        told true = refl
-        told false = refl
+    marked_free q inside = free q inside ∙ zero_is q inside
 
     inside_marks : hung ≡ true → Inside pages marks
     inside_marks h q m = let here = (met_inside (depth k ws) 0 0 word_range pool.handed.some h q m).0 in omega arith
@@ -119,12 +115,12 @@ module _ {k n : ℕ} {ws : List ℕ} (pool : AllSound k n ws) where
         not_both (and_both h (distinct_unmet pages marks (inside_marks h) (and_second hung (distinct pages) both) (unmarked h))) bad))
 
     -- It passes: there is one if every page has a mark now.
-    pub walk_passes : walked (page_at k ws) (depth k ws) 0 0 word_range marks ≡ true → (after : List ℕ) → after ≡ marked_by pages marks
+    pub walk_passes : walked (page_at k ws) (depth k ws) 0 0 word_range marks ≡ true → (after : List Bool) → after ≡ marked_by pages marks
         → all_below n (marked after) ≡ is_tree k n ws
     unfolding is_tree
     walk_passes good after e =
         let h = and_first hung (unmet pages marks) good in
         let d = unmet_distinct pages marks (inside_marks h) (and_second hung (unmet pages marks) good) in
         all_below_same (marked after) (λ (q : ℕ). member q pages || is_zero k ws q) n
-        (λ q inside. ap (λ (l : List ℕ). marked l q) e ∙ marked_by_lem pages marks q (inside_marks h) ∙ ap (λ (b : Bool). member q pages || b) (marked_free q inside))
+        (λ q inside. ap (λ (l : List Bool). marked l q) e ∙ marked_by_lem pages marks q (inside_marks h) ∙ ap (λ (b : Bool). member q pages || b) (marked_free q inside))
         ∙ ap (λ (b : Bool). b && rest) (sym (and_both h d))

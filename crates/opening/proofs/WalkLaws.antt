@@ -26,7 +26,7 @@ use Rattle.opening.proofs.MarkLaws.{marked_append, unmet_append, length_marked}
 -- ---- one page
 
 -- whether page p on level l + 1 hangs rightly and is met for the first time, with all below it
-abbrev pub walked : (ℕ → Page) → ℕ → ℕ → ℕ → ℕ → List ℕ → Bool
+abbrev pub walked : (ℕ → Page) → ℕ → ℕ → ℕ → ℕ → List Bool → Bool
 walked memory l p lo hi marks = hangs memory l p lo hi && unmet (met memory l p) marks
 
 -- A page is met: on another level, with a key out of its range, for the second time, or rightly.
@@ -50,7 +50,7 @@ fits_upper : (P : Page) (l lo hi : ℕ) → fits_at P (suc (suc l)) lo hi ≡ eq
 fits_upper P l lo hi =
     ap (λ (from : ℕ). eqb P.level (suc (suc l)) && within from hi P.entries) (cond-false lo (suc lo) (ne_eqb (suc (suc l)) 1 (λ e. absurd (omega arith))))
 
-module _ (memory : ℕ → Page) (p lo hi : ℕ) (marks : List ℕ) where
+module _ (memory : ℕ → Page) (p lo hi : ℕ) (marks : List Bool) where
   -- a page that does not fit itself, or was met before, decides
   hangs_fits : (l : ℕ) → hangs memory l p lo hi ≡ true → fits_at (memory p) (suc l) lo hi ≡ true
   unfolding hangs
@@ -63,7 +63,7 @@ module _ (memory : ℕ → Page) (p lo hi : ℕ) (marks : List ℕ) where
   met_first : (l : ℕ) → unmet (met memory l p) marks ≡ true → not (marked marks p) ≡ true
   unfolding met unmet
   met_first zero h = and_first (not (marked marks p)) true h
-  met_first (suc l) h = and_first (not (marked marks p)) (unmet (for_each (met memory l) (pointers (memory p))) (set marks p 1)) h
+  met_first (suc l) h = and_first (not (marked marks p)) (unmet (for_each (met memory l) (pointers (memory p))) (set marks p true)) h
 
   pub page_fails : (l : ℕ) → fits_at (memory p) (suc l) lo hi && not (marked marks p) ≡ false → false ≡ walked memory l p lo hi marks
   page_fails l f =
@@ -81,7 +81,7 @@ module _ (memory : ℕ → Page) (p lo hi : ℕ) (marks : List ℕ) where
       sym (and_both (and_first (fits_at (memory p) 1 lo hi) (not (marked marks p)) h)
       (and_both (and_second (fits_at (memory p) 1 lo hi) (not (marked marks p)) h) refl))
 
-  pub leaf_marked : marked_by (met memory 0 p) marks ≡ set marks p 1
+  pub leaf_marked : marked_by (met memory 0 p) marks ≡ set marks p true
   unfolding met marked_by
   leaf_marked = refl
 
@@ -120,7 +120,7 @@ count_pointers : (P : Page) → length (pointers P) ≡ suc (μ P)
 count_pointers P = ap suc (length-map P.entries value_of)
 
 -- Before child i: of what was asked at the beginning the rest is asked from here on, with these marks.
-pub record Going (f : ℕ → ℕ → ℕ → Bool) (g : ℕ → List ℕ) (P : Page) (hi : ℕ) (whole : Bool) (final : List ℕ) (i from : ℕ) (marks : List ℕ) : Type 0 where
+pub record Going (f : ℕ → ℕ → ℕ → Bool) (g : ℕ → List ℕ) (P : Page) (hi : ℕ) (whole : Bool) (final : List Bool) (i from : ℕ) (marks : List Bool) : Type 0 where
   pub here : i ≤ μ P → whole ≡ children f (pointer i P) from (drop i P.entries) hi && unmet (for_each g (drop i (pointers P))) marks
   pub over : μ P < i → whole ≡ true
   pub last : final ≡ marked_by (for_each g (drop i (pointers P))) marks
@@ -132,16 +132,16 @@ and_four true false false d = refl
 and_four false b c d = refl
 
 -- what is asked of all children, and the pages met under them
-abbrev pub all_kids : (ℕ → ℕ → ℕ → Bool) → (ℕ → List ℕ) → Page → ℕ → ℕ → List ℕ → Bool
+abbrev pub all_kids : (ℕ → ℕ → ℕ → Bool) → (ℕ → List ℕ) → Page → ℕ → ℕ → List Bool → Bool
 all_kids f g P lo hi marks = children f P.first lo P.entries hi && unmet (for_each g (pointers P)) marks
 
 -- the first child
-pub going_starts : (f : ℕ → ℕ → ℕ → Bool) (g : ℕ → List ℕ) (P : Page) (lo hi : ℕ) (marks : List ℕ)
+pub going_starts : (f : ℕ → ℕ → ℕ → Bool) (g : ℕ → List ℕ) (P : Page) (lo hi : ℕ) (marks : List Bool)
     → Going f g P hi (all_kids f g P lo hi marks) (marked_by (for_each g (pointers P)) marks) 0 lo marks
 going_starts f g P lo hi marks = record { here = λ _. refl; over = λ few. absurd (omega arith); last = refl }
 
 -- an upper page that fits itself and is met for the first time: its children decide
-module _ (memory : ℕ → Page) (p lo hi l : ℕ) (marks marks' : List ℕ) (new : marks' ≡ set marks p 1) where
+module _ (memory : ℕ → Page) (p lo hi l : ℕ) (marks marks' : List Bool) (new : marks' ≡ set marks p true) where
   pub upper_is : fits_at (memory p) (suc (suc l)) lo hi && not (marked marks p) ≡ true
       → walked memory (suc l) p lo hi marks ≡ all_kids (hangs memory l) (met memory l) (memory p) lo hi marks'
   unfolding hangs met unmet
@@ -149,7 +149,7 @@ module _ (memory : ℕ → Page) (p lo hi l : ℕ) (marks marks' : List ℕ) (ne
       ap₂ ◌&&◌
       (ap (λ (b : Bool). b && children (hangs memory l) (memory p).first lo (memory p).entries hi)
       (sym (fits_upper (memory p) l lo hi) ∙ and_first (fits_at (memory p) (suc (suc l)) lo hi) (not (marked marks p)) h))
-      (ap (λ (b : Bool). b && unmet (for_each (met memory l) (pointers (memory p))) (set marks p 1))
+      (ap (λ (b : Bool). b && unmet (for_each (met memory l) (pointers (memory p))) (set marks p true))
       (and_second (fits_at (memory p) (suc (suc l)) lo hi) (not (marked marks p)) h)
       ∙ ap (unmet (for_each (met memory l) (pointers (memory p)))) (sym new))
 
@@ -158,16 +158,16 @@ module _ (memory : ℕ → Page) (p lo hi l : ℕ) (marks marks' : List ℕ) (ne
   upper_marked = ap (marked_by (for_each (met memory l) (pointers (memory p)))) (sym new)
 
 -- what is asked of child i alone
-abbrev pub of_child : (ℕ → ℕ → ℕ → Bool) → (ℕ → List ℕ) → Page → ℕ → ℕ → ℕ → List ℕ → Bool
+abbrev pub of_child : (ℕ → ℕ → ℕ → Bool) → (ℕ → List ℕ) → Page → ℕ → ℕ → ℕ → List Bool → Bool
 of_child f g P hi i from marks = f (pointer i P) from (end_at i hi P.entries) && unmet (g (pointer i P)) marks
 
-module _ {f : ℕ → ℕ → ℕ → Bool} {g : ℕ → List ℕ} {P : Page} {hi : ℕ} {whole : Bool} {final : List ℕ} {i from : ℕ} {marks : List ℕ}
+module _ {f : ℕ → ℕ → ℕ → Bool} {g : ℕ → List ℕ} {P : Page} {hi : ℕ} {whole : Bool} {final : List Bool} {i from : ℕ} {marks : List Bool}
     (going : Going f g P hi whole final i from marks) where
   -- the pages met behind child i, and the marks that it leaves
   behind : List ℕ
   behind = for_each g (drop (suc i) (pointers P))
 
-  after : List ℕ
+  after : List Bool
   after = marked_by (g (pointer i P)) marks
 
   meets : i ≤ μ P → unmet (for_each g (drop i (pointers P))) marks ≡ unmet (g (pointer i P)) marks && unmet behind after
@@ -215,12 +215,12 @@ module _ {f : ℕ → ℕ → ℕ → Bool} {g : ℕ → List ℕ} {P : Page} {h
       (λ z. sym (none (omega (arith, ltb-false i (μ P) z)) ∙ bad))
 
   -- child i passes, and the next one is asked
-  pub going_on : i ≤ μ P → of_child f g P hi i from marks ≡ true → {marks' : List ℕ} → marks' ≡ marked_by (g (pointer i P)) marks
+  pub going_on : i ≤ μ P → of_child f g P hi i from marks ≡ true → {marks' : List Bool} → marks' ≡ marked_by (g (pointer i P)) marks
       → Going f g P hi whole final (suc i) (end_at i hi P.entries) marks'
   unfolding behind after
   going_on h good {marks'} e = record {
     here = λ m. more m ∙ ap (λ (b : Bool). b && kids) good
-        ∙ ap (λ (l : List ℕ). children f (pointer (suc i) P) (end_at i hi P.entries) (drop (suc i) P.entries) hi && unmet behind l) (sym e);
+        ∙ ap (λ (l : List Bool). children f (pointer (suc i) P) (end_at i hi P.entries) (drop (suc i) P.entries) hi && unmet behind l) (sym e);
     over = λ m. none (omega arith) ∙ good;
     last =
         let long = count_pointers P in
@@ -242,7 +242,7 @@ module _ {f : ℕ → ℕ → ℕ → Bool} {g : ℕ → List ℕ} {P : Page} {h
 
 -- ---- by levels as pages have them, counted from 1
 
-module _ (k n : ℕ) (ws : List ℕ) (level p lo hi : ℕ) (marks : List ℕ) where
+module _ (k n : ℕ) (ws : List ℕ) (level p lo hi : ℕ) (marks : List Bool) where
   abbrev here : Bool
   here = fits_at (page_at k ws p) level lo hi && not (marked marks p)
 
@@ -265,7 +265,7 @@ module _ (k n : ℕ) (ws : List ℕ) (level p lo hi : ℕ) (marks : List ℕ) wh
       eqb-true (memory p).level level (and_first (eqb (memory p).level level) (within (cond (eqb level 1) lo (suc lo)) hi (memory p).entries) fits)
 
   -- it is a leaf
-  pub level_leaf : level ≡ 1 → here ≡ true → (true ≡ walked (page_at k ws) (level - 1) p lo hi marks) × (marked_by (met (page_at k ws) (level - 1) p) marks ≡ set marks p 1)
+  pub level_leaf : level ≡ 1 → here ≡ true → (true ≡ walked (page_at k ws) (level - 1) p lo hi marks) × (marked_by (met (page_at k ws) (level - 1) p) marks ≡ set marks p true)
   level_leaf one good =
       let down : level - 1 ≡ 0 = omega arith in (
         leaf_done memory p lo hi marks (ap (λ (v : ℕ). fits_at (memory p) v lo hi && not (marked marks p)) (sym one) ∙ good)
@@ -274,7 +274,7 @@ module _ (k n : ℕ) (ws : List ℕ) (level p lo hi : ℕ) (marks : List ℕ) wh
       )
 
   -- its children do
-  module _ (above : 2 ≤ level) (good : here ≡ true) (marks' : List ℕ) (new : marks' ≡ set marks p 1) where
+  module _ (above : 2 ≤ level) (good : here ≡ true) (marks' : List Bool) (new : marks' ≡ set marks p true) where
     pub level_upper : walked (page_at k ws) (level - 1) p lo hi marks ≡ all_kids (hangs (page_at k ws) (level - 1 - 1)) (met (page_at k ws) (level - 1 - 1)) (page_at k ws p) lo hi marks'
     level_upper =
         let down : level - 1 ≡ suc below = omega arith in
@@ -290,7 +290,7 @@ module _ (k n : ℕ) (ws : List ℕ) (level p lo hi : ℕ) (marks : List ℕ) wh
 -- ---- going down from page p: the invariant
 
 -- Before child i of page p, which is on this level and has m reference keys; `marks₀` are the marks once p was met.
-pub record Descends (k n : ℕ) (ws : List ℕ) (level p lo hi : ℕ) (marks₀ : List ℕ) (m i from : ℕ) (marks : List ℕ) : Type 0 where
+pub record Descends (k n : ℕ) (ws : List ℕ) (level p lo hi : ℕ) (marks₀ : List Bool) (m i from : ℕ) (marks : List Bool) : Type 0 where
   pub walk : Walk k n ws p
   pub on : (page_at k ws p).level ≡ level
   pub above : 2 ≤ level
@@ -304,22 +304,7 @@ pub record Descends (k n : ℕ) (ws : List ℕ) (level p lo hi : ℕ) (marks₀ 
       (all_kids (hangs (page_at k ws) (level - 1 - 1)) (met (page_at k ws) (level - 1 - 1)) (page_at k ws p) lo hi marks₀)
       (marked_by (for_each (met (page_at k ws) (level - 1 - 1)) (pointers (page_at k ws p))) marks₀) i from marks
 
-pub descends_starts : (k n : ℕ) (ws : List ℕ) (level p lo hi : ℕ) (marks : List ℕ) (m : ℕ) → Walk k n ws p → (page_at k ws p).level ≡ level → 2 ≤ level → m ≡ μ (page_at k ws p)
-    → lo ≤ word_range → hi ≤ word_range → n ≤ length marks → Descends k n ws level p lo hi marks m 0 lo marks
-descends_starts k n ws level p lo hi marks m walk on above count bottom top room = record {
-  walk = walk;
-  on = on;
-  above = above;
-  count = count;
-  most = omega arith;
-  bottom = bottom;
-  top = top;
-  room = room;
-  kept = refl;
-  going = going_starts (hangs (page_at k ws) (level - 1 - 1)) (met (page_at k ws) (level - 1 - 1)) (page_at k ws p) lo hi marks;
-}
-
-module _ {k n : ℕ} {ws : List ℕ} {level p lo hi : ℕ} {marks₀ : List ℕ} {m i from : ℕ} {marks : List ℕ} (d : Descends k n ws level p lo hi marks₀ m i from marks) where
+module _ {k n : ℕ} {ws : List ℕ} {level p lo hi : ℕ} {marks₀ : List Bool} {m i from : ℕ} {marks : List Bool} (d : Descends k n ws level p lo hi marks₀ m i from marks) where
   -- the page is on a level, and not the lowest
   pub on_some : (page_at k ws p).level ≢ 0
   on_some z = let e = d.on in let a = d.above in absurd (omega arith)
@@ -349,7 +334,7 @@ module _ {k n : ℕ} {ws : List ℕ} {level p lo hi : ℕ} {marks₀ : List ℕ}
     pub descends_fails : r ≡ false → false ≡ all_kids (hangs (page_at k ws) (level - 1 - 1)) (met (page_at k ws) (level - 1 - 1)) (page_at k ws p) lo hi marks₀
     descends_fails bad = let few = d.count in going_fails d.going (omega arith) (sym asked ∙ bad)
 
-    pub descends_on : r ≡ true → to ≤ word_range → (marks' : List ℕ) → marks' ≡ marked_by (met (page_at k ws) (level - 1 - 1) c) marks
+    pub descends_on : r ≡ true → to ≤ word_range → (marks' : List Bool) → marks' ≡ marked_by (met (page_at k ws) (level - 1 - 1) c) marks
         → Descends k n ws level p lo hi marks₀ m (i + 1) to marks'
     descends_on good high marks' new =
         let few = d.count in
@@ -376,3 +361,13 @@ module _ {k n : ℕ} {ws : List ℕ} {level p lo hi : ℕ} {marks₀ : List ℕ}
   pub descends_done : m < i → (true ≡ all_kids (hangs (page_at k ws) (level - 1 - 1)) (met (page_at k ws) (level - 1 - 1)) (page_at k ws p) lo hi marks₀)
       × (marks ≡ marked_by (for_each (met (page_at k ws) (level - 1 - 1)) (pointers (page_at k ws p))) marks₀)
   descends_done h = let few = d.count in going_done d.going (omega arith)
+
+-- the last child passes, and so every one has
+pub descends_last : {k n : ℕ} {ws : List ℕ} {level p lo hi : ℕ} {marks₀ : List Bool} {m i from : ℕ} {marks : List Bool}
+    (d : Descends k n ws level p lo hi marks₀ m i from marks) (r : Bool) (c to : ℕ) → c ≡ pointer i (page_at k ws p) → to ≡ end_at i hi (page_at k ws p).entries
+    → i ≡ m → r ≡ walked (page_at k ws) (level - 1 - 1) c from to marks → r ≡ true → to ≤ word_range
+    → (marks' : List Bool) → marks' ≡ marked_by (met (page_at k ws) (level - 1 - 1) c) marks
+    → (true ≡ all_kids (hangs (page_at k ws) (level - 1 - 1)) (met (page_at k ws) (level - 1 - 1)) (page_at k ws p) lo hi marks₀)
+    × (marks' ≡ marked_by (for_each (met (page_at k ws) (level - 1 - 1)) (pointers (page_at k ws p))) marks₀)
+descends_last d r c to is end last told good high marks' new =
+    descends_done (descends_on d r c to is end (omega arith) told good high marks' new) (omega arith)

@@ -1,5 +1,5 @@
 -- Marks, one for each page: "marks each page it meets". And what the functions of the walk ask and say.
-use Rattle.std.specs.Prelude.{ℕ, suc, ◌≤◌, ◌<◌, Bool, true, cond, not, ◌&&◌, List, [], ◌∷◌, ◌≡◌, eqb, ltb, length, get_or, set}
+use Rattle.std.specs.Prelude.{ℕ, suc, ◌≤◌, ◌<◌, Bool, true, false, cond, not, ◌&&◌, List, [], ◌∷◌, ◌≡◌, eqb, ltb, length, get_or, set}
 use Rattle.ground.specs.Limits.{largest_k, largest_n}
 use Rattle.page.specs.Words.{Entry, Page}
 use Rattle.page.specs.Splits.{entry_at}
@@ -7,22 +7,22 @@ use Rattle.pool.specs.Pool.{pool_length, page_at}
 use Rattle.opening.specs.Opening.{sound_alone, within}
 
 -- page q has a mark
-abbrev pub marked : List ℕ → ℕ → Bool
-marked marks q = not (eqb (get_or marks q 0) 0)
+abbrev pub marked : List Bool → ℕ → Bool
+marked marks q = get_or marks q false
 
 -- the marks once these pages are met
-unfoldable pub marked_by : List ℕ → List ℕ → List ℕ
+unfoldable pub marked_by : List ℕ → List Bool → List Bool
 marked_by [] marks = marks
-marked_by (q ∷ qs) marks = marked_by qs (set marks q 1)
+marked_by (q ∷ qs) marks = marked_by qs (set marks q true)
 
 -- each of these pages has no mark when it is met
-unfoldable pub unmet : List ℕ → List ℕ → Bool
+unfoldable pub unmet : List ℕ → List Bool → Bool
 unmet [] marks = true
-unmet (q ∷ qs) marks = not (marked marks q) && unmet qs (set marks q 1)
+unmet (q ∷ qs) marks = not (marked marks q) && unmet qs (set marks q true)
 
 -- the mark of a page before the walk: a page on no level is never met
-abbrev pub free_mark : ℕ → List ℕ → ℕ → ℕ
-free_mark k ws q = cond (eqb (page_at k ws q).level 0) 1 0
+abbrev pub free_mark : ℕ → List ℕ → ℕ → Bool
+free_mark k ws q = eqb (page_at k ws q).level 0
 
 -- a page's own part of `hangs`: its level and its keys
 abbrev pub fits_at : Page → ℕ → ℕ → ℕ → Bool

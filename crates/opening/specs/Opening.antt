@@ -1,14 +1,14 @@
 -- Opening a pool that somebody hands us: what is asked of its words. 02 (vii): "a check that accepts words with k and N exactly if they
 -- form the B*-tree of document 01 from page 0, every other page is all zeros, and no page hangs in two places". That this test passes
 -- exactly then is proved of the tree of demand 2 (crate tree, Opening).
-use Rattle.std.specs.Prelude.{ℕ, zero, suc, ◌-◌, Bool, cond, not, ◌&&◌, ◌||◌, List, [], ◌∷◌, ◌++◌, leb, ltb, eqb}
+use Rattle.std.specs.Prelude.{ℕ, zero, suc, ◌-◌, Bool, cond, not, ◌&&◌, ◌||◌, List, [], ◌∷◌, ◌++◌, leb, ltb, eqb, ⊤, Result, Ok, Err, Option, Some, None}
 use Rattle.ground.specs.Limits.{word_range}
 use Rattle.ground.specs.Tests.{all, member, distinct, all_below, first_below}
 use Rattle.page.specs.Words.{Entry, Page, pointers}
 use Rattle.page.specs.Sound.{sound_by_itself}
 use Rattle.pool.specs.Pool.{words_of, page_at}
-use Rattle.opening.specs.declared.checking.Checked.{Checked}
-use Rattle.opening.specs.declared.checking.Checked.TheVariants.{Unsound, Tree, NoTree}
+use Rattle.opening.specs.declared.checking.Fault.{Fault}
+use Rattle.opening.specs.declared.checking.Fault.TheVariants.{Unsound, NoTree}
 
 -- ---- each page by itself
 
@@ -23,6 +23,10 @@ sound_alone k n ws p = sound_by_itself k n p (words_of k p ws) || (not (eqb p 0)
 -- "the lowest-numbered page that is not sound by itself"; N where there is none
 unfoldable pub lowest_unsound : ℕ → ℕ → List ℕ → ℕ
 lowest_unsound k n ws = first_below n (λ (p : ℕ). not (sound_alone k n ws p))
+
+-- that page, if there is one
+abbrev pub unsound_page : ℕ → ℕ → List ℕ → Option ℕ
+unsound_page k n ws = cond (ltb (lowest_unsound k n ws) n) (Some (lowest_unsound k n ws)) None
 
 -- ---- the tree
 
@@ -69,5 +73,5 @@ is_tree k n ws =
     && all_below n (λ (q : ℕ). member q pages || is_zero k ws q)
 
 -- "gives the lowest-numbered page that is not sound by itself ..; if all are, it says BadTree"
-unfoldable pub checked : ℕ → ℕ → List ℕ → Checked
-checked k n ws = cond (ltb (lowest_unsound k n ws) n) (Unsound (lowest_unsound k n ws)) (cond (is_tree k n ws) Tree NoTree)
+unfoldable pub checked : ℕ → ℕ → List ℕ → Result ⊤ Fault
+checked k n ws = cond (ltb (lowest_unsound k n ws) n) (Err (Unsound (lowest_unsound k n ws))) (cond (is_tree k n ws) (Ok tt) (Err NoTree))

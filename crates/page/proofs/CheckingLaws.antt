@@ -6,7 +6,7 @@ use mathlib.Core.Path.{◌≡◌, refl, sym, ap, ◌∙◌, subst}
 use native.Mathlib.Numerals.{add-one}
 use native.Mathlib.Omega.{arith}
 use borrow.Author.Count.{below_none, below_more}
-use borrow.Author.Tests.{leb-true, le-leb, lt-leb, eqb-true, eq-eqb, ne_eqb}
+use borrow.Author.Tests.{leb-true, eqb-true, eq-eqb, ne_eqb}
 use lib.Dec.{leb, ltb, eqb}
 use lib.ListN.{length, get_or, take, drop, set, length-drop}
 use lib.Seq.{length-take-le, get_or-take, get_or-drop, get_or-set_same, take_all}
@@ -14,44 +14,27 @@ use Rattle.ground.specs.Limits.{tallest, blank_key}
 use Rattle.ground.specs.Tests.{all, member, distinct}
 use Rattle.ground.proofs.Limits.{blank_lowest}
 use Rattle.ground.proofs.Bools.{not_both, same_if_true_together, and_second, and_both, and_first_fails, and_second_fails, not_of_false, false_if_not_true}
-use Rattle.ground.proofs.Tests.{all_from, all_stops, member_at, not_member_from, distinct_more, distinct_at}
+use Rattle.ground.proofs.Tests.{all_from, all_stops, member_at, member_among, not_member_from, distinct_more, distinct_at}
 use Rattle.page.specs.Words.{Entry, is_leaf, pointers, pairs_from, view, size}
 use Rattle.page.specs.Sound.{rises, least, in_range, good_pointers, no_blank, sound_by_itself}
 use Rattle.page.specs.Reading.{Readable, in_shape}
-use Rattle.page.specs.Place.{has}
+use Rattle.page.specs.Place.{has, pointer}
 use Rattle.page.proofs.RiseLaws.{key_at, rises_at, rises_from_lem, rises_stops}
 use Rattle.page.proofs.PlaceLaws.{has_from, has_at}
-use Rattle.page.proofs.ReadingLaws.{readable, readable_μ, key_word}
+use Rattle.page.proofs.ReadingLaws.{readable, readable_μ, key_word, length_pointers}
+use Rattle.std.specs.Bool.{MatchBool}
+use Rattle.std.specs.List.{range_with_len, HoldsAt, AllWithin}
+use Rattle.std.proofs.Common.{zero-add}
+use Rattle.std.proofs.lemmas.List.FromFn.{length-range_with_len, get_or-range_with_len}
+use mathlib.Core.Logic.{◌≢◌}
 
 -- ---- level and μ
 
-module _ (k p : ℕ) (ws : List ℕ) (l m : ℕ) (el : l ≡ (view ws).level) (em : m ≡ get_or ws 1 0) where
-  -- the test in words 0 and 1
-  shape_rewritten : in_shape k p ws ≡ leb 1 l && leb l tallest && in_range k p (eqb l 1) m
-  unfolding in_shape
-  shape_rewritten = rw (el, em)
-
-  -- the level is too low
-  pub level_low : l < 1 → false ≡ in_shape k p ws
-  level_low h =
-      sym (shape_rewritten ∙ and_first_fails (in_range k p (eqb l 1) m) (and_first_fails (leb l tallest) (lt-leb 1 l h)))
-
-  -- the level is too high
-  pub level_high : tallest < l → false ≡ in_shape k p ws
-  level_high h =
-      sym (shape_rewritten ∙ and_first_fails (in_range k p (eqb l 1) m) (and_second_fails (leb 1 l) (lt-leb l tallest h)))
-
-  -- μ is too low
-  pub μ_low : m < least k p (eqb l 1) → false ≡ in_shape k p ws
-  μ_low h =
-      sym
-      (shape_rewritten
-      ∙ and_second_fails (leb 1 l && leb l tallest) (and_first_fails (leb m (2 * k)) (lt-leb (least k p (eqb l 1)) m h)))
-
-  -- what is left is that μ is not too high
-  pub μ_high : 1 ≤ l → l ≤ tallest → least k p (eqb l 1) ≤ m → leb m (2 * k) ≡ in_shape k p ws
-  μ_high low high enough =
-      sym (shape_rewritten ∙ rw (le-leb 1 l low, le-leb l tallest high, le-leb (least k p (eqb l 1)) m enough))
+-- the test in words 0 and 1
+pub shape_rewritten : (k p : ℕ) (ws : List ℕ) (l m : ℕ) → l ≡ (view ws).level → m ≡ get_or ws 1 0
+    → in_shape k p ws ≡ leb 1 l && leb l tallest && in_range k p (eqb l 1) m
+unfolding in_shape
+shape_rewritten k p ws l m el em = rw (el, em)
 
 -- words in shape are readable
 pub shape_readable : (k p : ℕ) (ws : List ℕ) → length ws ≡ size k → in_shape k p ws ≡ true → Readable ws
@@ -65,28 +48,29 @@ shape_readable k p ws len t =
 -- ---- the keys
 
 module _ (ws : List ℕ) (r : Readable ws) (from : ℕ) (e : from ≡ pairs_from (get_or ws 0 0)) where
-  -- the key of the next pair
-  next_key : (i : ℕ) → i + 1 < get_or ws 1 0 → key_at (suc i) (view ws).entries ≡ get_or ws (from + 2 * i + 2) 0
-  next_key i h =
-      let at : from + 2 * suc i ≡ from + 2 * i + 2 = omega arith in
-      key_word ws r from (suc i) e (omega arith) ∙ ap (λ (n : ℕ). get_or ws n 0) at
+  -- the key before key i
+  key_before : (i : ℕ) → 1 ≤ i → i < get_or ws 1 0 → key_at (i - 1) (view ws).entries ≡ get_or ws (from + 2 * i - 2) 0
+  key_before i some h =
+      let at : from + 2 * (i - 1) ≡ from + 2 * i - 2 = omega arith in
+      key_word ws r from (i - 1) e (omega arith) ∙ ap (λ (n : ℕ). get_or ws n 0) at
 
-  -- a key is below the next
-  pub keys_rise : (i : ℕ) → i + 1 < get_or ws 1 0 → get_or ws (from + 2 * i) 0 < get_or ws (from + 2 * i + 2) 0
-      → key_at i (view ws).entries < key_at (suc i) (view ws).entries
-  keys_rise i h up = rw (key_word ws r from i e (omega arith), next_key i h) up
+  -- it is below key i
+  pub keys_rise : (i : ℕ) → 1 ≤ i → i < get_or ws 1 0 → get_or ws (from + 2 * i - 2) 0 < get_or ws (from + 2 * i) 0
+      → key_at (i - 1) (view ws).entries < key_at i (view ws).entries
+  keys_rise i some h up = rw (key_before i some h, key_word ws r from i e h) up
 
-  -- a key is not below the next
-  pub keys_stop : (i : ℕ) → i + 1 < get_or ws 1 0 → get_or ws (from + 2 * i + 2) 0 ≤ get_or ws (from + 2 * i) 0
+  -- it is not below key i
+  pub keys_stop : (i : ℕ) → 1 ≤ i → i < get_or ws 1 0 → get_or ws (from + 2 * i) 0 ≤ get_or ws (from + 2 * i - 2) 0
       → false ≡ rises (view ws).entries
-  keys_stop i h down =
+  keys_stop i some h down =
       let m = readable_μ ws r in
-      sym (rises_stops (view ws).entries i (omega arith) (rw (key_word ws r from i e (omega arith), next_key i h) down))
+      let next : suc (i - 1) ≡ i = omega arith in
+      sym (rises_stops (view ws).entries (i - 1) (omega arith) (rw (next, key_before i some h, key_word ws r from i e h) down))
 
-  -- each key is below the next
-  pub keys_done : (i : ℕ) → get_or ws 1 0 ≤ i + 1
-      → ((j : ℕ) → j < i → key_at j (view ws).entries < key_at (suc j) (view ws).entries) → true ≡ rises (view ws).entries
-  keys_done i h up = let m = readable_μ ws r in sym (rises_from_lem (view ws).entries (λ j l. up j (omega arith)))
+  -- each key is above the one before
+  pub keys_done : (i : ℕ) → get_or ws 1 0 ≤ i
+      → ((j : ℕ) → j < i → 1 ≤ j → key_at (j - 1) (view ws).entries < key_at j (view ws).entries) → true ≡ rises (view ws).entries
+  keys_done i h up = let m = readable_μ ws r in sym (rises_from_lem (view ws).entries (λ j l. let back : suc j - 1 ≡ j = omega arith in rw back at (up (suc j) (omega arith) (omega arith))))
 
 -- ---- the pointers
 
@@ -96,6 +80,24 @@ module _ (ps : List ℕ) (q i : ℕ) (h : i ≤ length ps) where
   repeated_done f =
       let len = length-take-le i ps h in
       sym (not_member_from q (take i ps) 0 (λ j l e. f j (omega arith) (sym (get_or-take i ps j 0 (omega arith)) ∙ e)))
+
+-- pi stands among the pointers before it just if one of them is the same
+module _ (ws : List ℕ) (r : Readable ws) (i : ℕ) (h : i ≤ get_or ws 1 0) where
+  pub repeated_told : (b : Bool)
+      → MatchBool b
+      ((k : ℕ) × (k < length (range_with_len 0 i)) × HoldsAt (λ j. pointer j (view ws) ≡ pointer i (view ws)) (range_with_len 0 i) k)
+      (AllWithin (λ j. pointer j (view ws) ≢ pointer i (view ws)) (range_with_len 0 i) 0 (length (range_with_len 0 i)))
+      → b ≡ member (pointer i (view ws)) (take i (pointers (view ws)))
+  repeated_told true (k, l, same) =
+      let before : k < i = omega (arith, length-range_with_len 0 i) in
+      let index : get_or (range_with_len 0 i) k 0 ≡ k = get_or-range_with_len 0 i k 0 before ∙ zero-add k in
+      sym
+      (member_among (pointer i (view ws)) (pointers (view ws)) i k 0 (omega (arith, length_pointers ws r)) before
+      (subst (λ (j : ℕ). pointer j (view ws) ≡ pointer i (view ws)) index (same 0)))
+  repeated_told false other =
+      repeated_done (pointers (view ws)) (pointer i (view ws)) i (omega (arith, length_pointers ws r))
+      (λ j l same. other j 0 (omega arith) (omega (arith, length-range_with_len 0 i))
+      (ap (λ (m : ℕ). pointer m (view ws)) (get_or-range_with_len 0 i j 0 l ∙ zero-add j) ∙ same))
 
 -- p is from 1 to n - 1
 abbrev pub in_pool : ℕ → ℕ → Bool
@@ -220,10 +222,6 @@ module _ (es : List Entry) (t : rises es ≡ true) (some : 0 < length es) where
 
 -- ---- the whole test
 
--- three tests hold, so the fourth tells whether all do
-fourth : {a b c : Bool} (d : Bool) → a ≡ true → b ≡ true → c ≡ true → d ≡ a && b && c && d
-fourth d ta tb tc = rw (ta, tb, tc)
-
 module _ (k n p : ℕ) (ws : List ℕ) where
   shape : Bool
   shape = in_shape k p ws
@@ -241,24 +239,15 @@ module _ (k n p : ℕ) (ws : List ℕ) where
   unfolding sound_by_itself in_shape shape keys on_level zeros view
   parts = refl
 
-  -- level or μ out of range
-  pub shape_fails : in_shape k p ws ≡ false → false ≡ sound_by_itself k n p ws
-  unfolding shape
-  shape_fails f = sym (parts ∙ and_first_fails zeros (and_first_fails on_level (and_first_fails keys f)))
+  -- level or μ out of range, keys that do not rise, a blank tag in a leaf, or pointers that are not good
+  pub some_fails : in_shape k p ws && rises (view ws).entries && cond (is_leaf (view ws)) (no_blank (view ws).entries) (good_pointers n (pointers (view ws))) ≡ false
+      → false ≡ sound_by_itself k n p ws
+  unfolding shape keys on_level
+  some_fails f = sym (parts ∙ and_first_fails zeros f)
 
-  -- keys that do not rise
-  pub keys_fail : rises (view ws).entries ≡ false → false ≡ sound_by_itself k n p ws
-  unfolding keys
-  keys_fail f = sym (parts ∙ and_first_fails zeros (and_first_fails on_level (and_second_fails shape f)))
-
-  -- a blank tag in a leaf, or pointers that are not good
-  pub level_fails : cond (is_leaf (view ws)) (no_blank (view ws).entries) (good_pointers n (pointers (view ws))) ≡ false → false ≡ sound_by_itself k n p ws
-  unfolding on_level
-  level_fails f = sym (parts ∙ and_first_fails zeros (and_second_fails (shape && keys) f))
-
-  -- what is left is that the unused words are 0
-  pub zeros_left : (from m : ℕ) → in_shape k p ws ≡ true → rises (view ws).entries ≡ true
-      → cond (is_leaf (view ws)) (no_blank (view ws).entries) (good_pointers n (pointers (view ws))) ≡ true
+  -- else what is left is that the unused words are 0
+  pub zeros_left : (from m : ℕ)
+      → in_shape k p ws && rises (view ws).entries && cond (is_leaf (view ws)) (no_blank (view ws).entries) (good_pointers n (pointers (view ws))) ≡ true
       → from ≡ pairs_from (get_or ws 0 0) → m ≡ get_or ws 1 0 → all (λ (w : ℕ). eqb w 0) (drop (from + 2 * m) ws) ≡ sound_by_itself k n p ws
   unfolding shape keys on_level zeros
-  zeros_left from m ts tk tc ef em = rw (ef, em) (fourth zeros ts tk tc ∙ sym parts)
+  zeros_left from m t ef em = rw (ef, em) (sym (parts ∙ ap (λ (b : Bool). b && zeros) t))

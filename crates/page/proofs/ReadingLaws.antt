@@ -18,7 +18,7 @@ use Rattle.page.specs.Splits.{entry_at}
 use Rattle.page.specs.Sound.{rises, sound_by_itself}
 use Rattle.page.specs.Reading.{Readable, FirstFrom, looked}
 use Rattle.page.specs.Short.{has_right, between_at, neighbour}
-use Rattle.page.specs.declared.reading.Lot.TheVariants.{There, Missing}
+use Rattle.std.specs.Prelude.{Some, None}
 use Rattle.page.proofs.RiseLaws.{key_at, rises_at}
 use Rattle.page.proofs.PlaceLaws.{place_most, place_before, place_behind, has_from, has_place, information_at, above_first, above_later}
 use Rattle.page.proofs.HalvingLaws.{Passes, Untold, half_told}
@@ -118,20 +118,18 @@ sound_readable k n p ws len test =
 
 -- ---- one look, at the entry just before x's place i
 
+-- nothing stands under a key that is not there
+pub look_none : (x : ℕ) (es : List Entry) → has x es ≡ false → None ≡ looked x es
+look_none x es none = sym (cond-false (Some (information x es)) None none)
+
 module _ (x i : ℕ) (es : List Entry) (e : i ≡ place x es) (t : rises es ≡ true) where
   -- there is no entry before it
   pub none_before : i ≡ 0 → has x es ≡ false
   none_before z = false_if_not_true (has x es) (λ y. let some = (has_place x es t y).0 in absurd (omega arith))
 
-  pub look_none : i ≡ 0 → Missing ≡ looked x es
-  look_none z = sym (cond-false (There (information x es)) Missing (none_before z))
-
   -- another key stands there
   pub other_before : (key_at (i - 1) es ≡ x → ⊥) → has x es ≡ false
   other_before d = false_if_not_true (has x es) (λ y. d (ap (λ (j : ℕ). key_at (j - 1) es) e ∙ (has_place x es t y).1))
-
-  pub look_other : (key_at (i - 1) es ≡ x → ⊥) → Missing ≡ looked x es
-  look_other d = sym (cond-false (There (information x es)) Missing (other_before d))
 
   -- x stands there, and behind it its information
   module _ (some : i ≡ 0 → ⊥) (same : key_at (i - 1) es ≡ x) where
@@ -141,10 +139,10 @@ module _ (x i : ℕ) (es : List Entry) (e : i ≡ place x es) (t : rises es ≡ 
     pub key_before : has x es ≡ true
     key_before = has_from x es (i - 1) within same
 
-    pub look_there : There (entry_at (i - 1) es).value ≡ looked x es
+    pub look_there : Some (entry_at (i - 1) es).value ≡ looked x es
     look_there =
-        ap There (sym (information_at x es t (i - 1) within same))
-        ∙ sym (cond-true (There (information x es)) Missing key_before)
+        ap Some (sym (information_at x es t (i - 1) within same))
+        ∙ sym (cond-true (Some (information x es)) None key_before)
 
 -- ---- the first entry at or above x
 
@@ -171,11 +169,11 @@ module _ (x : ℕ) (es : List Entry) (i : ℕ) (first : FirstFrom x es i) where
 -- Rising keys, and the place of x among them.
 module _ (x : ℕ) (es : List Entry) (rise : rises es ≡ true) (i : ℕ) (e : i ≡ place x es) where
   -- no key is at most x
-  pub first_of_all : i ≡ 0 → FirstFrom x es 0
+  pub first_of_all : i ≡ 0 → FirstFrom x es i
   first_of_all none = record {
     within = omega arith;
-    before = λ j l. absurd (not-suc-le-zero l);
-    here = λ h. let high = place_behind x es rise 0 (omega arith) h in omega arith;
+    before = λ j l. absurd (omega arith);
+    here = λ h. let high = place_behind x es rise i (omega arith) h in omega arith;
   }
 
   -- x stands just before its place

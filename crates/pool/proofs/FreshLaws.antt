@@ -17,7 +17,7 @@ unfolding fresh
 length_fresh k n = length-set (replicate (pool_length k n) 0) 0 1 ∙ length-replicate (pool_length k n) 0
 
 -- zeros cut in two are zeros
-abbrev zeros : ℕ → List ℕ
+abbrev pub zeros : ℕ → List ℕ
 zeros n = replicate n 0
 
 zeros_cut : (m n : ℕ) → m ≤ n → zeros n ≡ zeros m ++ zeros (n - m)
@@ -25,10 +25,10 @@ zeros_cut m n h =
     let whole : n ≡ m + (n - m) = omega arith in
     ap zeros whole ∙ sym (replicate-append-replicate m (n - m) 0)
 
-take_zeros : (m n : ℕ) → m ≤ n → take m (zeros n) ≡ zeros m
+pub take_zeros : (m n : ℕ) → m ≤ n → take m (zeros n) ≡ zeros m
 take_zeros m n h = ap (take m) (zeros_cut m n h) ∙ take_at (zeros m) (zeros (n - m)) m (length-replicate m 0)
 
-drop_zeros : (m n : ℕ) → m ≤ n → drop m (zeros n) ≡ zeros (n - m)
+pub drop_zeros : (m n : ℕ) → m ≤ n → drop m (zeros n) ≡ zeros (n - m)
 drop_zeros m n h = ap (drop m) (zeros_cut m n h) ∙ drop_at (zeros m) (zeros (n - m)) m (length-replicate m 0)
 
 -- an empty leaf fits

@@ -1,6 +1,6 @@
 -- Where pages lie, for the code: no number of words wraps, and the free pages behind a page.
-use Prim.Native.Nat.{ℕ, zero, suc, ◌+◌, ◌*◌, ◌≤◌, ◌<◌}
-use mathlib.Core.Bool.{Bool, true, false, not, ◌&&◌, false≢true}
+use Prim.Native.Nat.{ℕ, zero, suc, ◌+◌, ◌-◌, ◌*◌, ◌≤◌, ◌<◌}
+use mathlib.Core.Bool.{Bool, true, false, not, ◌&&◌}
 use mathlib.Core.List.{List, [], ◌∷◌, ◌++◌, append-nil}
 use mathlib.Core.Logic.{⊎_elim}
 use mathlib.Core.Path.{◌≡◌, refl, sym, ap, ap₂, ◌∙◌, subst}
@@ -10,15 +10,17 @@ use borrow.Author.Tests.{leb-true, le-leb, lt-leb, eq-eqb, ne_eqb, ltb-true, ltb
 use lib.Dec.{leb, eqb, ltb}
 use lib.ListN.{length, get_or, take, drop, set, length-append}
 use lib.Seq.{get_or-take, get_or-drop, drop-cons, append_snoc, take_at}
+use Rattle.std.specs.Prelude.{Some, None}
 use Rattle.ground.specs.Limits.{largest_k, largest_n, most_new}
-use Rattle.ground.specs.Tests.{list_below, first_below, padded}
+use Rattle.ground.specs.Tests.{list_below, first_below, padded, filled}
 use Rattle.ground.proofs.Bools.{and_first, and_both, and_first_fails, and_second_fails, not_of_false, true_or_false}
 use Rattle.ground.proofs.Padded.{length_padded, padded_at, padded_set}
-use Rattle.ground.proofs.Tests.{list_below_same, list_below_fails, list_below_first, list_below_less, list_below_from, member_at, first_below_fails, first_below_most, first_below_passes, first_below_before, first_below_all_fail}
+use Rattle.pool.proofs.StretchLaws.{ends_in_pool}
+use Rattle.ground.proofs.Tests.{first_below_stops, list_below_same, list_below_fails, list_below_first, list_below_less, list_below_from, member_at, first_below_fails, first_below_most, first_below_passes, first_below_before, first_below_all_fail}
 use Rattle.page.specs.Words.{size}
+use Rattle.pool.proofs.FreshLaws.{zeros, take_zeros, drop_zeros}
 use Rattle.pool.specs.Pool.{start, words_of, is_free, free_pages, free_from}
 use Rattle.pool.specs.Scan.{Scanned}
-use Rattle.pool.specs.declared.lying.Taken.{Taken}
 
 -- a pool has few words
 pub start_few : (k p : ℕ) → k ≤ largest_k → p ≤ largest_n → start k p ≤ largest_n * size largest_k
@@ -95,7 +97,7 @@ module _ (k : ℕ) (ws : List ℕ) where
 
 -- ---- free pages taken one after the other
 
--- The first i free pages are taken and stand in the array; the others are those behind the last one taken.
+-- The first i free pages are taken and stand in the first of `need` cells; the others are those behind the last one taken.
 pub record Taking (k n need : ℕ) (ws pages : List ℕ) (from i : ℕ) : Type 0 where
   pub taken : List ℕ
   pub few : i ≤ need
@@ -103,12 +105,14 @@ pub record Taking (k n need : ℕ) (ws pages : List ℕ) (from i : ℕ) : Type 0
   pub within : from ≤ n
   pub whole : free_pages k n ws ≡ taken ++ list_below n (free_from k ws from)
   pub counted : length taken ≡ i
-  pub cells : pages ≡ padded most_new taken
+  pub cells : pages ≡ padded need taken
 
-module _ (k n need : ℕ) (ws : List ℕ) where
+module _ (k n need : ℕ) (ws : List ℕ) (most : need ≤ most_new) where
   -- none is taken yet
-  pub taking_starts : 1 ≤ n → Taking k n need ws (padded most_new []) 1 0
+  pub taking_starts : 1 ≤ n → Taking k n need ws (take need (zeros most_new)) 1 0
+  unfolding filled
   taking_starts h =
+      let all : need ≡ need - 0 = omega arith in
       record {
         taken = [];
         few = omega arith;
@@ -116,10 +120,10 @@ module _ (k n need : ℕ) (ws : List ℕ) where
         within = h;
         whole = sym (free_from_one k ws n);
         counted = refl;
-        cells = refl;
+        cells = take_zeros need most_new most ∙ ap zeros all;
       }
 
-  module _ (most : need ≤ most_new) (pages : List ℕ) (from i : ℕ) (was : Taking k n need ws pages from i) where
+  module _ (pages : List ℕ) (from i : ℕ) (was : Taking k n need ws pages from i) where
     -- one more is taken
     pub taking_on : (p : ℕ) → i < need → p ≡ first_below n (free_from k ws from) → (p ≡ n → ⊥)
         → Taking k n need ws (set pages i p) (p + 1) (i + 1)
@@ -134,37 +138,46 @@ module _ (k n need : ℕ) (ws : List ℕ) where
               ∙ ap (λ (ps : List ℕ). was.taken ++ ps) (free_from_next k ws n from p (sym found) below)
               ∙ sym (append_snoc was.taken p (list_below n (free_from k ws (p + 1))));
           counted = omega (arith, length-append was.taken (p ∷ []), was.counted);
-          cells = ap (λ (ps : List ℕ). set ps i p) was.cells ∙ padded_set most_new was.taken i p was.counted (omega arith);
+          cells = ap (λ (ps : List ℕ). set ps i p) was.cells ∙ padded_set need was.taken i p was.counted more;
         }
 
-    -- as many are taken as are needed
-    pub taking_done : need ≤ i → Scanned need (free_pages k n ws) (record { enough = true; pages = pages })
+    -- as many are taken as are needed: the cells hold them and no more, and behind them stands nothing
+    pub taking_done : need ≤ i → Scanned need (free_pages k n ws) (Some (pages ++ drop need (zeros most_new)))
+    unfolding filled
     taking_done h =
         let all : length was.taken ≡ need = omega (arith, was.few, was.counted) in
+        let none : need - length was.taken ≡ 0 = omega arith in
         let rest : List ℕ = list_below n (free_from k ws from) in
+        let full : pages ≡ was.taken =
+        was.cells ∙ ap (λ (m : ℕ). was.taken ++ zeros m) none ∙ append-nil was.taken in
+        let same : pages ++ drop need (zeros most_new) ≡ padded most_new was.taken =
+        ap₂ (λ (ps qs : List ℕ). ps ++ qs) full
+        (drop_zeros need most_new most ∙ ap (λ (m : ℕ). zeros (most_new - m)) (sym all)) in
         record {
           enough = sym (le-leb need (length (free_pages k n ws))
               (omega (arith, ap length was.whole, length-append was.taken rest)));
-          pages = λ t. was.cells ∙ ap (padded most_new) (sym (ap (take need) was.whole ∙ take_at was.taken rest need all));
-          cells = ap length was.cells ∙ length_padded most_new was.taken (omega arith);
+          pages = same ∙ ap (padded most_new) (sym (ap (take need) was.whole ∙ take_at was.taken rest need all));
+          cells = ap length same ∙ length_padded most_new was.taken (omega arith);
         }
 
     -- there is none left and more are needed
-    pub taking_stops : i < need → first_below n (free_from k ws from) ≡ n
-        → Scanned need (free_pages k n ws) (record { enough = false; pages = pages })
+    pub taking_stops : i < need → first_below n (free_from k ws from) ≡ n → Scanned need (free_pages k n ws) None
     taking_stops h none =
         let all : free_pages k n ws ≡ was.taken =
         was.whole ∙ ap (λ (ps : List ℕ). was.taken ++ ps) (free_from_none k ws n from none) ∙ append-nil was.taken in
         record {
           enough = sym (lt-leb need (length (free_pages k n ws)) (omega (arith, ap length all, was.counted)));
-          pages = λ t. absurd (false≢true t);
-          cells = ap length was.cells ∙ length_padded most_new was.taken (omega (arith, was.few, was.counted));
+          pages = tt;
+          cells = tt;
         }
 
--- of enough pages found, the one in cell i is the free page at index i
-pub scanned_at : {need : ℕ} {free : List ℕ} {r : Taken} → Scanned need free r → r.enough ≡ true
-    → (i : ℕ) → i < need → get_or r.pages i 0 ≡ get_or free i 0
-scanned_at {need} {free} found all i h =
-    ap (λ (ps : List ℕ). get_or ps i 0) (found.pages all)
+-- of the pages found, the one in cell i is the free page at index i
+pub scanned_at : {need : ℕ} {free pages : List ℕ} → Scanned need free (Some pages)
+    → (i : ℕ) → i < need → get_or pages i 0 ≡ get_or free i 0
+scanned_at {need} {free} found i h =
+    ap (λ (ps : List ℕ). get_or ps i 0) found.pages
     ∙ padded_at most_new (take need free) i
     ∙ get_or-take need free i 0 h
+
+-- what the functions that look for pages are told
+pub ruleset lying_known = (start_few, ends_in_pool, scan_starts, scan_finds, scan_passes, first_below_most, first_below_stops)

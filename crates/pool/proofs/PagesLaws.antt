@@ -5,21 +5,22 @@ use mathlib.Core.Path.{◌≡◌, sym, ap, ap₂, ◌∙◌}
 use native.Mathlib.Omega.{arith}
 use lib.ListN.{length, get_or, take, drop, take-append-drop}
 use lib.Seq.{sets, sets-eq, drop-drop}
-use Rattle.page.specs.Words.{Page, size, μ, encode, view}
+use Rattle.page.specs.Words.{Page, size, μ, encode}
 use Rattle.page.specs.Reading.{Readable}
 use Rattle.page.specs.Exact.{Exact}
-use Rattle.page.proofs.ReadingLaws.{readable_μ}
+use Rattle.page.proofs.ReadingLaws.{readable_μ, view_level}
+use Rattle.page.proofs.WordLaws.{encode_free}
 use Rattle.pool.specs.Pool.{start, words_of, page_at, Write, write, written}
 use Rattle.pool.specs.Wrapped.{InPool, Lies}
-use Rattle.pool.specs.declared.pages.Stretch.{Stretch}
+use Rattle.std.specs.declared.ops.Range.{Range}
 use Rattle.pool.proofs.StretchLaws.{length_words_of, ends_in_pool}
 use Rattle.pool.proofs.WriteLaws.{length_written}
 
 -- the part where page p lies is the page's words
-pub lies_words : {k n p : ℕ} {s : Stretch} (ws : List ℕ) → Lies k n p s → take (s.to - s.from) (drop s.from ws) ≡ words_of k p ws
+pub lies_words : {k n p : ℕ} {s : Range ℕ} (ws : List ℕ) → Lies k n p s → take (s.end - s.start) (drop s.start ws) ≡ words_of k p ws
 unfolding words_of
 lies_words {k} {n} {p} {s} ws lies =
-    let long : s.to - s.from ≡ size k = omega arith in
+    let long : s.end - s.start ≡ size k = omega arith in
     ap₂ (λ (m i : ℕ). take m (drop i ws)) long lies.from
 
 -- a page stays one of the pool while the number of words is kept,
@@ -40,24 +41,21 @@ pub in_pool_μ : {k n p : ℕ} {ws : List ℕ} → InPool k n p ws → Readable 
 unfolding page_at
 in_pool_μ {k} {n} {p} {ws} h r = readable_μ (words_of k p ws) r
 
--- Page p's part, with the words of a value that is made of the page's, put back: page p is written with that value.
-pub part_written : {k n p : ℕ} {s : Stretch} (f : Page → Page) (ws part : List ℕ) → InPool k n p ws → Lies k n p s
-    → part ≡ encode k (f (view (take (s.to - s.from) (drop s.from ws))))
-    → length part ≡ length (take (s.to - s.from) (drop s.from ws))
-    → take s.from ws ++ (part ++ drop (s.to - s.from) (drop s.from ws)) ≡ written k (write p (f (page_at k ws p))) ws
-unfolding written page_at
-part_written {k} {n} {p} {s} f ws part h lies value kept =
-    let words = lies_words ws lies in
-    let new : List ℕ = encode k (f (view (words_of k p ws))) in
-    let same : part ≡ new = value ∙ ap (λ (l : List ℕ). encode k (f (view l))) words in
-    let long : length new ≡ size k = sym (ap length same) ∙ kept ∙ ap length words ∙ in_pool_size h in
-    let end : s.from + (s.to - s.from) ≡ start k p + length new = omega arith in
-    ap (λ (l : List ℕ). take s.from ws ++ (part ++ l)) (drop-drop (s.to - s.from) s.from ws)
-    ∙ sym (append_assoc (take s.from ws) part (drop (s.from + (s.to - s.from)) ws))
+-- Page p's part, with the words of a new value, put back: page p is written with that value.
+pub part_written : {k n p : ℕ} {s : Range ℕ} (P : Page) (ws part : List ℕ) → InPool k n p ws → Lies k n p s
+    → part ≡ encode k P
+    → length part ≡ length (take (s.end - s.start) (drop s.start ws))
+    → take s.start ws ++ (part ++ drop (s.end - s.start) (drop s.start ws)) ≡ written k (write p P) ws
+unfolding written
+part_written {k} {n} {p} {s} P ws part h lies same kept =
+    let long : length (encode k P) ≡ size k = sym (ap length same) ∙ kept ∙ ap length (lies_words ws lies) ∙ in_pool_size h in
+    let end : s.start + (s.end - s.start) ≡ start k p + length (encode k P) = omega arith in
+    ap (λ (l : List ℕ). take s.start ws ++ (part ++ l)) (drop-drop (s.end - s.start) s.start ws)
+    ∙ sym (append_assoc (take s.start ws) part (drop (s.start + (s.end - s.start)) ws))
     ∙ ap₂ (λ (l r : List ℕ). l ++ r)
     (ap₂ (λ (i : ℕ) (l : List ℕ). take i ws ++ l) lies.from same)
     (ap (λ (i : ℕ). drop i ws) end)
-    ∙ sym (sets-eq new ws (start k p) (omega arith))
+    ∙ sym (sets-eq (encode k P) ws (start k p) (omega arith))
 
 -- A page written as it is leaves all words as they are.
 pub written_same : {k n p : ℕ} {ws : List ℕ} → InPool k n p ws → Exact k (words_of k p ws) → written k (write p (page_at k ws p)) ws ≡ ws
@@ -71,3 +69,6 @@ written_same {k} {n} {p} {ws} h exact =
     ∙ ap (λ (l : List ℕ). take i ws ++ (part ++ l)) (ap (λ (m : ℕ). drop (i + m) ws) exact.whole ∙ sym (drop-drop (size k) i ws))
     ∙ ap (λ (l : List ℕ). take i ws ++ l) (take-append-drop (size k) (drop i ws))
     ∙ take-append-drop i ws
+
+-- what the functions on a page's words are told of them
+pub ruleset page_known = (in_pool_μ, in_pool_size, lies_words, part_written, view_level, encode_free)

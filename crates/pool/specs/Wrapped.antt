@@ -3,7 +3,7 @@ use Rattle.std.specs.Prelude.{ℕ, ◌+◌, ◌≤◌, ◌<◌, List, ◌≡◌,
 use Rattle.ground.specs.Limits.{largest_k, largest_n}
 use Rattle.page.specs.Words.{size}
 use Rattle.pool.specs.Pool.{pool_length, start}
-use Rattle.pool.specs.declared.pages.Stretch.{Stretch}
+use Rattle.std.specs.declared.ops.Range.{Range}
 
 -- The words are those of a pool of n pages, and page p is one of them.
 pub record InPool (k n p : ℕ) (ws : List ℕ) : Type 0 where
@@ -13,7 +13,7 @@ pub record InPool (k n p : ℕ) (ws : List ℕ) : Type 0 where
   pub inside : p < n
 
 -- The stretch of words is page p's, and it lies in a pool of n pages.
-pub record Lies (k n p : ℕ) (s : Stretch) : Type 0 where
-  pub from : s.from ≡ start k p
-  pub to : s.to ≡ start k p + size k
-  pub inside : s.to ≤ pool_length k n
+pub record Lies (k n p : ℕ) (s : Range ℕ) : Type 0 where
+  pub from : s.start ≡ start k p
+  pub to : s.end ≡ start k p + size k
+  pub inside : s.end ≤ pool_length k n

@@ -1,4 +1,6 @@
 // Where pages lie in the pool, which pages are free, and the fresh pool.
+#![tactic(auto, using(crate::proofs::LyingLaws::lying_known), unfolding(ground::specs::Limits::largest_k, ground::specs::Limits::largest_n, ground::specs::Limits::most_new, crate::specs::Pool::start))]
+
 ghost use Rattle.std.specs.Prelude.{◌≡◌, ◌≤◌, length, set, replicate};
 ghost use Rattle.ground.specs.Limits.{largest_k, largest_n, most_new};
 ghost use Rattle.ground.specs.Tests.{first_below};
@@ -6,35 +8,35 @@ ghost use Rattle.page.specs.Words.{size};
 ghost use Rattle.pool.specs.Pool.{pool_length, start, free_pages, free_from};
 ghost use Rattle.pool.specs.Scan.{Scanned};
 
-use ground::NEW;
+use ground::{NEW, Shape};
 
 // A page is 4k+3 words.
-pub fn page_size(k: usize) -> usize
-    requires { k ≤ largest_k }
-    ensures { result ≡ size k }
+pub fn page_size(shape: Shape) -> usize
+    ensures { result ≡ size shape.k }
 {
-    4 * k + 3
+    4 * shape.k + 3
 }
 
 // Where page p starts; for p = n this is the pool's number of words.
-pub fn start_of(k: usize, p: usize) -> usize
-    requires { (k ≤ largest_k) × (p ≤ largest_n) }
-    ensures { result ≡ start k p }
+pub fn start_of(shape: Shape, p: usize) -> usize
+    requires { p ≤ largest_n }
+    ensures { result ≡ start shape.k p }
 {
-    p * page_size(k)
+    p * page_size(shape)
 }
 
 // The lowest-numbered free page that is not below `from`, or n where there is none.
-fn next_free(words: &[u32], k: usize, n: usize, from: usize) -> usize
-    requires { (k ≤ largest_k) × (n ≤ largest_n) × (length words.now ≡ pool_length k n) × (1 ≤ from) × (from ≤ n) }
-    ensures { result ≡ first_below n (free_from k words.now from) }
+fn next_free(words: &[u32], shape: Shape, from: usize) -> usize
+    requires { (length words.now ≡ pool_length shape.k shape.n) × (1 ≤ from) × (from ≤ shape.n) }
+    ensures { result ≡ first_below shape.n (free_from shape.k words.now from) }
 {
-    let size = page_size(k);
+    let size = page_size(shape);
     let mut p = from;
-    let mut at = start_of(k, from);
+    let mut at = start_of(shape, from);
+    // Stays: a rule of the project: the scan for the lowest free page yields the page's number by `break` out of a `loop`.
     loop {
-        if p == n {
-            break n;
+        if p == shape.n {
+            break shape.n;
         }
         if words[at] == 0 {
             break p;
@@ -44,37 +46,22 @@ fn next_free(words: &[u32], k: usize, n: usize, from: usize) -> usize
     }
 }
 
-// What a scan for some free pages finds: whether there are enough, and if so, which.
-#[derive(Clone, Copy)]
-pub struct Taken {
-    pub enough: bool,
-    pub pages: [u32; NEW],
-}
-
-// The lowest `need` free pages, each found behind the last one: one pass in all.
-pub fn take_pages(words: &[u32], k: usize, n: usize, need: usize) -> Taken
-    requires { (k ≤ largest_k) × (1 ≤ n) × (n ≤ largest_n) × (length words.now ≡ pool_length k n) × (need ≤ most_new) }
-    ensures { Scanned need (free_pages k n words.now) result }
+// The lowest `need` free pages, each found behind the last one: one pass in all. None where there are fewer.
+pub fn take_pages(words: &[u32], shape: Shape, need: usize) -> Option<[u32; NEW]>
+    requires { (1 ≤ shape.n) × (length words.now ≡ pool_length shape.k shape.n) × (need ≤ most_new) }
+    ensures { Scanned need (free_pages shape.k shape.n words.now) result }
 {
-    let mut pages = [0u32; NEW];
+    let mut pages = [0; NEW];
     let mut from = 1;
-    let mut i = 0;
-    while i < need {
-        let p = next_free(words, k, n, from);
-        if p == n {
-            return Taken {
-                enough: false,
-                pages,
-            };
+    for page in &mut pages[..need] {
+        let p = next_free(words, shape, from);
+        if p == shape.n {
+            return None;
         }
-        pages[i] = p as u32;
+        *page = p as u32;
         from = p + 1;
-        i += 1;
     }
-    Taken {
-        enough: true,
-        pages,
-    }
+    Some(pages)
 }
 
 // All zero but page 0's level, 1.
@@ -82,10 +69,6 @@ pub fn make_fresh(words: &mut [u32])
     requires { 1 ≤ length words.old }
     ensures { words.new ≡ set (replicate (length words.old) 0) 0 1 }
 {
-    let mut i = 0;
-    while i < words.len() {
-        words[i] = 0;
-        i += 1;
-    }
+    words.fill(0);
     words[0] = 1;
 }

@@ -1,4 +1,6 @@
 // One page of the pool: the part of the lent words where it lies, lent on to the function on a page's words.
+#![tactic(auto, using(crate::proofs::PagesLaws::page_known), unfolding(crate::specs::Pool::page_at))]
+
 ghost use Rattle.std.specs.Prelude.{◌≡◌, [], ◌∷◌, true, false, ℕ, ◌+◌, ◌*◌, ◌≤◌, ◌<◌, eqb};
 ghost use Rattle.ground.specs.Limits.{largest_k, largest_n, word_range};
 ghost use Rattle.ground.specs.Tests.{all};
@@ -14,317 +16,301 @@ ghost use Rattle.pool.specs.Pool.{words_of, page_at, write, written};
 ghost use Rattle.pool.specs.Wrapped.{InPool, Lies};
 
 use crate::lying::{page_size, start_of};
-use page::reading::{Lot, Nearest};
-use page::{checking, reading};
+use ground::Shape;
+use page::checking;
+use page::reading::Page;
 use sheet::sheets::Sheet;
 use sheet::{sheets, writing};
-
-// The words from one place up to another.
-#[derive(Clone, Copy)]
-pub struct Stretch {
-    pub from: usize,
-    pub to: usize,
-}
+use std::ops::Range;
 
 // Where page p lies.
-fn stretch_of(k: usize, n: usize, p: u32) -> Stretch
-    requires { (k ≤ largest_k) × (n ≤ largest_n) × (p < n) }
-    ensures { Lies k n p result }
+fn stretch_of(shape: Shape, p: u32) -> Range<usize>
+    requires { p < shape.n }
+    ensures { Lies shape.k shape.n p result }
 {
-    let from = start_of(k, p as usize);
-    Stretch {
-        from,
-        to: from + page_size(k),
-    }
+    let start = start_of(shape, p as usize);
+    start..start + page_size(shape)
 }
 
 // Its words.
-fn page_words(words: &[u32], k: usize, n: usize, p: u32) -> &[u32]
-    requires { InPool k n p words.now }
-    ensures { result.now ≡ words_of k p words.now }
+fn page_words(words: &[u32], shape: Shape, p: u32) -> &[u32]
+    requires { InPool shape.k shape.n p words.now }
+    ensures { result.now ≡ words_of shape.k p words.now }
 {
-    let s = stretch_of(k, n, p);
-    let a = s.from;
-    let e = s.to;
-    &words[a..e]
+    &words[stretch_of(shape, p)]
 }
 
-// Its level.
-pub fn level_of(words: &[u32], k: usize, n: usize, p: u32) -> u32
-    requires { InPool k n p words.now }
-    ensures { result ≡ (page_at k words.now p).level }
+// The page, where its words can be read.
+pub fn page_of(words: &[u32], shape: Shape, p: u32) -> Page<'_>
+    requires in_pool { InPool shape.k shape.n p words.now }
+    requires readable { Readable (words_of shape.k p words.now) }
+    ensures { result.words.now ≡ words_of shape.k p words.now }
 {
-    reading::level(page_words(words, k, n, p))
+    Page {
+        words: page_words(words, shape, p),
+    }
+}
+
+// Its level, word 0.
+pub fn level_of(words: &[u32], shape: Shape, p: u32) -> u32
+    requires { InPool shape.k shape.n p words.now }
+    ensures { result ≡ (page_at shape.k words.now p).level }
+{
+    page_words(words, shape, p)[0]
 }
 
 // It is a leaf.
-pub fn is_leaf_of(words: &[u32], k: usize, n: usize, p: u32) -> bool
-    requires { InPool k n p words.now }
-    ensures { result ≡ is_leaf (page_at k words.now p) }
+pub fn is_leaf_of(words: &[u32], shape: Shape, p: u32) -> bool
+    requires { InPool shape.k shape.n p words.now }
+    ensures { result ≡ is_leaf (page_at shape.k words.now p) }
 {
-    reading::is_leaf(page_words(words, k, n, p))
+    level_of(words, shape, p) == 1
 }
 
 // The number μ.
-pub fn count_of(words: &[u32], k: usize, n: usize, p: u32) -> usize
-    requires in_pool { InPool k n p words.now }
-    requires readable { Readable (words_of k p words.now) }
-    ensures { result ≡ μ (page_at k words.now p) }
+pub fn count_of(words: &[u32], shape: Shape, p: u32) -> usize
+    requires in_pool { InPool shape.k shape.n p words.now }
+    requires readable { Readable (words_of shape.k p words.now) }
+    ensures { result ≡ μ (page_at shape.k words.now p) }
 {
-    reading::count(page_words(words, k, n, p))
+    page_of(words, shape, p).count()
 }
 
 // The key of pair i.
-pub fn key_of(words: &[u32], k: usize, n: usize, p: u32, i: usize) -> u32
-    requires in_pool { InPool k n p words.now }
-    requires readable { Readable (words_of k p words.now) }
-    requires i_bound { i < μ (page_at k words.now p) }
-    ensures { result ≡ (entry_at i (page_at k words.now p).entries).key }
+pub fn key_of(words: &[u32], shape: Shape, p: u32, i: usize) -> u32
+    requires in_pool { InPool shape.k shape.n p words.now }
+    requires readable { Readable (words_of shape.k p words.now) }
+    requires i_bound { i < μ (page_at shape.k words.now p) }
+    ensures { result ≡ (entry_at i (page_at shape.k words.now p).entries).key }
 {
-    reading::key_at(page_words(words, k, n, p), i)
+    page_of(words, shape, p).key(i)
 }
 
 // How many keys are at most x.
-pub fn place_of(words: &[u32], k: usize, n: usize, p: u32, x: u32) -> usize
-    requires in_pool { InPool k n p words.now }
-    requires readable { Readable (words_of k p words.now) }
-    requires p_value { rises (page_at k words.now p).entries ≡ true }
-    ensures value { result ≡ place x (page_at k words.now p).entries }
-    ensures upper_bound { result ≤ μ (page_at k words.now p) }
+pub fn place_of(words: &[u32], shape: Shape, p: u32, x: u32) -> usize
+    requires in_pool { InPool shape.k shape.n p words.now }
+    requires readable { Readable (words_of shape.k p words.now) }
+    requires p_value { rises (page_at shape.k words.now p).entries ≡ true }
+    ensures value { result ≡ place x (page_at shape.k words.now p).entries }
+    ensures upper_bound { result ≤ μ (page_at shape.k words.now p) }
 {
-    reading::place(page_words(words, k, n, p), x)
+    page_of(words, shape, p).place(x)
 }
 
 // The first entry whose key is at or above x.
-pub fn at_or_above_of(words: &[u32], k: usize, n: usize, p: u32, x: u32) -> Nearest
-    requires in_pool { InPool k n p words.now }
-    requires readable { Readable (words_of k p words.now) }
-    requires p_value { rises (page_at k words.now p).entries ≡ true }
-    ensures { result ≡ nearest (at_or_above x (page_at k words.now p).entries) }
+pub fn at_or_above_of(words: &[u32], shape: Shape, p: u32, x: u32) -> Option<(u32, u32)>
+    requires in_pool { InPool shape.k shape.n p words.now }
+    requires readable { Readable (words_of shape.k p words.now) }
+    requires p_value { rises (page_at shape.k words.now p).entries ≡ true }
+    ensures { result ≡ nearest (at_or_above x (page_at shape.k words.now p).entries) }
 {
-    reading::at_or_above(page_words(words, k, n, p), x)
+    page_of(words, shape, p).at_or_above(x)
 }
 
 // The information under x in a leaf.
-pub fn look_of(words: &[u32], k: usize, n: usize, p: u32, x: u32) -> Lot
-    requires in_pool { InPool k n p words.now }
-    requires readable { Readable (words_of k p words.now) }
-    requires p_value { rises (page_at k words.now p).entries ≡ true }
-    ensures { result ≡ looked x (page_at k words.now p).entries }
+pub fn look_of(words: &[u32], shape: Shape, p: u32, x: u32) -> Option<u32>
+    requires in_pool { InPool shape.k shape.n p words.now }
+    requires readable { Readable (words_of shape.k p words.now) }
+    requires p_value { rises (page_at shape.k words.now p).entries ≡ true }
+    ensures { result ≡ looked x (page_at shape.k words.now p).entries }
 {
-    reading::look(page_words(words, k, n, p), x)
+    page_of(words, shape, p).look(x)
 }
 
 // pi, above the leaves.
-pub fn pointer_of(words: &[u32], k: usize, n: usize, p: u32, i: usize) -> u32
-    requires in_pool { InPool k n p words.now }
-    requires readable { Readable (words_of k p words.now) }
-    requires p_value { is_leaf (page_at k words.now p) ≡ false }
-    requires i_bound { i ≤ μ (page_at k words.now p) }
-    ensures { result ≡ pointer i (page_at k words.now p) }
+pub fn pointer_of(words: &[u32], shape: Shape, p: u32, i: usize) -> u32
+    requires in_pool { InPool shape.k shape.n p words.now }
+    requires readable { Readable (words_of shape.k p words.now) }
+    requires p_value { is_leaf (page_at shape.k words.now p) ≡ false }
+    requires i_bound { i ≤ μ (page_at shape.k words.now p) }
+    ensures { result ≡ pointer i (page_at shape.k words.now p) }
 {
-    reading::pointer(page_words(words, k, n, p), i)
+    page_of(words, shape, p).pointer(i)
 }
 
 // The page to which x leads, above the leaves.
-pub fn route_of(words: &[u32], k: usize, n: usize, p: u32, x: u32) -> u32
-    requires in_pool { InPool k n p words.now }
-    requires readable { Readable (words_of k p words.now) }
-    requires p_value { is_leaf (page_at k words.now p) ≡ false }
-    requires p_value_2 { rises (page_at k words.now p).entries ≡ true }
-    ensures { result ≡ route x (page_at k words.now p) }
+pub fn route_of(words: &[u32], shape: Shape, p: u32, x: u32) -> u32
+    requires in_pool { InPool shape.k shape.n p words.now }
+    requires readable { Readable (words_of shape.k p words.now) }
+    requires p_value { is_leaf (page_at shape.k words.now p) ≡ false }
+    requires p_value_2 { rises (page_at shape.k words.now p).entries ≡ true }
+    ensures { result ≡ route x (page_at shape.k words.now p) }
 {
-    reading::route(page_words(words, k, n, p), x)
+    page_of(words, shape, p).route(x)
 }
 
 // The page to which p routes x has a right neighbour under p.
-pub fn has_right_of(words: &[u32], k: usize, n: usize, p: u32, x: u32) -> bool
-    requires in_pool { InPool k n p words.now }
-    requires readable { Readable (words_of k p words.now) }
-    requires p_value { rises (page_at k words.now p).entries ≡ true }
-    ensures { result ≡ has_right x (page_at k words.now p) }
+pub fn has_right_of(words: &[u32], shape: Shape, p: u32, x: u32) -> bool
+    requires in_pool { InPool shape.k shape.n p words.now }
+    requires readable { Readable (words_of shape.k p words.now) }
+    requires p_value { rises (page_at shape.k words.now p).entries ≡ true }
+    ensures { result ≡ has_right x (page_at shape.k words.now p) }
 {
-    reading::has_right(page_words(words, k, n, p), x)
+    page_of(words, shape, p).has_right(x)
 }
 
 // Which key of p stands between the page to which it routes x and that page's neighbour.
-pub fn between_of(words: &[u32], k: usize, n: usize, p: u32, x: u32) -> usize
-    requires in_pool { InPool k n p words.now }
-    requires readable { Readable (words_of k p words.now) }
-    requires p_value { rises (page_at k words.now p).entries ≡ true }
-    requires bound { 1 ≤ μ (page_at k words.now p) }
-    ensures value { result ≡ between_at x (page_at k words.now p) }
-    ensures upper_bound { result < μ (page_at k words.now p) }
+pub fn between_of(words: &[u32], shape: Shape, p: u32, x: u32) -> usize
+    requires in_pool { InPool shape.k shape.n p words.now }
+    requires readable { Readable (words_of shape.k p words.now) }
+    requires p_value { rises (page_at shape.k words.now p).entries ≡ true }
+    requires bound { 1 ≤ μ (page_at shape.k words.now p) }
+    ensures value { result ≡ between_at x (page_at shape.k words.now p) }
+    ensures upper_bound { result < μ (page_at shape.k words.now p) }
 {
-    reading::between_at(page_words(words, k, n, p), x)
+    page_of(words, shape, p).between_at(x)
 }
 
 // The neighbour of the page to which p routes x, the right one if there is one.
-pub fn neighbour_of(words: &[u32], k: usize, n: usize, p: u32, x: u32) -> u32
-    requires in_pool { InPool k n p words.now }
-    requires readable { Readable (words_of k p words.now) }
-    requires p_value { is_leaf (page_at k words.now p) ≡ false }
-    requires p_value_2 { rises (page_at k words.now p).entries ≡ true }
-    requires bound { 1 ≤ μ (page_at k words.now p) }
-    ensures { result ≡ neighbour x (page_at k words.now p) }
+pub fn neighbour_of(words: &[u32], shape: Shape, p: u32, x: u32) -> u32
+    requires in_pool { InPool shape.k shape.n p words.now }
+    requires readable { Readable (words_of shape.k p words.now) }
+    requires p_value { is_leaf (page_at shape.k words.now p) ≡ false }
+    requires p_value_2 { rises (page_at shape.k words.now p).entries ≡ true }
+    requires bound { 1 ≤ μ (page_at shape.k words.now p) }
+    ensures { result ≡ neighbour x (page_at shape.k words.now p) }
 {
-    reading::neighbour(page_words(words, k, n, p), x)
+    page_of(words, shape, p).neighbour(x)
 }
 
 // It is sound by itself.
-pub fn sound_of(words: &[u32], k: usize, n: usize, p: u32) -> bool
-    requires { InPool k n p words.now }
-    ensures { result ≡ sound_by_itself k n p (words_of k p words.now) }
+pub fn sound_of(words: &[u32], shape: Shape, p: u32) -> bool
+    requires { InPool shape.k shape.n p words.now }
+    ensures { result ≡ sound_by_itself shape.k shape.n p (words_of shape.k p words.now) }
 {
-    checking::sound_page(page_words(words, k, n, p), k, n, p)
+    checking::sound_page(page_words(words, shape, p), shape.k, shape.n, p)
 }
 
 // All its words are 0.
-pub fn zero_of(words: &[u32], k: usize, n: usize, p: u32) -> bool
-    requires { InPool k n p words.now }
-    ensures { result ≡ all (λ (w : ℕ). eqb w 0) (words_of k p words.now) }
+pub fn zero_of(words: &[u32], shape: Shape, p: u32) -> bool
+    requires { InPool shape.k shape.n p words.now }
+    ensures { result ≡ all (λ (w : ℕ). eqb w 0) (words_of shape.k p words.now) }
 {
-    checking::unused(page_words(words, k, n, p), 0)
+    checking::unused(page_words(words, shape, p), 0)
 }
 
 // The page with one pair more, put in at place i, in a buffer.
-pub fn over_of(words: &[u32], k: usize, n: usize, p: u32, i: usize, x: u32, v: u32) -> Sheet
-    requires in_pool { InPool k n p words.now }
-    requires exact { Exact k (words_of k p words.now) }
-    requires i_bound { i ≤ μ (page_at k words.now p) }
-    ensures { OnSheet (put i (entry x v) (page_at k words.now p)) result }
+pub fn over_of(words: &[u32], shape: Shape, p: u32, i: usize, x: u32, v: u32) -> Sheet
+    requires in_pool { InPool shape.k shape.n p words.now }
+    requires exact { Exact shape.k (words_of shape.k p words.now) }
+    requires i_bound { i ≤ μ (page_at shape.k words.now p) }
+    ensures { OnSheet (put i (entry x v) (page_at shape.k words.now p)) result }
 {
-    sheets::over(page_words(words, k, n, p), k, i, x, v)
+    sheets::over(page_words(words, shape, p), shape.k, i, x, v)
 }
 
 // The pages l and w joined, in a buffer. Above the leaves the reference key r comes down between them.
-pub fn join_of(words: &[u32], k: usize, n: usize, l: u32, r: u32, w: u32) -> Sheet
-    requires in_pool { (InPool k n l words.now) × (InPool k n w words.now) }
-    requires exact { (Exact k (words_of k l words.now)) × (Exact k (words_of k w words.now)) }
-    requires l_value { is_leaf (page_at k words.now l) ≡ is_leaf (page_at k words.now w) }
-    requires w_bound { μ (page_at k words.now l) + μ (page_at k words.now w) + 1 ≤ 50 }
-    ensures { OnSheet (joined r (page_at k words.now l) (page_at k words.now w)) result }
+pub fn join_of(words: &[u32], shape: Shape, l: u32, r: u32, w: u32) -> Sheet
+    requires in_pool { (InPool shape.k shape.n l words.now) × (InPool shape.k shape.n w words.now) }
+    requires exact { (Exact shape.k (words_of shape.k l words.now)) × (Exact shape.k (words_of shape.k w words.now)) }
+    requires l_value { is_leaf (page_at shape.k words.now l) ≡ is_leaf (page_at shape.k words.now w) }
+    requires w_bound { μ (page_at shape.k words.now l) + μ (page_at shape.k words.now w) + 1 ≤ 50 }
+    ensures { OnSheet (joined r (page_at shape.k words.now l) (page_at shape.k words.now w)) result }
 {
-    sheets::join(page_words(words, k, n, l), r, page_words(words, k, n, w), k)
+    sheets::join(
+        page_words(words, shape, l),
+        r,
+        page_words(words, shape, w),
+        shape.k,
+    )
 }
 
 // One pair more, put in at place i.
-pub fn put_in_at(words: &mut [u32], k: usize, n: usize, p: u32, i: usize, x: u32, v: u32)
-    requires in_pool { InPool k n p words.old }
-    requires exact { Exact k (words_of k p words.old) }
-    requires p_bound { (μ (page_at k words.old p) < 2 * k) × (i ≤ μ (page_at k words.old p)) }
-    ensures { words.new ≡ written k (write p (put i (entry x v) (page_at k words.old p))) words.old }
+pub fn put_in_at(words: &mut [u32], shape: Shape, p: u32, i: usize, x: u32, v: u32)
+    requires in_pool { InPool shape.k shape.n p words.old }
+    requires exact { Exact shape.k (words_of shape.k p words.old) }
+    requires p_bound { (μ (page_at shape.k words.old p) < 2 * shape.k) × (i ≤ μ (page_at shape.k words.old p)) }
+    ensures { words.new ≡ written shape.k (write p (put i (entry x v) (page_at shape.k words.old p))) words.old }
 {
-    let at = stretch_of(k, n, p);
-    let a = at.from;
-    let e = at.to;
-    writing::put_in(&mut words[a..e], k, i, x, v);
+    writing::put_in(&mut words[stretch_of(shape, p)], shape.k, i, x, v);
 }
 
 // The pair at place i taken out: in a leaf an entry, above a reference key with the pointer right of it.
-pub fn take_out_at(words: &mut [u32], k: usize, n: usize, p: u32, i: usize)
-    requires in_pool { InPool k n p words.old }
-    requires exact { Exact k (words_of k p words.old) }
-    requires i_bound { i < μ (page_at k words.old p) }
-    ensures { words.new ≡ written k (write p (less_key i (page_at k words.old p))) words.old }
+pub fn take_out_at(words: &mut [u32], shape: Shape, p: u32, i: usize)
+    requires in_pool { InPool shape.k shape.n p words.old }
+    requires exact { Exact shape.k (words_of shape.k p words.old) }
+    requires i_bound { i < μ (page_at shape.k words.old p) }
+    ensures { words.new ≡ written shape.k (write p (less_key i (page_at shape.k words.old p))) words.old }
 {
-    let at = stretch_of(k, n, p);
-    let a = at.from;
-    let e = at.to;
-    writing::take_out(&mut words[a..e], k, i);
+    writing::take_out(&mut words[stretch_of(shape, p)], shape.k, i);
 }
 
 // Another key at place i.
-pub fn rekey_at(words: &mut [u32], k: usize, n: usize, p: u32, i: usize, r: u32)
-    requires in_pool { InPool k n p words.old }
-    requires exact { Exact k (words_of k p words.old) }
-    requires i_bound { i < μ (page_at k words.old p) }
-    ensures { words.new ≡ written k (write p (rekeyed i r (page_at k words.old p))) words.old }
+pub fn rekey_at(words: &mut [u32], shape: Shape, p: u32, i: usize, r: u32)
+    requires in_pool { InPool shape.k shape.n p words.old }
+    requires exact { Exact shape.k (words_of shape.k p words.old) }
+    requires i_bound { i < μ (page_at shape.k words.old p) }
+    ensures { words.new ≡ written shape.k (write p (rekeyed i r (page_at shape.k words.old p))) words.old }
 {
-    let at = stretch_of(k, n, p);
-    let a = at.from;
-    let e = at.to;
-    writing::rekey(&mut words[a..e], k, i, r);
+    writing::rekey(&mut words[stretch_of(shape, p)], shape.k, i, r);
 }
 
 // New information under key x, if it is there. Returns what stood under it.
-pub fn regrade_at(words: &mut [u32], k: usize, n: usize, p: u32, x: u32, v: u32) -> Lot
-    requires in_pool { InPool k n p words.old }
-    requires exact { Exact k (words_of k p words.old) }
-    requires p_value { rises (page_at k words.old p).entries ≡ true }
-    ensures value { result ≡ looked x (page_at k words.old p).entries }
-    ensures words_after { words.new ≡ written k (write p (with_entries (page_at k words.old p) (regraded x v (page_at k words.old p).entries))) words.old }
+pub fn regrade_at(words: &mut [u32], shape: Shape, p: u32, x: u32, v: u32) -> Option<u32>
+    requires in_pool { InPool shape.k shape.n p words.old }
+    requires exact { Exact shape.k (words_of shape.k p words.old) }
+    requires p_value { rises (page_at shape.k words.old p).entries ≡ true }
+    ensures value { result ≡ looked x (page_at shape.k words.old p).entries }
+    ensures words_after { words.new ≡ written shape.k (write p (with_entries (page_at shape.k words.old p) (regraded x v (page_at shape.k words.old p).entries))) words.old }
 {
-    let at = stretch_of(k, n, p);
-    let a = at.from;
-    let e = at.to;
-    writing::regrade(&mut words[a..e], k, x, v)
+    writing::regrade(&mut words[stretch_of(shape, p)], shape.k, x, v)
 }
 
 // A page laid out from a buffer.
-pub fn lay_at(words: &mut [u32], k: usize, n: usize, p: u32, s: Sheet)
-    requires in_pool { InPool k n p words.old }
-    requires count_bound { s.count ≤ 2 * k }
-    ensures { words.new ≡ written k (write p (sheet_page s)) words.old }
+pub fn lay_at(words: &mut [u32], shape: Shape, p: u32, s: Sheet)
+    requires in_pool { InPool shape.k shape.n p words.old }
+    requires count_bound { s.count ≤ 2 * shape.k }
+    ensures { words.new ≡ written shape.k (write p (sheet_page s)) words.old }
 {
-    let at = stretch_of(k, n, p);
-    let a = at.from;
-    let e = at.to;
-    sheets::lay(&mut words[a..e], k, s);
+    sheets::lay(&mut words[stretch_of(shape, p)], shape.k, s);
 }
 
 // The left part of a buffer's page cut at pair c.
-pub fn lay_left_at(words: &mut [u32], k: usize, n: usize, p: u32, c: usize, s: Sheet)
-    requires in_pool { InPool k n p words.old }
-    requires c_lt_count { (c < s.count) × (c ≤ 2 * k) }
-    ensures { words.new ≡ written k (write p (split c (sheet_page s)).left) words.old }
+pub fn lay_left_at(words: &mut [u32], shape: Shape, p: u32, c: usize, s: Sheet)
+    requires in_pool { InPool shape.k shape.n p words.old }
+    requires c_lt_count { (c < s.count) × (c ≤ 2 * shape.k) }
+    ensures { words.new ≡ written shape.k (write p (split c (sheet_page s)).left) words.old }
 {
-    let at = stretch_of(k, n, p);
-    let a = at.from;
-    let e = at.to;
-    sheets::lay_left(&mut words[a..e], k, c, s);
+    sheets::lay_left(&mut words[stretch_of(shape, p)], shape.k, c, s);
 }
 
 // The right part of a buffer's page cut at pair c.
-pub fn lay_right_at(words: &mut [u32], k: usize, n: usize, p: u32, c: usize, s: Sheet)
-    requires in_pool { InPool k n p words.old }
-    requires c_lt_count { (c < s.count) × (s.count ≤ c + 2 * k) × (s.count ≤ 50) }
-    ensures { words.new ≡ written k (write p (split c (sheet_page s)).right) words.old }
+pub fn lay_right_at(words: &mut [u32], shape: Shape, p: u32, c: usize, s: Sheet)
+    requires in_pool { InPool shape.k shape.n p words.old }
+    requires c_lt_count { (c < s.count) × (s.count ≤ c + 2 * shape.k) × (s.count ≤ 50) }
+    ensures { words.new ≡ written shape.k (write p (split c (sheet_page s)).right) words.old }
 {
-    let at = stretch_of(k, n, p);
-    let a = at.from;
-    let e = at.to;
-    sheets::lay_right(&mut words[a..e], k, c, s);
+    sheets::lay_right(&mut words[stretch_of(shape, p)], shape.k, c, s);
 }
 
 // A root a level above the pages `left` and `right`, with the reference key r between them.
 pub fn lay_root_at(
     words: &mut [u32],
-    k: usize,
-    n: usize,
+    shape: Shape,
     p: u32,
     level: u32,
     left: u32,
     r: u32,
     right: u32,
 )
-    requires in_pool { InPool k n p words.old }
-    requires le_k { (1 ≤ k) × (level + 1 < word_range) }
-    ensures { words.new ≡ written k (write p (page (level + 1) left (entry r right ∷ []))) words.old }
+    requires in_pool { InPool shape.k shape.n p words.old }
+    requires le_k { (1 ≤ shape.k) × (level + 1 < word_range) }
+    ensures { words.new ≡ written shape.k (write p (page (level + 1) left (entry r right ∷ []))) words.old }
 {
-    let at = stretch_of(k, n, p);
-    let a = at.from;
-    let e = at.to;
-    writing::lay_root(&mut words[a..e], k, level, left, r, right);
+    writing::lay_root(
+        &mut words[stretch_of(shape, p)],
+        shape.k,
+        level,
+        left,
+        r,
+        right,
+    );
 }
 
 // A page freed.
-pub fn clear_at(words: &mut [u32], k: usize, n: usize, p: u32)
-    requires { InPool k n p words.old }
-    ensures { words.new ≡ written k (write p free_page) words.old }
+pub fn clear_at(words: &mut [u32], shape: Shape, p: u32)
+    requires { InPool shape.k shape.n p words.old }
+    ensures { words.new ≡ written shape.k (write p free_page) words.old }
 {
-    let at = stretch_of(k, n, p);
-    let a = at.from;
-    let e = at.to;
-    writing::clear(&mut words[a..e]);
+    writing::clear(&mut words[stretch_of(shape, p)]);
 }

@@ -62,10 +62,6 @@ root_encoded k l f r b w₀ {at} {w₁} {w₃} long one from fronted wiped =
     ap (λ (z : ℕ). set (set w₁ at r) z b) (add-one at) ∙ sets-eq (r ∷ b ∷ []) w₁ at (omega arith) in
     lay_encoded k l f 1 w₀ long from fronted (r ∷ b ∷ []) (omega arith) (omega arith) stored wiped
 
--- zeros from word 0 on are nothing but zeros
-pub all_wiped : (w₀ : List ℕ) {w₁ : List ℕ} → w₁ ≡ take 0 w₀ ++ replicate (length w₀ - 0) 0 → w₁ ≡ replicate (length w₀) 0
-all_wiped w₀ wiped = let all : length w₀ - 0 ≡ length w₀ = omega arith in wiped ∙ ap (λ (n : ℕ). replicate n 0) all
-
 -- ---- a sheet's page cut at pair c
 
 module _ (c l f n : ℕ) (ps : List ℕ) where

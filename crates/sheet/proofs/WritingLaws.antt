@@ -1,12 +1,10 @@
 -- A page's words after a change where they lie, against the words of the changed value. A page's words are those before the
 -- pairs, the pairs' words and zeros; a cut between two pairs is a cut of the words, and the change is made at the cut.
 use Prim.Native.Nat.{ℕ, suc, ◌+◌, ◌-◌, ◌*◌, ◌≤◌, ◌<◌}
-use mathlib.Core.Bool.{Bool, true, false, cond, true≢false, false≢true}
+use mathlib.Core.Bool.{true, false}
 use mathlib.Core.List.{List, [], ◌∷◌, ◌++◌, append_assoc}
 use mathlib.Core.Path.{◌≡◌, refl, sym, ap, ◌∙◌}
 use native.Mathlib.Omega.{arith}
-use borrow.Author.Tests.{eq-eqb, ne_eqb}
-use lib.Dec.{eqb}
 use lib.ListN.{length, get_or, set, take, drop, replicate, length-append, length-drop, take-append-drop}
 use lib.Seq.{paste, take_at, drop_at, set_at, drop-drop, drop-append-add, split_at, length-take-le}
 use Rattle.ground.specs.Limits.{largest_k}
@@ -271,27 +269,3 @@ pub regrade_none : {k : ℕ} {ws : List ℕ} → Exact k ws → (x v : ℕ) → 
     → ws ≡ encode k (with_entries (view ws) (regraded x v (view ws).entries))
 regrade_none {k} {ws} exact x v none =
     exact.words ∙ ap (λ (l : List Entry). encode k (with_entries (view ws) l)) (sym (regraded_none x v (view ws).entries none))
-
--- the words before a leaf's pairs
-pub leaf_front : (l m f : ℕ) (ws : List ℕ) → 3 ≤ length ws → l ≡ 1
-    → (2 ≡ pairs_from l) × (set (set ws 0 l) 1 m ≡ before_pairs l m f ++ drop (pairs_from l) ws)
-leaf_front l m f [] three leaf = absurd (omega arith)
-leaf_front l m f (a ∷ []) three leaf = absurd (omega arith)
-leaf_front l m f (a ∷ (b ∷ ws)) three leaf = by_test (eqb l 1) (eq-eqb l 1 leaf)
-  where
-    by_test : (test : Bool) → test ≡ true → (◌≡◌ {A = ℕ} 2 (cond test 2 3)) × (l ∷ m ∷ ws ≡ l ∷ m ∷ (cond test [] (f ∷ []) ++ drop (cond test 2 3) (a ∷ b ∷ ws)))
-    by_test true e = (refl, refl)
-    by_test false e = absurd (false≢true e)
-
--- the words before the pairs of a page above the leaves
-pub upper_front : (l m f : ℕ) (ws : List ℕ) → 3 ≤ length ws → (l ≡ 1 → ⊥)
-    → (3 ≡ pairs_from l) × (set (set (set ws 0 l) 1 m) 2 f ≡ before_pairs l m f ++ drop (pairs_from l) ws)
-upper_front l m f [] three upper = absurd (omega arith)
-upper_front l m f (a ∷ []) three upper = absurd (omega arith)
-upper_front l m f (a ∷ (b ∷ [])) three upper = absurd (omega arith)
-upper_front l m f (a ∷ (b ∷ (c ∷ ws))) three upper = by_test (eqb l 1) (ne_eqb l 1 upper)
-  where
-    by_test : (test : Bool) → test ≡ false
-        → (◌≡◌ {A = ℕ} 3 (cond test 2 3)) × (l ∷ m ∷ f ∷ ws ≡ l ∷ m ∷ (cond test [] (f ∷ []) ++ drop (cond test 2 3) (a ∷ b ∷ c ∷ ws)))
-    by_test true e = absurd (true≢false e)
-    by_test false e = (refl, refl)

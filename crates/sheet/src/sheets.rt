@@ -1,6 +1,7 @@
 // A page in a buffer of its own, where it may have more pairs than a page has room for: a page with one pair too many,
 // or two pages joined. From there it is laid into pages, whole or cut in two.
 ghost use Rattle.std.specs.Prelude.{◌≡◌, ◌+◌, ◌-◌, ◌*◌, ◌≤◌, ◌<◌, length, drop};
+ghost use Rattle.std.proofs.Math.Seq.{paste};
 ghost use Rattle.ground.specs.Limits.{largest_k};
 ghost use Rattle.page.specs.Words.{size, entry, page, μ, is_leaf, pairs, encode, view};
 ghost use Rattle.page.specs.Splits.{put, split};
@@ -8,16 +9,29 @@ ghost use Rattle.page.specs.Short.{joined};
 ghost use Rattle.page.specs.Exact.{Exact};
 ghost use Rattle.sheet.specs.Sheets.{OnSheet, sheet_page};
 
-use crate::writing::{copy_words, put_front, wipe};
-use page::reading::{pairs_from, wide};
+use crate::writing::put_front;
+use page::reading::pairs_from;
 
-// The words of at most 50 pairs: two pages joined have 3k+1 at most.
+// Two words for each of at most 50 pairs: two pages joined have 3k+1 at most.
+const WORDS: usize = 100;
+
+// A page: its level, p0, how many pairs it has, and their words.
+// Stays: a rule of the project, no heap: a fixed array with the number of its pairs beside it.
 #[derive(Clone, Copy)]
 pub struct Sheet {
     pub level: u32,
     pub first: u32,
     pub count: usize,
-    pub pairs: [u32; 100],
+    pub pairs: [u32; WORDS],
+}
+
+// The n words of `src` from word a on, copied to `dst` from word b on. A line of its own, since a proof has no plain name for a part
+// of an array, as it has for a part of a slice.
+fn copy_words(src: &[u32], a: usize, dst: &mut [u32], b: usize, n: usize)
+    requires { (a + n ≤ length src.now) × (b + n ≤ length dst.old) }
+    ensures { dst.new ≡ paste dst.old b (drop a src.now) n }
+{
+    dst[b..b + n].copy_from_slice(&src[a..a + n]);
 }
 
 // p0, and 0 in a leaf, which has none.
@@ -34,10 +48,10 @@ pub fn over(w: &[u32], k: usize, i: usize, x: u32, v: u32) -> Sheet
     requires k_le_largest_k { (k ≤ largest_k) × (i ≤ μ (view w.now)) }
     ensures { OnSheet (put i (entry x v) (view w.now)) result }
 {
-    let m = wide(w[1]);
+    let m = w[1] as usize;
     let at = pairs_from(w[0]);
     let c = 2 * i;
-    let mut pairs = [0u32; 100];
+    let mut pairs = [0u32; WORDS];
     copy_words(w, at, &mut pairs, 0, c);
     pairs[c] = x;
     pairs[c + 1] = v;
@@ -56,11 +70,11 @@ pub fn join(l: &[u32], r: u32, w: &[u32], k: usize) -> Sheet
     requires l_value { (is_leaf (view l.now) ≡ is_leaf (view w.now)) × (μ (view l.now) + μ (view w.now) + 1 ≤ 50) }
     ensures { OnSheet (joined r (view l.now) (view w.now)) result }
 {
-    let m = wide(l[1]);
-    let n = wide(w[1]);
+    let m = l[1] as usize;
+    let n = w[1] as usize;
     let level = l[0];
     let c = 2 * m;
-    let mut pairs = [0u32; 100];
+    let mut pairs = [0u32; WORDS];
     copy_words(l, pairs_from(level), &mut pairs, 0, c);
     if level == 1 {
         copy_words(w, 2, &mut pairs, c, 2 * n);
@@ -83,13 +97,21 @@ pub fn join(l: &[u32], r: u32, w: &[u32], k: usize) -> Sheet
 }
 
 // A page written whole: level, first pointer, and a run of n pairs of the buffer, from pair c on. Unused words are 0.
-fn lay_run(w: &mut [u32], k: usize, level: u32, first: u32, words: &[u32; 100], c: usize, n: usize)
+fn lay_run(
+    w: &mut [u32],
+    k: usize,
+    level: u32,
+    first: u32,
+    words: &[u32; WORDS],
+    c: usize,
+    n: usize,
+)
     requires { (length w.old ≡ size k) × (n ≤ 2 * k) × (c + n ≤ 50) }
     ensures { w.new ≡ encode k (page level first (pairs n (drop (2 * c) words.now))) }
 {
     let at = put_front(w, level, n as u32, first);
     copy_words(words, 2 * c, w, at, 2 * n);
-    wipe(w, at + 2 * n);
+    w[at + 2 * n..].fill(0);
 }
 
 // The sheet's page.
@@ -113,8 +135,7 @@ pub fn cut_key(c: usize, s: Sheet) -> u32
     requires { (c < s.count) × (s.count ≤ 50) }
     ensures { result ≡ (split c (sheet_page s)).between }
 {
-    let at = 2 * c;
-    s.pairs[at]
+    s.pairs[2 * c]
 }
 
 // The right part: in a leaf the other pairs, above them what is behind the middle key and its pointer.
@@ -126,6 +147,6 @@ pub fn lay_right(w: &mut [u32], k: usize, c: usize, s: Sheet)
         lay_run(w, k, s.level, s.first, &s.pairs, c, s.count - c);
         return;
     }
-    let at = 2 * c + 1;
-    lay_run(w, k, s.level, s.pairs[at], &s.pairs, c + 1, s.count - c - 1);
+    let first = s.pairs[2 * c + 1];
+    lay_run(w, k, s.level, first, &s.pairs, c + 1, s.count - c - 1);
 }

@@ -12,48 +12,16 @@ ghost use Rattle.page.specs.Short.{less_key, rekeyed};
 ghost use Rattle.page.specs.Exact.{Exact};
 ghost use Rattle.sheet.specs.Sheets.{before_pairs};
 
-use page::reading::{Lot, key_at, pairs_from, place, value_at, wide};
+use page::reading::{Page, pairs_from};
 
-// The n words of `src` from word a on, copied to `dst` from word b on.
-pub fn copy_words(src: &[u32], a: usize, dst: &mut [u32], b: usize, n: usize)
-    requires { (a + n ≤ length src.now) × (b + n ≤ length dst.old) }
-    ensures { dst.new ≡ paste dst.old b (drop a src.now) n }
-{
-    let mut j: usize = 0;
-    while j < n {
-        dst[b + j] = src[a + j];
-        j += 1;
-    }
-}
-
-// Zeros from word a on.
-pub fn wipe(w: &mut [u32], a: usize)
-    requires { a ≤ length w.old }
-    ensures { w.new ≡ take a w.old ++ replicate (length w.old - a) 0 }
-{
-    let mut j = a;
-    while j < w.len() {
-        w[j] = 0;
-        j += 1;
-    }
-}
-
-// x and v put in at word a. The words from there up to word e move on by two, the last first in hand.
+// x and v put in at word a. The words from there up to word e move on by two.
 fn push_two(w: &mut [u32], a: usize, e: usize, x: u32, v: u32)
     requires { (a ≤ e) × (e + 2 ≤ length w.old) }
     ensures { w.new ≡ paste w.old a (x ∷ v ∷ drop a w.old) (e + 2 - a) }
 {
-    let end = e + 2;
-    let mut hand = x;
-    let mut next = v;
-    let mut j = a;
-    while j < end {
-        let lifted = w[j];
-        w[j] = hand;
-        hand = next;
-        next = lifted;
-        j += 1;
-    }
+    w.copy_within(a..e, a + 2);
+    w[a] = x;
+    w[a + 1] = v;
 }
 
 // The two words at word a taken out. The words behind them up to word e move down by two, and two zeros follow them.
@@ -61,14 +29,9 @@ fn pull_two(w: &mut [u32], a: usize, e: usize)
     requires { (a + 2 ≤ e) × (e ≤ length w.old) }
     ensures { w.new ≡ take a w.old ++ take (e - 2 - a) (drop (a + 2) w.old) ++ 0 ∷ 0 ∷ drop e w.old }
 {
-    let last = e - 2;
-    let mut j = a;
-    while j < last {
-        w[j] = w[j + 2];
-        j += 1;
-    }
-    w[last] = 0;
-    w[last + 1] = 0;
+    w.copy_within(a + 2..e, a);
+    w[e - 2] = 0;
+    w[e - 1] = 0;
 }
 
 // The words before a page's pairs. Returns where the pairs begin.
@@ -94,7 +57,7 @@ pub fn put_in(w: &mut [u32], k: usize, i: usize, x: u32, v: u32)
     let m = w[1];
     let at = pairs_from(w[0]);
     w[1] = m + 1;
-    push_two(w, at + 2 * i, at + 2 * wide(m), x, v);
+    push_two(w, at + 2 * i, at + 2 * m as usize, x, v);
 }
 
 // The pair at place i taken out: in a leaf an entry, above a reference key with the pointer right of it.
@@ -106,7 +69,7 @@ pub fn take_out(w: &mut [u32], k: usize, i: usize)
     let m = w[1];
     let at = pairs_from(w[0]);
     w[1] = m - 1;
-    pull_two(w, at + 2 * i, at + 2 * wide(m));
+    pull_two(w, at + 2 * i, at + 2 * m as usize);
 }
 
 // Another key at place i.
@@ -120,23 +83,21 @@ pub fn rekey(w: &mut [u32], k: usize, i: usize, r: u32)
 }
 
 // New information under key x, if it is there: then it stands just before its place. Returns what stood under it.
-pub fn regrade(w: &mut [u32], k: usize, x: u32, v: u32) -> Lot
+pub fn regrade(w: &mut [u32], k: usize, x: u32, v: u32) -> Option<u32>
     requires exact { Exact k w.old }
     requires w_value { rises (view w.old).entries ≡ true }
     ensures value { result ≡ looked x (view w.old).entries }
     ensures w_after { w.new ≡ encode k (with_entries (view w.old) (regraded x v (view w.old).entries)) }
 {
-    let behind = place(w, x);
-    if behind == 0 {
-        return Lot::Missing;
+    let page = Page { words: w };
+    let behind = page.place(x);
+    if behind == 0 || page.key(behind - 1) != x {
+        return None;
     }
-    if key_at(w, behind - 1) != x {
-        return Lot::Missing;
-    }
-    let old = value_at(w, behind - 1);
-    let at = pairs_from(w[0]);
+    let old = page.value(behind - 1);
+    let at = page.pairs_from();
     w[at + 2 * behind - 1] = v;
-    Lot::There(old)
+    Some(old)
 }
 
 // A root over the pages a and b, with the reference key r between them, a level above theirs.
@@ -147,12 +108,12 @@ pub fn lay_root(w: &mut [u32], k: usize, level: u32, a: u32, r: u32, b: u32)
     let at = put_front(w, level + 1, 1, a);
     w[at] = r;
     w[at + 1] = b;
-    wipe(w, at + 2);
+    w[at + 2..].fill(0);
 }
 
 // A freed page: all zeros.
 pub fn clear(w: &mut [u32])
     ensures { w.new ≡ replicate (length w.old) 0 }
 {
-    wipe(w, 0);
+    w.fill(0);
 }

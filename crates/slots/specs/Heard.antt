@@ -133,7 +133,7 @@ numbers_of a = number_of a ∷ length (said a).values ∷ value_of a 0 ∷ value
 
 -- such numbers as a list
 abbrev pub listed : Heard → List ℕ
-listed r = r.0 ∷ r.1 ∷ r.2 ∷ r.3 ∷ r.4 ∷ []
+listed r = r.number ∷ r.count ∷ r.values
 
 -- the refusals: those of 01's table, and whatever stands below the answers
 abbrev pub refuses : Answer → Bool

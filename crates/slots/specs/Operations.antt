@@ -1,6 +1,6 @@
 -- What is listed by operation, in one table. A new operation is a row of `row_of` and a place in `operations`.
 -- (How many pages it may hold stands in Sound.)
-use Rattle.std.specs.Prelude.{ℕ, Bool, true, false, cond, not, ◌&&◌, ◌||◌, List, [], ◌∷◌, eqb}
+use Rattle.std.specs.Prelude.{ℕ, Bool, true, false, cond, not, ◌&&◌, ◌||◌, List, [], ◌∷◌, eqb, Option, Some, None}
 use Rattle.ground.specs.Limits.{blank_key}
 use Rattle.slots.specs.declared.Way.{Way}
 use Rattle.slots.specs.declared.Way.TheVariants.{First, Second, Third}
@@ -8,8 +8,6 @@ use Rattle.slots.specs.declared.Lock.{Lock}
 use Rattle.slots.specs.declared.Lock.TheVariants.{Rho, Xi, UpdaterRho, Alpha}
 use Rattle.slots.specs.declared.Op.{Op}
 use Rattle.slots.specs.declared.Op.TheVariants.{Search, Insert, Delete, Next, Regrade}
-use Rattle.slots.specs.declared.operations.Asked.{Asked}
-use Rattle.slots.specs.declared.operations.Asked.TheVariants.{Known, Unknown}
 
 pub record Row : Type 0 where
   -- the number that stands for the operation in the words of a state and in a call of the library; 0 stands for none
@@ -100,6 +98,14 @@ blank_tag op = not (is_next op) && eqb (key_of op) blank_key
 
 -- ---- ways
 
+-- the way of an update; who only reads has none
+abbrev pub way_of : Op → Option Way
+way_of (Search x) = None
+way_of (Insert x v way) = Some way
+way_of (Delete x way) = Some way
+way_of (Next x) = None
+way_of (Regrade x v way) = Some way
+
 -- it goes down by the second way
 abbrev pub is_second : Op → Bool
 is_second (Search x) = false
@@ -127,11 +133,11 @@ first_way (Regrade x v way) = Regrade x v First
 -- ---- an operation as numbers
 
 -- the operation of this kind, if there is one
-abbrev pub of_kind : ℕ → List Op → Asked
-of_kind kind [] = Unknown
-of_kind kind (op ∷ ops) = cond (eqb kind (kind_number op)) (Known op) (of_kind kind ops)
+abbrev pub of_kind : ℕ → List Op → Option Op
+of_kind kind [] = None
+of_kind kind (op ∷ ops) = cond (eqb kind (kind_number op)) (Some op) (of_kind kind ops)
 
 -- kind, key and information: "closed, or open with an operation enum carrying key and information". Who has no information
 -- does not look at it.
-abbrev pub asked_by : ℕ → ℕ → ℕ → Asked
+abbrev pub asked_by : ℕ → ℕ → ℕ → Option Op
 asked_by kind key information = of_kind kind (operations key information)

@@ -11,7 +11,7 @@ use ground::{HELD, SLOTS};
 
 // How an update goes down: with ξ-locks; as a reader does, and with ξ on its leaf alone; or with α-locks, which let readers stay and are converted to
 // ξ once its change is known.
-#[derive(Clone, Copy)]
+#[derive(Clone, Copy, PartialEq, Eq)]
 pub enum Way {
     First,
     Second,
@@ -19,7 +19,7 @@ pub enum Way {
 }
 
 // What a buyer asks for. Keys and information are any 32-bit unsigned numbers. An update has a way; who only reads has none.
-#[derive(Clone, Copy)]
+#[derive(Clone, Copy, PartialEq, Eq)]
 pub enum Op {
     Search(u32),
     // key, information
@@ -41,6 +41,7 @@ pub enum Task {
 // An open slot holds the pages of its path, from the top downward, and pages beside it: a deletion's siblings, from the leaf's
 // upward, or the second way of a Next, from the top downward; each under a lock of the kind in the same cell of `locks` or `sidelocks`. It
 // wants exactly one more page, with a lock of the kind `lock`. Cells behind a length are not looked at.
+// Stays: a rule of the project: fixed arrays and no heap, so pages, kinds and their number stand beside each other.
 #[derive(Clone, Copy)]
 pub struct Slot {
     pub task: Task,
@@ -55,12 +56,13 @@ pub struct Slot {
 }
 
 // The kind of lock under which a page is held.
-#[derive(Clone, Copy)]
+#[derive(Clone, Copy, PartialEq, Eq)]
 pub struct Under {
     pub lock: Lock,
 }
 
 // The state that the rules speak of: k, the number of pages, the slots, and the waiting order, oldest first.
+// Stays: a rule of the project: fixed arrays and no heap, so the order has its length beside it.
 #[derive(Clone, Copy)]
 pub struct State {
     pub k: usize,
@@ -71,7 +73,7 @@ pub struct State {
 }
 
 // Kinds of lock, in the order of their numbers in a report. A new one goes to the end: no number told to a caller changes.
-#[derive(Clone, Copy)]
+#[derive(Clone, Copy, PartialEq, Eq)]
 pub enum Lock {
     None,
     Rho,

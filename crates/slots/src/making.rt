@@ -1,12 +1,17 @@
 // Slots as the rules make them: closed, fresh, with one page more, and with one page converted.
-ghost use Rattle.std.specs.Prelude.{◌≡◌, [], ◌∷◌, ◌++◌, ◌≤◌, ◌<◌, take};
+#![tactic(auto, unfolding(ground::specs::Limits::path_holds, ground::specs::Tests::filled, crate::specs::Parts::path_of, crate::specs::Parts::locks_of, crate::specs::Parts::beside_of, crate::specs::Parts::sidelocks_of, crate::specs::Parts::with_xi))]
+
+ghost use Rattle.std.specs.Prelude.{◌≡◌, [], ◌∷◌, ◌++◌, ◌≤◌, ◌<◌, length, take};
 ghost use Rattle.ground.specs.Limits.{path_holds};
-ghost use Rattle.ground.specs.Tests.{padded};
-ghost use Rattle.slots.specs.Parts.{closed_slot, path_of, beside_of, locks_of, sidelocks_of, lock_cells, under, xi_on, with_xi, on_pages, want_converted, fresh_stand, stand_of, slot_of};
+ghost use Rattle.ground.specs.Tests.{filled, padded};
+ghost use Rattle.slots.specs.Parts.{closed_slot, path_of, beside_of, locks_of, sidelocks_of, lock_cells, under, with_xi, on_pages, want_converted, fresh_stand, stand_of, slot_of};
 
 use crate::operations::held_lock;
 use crate::{Lock, Op, Slot, Task, Under};
 use ground::HELD;
+
+// Under no lock, as a cell behind a length.
+const NO_LOCK: Under = Under { lock: Lock::None };
 
 // A closed slot holds nothing; its cells are 0.
 pub fn closed_slot() -> Slot
@@ -16,71 +21,43 @@ pub fn closed_slot() -> Slot
         task: Task::Closed,
         want: 0,
         lock: Lock::None,
-        path: [0u32; HELD],
-        locks: [Under { lock: Lock::None }; HELD],
+        path: [0; HELD],
+        locks: [NO_LOCK; HELD],
         depth: 0,
-        beside: [0u32; HELD],
-        sidelocks: [Under { lock: Lock::None }; HELD],
+        beside: [0; HELD],
+        sidelocks: [NO_LOCK; HELD],
         breadth: 0,
     }
 }
 
-// The first `count` cells, and 0 behind them.
-fn tidy(cells: [u32; HELD], count: usize) -> [u32; HELD]
-    requires { count ≤ path_holds }
-    ensures { result ≡ padded path_holds (take count cells) }
+// Keeps the first `count` cells, and puts `none` into the others.
+#[tactic(auto, using(crate::proofs::MakingLaws::cleared_more, crate::proofs::MakingLaws::cleared_all))]
+fn keep_first<T: Copy>(cells: &mut [T], count: usize, none: T)
+    requires { count ≤ length cells.old }
+    ensures { cells.new ≡ filled none (length cells.old) (take count cells.old) }
 {
-    let mut next = [0u32; HELD];
-    let mut i = 0;
-    while i < count {
-        next[i] = cells[i];
-        i += 1;
+    for cell in &mut cells[count..] {
+        *cell = none;
     }
-    next
+}
+
+// Keeps the first `count` cells, puts this one behind them, and `none` into the others.
+#[tactic(auto, using(ground::proofs::Padded::filled_add))]
+fn put_behind<T: Copy>(cells: &mut [T], count: usize, cell: T, none: T)
+    requires { count < length cells.old }
+    ensures { cells.new ≡ filled none (length cells.old) (take count cells.old ++ cell ∷ []) }
+{
+    keep_first(cells, count, none);
+    cells[count] = cell;
 }
 
 // The first `count` cells, and behind them p.
-pub fn with_page(cells: [u32; HELD], count: usize, p: u32) -> [u32; HELD]
+pub fn with_page(mut cells: [u32; HELD], count: usize, p: u32) -> [u32; HELD]
     requires { count < path_holds }
     ensures { result ≡ padded path_holds (take count cells ++ p ∷ []) }
 {
-    let mut next = tidy(cells, count);
-    next[count] = p;
-    next
-}
-
-// The same of kinds of lock: the first `count` cells, and none behind them.
-fn tidy_locks(cells: [Under; HELD], count: usize) -> [Under; HELD]
-    requires { count ≤ path_holds }
-    ensures { result ≡ lock_cells (take count cells) }
-{
-    let mut next = [Under { lock: Lock::None }; HELD];
-    let mut i = 0;
-    while i < count {
-        next[i] = cells[i];
-        i += 1;
-    }
-    next
-}
-
-// The first `count` cells, and behind them this kind.
-fn with_lock(cells: [Under; HELD], count: usize, lock: Lock) -> [Under; HELD]
-    requires { count < path_holds }
-    ensures { result ≡ lock_cells (take count cells ++ under lock ∷ []) }
-{
-    let mut next = tidy_locks(cells, count);
-    next[count] = Under { lock };
-    next
-}
-
-// ξ on page p, and the kind as it is on another.
-fn xi_on(page: u32, p: u32, under: Under) -> Under
-    ensures { result ≡ xi_on p page under }
-{
-    if p == page {
-        return Under { lock: Lock::Xi };
-    }
-    under
+    put_behind(&mut cells, count, p, 0);
+    cells
 }
 
 // The first `count` kinds, with ξ where page p stands, and none behind them.
@@ -88,11 +65,13 @@ fn with_xi(pages: [u32; HELD], locks: [Under; HELD], count: usize, p: u32) -> [U
     requires { count ≤ path_holds }
     ensures { result ≡ lock_cells (with_xi p (take count pages) (take count locks)) }
 {
-    let mut next = [Under { lock: Lock::None }; HELD];
-    let mut i = 0;
-    while i < count {
-        next[i] = xi_on(pages[i], p, locks[i]);
-        i += 1;
+    let mut next = [NO_LOCK; HELD];
+    for i in 0..count {
+        next[i] = if p == pages[i] {
+            Under { lock: Lock::Xi }
+        } else {
+            locks[i]
+        };
     }
     next
 }
@@ -103,14 +82,8 @@ pub fn fresh_slot(op: Op) -> Slot
 {
     Slot {
         task: Task::Open(op),
-        want: 0,
         lock: held_lock(op),
-        path: [0u32; HELD],
-        locks: [Under { lock: Lock::None }; HELD],
-        depth: 0,
-        beside: [0u32; HELD],
-        sidelocks: [Under { lock: Lock::None }; HELD],
-        breadth: 0,
+        ..closed_slot()
     }
 }
 
@@ -118,22 +91,16 @@ pub fn fresh_slot(op: Op) -> Slot
 pub fn holding_one(op: Op, slot: Slot, p: u32) -> Slot
     ensures { result ≡ slot_of (on_pages (stand_of op slot) (p ∷ []) (under slot.lock ∷ []) [] []) }
 {
-    let mut path = [0u32; HELD];
-    path[0] = p;
-    let lock = slot.lock;
-    let mut locks = [Under { lock: Lock::None }; HELD];
-    locks[0] = Under { lock };
-    Slot {
+    let mut next = Slot {
         task: Task::Open(op),
         want: slot.want,
-        lock,
-        path,
-        locks,
+        lock: slot.lock,
         depth: 1,
-        beside: [0u32; HELD],
-        sidelocks: [Under { lock: Lock::None }; HELD],
-        breadth: 0,
-    }
+        ..closed_slot()
+    };
+    next.path[0] = p;
+    next.locks[0].lock = slot.lock;
+    next
 }
 
 // A slot that holds page p at the end of the path it held.
@@ -141,21 +108,22 @@ pub fn holding_more(op: Op, slot: Slot, p: u32) -> Slot
     requires { slot.depth < path_holds }
     ensures { result ≡ slot_of (on_pages (stand_of op slot) (path_of slot ++ p ∷ []) (locks_of slot ++ under slot.lock ∷ []) [] []) }
 {
-    let path = slot.path;
-    let locks = slot.locks;
-    let depth = slot.depth;
-    let lock = slot.lock;
-    Slot {
+    let mut next = Slot {
         task: Task::Open(op),
-        want: slot.want,
-        lock,
-        path: with_page(path, depth, p),
-        locks: with_lock(locks, depth, lock),
-        depth: depth + 1,
-        beside: [0u32; HELD],
-        sidelocks: [Under { lock: Lock::None }; HELD],
+        depth: slot.depth + 1,
+        beside: [0; HELD],
+        sidelocks: [NO_LOCK; HELD],
         breadth: 0,
-    }
+        ..slot
+    };
+    put_behind(&mut next.path, slot.depth, p, 0);
+    put_behind(
+        &mut next.locks,
+        slot.depth,
+        Under { lock: slot.lock },
+        NO_LOCK,
+    );
+    next
 }
 
 // A slot that holds page p behind the siblings it held.
@@ -163,24 +131,21 @@ pub fn holding_beside(op: Op, slot: Slot, p: u32) -> Slot
     requires { (slot.depth ≤ path_holds) × (slot.breadth < path_holds) }
     ensures { result ≡ slot_of (on_pages (stand_of op slot) (path_of slot) (locks_of slot) (beside_of slot ++ p ∷ []) (sidelocks_of slot ++ under slot.lock ∷ [])) }
 {
-    let path = slot.path;
-    let locks = slot.locks;
-    let depth = slot.depth;
-    let beside = slot.beside;
-    let sidelocks = slot.sidelocks;
-    let breadth = slot.breadth;
-    let lock = slot.lock;
-    Slot {
+    let mut next = Slot {
         task: Task::Open(op),
-        want: slot.want,
-        lock,
-        path: tidy(path, depth),
-        locks: tidy_locks(locks, depth),
-        depth,
-        beside: with_page(beside, breadth, p),
-        sidelocks: with_lock(sidelocks, breadth, lock),
-        breadth: breadth + 1,
-    }
+        breadth: slot.breadth + 1,
+        ..slot
+    };
+    keep_first(&mut next.path, slot.depth, 0);
+    keep_first(&mut next.locks, slot.depth, NO_LOCK);
+    put_behind(&mut next.beside, slot.breadth, p, 0);
+    put_behind(
+        &mut next.sidelocks,
+        slot.breadth,
+        Under { lock: slot.lock },
+        NO_LOCK,
+    );
+    next
 }
 
 // A slot that holds with ξ the page that it wanted, and held before.
@@ -188,23 +153,13 @@ pub fn converted(op: Op, slot: Slot) -> Slot
     requires { (slot.depth ≤ path_holds) × (slot.breadth ≤ path_holds) }
     ensures { result ≡ slot_of (want_converted (stand_of op slot)) }
 {
-    let path = slot.path;
-    let locks = slot.locks;
-    let depth = slot.depth;
-    let beside = slot.beside;
-    let sidelocks = slot.sidelocks;
-    let breadth = slot.breadth;
-    let lock = slot.lock;
-    let want = slot.want;
-    Slot {
+    let mut next = Slot {
         task: Task::Open(op),
-        want,
-        lock,
-        path: tidy(path, depth),
-        locks: with_xi(path, locks, depth, want),
-        depth,
-        beside: tidy(beside, breadth),
-        sidelocks: with_xi(beside, sidelocks, breadth, want),
-        breadth,
-    }
+        locks: with_xi(slot.path, slot.locks, slot.depth, slot.want),
+        sidelocks: with_xi(slot.beside, slot.sidelocks, slot.breadth, slot.want),
+        ..slot
+    };
+    keep_first(&mut next.path, slot.depth, 0);
+    keep_first(&mut next.beside, slot.breadth, 0);
+    next
 }

@@ -1,13 +1,13 @@
 // What is listed by operation: its key, its information, and the number of its kind; and the operation of three numbers. The state's
 // words and the library's calls have operations as these numbers.
-ghost use Rattle.std.specs.Prelude.{◌≡◌, true, false};
-ghost use Rattle.slots.specs.Operations.{by_way, key_of, information_of, kind_number, blank_tag, asked_by, is_second, is_third, first_way, held_lock};
-ghost use Rattle.slots.specs.declared.Lock;
+ghost use Rattle.std.specs.Prelude.{◌≡◌};
+ghost use Rattle.slots.specs.Operations.{way_of, key_of, information_of, kind_number, blank_tag, asked_by, is_second, is_third, first_way, held_lock};
 
 use crate::{Lock, Op, Way};
 use ground::BLANK_KEY;
 
 // Kinds; 0 is none.
+// Stays: the C interface: a state's words and the library's calls have an operation's kind as a number.
 pub const SEARCHES: u32 = 1;
 
 pub const INSERTS: u32 = 2;
@@ -34,23 +34,16 @@ pub const REGRADES_THIRD: u32 = 11;
 
 pub const HIGHEST_KIND: u32 = REGRADES_THIRD;
 
-// What three numbers ask for, if the kind exists.
-#[derive(Clone, Copy)]
-pub enum Asked {
-    Known(Op),
-    Unknown,
-}
-
 // The key that an operation is about.
 pub fn key_asked(op: Op) -> u32
     ensures { result ≡ key_of op }
 {
     match op {
-        Op::Search(x) => x,
-        Op::Insert(x, _, _) => x,
-        Op::Delete(x, _) => x,
-        Op::Next(x) => x,
-        Op::Regrade(x, _, _) => x,
+        Op::Search(x)
+        | Op::Insert(x, _, _)
+        | Op::Delete(x, _)
+        | Op::Next(x)
+        | Op::Regrade(x, _, _) => x,
     }
 }
 
@@ -59,22 +52,8 @@ pub fn information_asked(op: Op) -> u32
     ensures { result ≡ information_of op }
 {
     match op {
-        Op::Search(_) => 0,
-        Op::Insert(_, v, _) => v,
-        Op::Delete(_, _) => 0,
-        Op::Next(_) => 0,
-        Op::Regrade(_, v, _) => v,
-    }
-}
-
-// One of three numbers, by the way.
-fn by_way(way: Way, first: u32, second: u32, third: u32) -> u32
-    ensures { result ≡ by_way way first second third }
-{
-    match way {
-        Way::First => first,
-        Way::Second => second,
-        Way::Third => third,
+        Op::Insert(_, v, _) | Op::Regrade(_, v, _) => v,
+        Op::Search(_) | Op::Delete(_, _) | Op::Next(_) => 0,
     }
 }
 
@@ -83,67 +62,49 @@ pub fn kind_asked(op: Op) -> u32
 {
     match op {
         Op::Search(_) => SEARCHES,
-        Op::Insert(_, _, way) => by_way(way, INSERTS, INSERTS_SECOND, INSERTS_THIRD),
-        Op::Delete(_, way) => by_way(way, DELETES, DELETES_SECOND, DELETES_THIRD),
+        Op::Insert(_, _, Way::First) => INSERTS,
+        Op::Delete(_, Way::First) => DELETES,
         Op::Next(_) => NEXTS,
-        Op::Regrade(_, _, way) => by_way(way, REGRADES, REGRADES_SECOND, REGRADES_THIRD),
+        Op::Regrade(_, _, Way::First) => REGRADES,
+        Op::Insert(_, _, Way::Second) => INSERTS_SECOND,
+        Op::Delete(_, Way::Second) => DELETES_SECOND,
+        Op::Regrade(_, _, Way::Second) => REGRADES_SECOND,
+        Op::Insert(_, _, Way::Third) => INSERTS_THIRD,
+        Op::Delete(_, Way::Third) => DELETES_THIRD,
+        Op::Regrade(_, _, Way::Third) => REGRADES_THIRD,
     }
 }
 
 // Its key is that of a blank tag, and it is no Next.
+#[tactic(auto, unfolding(crate::specs::Operations::blank_tag, ground::specs::Limits::blank_key))]
 pub fn blank_tag(op: Op) -> bool
     ensures { result ≡ blank_tag op }
 {
-    if kind_asked(op) == NEXTS {
-        return false;
+    !matches!(op, Op::Next(_)) && key_asked(op) == BLANK_KEY
+}
+
+// The way of an update.
+fn way_of(op: Op) -> Option<Way>
+    ensures { result ≡ way_of op }
+{
+    match op {
+        Op::Insert(_, _, way) | Op::Delete(_, way) | Op::Regrade(_, _, way) => Some(way),
+        Op::Search(_) | Op::Next(_) => None,
     }
-    key_asked(op) == BLANK_KEY
 }
 
 // It goes down by the second way.
-fn is_second_way(way: Way) -> bool
-    ensures { result ≡ by_way way false true false }
-{
-    match way {
-        Way::First => false,
-        Way::Second => true,
-        Way::Third => false,
-    }
-}
-
 pub fn is_second(op: Op) -> bool
     ensures { result ≡ is_second op }
 {
-    match op {
-        Op::Search(_) => false,
-        Op::Insert(_, _, way) => is_second_way(way),
-        Op::Delete(_, way) => is_second_way(way),
-        Op::Next(_) => false,
-        Op::Regrade(_, _, way) => is_second_way(way),
-    }
+    way_of(op) == Some(Way::Second)
 }
 
 // It goes down by the third way.
-fn is_third_way(way: Way) -> bool
-    ensures { result ≡ by_way way false false true }
-{
-    match way {
-        Way::First => false,
-        Way::Second => false,
-        Way::Third => true,
-    }
-}
-
 pub fn is_third(op: Op) -> bool
     ensures { result ≡ is_third op }
 {
-    match op {
-        Op::Search(_) => false,
-        Op::Insert(_, _, way) => is_third_way(way),
-        Op::Delete(_, way) => is_third_way(way),
-        Op::Next(_) => false,
-        Op::Regrade(_, _, way) => is_third_way(way),
-    }
+    way_of(op) == Some(Way::Third)
 }
 
 // The same operation by the first way.
@@ -151,22 +112,10 @@ pub fn first_way(op: Op) -> Op
     ensures { result ≡ first_way op }
 {
     match op {
-        Op::Search(x) => Op::Search(x),
         Op::Insert(x, v, _) => Op::Insert(x, v, Way::First),
         Op::Delete(x, _) => Op::Delete(x, Way::First),
-        Op::Next(x) => Op::Next(x),
         Op::Regrade(x, v, _) => Op::Regrade(x, v, Way::First),
-    }
-}
-
-// The lock with which an update goes down, by its way.
-fn way_lock(way: Way) -> Lock
-    ensures { result ≡ by_way way Lock.Xi Lock.UpdaterRho Lock.Alpha }
-{
-    match way {
-        Way::First => Lock::Xi,
-        Way::Second => Lock::UpdaterRho,
-        Way::Third => Lock::Alpha,
+        Op::Search(_) | Op::Next(_) => op,
     }
 }
 
@@ -174,51 +123,30 @@ fn way_lock(way: Way) -> Lock
 pub fn held_lock(op: Op) -> Lock
     ensures { result ≡ held_lock op }
 {
-    match op {
-        Op::Search(_) => Lock::Rho,
-        Op::Insert(_, _, way) => way_lock(way),
-        Op::Delete(_, way) => way_lock(way),
-        Op::Next(_) => Lock::Rho,
-        Op::Regrade(_, _, way) => way_lock(way),
+    match way_of(op) {
+        None => Lock::Rho,
+        Some(Way::First) => Lock::Xi,
+        Some(Way::Second) => Lock::UpdaterRho,
+        Some(Way::Third) => Lock::Alpha,
     }
 }
 
-// The operation of these numbers. Only insertions and regradings look at the information.
-pub fn asked_by(kind: u32, key: u32, information: u32) -> Asked
+// The operation of these numbers, if the kind exists. Only insertions and regradings look at the information.
+pub fn asked_by(kind: u32, key: u32, information: u32) -> Option<Op>
     ensures { result ≡ asked_by kind key information }
 {
-    if kind == SEARCHES {
-        return Asked::Known(Op::Search(key));
+    match kind {
+        SEARCHES => Some(Op::Search(key)),
+        INSERTS => Some(Op::Insert(key, information, Way::First)),
+        DELETES => Some(Op::Delete(key, Way::First)),
+        NEXTS => Some(Op::Next(key)),
+        REGRADES => Some(Op::Regrade(key, information, Way::First)),
+        INSERTS_SECOND => Some(Op::Insert(key, information, Way::Second)),
+        DELETES_SECOND => Some(Op::Delete(key, Way::Second)),
+        REGRADES_SECOND => Some(Op::Regrade(key, information, Way::Second)),
+        INSERTS_THIRD => Some(Op::Insert(key, information, Way::Third)),
+        DELETES_THIRD => Some(Op::Delete(key, Way::Third)),
+        REGRADES_THIRD => Some(Op::Regrade(key, information, Way::Third)),
+        _ => None,
     }
-    if kind == INSERTS {
-        return Asked::Known(Op::Insert(key, information, Way::First));
-    }
-    if kind == DELETES {
-        return Asked::Known(Op::Delete(key, Way::First));
-    }
-    if kind == NEXTS {
-        return Asked::Known(Op::Next(key));
-    }
-    if kind == REGRADES {
-        return Asked::Known(Op::Regrade(key, information, Way::First));
-    }
-    if kind == INSERTS_SECOND {
-        return Asked::Known(Op::Insert(key, information, Way::Second));
-    }
-    if kind == DELETES_SECOND {
-        return Asked::Known(Op::Delete(key, Way::Second));
-    }
-    if kind == REGRADES_SECOND {
-        return Asked::Known(Op::Regrade(key, information, Way::Second));
-    }
-    if kind == INSERTS_THIRD {
-        return Asked::Known(Op::Insert(key, information, Way::Third));
-    }
-    if kind == DELETES_THIRD {
-        return Asked::Known(Op::Delete(key, Way::Third));
-    }
-    if kind == REGRADES_THIRD {
-        return Asked::Known(Op::Regrade(key, information, Way::Third));
-    }
-    Asked::Unknown
 }

@@ -1,18 +1,21 @@
 -- Laws for the test of a state, on lists: the first elements of a list pass a test or differ, pages are named one by one, and so are words.
-use Prim.Native.Nat.{ℕ, ◌+◌, ◌≤◌, ◌<◌}
+use Prim.Native.Nat.{ℕ, zero, suc, ◌+◌, ◌≤◌, ◌<◌}
 use mathlib.Core.Bool.{Bool, true, false, not, ◌&&◌, ◌||◌}
 use mathlib.Core.List.{List, [], ◌++◌}
 use mathlib.Core.Logic.{⊎_elim}
-use mathlib.Core.Path.{◌≡◌, sym, ap, ◌∙◌}
+use mathlib.Core.Path.{◌≡◌, sym, ap, ap₂, ◌∙◌}
 use native.Mathlib.Numerals.{add-one}
 use native.Mathlib.Omega.{arith}
 use borrow.Author.Tests.{eq-eqb, ne_eqb, lt-ltb, le-ltb}
 use lib.Dec.{eqb, ltb}
 use lib.ListN.{length, get_or, take}
-use lib.Seq.{length-take-le, get_or-take}
+use lib.Seq.{length-take-le, get_or-take, take_all}
 use Rattle.ground.specs.Tests.{all, all_below, member, distinct}
 use Rattle.ground.proofs.Bools.{and_both, and_first, and_second, and_first_fails, and_second_fails, or_cases, or_first_fails, or_second_fails, not_of_true, not_of_false, false_if_not_true}
 use Rattle.ground.proofs.Tests.{all_none, all_more, all_stops, member_append, member_at, distinct_none, distinct_more, distinct_at, all_below_none, all_below_more, all_below_stops}
+use Rattle.std.specs.List.{list_all, range_with_len}
+use Rattle.std.proofs.lemmas.List.FromFn.{length-range_with_len, get_or-range_with_len}
+use Rattle.std.proofs.lemmas.List.Folds.{list_all_more}
 use Rattle.lent.specs.Words.{cell}
 use Rattle.soundness.specs.Checking.{enters, may_enter, column_passes}
 
@@ -101,6 +104,22 @@ module _ (n other : ℕ) (own pages : List ℕ) (i : ℕ) where
 
         again : member p (take i pages) ≡ true → all (enters n other own) (take count pages) && distinct (take count pages) ≡ false
         again w = and_second_fails (all (enters n other own) (take count pages)) (differ_stop pages i count h room w)
+
+-- ---- what the numbers of a range are asked, one behind the other
+
+all_passed : (p : ℕ → Bool) (n i : ℕ) → i ≤ n → list_all p (take i (range_with_len 0 n)) ≡ all_below i p
+all_passed p n zero h = sym (all_below_none p)
+all_passed p n (suc i) h =
+    let long : length (range_with_len 0 n) ≡ n = length-range_with_len 0 n in
+    let here : get_or (range_with_len 0 n) i 0 ≡ i = get_or-range_with_len 0 n i 0 (omega arith) ∙ omega arith in
+    ap (λ (m : ℕ). list_all p (take m (range_with_len 0 n))) (sym (add-one i))
+    ∙ list_all_more p (range_with_len 0 n) i 0 (omega arith)
+    ∙ ap₂ (λ (a b : Bool). a && b) (all_passed p n i (omega arith)) (ap p here)
+    ∙ sym (all_below_more p i)
+
+pub all_in_range : (p : ℕ → Bool) (n : ℕ) → list_all p (range_with_len 0 n) ≡ all_below n p
+all_in_range p n =
+    ap (list_all p) (sym (take_all n (range_with_len 0 n) (omega (arith, length-range_with_len 0 n)))) ∙ all_passed p n n (omega arith)
 
 -- ---- the words of a column, one more in each turn
 

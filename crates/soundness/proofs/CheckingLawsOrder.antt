@@ -16,7 +16,7 @@ use lib.Seq.{length-take-le, get_or-set_same, get_or-set_other}
 use Rattle.ground.specs.Limits.{slot_count}
 use Rattle.ground.specs.Tests.{all, all_below, member, distinct, count_below}
 use Rattle.ground.proofs.Bools.{and_both, and_first, and_second, and_first_fails, and_second_fails, and_fails, or_second, not_of_true, not_of_false, false_if_not_true}
-use Rattle.ground.proofs.Tests.{all_none, member_none, member_here, member_more, distinct_none, all_below_at, all_below_from, count_below_same, count_below_less, count_below_fails, count_below_some, below_or_at}
+use Rattle.ground.proofs.Tests.{all_none, member_none, member_here, member_more, distinct_none, all_below_at, all_below_from, count_below_same, count_below_less, count_below_fails, count_below_some}
 use Rattle.slots.specs.Sound.{names_each}
 use Rattle.soundness.proofs.CheckingLaws.{all_on, all_stop, differ_on, differ_stop}
 
@@ -175,14 +175,3 @@ module _ (busy : List Bool) (order : List ℕ) (waiting : ℕ) (room : waiting �
       (all_below_from (λ (s : ℕ). not (opened s) || member s (take waiting order)) slot_count
       (λ s h. turned (opened s) (member s (take waiting order))
       ∙ not_of_false (false_if_not_true (left s) (λ t. let some = count_below_some left slot_count s h t in absurd (omega arith)))))
-
--- ---- the marks themselves
-
--- one mark more
-pub marks_on : (opened : ℕ → Bool) (busy : List Bool) (i : ℕ) (o : Bool) → i < length busy → ((s : ℕ) → s < i → get_or busy s false ≡ opened s) → o ≡ opened i
-    → (s : ℕ) → s < i + 1 → get_or (set busy i o) s false ≡ opened s
-marks_on opened busy i o h before e s l =
-    below_or_at (λ (t : ℕ). get_or (set busy i o) t false ≡ opened t)
-    (subst (λ (m : ℕ). s < m) (add-one i) l)
-    (λ b. get_or-set_other busy i s o false (λ q. absurd (omega arith)) ∙ before s b)
-    (get_or-set_same busy i o false h ∙ e)

@@ -33,7 +33,7 @@ use Rattle.lent.specs.Words.{cell, page_in, number_in, column, lock_column, high
 use Rattle.lent.specs.Holds.{WithinRows}
 use Rattle.lent.proofs.HoldLaws.{by_kind, same_number}
 use Rattle.lent.proofs.StateLaws.{length_column, column_cell, length_locks, lock_cell}
-use Rattle.soundness.specs.Checking.{kind_holds, top_row, kind_wants, as_conversion, row_fine, may_hold_more, column_passes, held_pass, word_under, column_under, under_kind, converts_fine, pages_fine, deep_fine}
+use Rattle.soundness.specs.Checking.{kind_holds, top_row, kind_wants, as_conversion, row_fine, may_hold_more, column_passes, held_pass, word_under, under_kind, converts_fine, pages_fine, deep_fine}
 use Rattle.soundness.proofs.CheckingLawsHeld.{held_pass_lem}
 
 -- ---- what the rows tell of the pages
@@ -522,7 +522,7 @@ module _ (ws : List ℕ) (n s : ℕ) (known : cell ws kind_row s ≤ highest_kin
       (and_first pages (converts_fine ws s) (and_first (pages_fine ws n s) (under_kind ws s) e)))
       (or_first (not turn && not own) (or_first (turn && own && alpha) m)))
       (under_top (word_under kind) ws s depth
-      (and_first (column_under ws path_row s depth kind) (column_under ws beside_row s breadth kind) (and_second (pages_fine ws n s) (under_kind ws s) e)))
+      (and_first (column_passes (word_under kind) ws path_row s depth) (column_passes (word_under kind) ws beside_row s breadth) (and_second (pages_fine ws n s) (under_kind ws s) e)))
 
   -- a closed slot has no top, and wants no conversion
   empty : eqb kind 0 ≡ true → depth ≡ 0 → top ≡ true

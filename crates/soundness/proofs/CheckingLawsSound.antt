@@ -95,19 +95,19 @@ last_any true true true a b f = not_both refl f
 last_any true true false a b f = refl
 
 module _ (ws : List ℕ) where
-  abbrev numbers : Bool
+  abbrev pub numbers : Bool
   numbers = k_in_range (get_or ws k_at 0) && n_in_range (get_or ws n_at 0)
 
-  abbrev rows : Bool
+  abbrev pub rows : Bool
   rows = all_below row_length (row_fine ws (get_or ws n_at 0))
 
-  abbrev names : Bool
+  abbrev pub names : Bool
   names = names_each (λ (s : ℕ). open_kind (cell ws kind_row s)) (get_or ws waiting_at 0) (order_in ws)
 
-  abbrev deeps : Bool
+  abbrev pub deeps : Bool
   deeps = all_below row_length (deep_fine ws (get_or ws n_at 0))
 
-  abbrev alones : Bool
+  abbrev pub alones : Bool
   alones = all_below row_length (stands_alone ws)
 
   abbrev slots : Bool
@@ -136,7 +136,7 @@ module _ (ws : List ℕ) where
   unfolding state_of
   unknown_state f = ap sound (cond-false (as_read ws) (idle_state 0 0) f) ∙ empty_unsound
 
-  whole : sound (state_of ws) ≡ numbers && rows && names && deeps && alones
+  pub whole : sound (state_of ws) ≡ numbers && rows && names && deeps && alones
   whole =
       ⊎_elim
       (λ e. ap sound (state_known ws e) ∙ known_sound e)
@@ -146,27 +146,6 @@ module _ (ws : List ℕ) where
       ∙ sym
       (and_first_fails alones (and_first_fails deeps (and_first_fails names (and_second_fails numbers none)))))
       (true_or_false (known ws))
-
-  -- test by test
-  pub sound_numbers : {n : Bool} → n ≡ numbers → n ≡ false → false ≡ sound (state_of ws)
-  sound_numbers e f = sym (whole ∙ and_first_fails alones (and_first_fails deeps (and_first_fails names (and_first_fails rows (sym e ∙ f)))))
-
-  pub sound_rows : {r : Bool} → r ≡ rows → r ≡ false → false ≡ sound (state_of ws)
-  sound_rows e f = sym (whole ∙ and_first_fails alones (and_first_fails deeps (and_first_fails names (and_second_fails numbers (sym e ∙ f)))))
-
-  pub sound_order : {w : Bool} → w ≡ names → w ≡ false → false ≡ sound (state_of ws)
-  sound_order e f = sym (whole ∙ and_first_fails alones (and_first_fails deeps (and_second_fails (numbers && rows) (sym e ∙ f))))
-
-  pub sound_deep : {d : Bool} → d ≡ deeps → d ≡ false → false ≡ sound (state_of ws)
-  sound_deep e f = sym (whole ∙ and_first_fails alones (and_second_fails (numbers && rows && names) (sym e ∙ f)))
-
-  pub sound_alone : {n r w d a : Bool} → n ≡ numbers → n ≡ true → r ≡ rows → r ≡ true → w ≡ names → w ≡ true → d ≡ deeps → d ≡ true → a ≡ alones → a ≡ sound (state_of ws)
-  sound_alone en tn er tr ew tw ed td ea =
-      ea
-      ∙ sym
-      (whole
-      ∙ ap₂ (λ (x y : Bool). x && y && names && deeps && alones) (sym en ∙ tn) (sym er ∙ tr)
-      ∙ ap₂ (λ (x y : Bool). x && y && alones) (sym ew ∙ tw) (sym ed ∙ td))
 
   -- the rows of a sound state are fine
   sound_rows_fine : sound (state_of ws) ≡ true → rows ≡ true

@@ -1,3 +1,4 @@
+pub mod MadeLaws
 pub mod MaskLaws
 pub mod WalkLaws
 pub mod CheckingLaws

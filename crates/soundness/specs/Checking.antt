@@ -1,5 +1,5 @@
 -- What the parts of the test of a state test, where the rule of a sound state has no name for it.
-use Rattle.std.specs.Prelude.{ℕ, ◌+◌, Bool, cond, not, ◌&&◌, ◌||◌, List, [], leb, ltb, eqb, get_or}
+use Rattle.std.specs.Prelude.{ℕ, ◌+◌, ◌^◌, ◌<◌, ◌≡◌, Bool, cond, not, ◌&&◌, ◌||◌, List, [], leb, ltb, eqb, get_or}
 use Rattle.ground.specs.Tests.{all, all_below, member, distinct}
 use Rattle.slots.specs.declared.Lock.TheVariants.{Rho, Xi, UpdaterRho, Alpha}
 use Rattle.slots.specs.declared.Slot.{Slot}
@@ -89,6 +89,10 @@ pages_row kind depth breadth n want lock top =
 abbrev pub fine_row : ℕ → ℕ → ℕ → ℕ → ℕ → ℕ → ℕ → Bool
 fine_row kind depth breadth n want lock top = pages_row kind depth breadth n want lock top && (eqb kind 0 || kind_wants kind lock)
 
+abbrev pub top_fine : List ℕ → ℕ → ℕ → Bool
+top_fine ws n s =
+    top_row (cell ws kind_row s) (cell ws depth_row s) (cell ws breadth_row s) n (cell ws want_row s) (cell ws lock_row s) (cell ws path_row s)
+
 abbrev pub row_fine : List ℕ → ℕ → ℕ → Bool
 row_fine ws n s =
     fine_row (cell ws kind_row s) (cell ws depth_row s) (cell ws breadth_row s) n (cell ws want_row s) (cell ws lock_row s) (cell ws path_row s)
@@ -99,6 +103,10 @@ row_fine ws n s =
 unfoldable pub column_passes : (ℕ → Bool) → List ℕ → ℕ → ℕ → ℕ → Bool
 column_passes test ws row s count = all_below count (λ (j : ℕ). test (cell ws (row + j) s))
 
+-- a test that is handed in tells of each word what this one does
+unfoldable pub Tells : (ℕ → Bool → Type 0) → (ℕ → Bool) → Type 0
+Tells said test = (word : ℕ) (r : Bool) → word < 2 ^ 32 → said word r → r ≡ test word
+
 -- the words of all pages that slot s holds do
 abbrev pub held_pass : (ℕ → Bool) → List ℕ → ℕ → Bool
 held_pass test ws s = column_passes test ws path_row s (cell ws depth_row s) && column_passes test ws beside_row s (cell ws breadth_row s)
@@ -106,9 +114,6 @@ held_pass test ws s = column_passes test ws path_row s (cell ws depth_row s) && 
 -- a slot of this kind can hold a page under the lock of this word
 abbrev pub word_under : ℕ → ℕ → Bool
 word_under kind word = kind_holds kind (number_in word)
-
-abbrev pub column_under : List ℕ → ℕ → ℕ → ℕ → ℕ → Bool
-column_under ws row s count kind = column_passes (word_under kind) ws row s count
 
 abbrev pub under_kind : List ℕ → ℕ → Bool
 under_kind ws s = held_pass (word_under (cell ws kind_row s)) ws s
@@ -138,9 +143,6 @@ deep_fine ws n s = not (is_deep ws s) || more_fine ws n s
 abbrev pub word_apart : List ℕ → ℕ → List Bool → ℕ → Bool
 word_apart ws s row word = not (others_hold ws s row (page_in word))
 
-abbrev pub column_apart : List ℕ → ℕ → ℕ → List Bool → ℕ → Bool
-column_apart ws from s row count = column_passes (word_apart ws s row) ws from s count
-
 abbrev pub apart_in : List ℕ → ℕ → List Bool → Bool
 apart_in ws s row = held_pass (word_apart ws s row) ws s
 
@@ -154,9 +156,6 @@ xi_row = row_for (lock_number Xi)
 -- no other slot holds the page of this word of slot s under a lock that clashes with the word's own
 abbrev pub word_alone : List ℕ → ℕ → ℕ → Bool
 word_alone ws s word = word_apart ws s (row_for (number_in word)) word
-
-abbrev pub column_alone : List ℕ → ℕ → ℕ → ℕ → Bool
-column_alone ws from s count = column_passes (word_alone ws s) ws from s count
 
 abbrev pub each_alone : List ℕ → ℕ → Bool
 each_alone ws s = held_pass (word_alone ws s) ws s

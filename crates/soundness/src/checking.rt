@@ -1,7 +1,7 @@
 // Whether a state is sound. First kind, numbers of pages held, want, its lock and top of the path of every slot, with no way out in
 // between, so that several slots are looked at in one go. Then the waiting order is held against the open slots; then the slots that hold
 // more than one page are looked at; then each page held under ξ or α is looked for in the other slots.
-ghost use Rattle.std.specs.Prelude.{ℕ, ◌≤◌, ◌<◌, false, ◌&&◌, ◌≡◌, length, get_or, take};
+ghost use Rattle.std.specs.Prelude.{ℕ, Bool, ◌≤◌, ◌<◌, false, ◌&&◌, ◌≡◌, length, get_or, take};
 ghost use Rattle.ground.specs.Limits.{k_in_range, n_in_range, slot_count};
 ghost use Rattle.ground.specs.Tests.{all_below, count_below};
 ghost use Rattle.slots.specs.Report.{mask_below};
@@ -10,21 +10,17 @@ ghost use Rattle.slots.specs.Sound.{names_each, sound};
 ghost use Rattle.lent.specs.Layout.{waiting_at, row_length, column_length, kind_row, path_row, beside_row};
 ghost use Rattle.lent.specs.Words.{cell, column, slot_in, order_in, state_of};
 ghost use Rattle.lent.specs.Holds.{WithinRows};
-ghost use Rattle.soundness.specs.Checking.{may_enter, held_once, updates_kind, third_kind, excludes_kind, kind_lock, kind_holds, kind_wants, as_conversion, top_row, fine_row, row_fine, pages_fine, may_hold_more, column_under, under_kind, more_fine, deep_fine, open_kind, column_apart, apart_in, word_alone, column_alone, each_alone, alone_in, excludes, stands_alone};
+ghost use Rattle.soundness.specs.Checking.{may_enter, held_once, updates_kind, third_kind, excludes_kind, kind_lock, kind_holds, kind_wants, as_conversion, top_fine, row_fine, pages_fine, may_hold_more, Tells, column_passes, held_pass, under_kind, more_fine, deep_fine, open_kind, apart_in, word_alone, each_alone, alone_in, excludes, stands_alone};
 
 use ground::{HELD, LARGEST_K, LARGEST_N, SLOTS};
-use lent::cells::{
-    breadth_at, depth_at, k_of, kind_at, n_of, number_in, order_at, page_in, sized, top_at,
-    waiting_of, want_at, wanted_lock_at, wide, word_at,
-};
-use lent::granting::{
-    ALPHA, RHO, XI, column_has, held_lock_at, is_deep, others_hold, row_of, some_deep,
-};
+use lent::cells::{Column, k_of, n_of, number_in, order_at, page_in, sized, waiting_of};
+use lent::granting::{ALPHA, RHO, XI, row_of, some_deep};
 use lent::{BESIDE, PATH, STATE};
 use slots::locking::lock_table;
 use slots::operations::{
     DELETES, DELETES_THIRD, HIGHEST_KIND, INSERTS, INSERTS_THIRD, NEXTS, REGRADES, REGRADES_SECOND,
 };
+use std::array::from_fn;
 
 // The longest path, as the words have it.
 const DEPTH_LIMIT: u32 = HELD as u32;
@@ -33,16 +29,7 @@ const DEPTH_LIMIT: u32 = HELD as u32;
 pub fn numbers_in_range(k: usize, n: usize) -> bool
     ensures { result ≡ k_in_range k && n_in_range n }
 {
-    if k < 1 {
-        return false;
-    }
-    if LARGEST_K < k {
-        return false;
-    }
-    if n < 1 {
-        return false;
-    }
-    n <= LARGEST_N
+    (1..=LARGEST_K).contains(&k) && (1..=LARGEST_N).contains(&n)
 }
 
 // A slot of this kind holds its pages under ξ: it is an insertion, a deletion (of all kinds these alone have the half 1) or a regrading,
@@ -94,31 +81,36 @@ fn wants_conversion(kind: u32, lock: u32) -> bool
 
 // The top of the path, if there is one, is below n, and under a lock that the kind can hold it under. A slot that holds no more converts its
 // top, from α, if it wants it, and nothing else; of a slot that holds more this is asked of all its pages (`pages_fine`).
-fn top_fine(kind: u32, depth: u32, breadth: u32, n: u32, want: u32, lock: u32, top: u32) -> bool
-    ensures { result ≡ top_row kind depth breadth n want lock top }
+fn top_fine(slot: Column<'_>, n: u32) -> bool
+    ensures { result ≡ top_fine slot.entry.cells.now n slot.entry.s }
 {
-    let page = page_in(top);
-    let number = number_in(top);
-    let own = (0 < depth) & (want == page);
-    let converts = wants_conversion(kind, lock);
+    let kind = slot.kind();
+    let depth = slot.depth();
+    let page = page_in(slot.top());
+    let number = number_in(slot.top());
+    let own = (0 < depth) & (slot.want() == page);
+    let converts = wants_conversion(kind, slot.wanted_lock());
     ((depth == 0) | ((page < n) & kind_holds(kind, number)))
-        & ((1 < depth) | (0 < breadth) | (converts & own & (number == ALPHA)) | (!converts & !own))
+        & (slot.is_deep() | (converts & own & (number == ALPHA)) | (!converts & !own))
 }
 
-// A slot with these numbers may be sound, as far as the rows tell. A closed slot holds nothing, and its want is not looked at. The open
+// The slot may be sound, as far as the rows tell. A closed slot holds nothing, and its want is not looked at. The open
 // kinds are told from one another by their locks alone here, which keeps the rows quick: one page is within the limits of each, and what
 // a kind may hold beyond that is asked only of the slots that do (`more_fine`). Pages beside the path are fewer than on it, so within
 // their limit.
-fn is_fine(kind: u32, depth: u32, breadth: u32, n: u32, want: u32, lock: u32, top: u32) -> bool
-    ensures { result ≡ fine_row kind depth breadth n want lock top }
+fn is_fine(slot: Column<'_>, n: u32) -> bool
+    ensures { result ≡ row_fine slot.entry.cells.now n slot.entry.s }
 {
+    let kind = slot.kind();
+    let depth = slot.depth();
+    let breadth = slot.breadth();
     (kind <= HIGHEST_KIND)
         & (depth <= DEPTH_LIMIT)
         & ((kind != 0) | (depth == 0))
         & ((breadth == 0) | (breadth < depth))
-        & ((kind == 0) | (want < n))
-        & top_fine(kind, depth, breadth, n, want, lock, top)
-        & ((kind == 0) | kind_wants(kind, lock))
+        & ((kind == 0) | (slot.want() < n))
+        & top_fine(slot, n)
+        & ((kind == 0) | kind_wants(kind, slot.wanted_lock()))
 }
 
 // Every slot does.
@@ -126,86 +118,50 @@ fn rows_fine(cells: &[u32; STATE], n: u32) -> bool
     ensures { result ≡ all_below row_length (row_fine cells.now n) }
 {
     let mut good = true;
-    let mut s = 0;
-    while s < SLOTS {
-        good = good
-            & is_fine(
-                kind_at(cells, s),
-                depth_at(cells, s),
-                breadth_at(cells, s),
-                n,
-                want_at(cells, s),
-                wanted_lock_at(cells, s),
-                top_at(cells, s),
-            );
-        s += 1;
+    for s in 0..SLOTS {
+        good &= is_fine(Column { cells, s }, n);
     }
     good
 }
 
 // The first `count` rows from `row` on name pages below n, none of them `other`, none among the first `own` of the path, and none twice.
-fn may_enter(
-    cells: &[u32; STATE],
-    s: usize,
-    n: u32,
-    other: u32,
-    row: usize,
-    count: usize,
-    own: usize,
-) -> bool
-    requires { (s < row_length) × (row ≤ beside_row) × (count ≤ column_length) × (own ≤ column_length) }
-    ensures { result ≡ may_enter n other (take own (column cells.now path_row s)) (take count (column cells.now row s)) }
+fn may_enter(slot: Column<'_>, n: u32, other: u32, row: usize, count: usize, own: usize) -> bool
+    requires { (row ≤ beside_row) × (count ≤ column_length) × (own ≤ column_length) }
+    ensures { result ≡ may_enter n other (take own (column slot.entry.cells.now path_row slot.entry.s)) (take count (column slot.entry.cells.now row slot.entry.s)) }
 {
-    let mut i = 0;
-    while i < count {
-        let p = page_in(word_at(cells, row + i, s));
-        if n <= p {
+    for i in 0..count {
+        let p = page_in(slot.word(row + i));
+        if n <= p || p == other || slot.has(PATH, own, p) || slot.has(row, i, p) {
             return false;
         }
-        if p == other {
-            return false;
-        }
-        if column_has(cells, PATH, own, s, p) {
-            return false;
-        }
-        if column_has(cells, row, i, s, p) {
-            return false;
-        }
-        i += 1;
     }
     true
 }
 
-// All pages that slot s holds are below n, none of them is `other`, and it holds none twice.
-fn all_enter(cells: &[u32; STATE], s: usize, n: u32, other: u32) -> bool
-    requires { (s < row_length) × WithinRows cells.now }
-    ensures { result ≡ held_once n other (slot_in cells.now s) }
+// All pages that the slot holds are below n, none of them is `other`, and it holds none twice.
+fn all_enter(slot: Column<'_>, n: u32, other: u32) -> bool
+    requires { WithinRows slot.cells.now }
+    ensures { result ≡ held_once n other (slot_in slot.entry.cells.now slot.entry.s) }
 {
-    let depth = wide(depth_at(cells, s));
-    if !may_enter(cells, s, n, other, PATH, depth, 0) {
-        return false;
-    }
-    let breadth = wide(breadth_at(cells, s));
-    may_enter(cells, s, n, other, BESIDE, breadth, depth)
+    let depth = slot.depth() as usize;
+    let breadth = slot.breadth() as usize;
+    may_enter(slot, n, other, PATH, depth, 0) && may_enter(slot, n, other, BESIDE, breadth, depth)
 }
 
-// All pages that slot s names are below n, it holds none twice, and wants one that it holds only as a conversion, from α. Of a conversion
+// All pages that the slot names are below n, it holds none twice, and wants one that it holds only as a conversion, from α. Of a conversion
 // the wanted page may stand among the others; n may not, but no page below n is n.
-fn pages_fine(cells: &[u32; STATE], s: usize, n: u32) -> bool
-    requires { (s < row_length) × WithinRows cells.now }
-    ensures { result ≡ pages_fine cells.now n s }
+fn pages_fine(slot: Column<'_>, n: u32) -> bool
+    requires { WithinRows slot.cells.now }
+    ensures { result ≡ pages_fine slot.entry.cells.now n slot.entry.s }
 {
-    let want = want_at(cells, s);
+    let want = slot.want();
     if n <= want {
         return false;
     }
-    if !wants_conversion(kind_at(cells, s), wanted_lock_at(cells, s)) {
-        return all_enter(cells, s, n, want);
+    if !wants_conversion(slot.kind(), slot.wanted_lock()) {
+        return all_enter(slot, n, want);
     }
-    if held_lock_at(cells, s, want) != ALPHA {
-        return false;
-    }
-    all_enter(cells, s, n, n)
+    slot.held_lock(want) == ALPHA && all_enter(slot, n, n)
 }
 
 // A slot of this kind may hold more than one page, with so many beside its path: a deletion and a Next may, an insertion on its
@@ -219,45 +175,46 @@ fn may_hold_more(kind: u32, breadth: u32) -> bool
         | (((kind == INSERTS) | (kind == INSERTS_THIRD)) & (breadth == 0))
 }
 
-// The first `count` rows from `row` on, of slot s, have locks that a slot of this kind can hold a page under.
-fn column_under(cells: &[u32; STATE], s: usize, row: usize, count: usize, kind: u32) -> bool
-    requires { (s < row_length) × (row ≤ beside_row) × (count ≤ column_length) }
-    ensures { result ≡ column_under cells.now row s count kind }
+// The first `count` words of the slot, from row `from` on, pass a test.
+fn column_passes<F: Fn(u32) -> bool>(slot: Column<'_>, from: usize, count: usize, test: F) -> bool
+    requires place { (from ≤ beside_row) × (count ≤ column_length) }
+    requires callable { F.IsAlwaysCallable test }
+    ensures { (p : ℕ → Bool) → Tells (F.post test) p → result ≡ column_passes p slot.entry.cells.now from slot.entry.s count }
 {
-    let mut i = 0;
-    while i < count {
-        if !kind_holds(kind, number_in(word_at(cells, row + i, s))) {
+    // Stays: a loop of its own. With the range's `all` the test of a state takes a third longer.
+    for i in 0..count {
+        if !test(slot.word(from + i)) {
             return false;
         }
-        i += 1;
     }
     true
 }
 
-// All pages of slot s are held under locks that its kind can hold a page under.
-fn under_kind(cells: &[u32; STATE], s: usize) -> bool
-    requires { (s < row_length) × WithinRows cells.now }
-    ensures { result ≡ under_kind cells.now s }
+// The words of all pages that the slot holds do.
+fn held_pass<F: Fn(u32) -> bool>(slot: Column<'_>, test: F) -> bool
+    requires place { WithinRows slot.cells.now }
+    requires callable { F.IsAlwaysCallable test }
+    ensures { (p : ℕ → Bool) → Tells (F.post test) p → result ≡ held_pass p slot.entry.cells.now slot.entry.s }
 {
-    let kind = kind_at(cells, s);
-    if !column_under(cells, s, PATH, wide(depth_at(cells, s)), kind) {
-        return false;
-    }
-    column_under(cells, s, BESIDE, wide(breadth_at(cells, s)), kind)
+    column_passes(slot, PATH, slot.depth() as usize, &test)
+        && column_passes(slot, BESIDE, slot.breadth() as usize, &test)
 }
 
-// Slot s, which holds more than one page, may, its pages are fine, and held under locks that its kind can hold them under.
-fn more_fine(cells: &[u32; STATE], s: usize, n: u32) -> bool
-    requires { (s < row_length) × WithinRows cells.now }
-    ensures { result ≡ more_fine cells.now n s }
+// All pages of the slot are held under locks that its kind can hold a page under.
+fn under_kind(slot: Column<'_>) -> bool
+    requires { WithinRows slot.cells.now }
+    ensures { result ≡ under_kind slot.entry.cells.now slot.entry.s }
 {
-    if !may_hold_more(kind_at(cells, s), breadth_at(cells, s)) {
-        return false;
-    }
-    if !pages_fine(cells, s, n) {
-        return false;
-    }
-    under_kind(cells, s)
+    let kind = slot.kind();
+    held_pass(slot, |word| kind_holds(kind, number_in(word)))
+}
+
+// The slot, which holds more than one page, may, its pages are fine, and held under locks that its kind can hold them under.
+fn more_fine(slot: Column<'_>, n: u32) -> bool
+    requires { WithinRows slot.cells.now }
+    ensures { result ≡ more_fine slot.entry.cells.now n slot.entry.s }
+{
+    may_hold_more(slot.kind(), slot.breadth()) && pages_fine(slot, n) && under_kind(slot)
 }
 
 // Every slot that holds more than one page is so.
@@ -265,48 +222,36 @@ fn deep_fine(cells: &[u32; STATE], n: u32) -> bool
     requires { WithinRows cells.now }
     ensures { result ≡ all_below row_length (deep_fine cells.now n) }
 {
-    if !some_deep(cells) {
-        return true;
-    }
-    let mut s = 0;
-    while s < SLOTS {
-        if is_deep(cells, s) {
-            if !more_fine(cells, s, n) {
-                return false;
-            }
-        }
-        s += 1;
-    }
-    true
+    !some_deep(cells)
+        || (0..SLOTS).all(
+            |s|
+                requires { (s < row_length) × WithinRows cells.now }
+            {
+                let slot = Column { cells, s };
+                !slot.is_deep() || more_fine(slot, n)
+            },
+        )
 }
 
 // Which slots are open.
 fn busy_of(cells: &[u32; STATE]) -> [bool; SLOTS]
     ensures { (length result ≡ row_length) × ((s : ℕ) → s < row_length → get_or result s false ≡ open_kind (cell cells.now kind_row s)) }
 {
-    let mut busy = [false; SLOTS];
-    let mut s = 0;
-    while s < SLOTS {
-        let kind = kind_at(cells, s);
-        busy[s] = (kind != 0) & (kind <= HIGHEST_KIND);
-        s += 1;
-    }
-    busy
+    from_fn(
+        |s|
+            requires { s < row_length }
+        {
+            let kind = Column { cells, s }.kind();
+            (kind != 0) & (kind <= HIGHEST_KIND)
+        },
+    )
 }
 
 // How many slots are marked.
 fn marked(marks: [bool; SLOTS]) -> usize
     ensures { result ≡ count_below slot_count (λ (s : ℕ). get_or marks s false) }
 {
-    let mut count = 0;
-    let mut s = 0;
-    while s < SLOTS {
-        if marks[s] {
-            count += 1;
-        }
-        s += 1;
-    }
-    count
+    marks.iter().filter(|&&mark| mark).count()
 }
 
 // The waiting order names each open slot once and no other. As many slots must be open as wait: then an order that names
@@ -315,106 +260,55 @@ fn order_sound(cells: &[u32; STATE], waiting: usize, busy: [bool; SLOTS]) -> boo
     ensures { result ≡ names_each (λ (s : ℕ). get_or busy s false) waiting (order_in cells.now) }
 {
     sized(cells);
-    if SLOTS < waiting {
-        return false;
-    }
-    if waiting != marked(busy) {
+    if SLOTS < waiting || waiting != marked(busy) {
         return false;
     }
     let mut unnamed = busy;
-    let mut i = 0;
-    while i < waiting {
+    for i in 0..waiting {
         let s = order_at(cells, i);
-        if SLOTS <= s {
-            return false;
-        }
-        if !unnamed[s] {
+        if SLOTS <= s || !unnamed[s] {
             return false;
         }
         unnamed[s] = false;
-        i += 1;
     }
     true
 }
 
-// No other slot holds one of the first `count` pages from row `from` on, of slot s, under a lock that clashes with the kind of this row
-// of the table.
-fn column_apart(cells: &[u32; STATE], s: usize, from: usize, count: usize, row: [bool; 4]) -> bool
-    requires { (s < row_length) × (from ≤ beside_row) × (count ≤ column_length) × WithinRows cells.now }
-    ensures { result ≡ column_apart cells.now from s row count }
+// No other slot holds a page that the slot holds, under a lock that clashes with the kind of this row of the table.
+fn is_apart(slot: Column<'_>, row: [bool; 4]) -> bool
+    requires { WithinRows slot.cells.now }
+    ensures { result ≡ apart_in slot.entry.cells.now slot.entry.s row }
 {
-    let mut i = 0;
-    while i < count {
-        if others_hold(cells, s, row, page_in(word_at(cells, from + i, s))) {
-            return false;
-        }
-        i += 1;
-    }
-    true
+    held_pass(slot, |word| !slot.others_hold(row, page_in(word)))
 }
 
-// No other slot holds a page that slot s holds, under a lock that clashes with the kind of this row.
-fn is_apart(cells: &[u32; STATE], s: usize, row: [bool; 4]) -> bool
-    requires { (s < row_length) × WithinRows cells.now }
-    ensures { result ≡ apart_in cells.now s row }
+// No other slot holds the page of this word of the slot under a lock that clashes with the word's own.
+fn word_alone(slot: Column<'_>, table: [[bool; 4]; 4], word: u32) -> bool
+    requires { WithinRows slot.cells.now × (table ≡ lock_table) }
+    ensures { result ≡ word_alone slot.entry.cells.now slot.entry.s word }
 {
-    if !column_apart(cells, s, PATH, wide(depth_at(cells, s)), row) {
-        return false;
-    }
-    column_apart(cells, s, BESIDE, wide(breadth_at(cells, s)), row)
+    !slot.others_hold(row_of(table, number_in(word)), page_in(word))
 }
 
-// No other slot holds the page of this word of slot s under a lock that clashes with the word's own.
-fn word_alone(cells: &[u32; STATE], s: usize, table: [[bool; 4]; 4], word: u32) -> bool
-    requires { (s < row_length) × WithinRows cells.now × (table ≡ lock_table) }
-    ensures { result ≡ word_alone cells.now s word }
+// So of all pages that the slot holds.
+fn each_alone(slot: Column<'_>, table: [[bool; 4]; 4]) -> bool
+    requires { WithinRows slot.cells.now × (table ≡ lock_table) }
+    ensures { result ≡ each_alone slot.entry.cells.now slot.entry.s }
 {
-    !others_hold(cells, s, row_of(table, number_in(word)), page_in(word))
+    held_pass(slot, |word| word_alone(slot, table, word))
 }
 
-// So of the first `count` words from row `from` on.
-fn column_alone(
-    cells: &[u32; STATE],
-    s: usize,
-    from: usize,
-    count: usize,
-    table: [[bool; 4]; 4],
-) -> bool
-    requires { (s < row_length) × (from ≤ beside_row) × (count ≤ column_length) × WithinRows cells.now × (table ≡ lock_table) }
-    ensures { result ≡ column_alone cells.now from s count }
-{
-    let mut i = 0;
-    while i < count {
-        if !word_alone(cells, s, table, word_at(cells, from + i, s)) {
-            return false;
-        }
-        i += 1;
-    }
-    true
-}
-
-// So of all pages that slot s holds.
-fn each_alone(cells: &[u32; STATE], s: usize, table: [[bool; 4]; 4]) -> bool
-    requires { (s < row_length) × WithinRows cells.now × (table ≡ lock_table) }
-    ensures { result ≡ each_alone cells.now s }
-{
-    if !column_alone(cells, s, PATH, wide(depth_at(cells, s)), table) {
-        return false;
-    }
-    column_alone(cells, s, BESIDE, wide(breadth_at(cells, s)), table)
-}
-
-// No other slot holds a page of slot s, which holds under ξ or α, under a lock that clashes. By the third way each page is asked by its own
+// No other slot holds a page of the slot, which holds under ξ or α, under a lock that clashes. By the third way each page is asked by its own
 // lock. By the first all are under ξ: one row, known beforehand, is quicker.
-fn is_alone(cells: &[u32; STATE], s: usize, table: [[bool; 4]; 4]) -> bool
-    requires { (s < row_length) × WithinRows cells.now × (table ≡ lock_table) }
-    ensures { result ≡ alone_in cells.now s }
+fn is_alone(slot: Column<'_>, table: [[bool; 4]; 4]) -> bool
+    requires { WithinRows slot.cells.now × (table ≡ lock_table) }
+    ensures { result ≡ alone_in slot.entry.cells.now slot.entry.s }
 {
-    if is_third(kind_at(cells, s)) {
-        return each_alone(cells, s, table);
+    if is_third(slot.kind()) {
+        return each_alone(slot, table);
     }
-    let row = table[wide(XI) - 1];
-    is_apart(cells, s, row)
+    let row = table[XI as usize - 1];
+    is_apart(slot, row)
 }
 
 // A slot of this kind holds under ξ or α: an update by the first or the third way.
@@ -429,12 +323,10 @@ fn excluding(cells: &[u32; STATE]) -> u16
     ensures { result ≡ mask_below row_length (excludes cells.now) }
 {
     let mut mask = 0u16;
-    let mut s = 0;
-    while s < SLOTS {
-        if is_exclusive(kind_at(cells, s)) {
-            mask = mask | (1u16 << s);
+    for s in 0..SLOTS {
+        if is_exclusive(Column { cells, s }.kind()) {
+            mask |= 1u16 << s;
         }
-        s += 1;
     }
     mask
 }
@@ -447,12 +339,13 @@ fn no_clashes(cells: &[u32; STATE]) -> bool
 {
     let table = lock_table();
     let mut left = excluding(cells);
+    // Stays: a range would go over all sixteen slots, and so ask of each again what the mask tells of all in one go.
     while left != 0 {
-        let s = wide(u16::trailing_zeros(left));
-        if !is_alone(cells, s, table) {
+        let s = left.trailing_zeros() as usize;
+        if !is_alone(Column { cells, s }, table) {
             return false;
         }
-        left = left - (1u16 << s);
+        left -= 1u16 << s;
     }
     true
 }
@@ -471,18 +364,9 @@ pub fn is_sound(cells: &[u32; STATE]) -> bool
     ensures { result ≡ sound (state_of cells.now) }
 {
     let n = n_of(cells);
-    if !numbers_in_range(k_of(cells), n) {
-        return false;
-    }
-    let bound = n as u32;
-    if !rows_fine(cells, bound) {
-        return false;
-    }
-    if !waits_sound(cells) {
-        return false;
-    }
-    if !deep_fine(cells, bound) {
-        return false;
-    }
-    no_clashes(cells)
+    numbers_in_range(k_of(cells), n)
+        && rows_fine(cells, n as u32)
+        && waits_sound(cells)
+        && deep_fine(cells, n as u32)
+        && no_clashes(cells)
 }

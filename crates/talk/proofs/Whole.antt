@@ -4,8 +4,7 @@ use mathlib.Core.List.{List}
 use mathlib.Core.Path.{◌≡◌, sym, ap, ap₂, ◌∙◌, subst}
 use native.Mathlib.Omega.{arith}
 use borrow.Author.Tests.{lt-ltb, le-ltb}
-use lib.ListN.{length, take, drop, length-append}
-use lib.Seq.{length-take-le}
+use lib.ListN.{length, drop, length-append}
 use Rattle.slots.specs.declared.State.{State}
 use Rattle.slots.specs.declared.Answer.{Answer}
 use Rattle.lent.specs.Words.{state_of}
@@ -30,13 +29,10 @@ module _ (input out : List ℕ) {end : ℕ} {after : List ℕ} where
       ap₂ (λ (st : State) (ws : List ℕ). replies st ws (lines_of input)) made.state made.words in
       rw (le-ltb 65536 (length input) h) (subst (λ (whole : List ℕ). Writes whole out end after) all w)
 
--- what is written lies within the row, and is its front
+-- what is written lies within the row
 module _ {whole out : List ℕ} {end : ℕ} {after : List ℕ} (w : Writes whole out end after) where
   pub written_within : end ≤ length after
   written_within = omega (arith, ap length w.bytes, w.behind, length-append whole (drop (0 + length whole) out))
-
-  pub written_counted : end ≡ length (take end after)
-  written_counted = sym (length-take-le end after written_within)
 
 -- no second outcome satisfies the statement
 pub writes_once : (whole out : List ℕ) (end end' : ℕ) (after after' : List ℕ) → Writes whole out end after → Writes whole out end' after'

@@ -25,6 +25,7 @@ pub const MOST: usize = 65536;
 pub const ROOM: usize = 8 * MOST + 32;
 
 // Makes the call that a command names, and writes its answer.
+#[tactic(auto, using(crate::proofs::Obeying::begin_leaves, crate::proofs::Obeying::step_leaves, crate::proofs::Obeying::bad_leaves))]
 fn obey(
     state: &mut [u32; STATE],
     words: &mut [u32],
@@ -49,6 +50,8 @@ fn obey(
 }
 
 // Answers every line of an input.
+// Stays: a `while` over the lines' positions, no `split_inclusive` of the slice. `line_end`, whose contract says that only a line feed
+// ends a line, gives positions, and `Going` and the laws of `Split` go by them.
 fn answer_lines(state: &mut [u32; STATE], words: &mut [u32], input: &[u8], out: &mut [u8]) -> usize
     requires { 8 * length input.now + 32 ≤ length out.old }
     ensures { Writes (replies (state_of state.old) words.old (lines_of input.now)) out.old result out.new }

@@ -5,6 +5,7 @@ use crate::answering::{MOST, ROOM, answer};
 use std::io::{self, Input, Print, Read};
 
 // Reads until the room is used up or the input ends, and gives back how many bytes came.
+// Stays: the library's `read_exact` refuses an input that ends early, and its `read_to_end` needs a heap.
 fn read_full(from: &mut impl Read, room: &mut [u8]) -> io::Result<usize>
     ensures { IfOk result (λ got. got ≤ length room.new) }
 {
@@ -20,6 +21,7 @@ fn read_full(from: &mut impl Read, room: &mut [u8]) -> io::Result<usize>
 }
 
 // Reads the input, one byte more than may be answered, and writes the answers.
+#[tactic(auto, using(crate::proofs::Whole::written_within))]
 pub fn serve(rt: &(impl Input + Print)) -> io::Result<()> {
     let mut input = [0u8; MOST + 1];
     let mut from = rt.reader();

@@ -1,14 +1,16 @@
 // A line is a letter, then numbers, each behind one space, then a line feed. Bytes come one at a time, so that an input
 // may be of any length and come in pieces.
+ghost use Rattle.std.specs.Prelude.{◌≡◌, ◌≤◌, cond, [], ◌∷◌, ◌++◌, take};
+ghost use Rattle.lines.specs.Positions.{Alike};
+ghost use Rattle.tape.specs.Grammar.{is_over, fits, stand_behind, letter_behind, numbers_behind, worth_behind};
+
+use lines::{LARGEST, grown};
 
 // A line has at most so many numbers: a place, and a row of 16.
-pub const MOST: usize = 17;
-
-// A number is at most 4,294,967,295.
-const LARGEST: u64 = 4294967295;
+const MOST: usize = 17;
 
 // How far a line is read.
-#[derive(Clone, Copy)]
+#[derive(Clone, Copy, PartialEq, Eq)]
 pub enum Stand {
     // nothing of it
     Start,
@@ -26,142 +28,108 @@ pub enum Stand {
     Bad,
 }
 
-// A line as far as it is read; its numbers stand in a lent array.
-#[derive(Clone, Copy)]
+// A line as far as it is read.
+#[derive(Drop)]
 pub struct Reading {
-    pub stand: Stand,
-    pub letter: u8,
-    pub count: usize,
-    pub worth: u64,
+    stand: Stand,
+    letter: u8,
+    numbers: [u32; MOST],
+    // how many numbers are read
+    count: usize,
+    // what the digits of the next number are worth
+    worth: u64,
+    ghost room: { count ≤ 17 },
 }
 
-// Before the first byte of a line.
-pub fn start() -> Reading {
-    Reading {
-        stand: Stand::Start,
-        letter: 0,
-        count: 0,
-        worth: 0,
-    }
-}
-
-// Whether nothing of a line is read: an input that ends here has no unended line.
-pub fn is_start(r: Reading) -> bool {
-    let stand = r.stand;
-    match stand {
-        Stand::Start => true,
-        Stand::Letter => false,
-        Stand::Space => false,
-        Stand::Digits => false,
-        Stand::Spoiled => false,
-        Stand::Good => true,
-        Stand::Bad => true,
-    }
-}
-
-// The line as it was, at another place.
-fn at(r: Reading, stand: Stand) -> Reading {
-    Reading {
-        stand,
-        letter: r.letter,
-        count: r.count,
-        worth: r.worth,
-    }
-}
-
-// A byte that does not belong here: the line is spoiled, up to its line feed.
-fn spoils(r: Reading, b: u8) -> Reading {
-    if b == b'\n' {
-        return at(r, Stand::Bad);
-    }
-    at(r, Stand::Spoiled)
-}
-
-// The first byte of a line.
-fn first(b: u8) -> Reading {
-    if b'a' <= b && b <= b'z' {
-        return Reading {
-            stand: Stand::Letter,
-            letter: b,
+impl Reading {
+    // Before the first byte of a line.
+    pub fn new() -> Self
+        ensures stand { result.stand ≡ Stand.Start }
+        ensures numbers { take result.count result.numbers ≡ [] }
+    {
+        Reading {
+            stand: Stand::Start,
+            letter: 0,
+            numbers: [0; MOST],
             count: 0,
             worth: 0,
-        };
+        }
     }
-    spoils(start(), b)
-}
 
-// The byte behind the letter.
-fn behind_letter(r: Reading, b: u8) -> Reading {
-    if b == b' ' {
-        return at(r, Stand::Space);
+    pub fn stand(&self) -> Stand
+        ensures { result ≡ self.now.stand }
+    {
+        self.stand
     }
-    if b == b'\n' {
-        return at(r, Stand::Good);
-    }
-    spoils(r, b)
-}
 
-// One digit more. What is above LARGEST stays above it, whatever follows.
-fn grown(worth: u64, digit: u8) -> u64 {
-    if LARGEST < worth {
-        return worth;
+    pub fn letter(&self) -> u8
+        ensures { result ≡ self.now.letter }
+    {
+        self.letter
     }
-    worth * 10 + digit as u64
-}
 
-// A digit, or what spoils the line.
-fn digit(r: Reading, b: u8) -> Reading {
-    if b'0' <= b && b <= b'9' {
-        return Reading {
-            stand: Stand::Digits,
-            letter: r.letter,
-            count: r.count,
-            worth: grown(r.worth, b - b'0'),
-        };
+    pub fn numbers(&self) -> &[u32]
+        ensures { result.now ≡ take self.now.count self.now.numbers }
+    {
+        &self.numbers[..self.count]
     }
-    spoils(r, b)
-}
 
-// A number ends: it is put behind the others, if it is a number and there is room.
-fn ends(r: Reading, numbers: &mut [u32; MOST], stand: Stand, b: u8) -> Reading {
-    let worth = r.worth;
-    let count = r.count;
-    if LARGEST < worth {
-        return spoils(r, b);
+    // Whether nothing of a line is read: an input that ends here has no unended line.
+    pub fn is_start(&self) -> bool
+        ensures { result ≡ is_over self.now.stand }
+    {
+        matches!(self.stand, Stand::Start | Stand::Good | Stand::Bad)
     }
-    if MOST <= count {
-        return spoils(r, b);
-    }
-    numbers[count] = worth as u32;
-    Reading {
-        stand,
-        letter: r.letter,
-        count: count + 1,
-        worth: 0,
-    }
-}
 
-// A byte behind a digit.
-fn behind_digit(r: Reading, numbers: &mut [u32; MOST], b: u8) -> Reading {
-    if b == b' ' {
-        return ends(r, numbers, Stand::Space, b);
+    // One byte more. Behind the end of a line the next one starts.
+    pub fn take(&mut self, b: u8)
+        ensures stand { self.new.stand ≡ stand_behind self.old.stand (fits self.old.worth self.old.count) b }
+        ensures letter { self.new.letter ≡ letter_behind self.old.stand self.old.letter b }
+        ensures numbers { take self.new.count self.new.numbers ≡ numbers_behind self.old.stand self.old.worth (take self.old.count self.old.numbers) b }
+        ensures worth { Alike self.new.worth (worth_behind self.old.stand self.old.worth self.old.count b) }
+    {
+        match (self.stand, b) {
+            (Stand::Start | Stand::Good | Stand::Bad, b'a'..=b'z') => self.begin(b),
+            (Stand::Letter, b' ') => self.stand = Stand::Space,
+            (Stand::Letter, b'\n') => self.stand = Stand::Good,
+            (Stand::Space | Stand::Digits, b'0'..=b'9') => {
+                self.worth = grown(self.worth, b);
+                self.stand = Stand::Digits;
+            }
+            (Stand::Digits, b' ') => self.end(Stand::Space, Stand::Spoiled),
+            (Stand::Digits, b'\n') => self.end(Stand::Good, Stand::Bad),
+            (_, b'\n') => self.stand = Stand::Bad,
+            _ => self.stand = Stand::Spoiled,
+        }
     }
-    if b == b'\n' {
-        return ends(r, numbers, Stand::Good, b);
-    }
-    digit(r, b)
-}
 
-// One byte more. Behind the end of a line the next one starts.
-pub fn take(r: Reading, numbers: &mut [u32; MOST], b: u8) -> Reading {
-    let stand = r.stand;
-    match stand {
-        Stand::Start => first(b),
-        Stand::Letter => behind_letter(r, b),
-        Stand::Space => digit(r, b),
-        Stand::Digits => behind_digit(r, numbers, b),
-        Stand::Spoiled => spoils(r, b),
-        Stand::Good => first(b),
-        Stand::Bad => first(b),
+    // The letter of a line.
+    fn begin(&mut self, letter: u8)
+        ensures stand { self.new.stand ≡ Stand.Letter }
+        ensures letter { self.new.letter ≡ letter }
+        ensures numbers { take self.new.count self.new.numbers ≡ [] }
+        ensures worth { self.new.worth ≡ 0 }
+    {
+        self.stand = Stand::Letter;
+        self.letter = letter;
+        self.count = 0;
+        self.worth = 0;
+    }
+
+    // A number ends: it is put behind the others, if it is a number and there is room.
+    fn end(&mut self, good: Stand, bad: Stand)
+        ensures stand { self.new.stand ≡ cond (fits self.old.worth self.old.count) good bad }
+        ensures letter { self.new.letter ≡ self.old.letter }
+        ensures numbers { take self.new.count self.new.numbers ≡ cond (fits self.old.worth self.old.count) (take self.old.count self.old.numbers ++ self.old.worth ∷ []) (take self.old.count self.old.numbers) }
+        ensures worth { self.new.worth ≡ cond (fits self.old.worth self.old.count) 0 self.old.worth }
+    {
+        if self.worth <= LARGEST && self.count < MOST {
+            self.numbers[self.count] = self.worth as u32;
+            self.count += 1;
+            self.worth = 0;
+            self.stand = good;
+        } else {
+            self.stand = bad;
+        }
     }
 }

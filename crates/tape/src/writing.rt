@@ -1,74 +1,99 @@
 // Bytes to be written are gathered, and go out when the room is used up or when `flush` is called.
+ghost use Rattle.std.specs.Prelude.{◌≡◌, ◌≤◌, [], ◌∷◌, take, OnOk};
+ghost use Rattle.lines.specs.Decimal.{decimal};
+ghost use Rattle.tape.specs.Gathered.{gather, spelled};
+
 use answers::write_number;
 use std::io::{self, Print};
 
-pub const OUT: usize = 65536;
+const ROOM: usize = 65536;
 
 // The most digits of a number.
 const DIGITS: usize = 10;
 
-// Writes out what is gathered.
-pub fn flush(rt: &impl Print, out: &[u8], at: usize) -> io::Result<()> {
-    if at <= out.len() {
-        rt.write_all(&out[..at])?;
-    }
-    Ok(())
+pub struct Output<'a, R: Print> {
+    rt: &'a R,
+    gathered: [u8; ROOM],
+    // how many bytes are gathered
+    end: usize,
+    ghost room: { end ≤ 65536 },
 }
 
-// One byte more, and the position behind it.
-pub fn put_byte(rt: &impl Print, out: &mut [u8; OUT], at: usize, b: u8) -> io::Result<usize> {
-    if OUT <= at {
-        rt.write_all(out)?;
-        out[0] = b;
-        return Ok(1);
+impl<R: Print> Drop for Output<'_, R> {
+    fn drop(self) {
+        let Output {
+            rt: _,
+            gathered: _,
+            end: _,
+        } = self;
     }
-    out[at] = b;
-    Ok(at + 1)
 }
 
-// A word.
-pub fn put_word(rt: &impl Print, out: &mut [u8; OUT], at: usize, word: &[u8]) -> io::Result<usize> {
-    let mut end = at;
-    let mut i = 0;
-    while i < word.len() {
-        end = put_byte(rt, out, end, word[i])?;
-        i += 1;
+impl<'a, R: Print> Output<'a, R> {
+    pub fn new(rt: &'a R) -> Self
+        ensures { result.end ≡ 0 }
+    {
+        Output {
+            rt,
+            gathered: [0; ROOM],
+            end: 0,
+        }
     }
-    Ok(end)
-}
 
-// A number in decimal.
-pub fn put_number(rt: &impl Print, out: &mut [u8; OUT], at: usize, n: u32) -> io::Result<usize> {
-    let mut digits = [0u8; DIGITS];
-    let count = write_number(&mut digits, 0, n);
-    put_word(rt, out, at, &digits[..count])
-}
-
-// A space and a number, for each of some words.
-pub fn put_numbers(
-    rt: &impl Print,
-    out: &mut [u8; OUT],
-    at: usize,
-    words: &[u32],
-) -> io::Result<usize> {
-    let mut end = at;
-    let mut i = 0;
-    while i < words.len() {
-        end = put_byte(rt, out, end, b' ')?;
-        end = put_number(rt, out, end, words[i])?;
-        i += 1;
+    // Writes out what is gathered.
+    pub fn flush(&mut self) -> io::Result<()>
+        ensures { OnOk result (self.new.end ≡ 0) }
+    {
+        self.rt.write_all(&self.gathered[..self.end])?;
+        self.end = 0;
+        Ok(())
     }
-    Ok(end)
+
+    // One byte more.
+    pub fn byte(&mut self, b: u8) -> io::Result<()>
+        ensures { OnOk result (take self.new.end self.new.gathered ≡ gather (take self.old.end self.old.gathered) (b ∷ [])) }
+    {
+        if self.end == ROOM {
+            self.flush()?;
+        }
+        self.gathered[self.end] = b;
+        self.end += 1;
+        Ok(())
+    }
+
+    // A word.
+    pub fn word(&mut self, word: &[u8]) -> io::Result<()>
+        ensures { OnOk result (take self.new.end self.new.gathered ≡ gather (take self.old.end self.old.gathered) word.now) }
+    {
+        for b in word {
+            self.byte(*b)?;
+        }
+        Ok(())
+    }
+
+    // A number in decimal.
+    #[tactic(auto, using(lines::proofs::Decimals::word_short))]
+    pub fn number(&mut self, n: u32) -> io::Result<()>
+        ensures { OnOk result (take self.new.end self.new.gathered ≡ gather (take self.old.end self.old.gathered) (decimal n)) }
+    {
+        let mut digits = [0u8; DIGITS];
+        let count = write_number(&mut digits, 0, n);
+        self.word(&digits[..count])
+    }
+
+    // A space and a number, for each of some words.
+    pub fn numbers(&mut self, words: &[u32]) -> io::Result<()>
+        ensures { OnOk result (take self.new.end self.new.gathered ≡ gather (take self.old.end self.old.gathered) (spelled words.now)) }
+    {
+        for word in words {
+            self.byte(b' ')?;
+            self.number(*word)?;
+        }
+        Ok(())
+    }
 }
 
 // The sum of some words: each one counts as 33 of those behind it.
 pub fn sum(words: &[u32]) -> u32 {
-    let mut sum = 0u32;
-    let mut i = 0;
-    while i < words.len() {
-        let more = std::num::wrapping_add_u32(sum << 5, sum);
-        sum = std::num::wrapping_add_u32(more, words[i]);
-        i += 1;
-    }
-    sum
+    words.iter().fold(0, |sum: u32, word| sum.wrapping_mul(33).wrapping_add(*word))
 }

@@ -3,86 +3,8 @@ use native.Mathlib.Omega.{arith}
 use lib.Dec.{lit≤}
 use Rattle.slots.specs.declared.Answer.TheVariants.{Waiting, Moved, Found, NotFound, Inserted, AlreadyThere, Deleted, NoSuchKey, NoRoom, Begun, Made, Reported, Next, None, Regraded, BadState, BadPool, BadSlot, SlotBusy, SlotIdle, Damaged, BadPage, Opened, BadPageInPool, BadTree, BadKey}
 use Rattle.lines.specs.Text.{bytes}
-use Rattle.answers.proofs.Answers.{answered, informed-short, next-short, room}
+use Rattle.answers.proofs.Answers.{answered, informed-short, next-short}
 use Rattle.answers.proofs.writing.write_answer.Goals as goal
-
-pub write_word-requires : goal.write_word-requires
-write_word-requires c = room _ _ c.requires (lit≤ tt)
-
-pub write_word-requires-in-BadPool : goal.write_word-requires-in-BadPool
-write_word-requires-in-BadPool c = room _ _ c.requires (lit≤ tt)
-
-pub write_word-requires-in-BadSlot : goal.write_word-requires-in-BadSlot
-write_word-requires-in-BadSlot c = room _ _ c.requires (lit≤ tt)
-
-pub write_word-requires-in-SlotBusy : goal.write_word-requires-in-SlotBusy
-write_word-requires-in-SlotBusy c = room _ _ c.requires (lit≤ tt)
-
-pub write_word-requires-in-SlotIdle : goal.write_word-requires-in-SlotIdle
-write_word-requires-in-SlotIdle c = room _ _ c.requires (lit≤ tt)
-
-pub write_word-requires-in-Damaged : goal.write_word-requires-in-Damaged
-write_word-requires-in-Damaged c = room _ _ c.requires (lit≤ tt)
-
-pub write_word-requires-in-BadPage : goal.write_word-requires-in-BadPage
-write_word-requires-in-BadPage c = room _ _ c.requires (lit≤ tt)
-
-pub write_word-requires-in-Waiting : goal.write_word-requires-in-Waiting
-write_word-requires-in-Waiting c = room _ _ c.requires (lit≤ tt)
-
-pub write_word-requires-in-Moved : goal.write_word-requires-in-Moved
-write_word-requires-in-Moved c = room _ _ c.requires (lit≤ tt)
-
-pub write_value-requires : goal.write_value-requires
-write_value-requires c = omega (arith, c.requires)
-
-pub write_word-requires-in-NotFound : goal.write_word-requires-in-NotFound
-write_word-requires-in-NotFound c = room _ _ c.requires (lit≤ tt)
-
-pub write_word-requires-in-Inserted : goal.write_word-requires-in-Inserted
-write_word-requires-in-Inserted c = room _ _ c.requires (lit≤ tt)
-
-pub write_value-requires-in-AlreadyThere : goal.write_value-requires-in-AlreadyThere
-write_value-requires-in-AlreadyThere c = omega (arith, c.requires)
-
-pub write_value-requires-in-Deleted : goal.write_value-requires-in-Deleted
-write_value-requires-in-Deleted c = omega (arith, c.requires)
-
-pub write_word-requires-in-NoSuchKey : goal.write_word-requires-in-NoSuchKey
-write_word-requires-in-NoSuchKey c = room _ _ c.requires (lit≤ tt)
-
-pub write_word-requires-in-NoRoom : goal.write_word-requires-in-NoRoom
-write_word-requires-in-NoRoom c = room _ _ c.requires (lit≤ tt)
-
-pub write_word-requires-in-Begun : goal.write_word-requires-in-Begun
-write_word-requires-in-Begun c = room _ _ c.requires (lit≤ tt)
-
-pub write_word-requires-in-Made : goal.write_word-requires-in-Made
-write_word-requires-in-Made c = room _ _ c.requires (lit≤ tt)
-
-pub write_word-requires-in-Reported : goal.write_word-requires-in-Reported
-write_word-requires-in-Reported c = room _ _ c.requires (lit≤ tt)
-
-pub write_lot-requires : goal.write_lot-requires
-write_lot-requires c = omega (arith, c.requires)
-
-pub write_word-requires-in-None : goal.write_word-requires-in-None
-write_word-requires-in-None c = room _ _ c.requires (lit≤ tt)
-
-pub write_value-requires-in-Regraded : goal.write_value-requires-in-Regraded
-write_value-requires-in-Regraded c = omega (arith, c.requires)
-
-pub write_word-requires-in-Opened : goal.write_word-requires-in-Opened
-write_word-requires-in-Opened c = room _ _ c.requires (lit≤ tt)
-
-pub write_value-requires-in-BadPageInPool : goal.write_value-requires-in-BadPageInPool
-write_value-requires-in-BadPageInPool c = omega (arith, c.requires)
-
-pub write_word-requires-in-BadTree : goal.write_word-requires-in-BadTree
-write_word-requires-in-BadTree c = room _ _ c.requires (lit≤ tt)
-
-pub write_word-requires-in-BadKey : goal.write_word-requires-in-BadKey
-write_word-requires-in-BadKey c = room _ _ c.requires (lit≤ tt)
 
 pub returns-in-BadState : goal.returns-in-BadState
 returns-in-BadState c = answered BadState c.args.out.now c.args.at c.in-BadState.is c.write_word.ensures (lit≤ tt)

@@ -6,18 +6,9 @@ use native.Mathlib.Omega.{arith}
 use lib.ListN.{length}
 use Rattle.lines.specs.Text.{laid}
 use Rattle.lines.specs.Decimal.{decimal}
-use Rattle.lines.proofs.Decimals.{word_short}
 use Rattle.lines.proofs.LaidLaws.{laid_two, behind_two}
 use Rattle.answers.proofs.Answers.{value-behind}
 use Rattle.answers.proofs.writing.write_lot.Goals as goal
-
-pub write_number-end-requires : goal.write_number-end-requires
-write_number-end-requires c =
-    omega (arith, c.write_word-behind.ensures.1, c.write_word-behind.auto.out, c.requires, word_short c.args.key c.ranges.key.fits)
-
-pub write_value-requires : goal.write_value-requires
-write_value-requires c =
-    omega (arith, c.write_number-end.ensures.1, c.write_number-end.auto.out, c.write_word-behind.ensures.1, c.write_word-behind.auto.out, c.requires, word_short c.args.key c.ranges.key.fits)
 
 pub returns : goal.returns
 returns c =

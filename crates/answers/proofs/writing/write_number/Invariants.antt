@@ -2,8 +2,5 @@
 use Rattle.answers.proofs.Spelling.{Spelling}
 use Rattle.answers.proofs.writing.write_number.Given as goal
 
-abbrev pub invariant-loop-left : goal.invariant-loop-left
-invariant-loop-left l = Spelling l.initial.out l.at l.n l.out l.left l.i
-
-abbrev pub decreases-loop-left : goal.decreases-loop-left
-decreases-loop-left l = l.left
+abbrev pub invariant-loop-place : goal.invariant-loop-place
+invariant-loop-place l = Spelling l.initial.out l.at l.n l.out l.left l.place

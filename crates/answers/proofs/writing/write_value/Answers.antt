@@ -3,17 +3,8 @@ use Prim.Native.Nat.{ℕ}
 use mathlib.Core.List.{List, [], ◌∷◌, ◌++◌}
 use native.Mathlib.Omega.{arith}
 use Rattle.lines.specs.Decimal.{decimal}
-use Rattle.lines.proofs.Decimals.{word_short}
 use Rattle.lines.proofs.LaidLaws.{laid_two, behind_two}
 use Rattle.answers.proofs.writing.write_value.Goals as goal
-
-pub write_number-end-requires : goal.write_number-end-requires
-write_number-end-requires c =
-    omega (arith, c.write_word-behind.ensures.1, c.write_word-behind.auto.out, c.requires, word_short c.args.n c.ranges.n.fits)
-
-pub write_word-requires : goal.write_word-requires
-write_word-requires c =
-    omega (arith, c.write_number-end.ensures.1, c.write_number-end.auto.out, c.write_word-behind.ensures.1, c.write_word-behind.auto.out, c.requires, word_short c.args.n c.ranges.n.fits)
 
 pub returns : goal.returns
 returns c =

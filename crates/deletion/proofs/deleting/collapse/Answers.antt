@@ -7,7 +7,7 @@ use Rattle.deletion.proofs.deleting.collapse.Goals as goal
 
 pub returns : goal.returns
 returns c =
-    applied_three c.args.k (write c.args.f (sheet_page c.args.s)) (write c.args.l free_page) (write c.args.w free_page)
+    applied_three c.args.shape.k (write c.args.f (sheet_page c.args.s)) (write c.args.l free_page) (write c.args.w free_page)
     c.args.words.now
     c.lay_at.ensures
     c.clear_at.ensures

@@ -1,20 +1,12 @@
 -- Each way through the code is one way through the rule, with the joined page in the buffer for its value.
-use Rattle.deletion.proofs.DeleteLaws.{cutting, joining, settled_shares, settled_collapses, settled_unites, alike, father_readable}
+use Rattle.deletion.proofs.DeleteLaws.{cutting, joining, settled_shares, settled_collapses, settled_unites}
 use Rattle.deletion.proofs.deleting.settle.Goals as goal
-
-pub join_of-s-requires : goal.join_of-s-requires
-join_of-s-requires c =
-    let h = c.requires in
-    record { in_pool = (h.three.left, h.three.right); exact = (h.left_exact, h.right_exact); l_value = alike h; w_bound = h.few }
 
 pub share-requires : goal.share-requires
 share-requires c = cutting c.requires c.join_of-s.ensures c.if-spares.true
 
 pub returns-then-spares : goal.returns-then-spares
 returns-then-spares c = let both = settled_shares c.requires c.join_of-s.ensures c.if-spares.true c.share.ensures in record { words_after = both.0; value = both.1 }
-
-pub at_last_key-requires : goal.at_last_key-requires
-at_last_key-requires c = let h = c.requires in record { in_pool = h.three.father; readable = father_readable h }
 
 pub collapse-requires : goal.collapse-requires
 collapse-requires c = joining c.requires c.join_of-s.ensures c.if-spares.false

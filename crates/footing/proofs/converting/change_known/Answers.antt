@@ -1,43 +1,34 @@
 -- What is looked up under the key tells first, and then the siblings.
-use Prim.Native.Nat.{◌-◌}
+use Prim.Native.Nat.{◌-◌, ◌≤◌}
+use mathlib.Core.Path.{◌≡◌}
 use native.Mathlib.Omega.{arith}
+use borrow.Author.Rules.{rules}
+use lib.ListN.{length}
+use lib.Seq.{length-take-le}
 use Rattle.ground.specs.Limits.{path_holds}
-use Rattle.pool.specs.Pool.{page_at}
-use Rattle.change.specs.Held.{leaf_of, fathers_of}
-use Rattle.change.proofs.NeedLaws.{path_known}
-use Rattle.slots.specs.Parts.{key_of, stand_of}
-use Rattle.footing.proofs.ConvertLaws.{read_at_once, known_answered, known_siblings}
+use Rattle.change.proofs.HeldLaws.{held_front}
+use Rattle.slots.specs.Parts.{path_of, beside_of}
+use Rattle.footing.proofs.KeepLaws.{cell_known}
+use Rattle.footing.proofs.converting.change_known.Goals.{Start}
 use Rattle.footing.proofs.converting.change_known.Goals as goal
 
+long : (c : Start) → c.args.slot.depth ≤ length c.args.slot.path
+unfolding path_holds
+long c =
+    let path : length c.args.slot.path ≡ 10 = search rules in
+    omega (arith, c.requires.0)
+
+some : (c : Start) → 1 ≤ c.args.slot.depth
+unfolding path_of
+some c = omega (arith, c.requires.2.some, length-take-le c.args.slot.depth c.args.slot.path (long c))
+
 pub overflow_sub-slot : goal.overflow_sub-slot
-overflow_sub-slot c = c.requires.some
-
-pub offset_bounds-path-slot : goal.offset_bounds-path-slot
-unfolding path_holds
-offset_bounds-path-slot c = omega (arith, c.requires.deep)
-
-pub bounds-path-slot : goal.bounds-path-slot
-unfolding path_holds
-bounds-path-slot c = omega (arith, c.requires.some, c.requires.deep)
+overflow_sub-slot c = some (goal.at.overflow_sub-slot c).Start
 
 pub look_of-lot-requires : goal.look_of-lot-requires
+unfolding path_of
 look_of-lot-requires c =
-    let known = path_known (key_of c.args.op) c.requires (c.args.slot.depth - 1) (omega (arith, c.requires.some)) in
+    let slot = c.args.slot in
+    let start = (goal.at.look_of-lot-requires c).Start in
+    let known = cell_known slot.path slot.depth (long start) (held_front (path_of slot) (beside_of slot) c.requires.2.held) (slot.depth - 1) (omega (arith, some start)) in
     record { in_pool = known.in_pool; readable = known.readable; p_value = known.facts.rising }
-
-pub returns-then-at_once : goal.returns-then-at_once
-returns-then-at_once c =
-    let slot = c.args.slot in
-    let memory = page_at c.args.k c.args.words.now in
-    known_answered c.args.k memory (stand_of c.args.op slot) (leaf_of slot.depth slot.path) (fathers_of slot.depth slot.path)
-    (read_at_once c.args.op _ c.key_asked.ensures c.look_of-lot.ensures c.at_once.ensures) c.if-at_once.true
-
-pub needs_no_more-requires : goal.needs_no_more-requires
-needs_no_more-requires c = c.requires
-
-pub returns : goal.returns
-returns c =
-    let slot = c.args.slot in
-    let memory = page_at c.args.k c.args.words.now in
-    known_siblings c.args.k memory (stand_of c.args.op slot) (leaf_of slot.depth slot.path) (fathers_of slot.depth slot.path)
-    (read_at_once c.args.op _ c.key_asked.ensures c.look_of-lot.ensures c.at_once.ensures) c.if-at_once.false c.needs_no_more.ensures

@@ -1,145 +1,110 @@
 -- The rule for a deletion at its leaf, a test at a time: the operation and its way, the key, what is needed next, and the levels.
-use Prim.Native.Nat.{ℕ, ◌+◌, ◌-◌}
-use mathlib.Core.Bool.{true, false}
+use Prim.Native.Nat.{ℕ, ◌+◌, ◌-◌, ◌≤◌}
+use mathlib.Core.Bool.{not}
 use mathlib.Core.List.{List, [], ◌∷◌, ◌++◌, reverse}
-use mathlib.Core.Path.{◌≡◌, refl, sym, ap, ◌∙◌}
+use mathlib.Core.Path.{◌≡◌, sym, ap, ◌∙◌, subst, subst₂}
 use native.Mathlib.Omega.{arith}
 use borrow.Author.Rules.{rules}
-use borrow.Author.Tests.{eq-eqb, ne_eqb}
+use borrow.Author.Tests.{not-true, not-false}
 use lib.ListN.{length, take}
+use lib.Seq.{length-take-le}
 use Rattle.ground.specs.Limits.{path_holds}
 use Rattle.ground.specs.Tests.{padded}
-use Rattle.ground.proofs.Bools.{not_both}
+use Rattle.change.specs.Held.{Held, Needing}
+use Rattle.change.proofs.HeldLaws.{held_front}
+use Rattle.slots.specs.Parts.{key_of, path_of, beside_of, locks_of, sidelocks_of}
+use Rattle.footing.specs.Fitting.{same_levels}
+use Rattle.footing.proofs.ConvertLaws.{needs_sibling}
 use Rattle.pool.specs.Pool.{page_at}
-use Rattle.change.specs.Held.{Needing, need_of}
-use Rattle.change.specs.declared.needing.Need.{Need}
-use Rattle.change.specs.declared.needing.Need.TheVariants.{Nothing, Sibling, Astray}
-use Rattle.change.proofs.NeedLaws.{path_known}
-use Rattle.slots.specs.declared.Op.{Op}
-use Rattle.slots.specs.declared.Op.TheVariants.{Search, Insert, Delete, Next, Regrade}
-use Rattle.slots.specs.declared.Way.{Way}
-use Rattle.slots.specs.declared.Way.TheVariants.{First, Second, Third}
-use Rattle.slots.specs.Parts.{key_of, is_delete, is_second, path_of, beside_of, locks_of, sidelocks_of, stand_of}
-use Rattle.footing.specs.Fitting.{is_sibling}
-use Rattle.footing.specs.Standing.{is_there}
-use Rattle.footing.proofs.KeepLaws.{beside_needing, beside_added, beside_held, beside_idle, beside_missing, beside_other, beside_levels}
+use Rattle.footing.proofs.KeepLaws.{cell_known, leaf_some, needs_taken, beside_needing, beside_added, beside_held, beside_missing, beside_other, beside_levels}
 use Rattle.footing.proofs.fitting.fits_beside.Goals.{Start}
 use Rattle.footing.proofs.fitting.fits_beside.Goals as goal
 
--- an operation of another kind is no deletion
-no-deletion : (o : Op) → ((x : ℕ) (way : Way) → o ≡ Delete x way → ⊥) → is_delete o ≡ false
-no-deletion (Search x) t = refl
-no-deletion (Insert x v First) t = refl
-no-deletion (Insert x v Second) t = refl
-no-deletion (Insert x v Third) t = refl
-no-deletion (Delete x way) t = absurd (t x way refl)
-no-deletion (Next x) t = refl
-no-deletion (Regrade x v First) t = refl
-no-deletion (Regrade x v Second) t = refl
-no-deletion (Regrade x v Third) t = refl
+-- the path has a page, and the cells are there
+some : (c : Start) → 1 ≤ c.args.slot.depth
+unfolding path_of
+some c = leaf_some (page_at c.args.shape.k c.args.words.now) c.args.slot.path c.args.slot.depth c.requires.slot_value_2
 
--- nor is one by the second way such a one
-second-deletion : {o : Op} {x : ℕ} {way : Way} → o ≡ Delete x way → is_second (Delete x way) ≡ true → is_delete o ≡ false
-second-deletion {x = x} {way} told second = ap is_delete told ∙ by_way way second
-  where
-    by_way : (w : Way) → is_second (Delete x w) ≡ true → is_delete (Delete x w) ≡ false
-    by_way First e = not_both e refl
-    by_way Second e = refl
-    by_way Third e = not_both e refl
+long : (c : Start) → c.args.slot.depth ≤ length c.args.slot.path
+unfolding path_holds
+long c =
+    let cells : length c.args.slot.path ≡ 10 = search rules in
+    omega (arith, c.requires.depth_le_path_holds.0)
 
--- another answer asks for no sibling
-no-sibling : (r : Need) (want : ℕ) → ((s : ℕ) → r ≡ Sibling s → ⊥) → is_sibling (need_of r) want ≡ false
-no-sibling Nothing want t = refl
-no-sibling (Sibling s) want t = absurd (t s refl)
-no-sibling Astray want t = refl
+short : (c : Start) → c.args.slot.breadth ≤ length c.args.slot.beside
+unfolding path_holds
+short c =
+    let cells : length c.args.slot.beside ≡ 10 = search rules in
+    omega (arith, c.requires.depth_le_path_holds.1)
 
--- the slot's cells are those of a deletion at its leaf
-stands : (c : Start)
-    → Needing c.args.k c.args.n c.args.words.now c.args.slot.path c.args.slot.depth c.args.slot.beside c.args.slot.breadth
-unfolding path_of beside_of path_holds
+-- its pages are those of a deletion at its leaf
+stands : (c : Start) → Needing c.args.shape.k c.args.shape.n c.args.words.now (path_of c.args.slot) (beside_of c.args.slot)
+unfolding path_of beside_of
 stands c =
     let slot = c.args.slot in
     let asks = c.requires.depth_le_path_holds in
-    let cells : length slot.path ≡ 10 = search rules in
-    let cells' : length slot.beside ≡ 10 = search rules in
-    beside_needing (key_of c.args.op) slot.path slot.depth slot.beside slot.breadth slot.want cells cells' asks.0 asks.1 asks.2 c.requires.slot_value c.requires.slot_value_2
+    beside_needing (key_of c.args.op) (path_of slot) (beside_of slot) slot.want
+    (omega (arith, asks.0, length-take-le slot.depth slot.path (long c)))
+    (omega (arith, asks.1, length-take-le slot.breadth slot.beside (short c)))
+    asks.2 c.requires.slot_value c.requires.slot_value_2
 
 -- the siblings' cells, with the wanted page behind them
 added : (c : Start) {wider : List ℕ} → wider ≡ padded path_holds (take c.args.slot.breadth c.args.slot.beside ++ c.args.slot.want ∷ [])
     → take (c.args.slot.breadth + 1) wider ≡ take c.args.slot.breadth c.args.slot.beside ++ c.args.slot.want ∷ []
 added c e =
     let slot = c.args.slot in
-    beside_added slot.beside slot.breadth slot.want (omega (arith, (stands c).few, (stands c).beside_cells)) e
-
-pub returns-in_default : goal.returns-in_default
-returns-in_default c =
-    beside_idle c.args.k (page_at c.args.k c.args.words.now) (stand_of c.args.op c.args.slot) (reverse (path_of c.args.slot))
-    (no-deletion c.args.op c.in_default.not-Delete)
-
-pub returns-then-is_second : goal.returns-then-is_second
-returns-then-is_second c =
-    beside_idle c.args.k (page_at c.args.k c.args.words.now) (stand_of c.args.op c.args.slot) (reverse (path_of c.args.slot))
-    (second-deletion c.in-Delete.is (sym c.is_second.ensures ∙ c.if-is_second.true))
-
-pub overflow_sub-depth : goal.overflow_sub-depth
-overflow_sub-depth c = (stands (goal.at.overflow_sub-depth c).Start).some
-
-pub offset_bounds-path-depth : goal.offset_bounds-path-depth
-unfolding path_holds
-offset_bounds-path-depth c = omega (arith, c.requires.depth_le_path_holds.0)
-
-pub bounds-path-depth : goal.bounds-path-depth
-unfolding path_holds
-bounds-path-depth c = omega (arith, (stands (goal.at.bounds-path-depth c).Start).some, c.requires.depth_le_path_holds.0)
+    beside_added slot.beside slot.breadth slot.want (short c) e
 
 pub look_of-requires : goal.look_of-requires
+unfolding path_of beside_of
 look_of-requires c =
-    let known = path_known (key_of c.args.op) (stands (goal.at.look_of-requires c).Start) (c.args.slot.depth - 1) (omega (arith, (stands (goal.at.look_of-requires c).Start).some)) in
+    let slot = c.args.slot in
+    let start = (goal.at.look_of-requires c).Start in
+    let known = cell_known slot.path slot.depth (long start) (held_front (path_of slot) (beside_of slot) (stands start).held) (slot.depth - 1) (omega (arith, some start)) in
     record { in_pool = known.in_pool; readable = known.readable; p_value = known.facts.rising }
 
-pub returns-in_default-look_of : goal.returns-in_default-look_of
+pub returns-then-is_none : goal.returns-then-is_none
 unfolding path_of beside_of
-returns-in_default-look_of c =
+returns-then-is_none c =
     let slot = c.args.slot in
-    beside_missing (stands (goal.at.returns-in_default-look_of c).Start) (locks_of slot) (sidelocks_of slot) slot.want slot.lock c.in-Delete.is (sym c.is_second.ensures ∙ c.if-is_second.false) c.look_of.ensures
-    (ap is_there c.in_default-look_of.is)
+    let start = (goal.at.returns-then-is_none c).Start in
+    beside_missing c.args.shape.k c.args.words.now slot.path slot.depth slot.beside slot.breadth (some start) (long start) (locks_of slot) (sidelocks_of slot) slot.want slot.lock
+    c.in-Delete.is (sym c.is_second.ensures ∙ c.if-is_second.false) c.look_of.ensures (c.is_none.ensures ∙ ap not c.if-is_none.true)
+
+pub returns-then-ne : goal.returns-then-ne
+unfolding path_of beside_of
+returns-then-ne c =
+    let slot = c.args.slot in
+    let start = (goal.at.returns-then-ne c).Start in
+    beside_other c.args.shape.k c.args.words.now slot.path slot.depth slot.beside slot.breadth (some start) (long start) (locks_of slot) (sidelocks_of slot) slot.want slot.lock
+    c.in-Delete.is (sym c.is_second.ensures ∙ c.if-is_second.false)
+    (c.needs.ensures ∙ needs_taken c.args.shape.k (page_at c.args.shape.k c.args.words.now) c.in-Delete.x slot.path slot.depth (some start) (long start) c.path_pages-path.ensures c.beside_pages.ensures)
+    (sym (needs_sibling _ c.needs.result slot.want) ∙ not-true _ (sym c.ne.ensures ∙ c.if-ne.true))
+
+pub overflow_sub-slot : goal.overflow_sub-slot
+overflow_sub-slot c = some (goal.at.overflow_sub-slot c).Start
 
 pub needs-requires : goal.needs-requires
-needs-requires c = stands (goal.at.needs-requires c).Start
-
-pub returns-in_default-needs : goal.returns-in_default-needs
-unfolding path_of beside_of
-returns-in_default-needs c =
-    let slot = c.args.slot in
-    beside_other (stands (goal.at.returns-in_default-needs c).Start) (locks_of slot) (sidelocks_of slot) slot.want slot.lock c.in-Delete.is (sym c.is_second.ensures ∙ c.if-is_second.false) c.needs.ensures (no-sibling c.needs.result slot.want c.in_default-needs.not-Sibling)
-
-pub returns-then-next-want : goal.returns-then-next-want
-unfolding path_of beside_of
-returns-then-next-want c =
-    let slot = c.args.slot in
-    beside_other (stands (goal.at.returns-then-next-want c).Start) (locks_of slot) (sidelocks_of slot) slot.want slot.lock c.in-Delete.is (sym c.is_second.ensures ∙ c.if-is_second.false) c.needs.ensures
-    (ap (λ (r : Need). is_sibling (need_of r) slot.want) c.in-Sibling.is ∙ ne_eqb _ _ c.if-next-want.true)
-
-pub with_page-requires : goal.with_page-requires
-with_page-requires c = c.requires.depth_le_path_holds.1
-
-pub overflow_add-breadth : goal.overflow_add-breadth
-unfolding path_holds
-overflow_add-breadth c = omega (arith, c.requires.depth_le_path_holds.1)
+needs-requires c =
+    subst₂ (Needing c.args.shape.k c.args.shape.n c.args.words.now) (sym c.path_pages-path.ensures) (sym c.beside_pages.ensures) (stands (goal.at.needs-requires c).Start)
 
 pub same_levels-requires : goal.same_levels-requires
 unfolding path_of beside_of
 same_levels-requires c =
     let slot = c.args.slot in
-    let asks = c.requires.depth_le_path_holds in
-    (asks.0, omega arith, beside_held (path_of slot) (beside_of slot) slot.want (added (goal.at.same_levels-requires c).Start c.with_page.ensures) asks.2)
+    subst (λ (path : List ℕ). Held c.args.shape.k c.args.shape.n c.args.words.now (path ++ take (slot.breadth + 1) c.with_page-siblings.result)) (sym c.path_pages-path.ensures)
+    (beside_held (path_of slot) (beside_of slot) slot.want (added (goal.at.same_levels-requires c).Start c.with_page-siblings.ensures) c.requires.depth_le_path_holds.2)
 
 pub returns : goal.returns
 unfolding path_of beside_of
 returns c =
     let slot = c.args.slot in
-    beside_levels (stands (goal.at.returns c).Start) (locks_of slot) (sidelocks_of slot) slot.want slot.lock c.in-Delete.is (sym c.is_second.ensures ∙ c.if-is_second.false) c.needs.ensures c.look_of.ensures
-    (ap is_there c.in-There.is)
-    (ap (λ (r : Need). is_sibling (need_of r) slot.want) c.in-Sibling.is ∙ eq-eqb _ _ c.if-next-want.false)
-    c.same_levels.ensures
-    (added (goal.at.returns c).Start c.with_page.ensures)
+    let start = (goal.at.returns c).Start in
+    let memory = page_at c.args.shape.k c.args.words.now in
+    beside_levels c.args.shape.k c.args.words.now slot.path slot.depth slot.beside slot.breadth (some start) (long start) (locks_of slot) (sidelocks_of slot) slot.want slot.lock
+    c.in-Delete.is (sym c.is_second.ensures ∙ c.if-is_second.false)
+    (c.needs.ensures ∙ needs_taken c.args.shape.k memory c.in-Delete.x slot.path slot.depth (some start) (long start) c.path_pages-path.ensures c.beside_pages.ensures)
+    c.look_of.ensures (c.is_none.ensures ∙ ap not c.if-is_none.false)
+    (sym (needs_sibling _ c.needs.result slot.want) ∙ not-false _ (sym c.ne.ensures ∙ c.if-ne.false))
+    (c.same_levels.ensures ∙ ap (λ (path : List ℕ). same_levels memory (reverse path) (take (slot.breadth + 1) c.with_page-siblings.result)) c.path_pages-path.ensures)
+    (added start c.with_page-siblings.ensures)

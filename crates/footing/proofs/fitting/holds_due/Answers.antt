@@ -3,6 +3,7 @@ use mathlib.Core.Path.{◌≡◌, sym, ◌∙◌}
 use native.Mathlib.Omega.{arith}
 use borrow.Author.Rules.{rules}
 use lib.ListN.{length}
+use Rattle.ground.specs.Limits.{path_holds}
 use Rattle.slots.specs.Parts.{locks_of, sidelocks_of}
 use Rattle.slots.proofs.Keeping.{slot_paired}
 use Rattle.footing.proofs.LookLaws.{sound_within}
@@ -17,23 +18,26 @@ returns-then-not-is_third c =
     let beside : length slot.beside ≡ 10 = search rules in
     let sidelocks : length slot.sidelocks ≡ 10 = search (rules, cells_mapped) in
     first_holds c.args.n c.args.slot c.requires.0 c.requires.1 c.is_third.ensures
-    (slot_paired c.args.op slot (locks ∙ sym path) (sidelocks ∙ sym beside)) c.if-not-is_third.true-raw
+    (slot_paired c.args.op slot (locks ∙ sym path) (sidelocks ∙ sym beside)) c.if-not-is_third.true
 
-pub all_kind-requires : goal.all_kind-requires
-all_kind-requires c = (sound_within c.args.n c.args.slot c.requires.0 c.requires.1).0
+pub shared_ref_as_front-all_kind : goal.shared_ref_as_front-all_kind
+unfolding path_holds
+shared_ref_as_front-all_kind c = (sound_within c.args.n c.args.slot c.requires.0 c.requires.1).0
 
-pub returns-then-not-all_kind : goal.returns-then-not-all_kind
-unfolding locks_of
-returns-then-not-all_kind c =
-    holds_not c.args.n c.args.slot c.requires.0 c.requires.1 c.is_third.ensures c.all_kind.ensures c.if-not-is_third.false-raw c.if-not-all_kind.true-raw
-
-pub all_kind-requires-2 : goal.all_kind-requires-2
-all_kind-requires-2 c =
+pub shared_ref_as_front-all_kind-then-all_kind : goal.shared_ref_as_front-all_kind-then-all_kind
+unfolding path_holds
+shared_ref_as_front-all_kind-then-all_kind c =
     let few = (sound_within c.args.n c.args.slot c.requires.0 c.requires.1).1 in
     omega arith
 
-pub returns : goal.returns
+pub returns-then-all_kind : goal.returns-then-all_kind
 unfolding locks_of sidelocks_of
-returns c =
-    holds_beside c.args.n c.args.slot c.requires.0 c.requires.1 c.is_third.ensures c.all_kind.ensures c.if-not-is_third.false-raw c.if-not-all_kind.false-raw
-    c.all_kind-2.ensures
+returns-then-all_kind c =
+    holds_beside c.args.n c.args.slot c.requires.0 c.requires.1 c.is_third.ensures c.all_kind.ensures c.if-not-is_third.false c.if-all_kind.true
+    c.all_kind-then-all_kind.ensures
+
+pub returns-else-all_kind : goal.returns-else-all_kind
+unfolding locks_of
+returns-else-all_kind c =
+    c.if-all_kind.false
+    ∙ holds_not c.args.n c.args.slot c.requires.0 c.requires.1 c.is_third.ensures c.all_kind.ensures c.if-not-is_third.false c.if-all_kind.false

@@ -1,36 +1,19 @@
 -- The last page of the path begins the path upward.
-use Prim.Native.Nat.{◌-◌}
-use mathlib.Core.Path.{◌≡◌, sym, ap, ◌∙◌}
+use Prim.Native.Nat.{ℕ, ◌-◌}
+use mathlib.Core.Path.{◌≡◌, subst}
 use native.Mathlib.Omega.{arith}
-use lib.ListN.{length}
 use borrow.Author.Rules.{rules}
-use Rattle.ground.specs.Limits.{path_holds}
-use Rattle.pool.specs.Pool.{page_at}
-use Rattle.footing.specs.Granted.{at_its_leaf}
-use Rattle.footing.proofs.KeepLaws.{cell_known, none_last, last_first}
+use lib.ListN.{length}
+use denote.Ref.{Bor}
+use Rattle.std.specs.Prelude.{Some}
+use Rattle.std.specs.Slice.{IsGetResult}
+use Rattle.pool.specs.Wrapped.{InPool}
+use Rattle.footing.proofs.KeepLaws.{last_known}
 use Rattle.footing.proofs.looking.at_leaf.Goals as goal
 
-pub returns-then-depth-eq0 : goal.returns-then-depth-eq0
-returns-then-depth-eq0 c =
-    sym (ap (at_its_leaf (page_at c.args.k c.args.words.now)) (none_last c.args.path c.if-depth-eq0.true))
-
-pub offset_bounds-path-depth : goal.offset_bounds-path-depth
-unfolding path_holds
-offset_bounds-path-depth c = search rules
-
-pub bounds-path-depth : goal.bounds-path-depth
-unfolding path_holds
-bounds-path-depth c = search rules
-
-pub is_leaf_of-requires : goal.is_leaf_of-requires
-unfolding path_holds
-is_leaf_of-requires c =
-    let cells : length c.args.path ≡ 10 = search rules in
-    (cell_known c.args.path c.args.depth (omega arith) c.requires.1 (c.args.depth - 1) (omega arith)).in_pool
-
-pub returns : goal.returns
-unfolding path_holds
-returns c =
-    let cells : length c.args.path ≡ 10 = search rules in
-    c.is_leaf_of.ensures
-    ∙ sym (ap (at_its_leaf (page_at c.args.k c.args.words.now)) (last_first c.args.path c.args.depth (omega arith) (omega arith)))
+pub is_some_and-requires : goal.is_some_and-requires
+is_some_and-requires c =
+    let path = c.args.path.now in
+    let known : (x : Bor ℕ) → c.last.result ≡ Some x → InPool c.args.shape.k c.args.shape.n x.now c.args.words.now = λ x is.
+    (let last = subst (IsGetResult path 0 (length path - 1)) is c.last.ensures.item in (last_known c.requires x.now (last.4 (omega arith) 0) last.3.0).in_pool) in
+    search rules

@@ -1,8 +1,5 @@
 -- Both sides of the test are what the callees say, and a level is small enough for one more.
-use Prim.Native.Nat.{ℕ, ◌+◌}
-use mathlib.Core.Path.{ap, ap₂}
 use native.Mathlib.Omega.{arith}
-use lib.Dec.{eqb}
 use Rattle.ground.specs.Limits.{tallest}
 use Rattle.footing.proofs.LookLaws.{known_first, known_second}
 use Rattle.footing.proofs.looking.lies_below.Goals as goal
@@ -16,6 +13,3 @@ level_of-requires-2 c = (known_second c.requires).in_pool
 pub overflow_add-result : goal.overflow_add-result
 unfolding tallest
 overflow_add-result c = omega (arith, c.level_of-2.ensures, (known_second c.requires).facts.highest)
-
-pub returns : goal.returns
-returns c = ap₂ eqb c.level_of.ensures (ap (λ (l : ℕ). l + 1) c.level_of-2.ensures)

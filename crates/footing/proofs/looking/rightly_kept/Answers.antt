@@ -1,90 +1,45 @@
--- The loop's invariant: the pages are rightly kept if none of those from index i on is safe.
-use Prim.Native.Nat.{◌≤◌}
+-- The top page of the path, and then those below it, are read as in the rule.
+use Prim.Native.Nat.{ℕ}
+use mathlib.Core.Bool.{Bool, true, ◌||◌}
+use mathlib.Core.List.{List}
 use mathlib.Core.Path.{◌≡◌, sym, ◌∙◌}
-use native.Mathlib.Omega.{arith}
 use borrow.Author.Rules.{rules}
-use borrow.Author.Tests.{eq-eqb, ne_eqb, not-true, not-false}
+use borrow.Author.Tests.{eq-eqb}
 use lib.Dec.{eqb}
-use lib.ListN.{length, get_or}
-use Rattle.ground.specs.Limits.{path_holds}
-use Rattle.ground.proofs.Bools.{or_first, or_second, or_none}
+use lib.ListN.{get_or, drop}
+use Rattle.std.proofs.lemmas.Iterator.{YieldsList-from_slice}
+use Rattle.std.proofs.lemmas.Iterator.Search.{all_from_yields_List}
+use Rattle.std.proofs.lemmas.Iterator.Adapters.{serves_from_places}
+use Rattle.ground.proofs.Bools.{or_first, or_second}
 use Rattle.pool.specs.Pool.{page_at}
 use Rattle.footing.specs.Granted.{is_safe}
-use Rattle.footing.proofs.KeepLaws.{cell_known, kept_none, kept_top, kept_stops_top, kept_more, kept_stops, kept_done}
-use Rattle.footing.proofs.looking.rightly_kept.Goals.{else-top-ne0-via-then-top-ne0+else-not-is_safe, else-top-ne0-via-else-top-ne0}
+use Rattle.footing.proofs.LookLaws.{all_listed}
+use Rattle.footing.proofs.KeepLaws.{page_known, page_below, unsafe, below_top, kept_by}
+use Rattle.footing.proofs.looking.rightly_kept.Goals.{then-top-eq0, else-top-eq0}
 use Rattle.footing.proofs.looking.rightly_kept.Goals as goal
 
-pub returns-then-depth-eq0 : goal.returns-then-depth-eq0
-unfolding path_holds
-returns-then-depth-eq0 c =
-    let cells : length c.args.path ≡ 10 = search rules in
-    kept_none c.args.op c.args.k (page_at c.args.k c.args.words.now) c.args.path c.args.depth (omega arith) c.args.want c.if-depth-eq0.true
-
 pub is_safe-requires : goal.is_safe-requires
-unfolding path_holds
 is_safe-requires c =
-    let cells : length c.args.path ≡ 10 = search rules in
-    let known = cell_known c.args.path c.args.depth (omega arith) c.requires.1 0 (omega arith) in
+    let known = page_known c.requires 0 c.in-len1-up.len_at_least in
     record { in_pool = known.in_pool; readable = known.readable; p_value = known.facts.rising }
 
-pub returns-then-not-is_safe : goal.returns-then-not-is_safe
-unfolding path_holds
-returns-then-not-is_safe c =
-    let cells : length c.args.path ≡ 10 = search rules in
-    kept_stops_top c.args.op c.args.k (page_at c.args.k c.args.words.now) c.args.path c.args.depth (omega arith) c.args.want (omega arith)
-    (or_none (ne_eqb (get_or c.args.path 0 0) 0 c.if-top-ne0.true)
-    (sym c.is_safe.ensures ∙ not-true c.is_safe.result c.if-not-is_safe.true-raw))
-
-pub loop-i-init : goal.loop-i-init
-unfolding path_holds
-loop-i-init c =
-    let cells : length c.args.path ≡ 10 = search rules in
-    let some : 1 ≤ c.args.depth = omega arith in
-    let long : c.args.depth ≤ length c.args.path = omega arith in (
-      some,
-      long,
-      kept_top c.args.op c.args.k (page_at c.args.k c.args.words.now) c.args.path c.args.depth long c.args.want some
-          (elim c.else-top-ne0.branch [ else-top-ne0-via-then-top-ne0+else-not-is_safe w ↦ or_second (eqb (get_or c.args.path 0 0) 0) (sym w.is_safe.ensures ∙ not-false w.is_safe.result w.if-not-is_safe.false-raw) | else-top-ne0-via-else-top-ne0 w ↦ or_first (is_safe c.args.op c.args.k (page_at c.args.k c.args.words.now (get_or c.args.path 0 0))) (eq-eqb (get_or c.args.path 0 0) 0 w.if-top-ne0.false) ]),
-    )
-
-pub offset_bounds-path-i : goal.offset_bounds-path-i
-unfolding path_holds
-offset_bounds-path-i c = search rules
-
-pub bounds-path-i : goal.bounds-path-i
-unfolding path_holds
-bounds-path-i c = search rules
-
-pub is_safe-requires-in-loop-i : goal.is_safe-requires-in-loop-i
-is_safe-requires-in-loop-i c =
-    let known = cell_known c.args.path c.args.depth c.loop-i.invariant.1 c.requires.1 c.loop-i.i c.loop-i-test.true in
-    record { in_pool = known.in_pool; readable = known.readable; p_value = known.facts.rising }
+pub all-requires-clause-callable : goal.all-requires-clause-callable
+all-requires-clause-callable c =
+    let pages : List ℕ = c.args.path.now in
+    serves_from_places (YieldsList-from_slice (drop 1 pages) (c.iter.ensures.rest ∙ below_top pages)) (λ x q k. search rules)
+    (λ x i h e. let known = page_below c.requires i x.now h e in search rules)
 
 pub returns-then-is_safe : goal.returns-then-is_safe
 returns-then-is_safe c =
-    let at = c.loop-i in
-    sym
-    (at.invariant.2
-    ∙ kept_stops c.args.op c.args.k (page_at c.args.k c.args.words.now) c.args.path c.args.depth at.invariant.1 at.i c.loop-i-test.true
-    (sym c.is_safe-in-loop-i.ensures ∙ c.if-is_safe.true))
-
-pub overflow_add-i : goal.overflow_add-i
-unfolding path_holds
-overflow_add-i c = search rules
-
-pub loop-i-preserved : goal.loop-i-preserved
-loop-i-preserved c =
-    let at = c.loop-i in (
-      omega arith,
-      at.invariant.1,
-      at.invariant.2
-          ∙ kept_more c.args.op c.args.k (page_at c.args.k c.args.words.now) c.args.path c.args.depth at.invariant.1 at.i c.loop-i-test.true
-          (sym c.is_safe-in-loop-i.ensures ∙ c.if-is_safe.false),
-    )
-
-pub returns : goal.returns
-returns c =
-    let at = c.loop-i in
-    sym
-    (at.invariant.2
-    ∙ kept_done c.args.op c.args.k (page_at c.args.k c.args.words.now) c.args.path c.args.depth at.invariant.1 at.i c.loop-i-test.false)
+    let pages : List ℕ = c.args.path.now in
+    let top = get_or pages 0 0 in
+    let memory = page_at c.args.shape.k c.args.words.now in
+    let test : ℕ → Bool = unsafe c.args.op c.args.shape.k memory in
+    let kept : eqb top 0 || is_safe c.args.op c.args.shape.k (memory top) ≡ true =
+    (elim c.if-top-eq0.branch [
+      | then-top-eq0 w ↦ or_first (is_safe c.args.op c.args.shape.k (memory top)) (eq-eqb top 0 w.if-top-eq0.true)
+      | else-top-eq0 w ↦ or_second (eqb top 0) (sym w.is_safe.ensures ∙ sym w.value-is ∙ c.if-is_safe.true)
+    ]) in
+    all_from_yields_List test _ _ c.all.result c.all.ensures.ran (YieldsList-from_slice (drop 1 pages) (c.iter.ensures.rest ∙ below_top pages)) (λ x b q k. search rules)
+    ∙ all_listed test (drop 1 pages)
+    ∙ sym (kept_by c.args.op c.args.shape.k memory pages c.args.want c.in-len1-up.len_at_least kept)

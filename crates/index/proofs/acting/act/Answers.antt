@@ -1,6 +1,6 @@
 -- Each course is carried out as the rule's word for it.
 use Rattle.course.proofs.JudgeLaws.{standing_holding}
-use Rattle.index.proofs.ActLaws.{stand_short, stand_in_halves, acts_broken, acts_goes, acts_ends, acts_inserts, acts_deletes, acts_regrades, acts_again, inserts_stands, deletes_stands}
+use Rattle.index.proofs.ActLaws.{stand_cells, stand_short, stand_in_halves, acts_broken, acts_goes, acts_ends, acts_inserts, acts_deletes, acts_regrades, acts_again, inserts_stands, deletes_stands}
 use Rattle.ground.specs.Limits.{slot_count}
 use Rattle.index.proofs.acting.act.Goals as goal
 
@@ -22,21 +22,22 @@ unfolding slot_count
 closes-requires-in-Inserts c = let w = c.requires.state_value.1.waits in (w.inside, w.few, w.named)
 
 pub delete_lot-requires : goal.delete_lot-requires
-delete_lot-requires c = deletes_stands c.requires.state_value.1 c.args.course c.requires.ready c.in-Deletes.is
+delete_lot-requires c =
+    let a = c.requires.state_value.1 in
+    (stand_cells a.stands, deletes_stands a c.args.course c.requires.ready c.in-Deletes.is)
 
 pub closes-requires-in-Deletes : goal.closes-requires-in-Deletes
 unfolding slot_count
 closes-requires-in-Deletes c = let w = c.requires.state_value.1.waits in (w.inside, w.few, w.named)
 
 pub regrade_lot-answer-requires : goal.regrade_lot-answer-requires
-regrade_lot-answer-requires c = standing_holding c.requires.state_value.1.stands
+regrade_lot-answer-requires c =
+    let a = c.requires.state_value.1 in
+    (stand_cells a.stands, standing_holding a.stands)
 
 pub closes-requires-in-Regrades : goal.closes-requires-in-Regrades
 unfolding slot_count
 closes-requires-in-Regrades c = let w = c.requires.state_value.1.waits in (w.inside, w.few, w.named)
-
-pub begin_again-requires : goal.begin_again-requires
-begin_again-requires c = c.requires.state_value.1.waits
 
 pub returns-in-Broken : goal.returns-in-Broken
 returns-in-Broken c = acts_broken c.args.state.now c.sized.ensures c.requires.state_value.0 c.requires.state_value.1 c.in-Broken.is

@@ -1,25 +1,18 @@
 -- The pages fit, or the step is answered Damaged. Where they fit, the operation stands as the rule has it, and the course that is found there is the rule's.
-use Rattle.index.proofs.StepLaws.{granted_damaged, granted_fits, granted_stands, granted_acts, granted_leaves}
+use Rattle.index.proofs.StepLaws.{granted_damaged, granted_stands, granted_acts, granted_leaves}
 use Rattle.slots.proofs.Keeping.{Paired, slot_paired}
 use Rattle.slots.specs.Parts.{stand_of}
 use lib.ListN.{length, length-map}
 use mathlib.Core.List.{List, map}
 use Prim.Native.Nat.{ℕ}
 use mathlib.Core.Path.{◌≡◌, sym, ◌∙◌}
-use borrow.Author.Tests.{not-true, not-false}
 use borrow.Author.Rules.{rules}
 use Rattle.index.proofs.acting.granted_step.Goals.{Start}
 use Rattle.index.proofs.acting.granted_step.Goals as goal
 
 pub returns-then-not-fits : goal.returns-then-not-fits
 returns-then-not-fits c =
-    let told = c.fits in
-    granted_damaged c.args.state.now c.requires.state_value.0 c.requires.state_value.1 c.requires.asks told.ensures (not-true told.result c.if-not-fits.true-raw)
-
-pub stands-stand-requires : goal.stands-stand-requires
-stands-stand-requires c =
-    let told = c.fits in
-    record { asks = c.requires.asks; slot_value = granted_fits c.args.state.now c.requires.state_value.0 c.requires.state_value.1 c.requires.asks told.ensures (not-false told.result c.if-not-fits.false-raw) }
+    granted_damaged c.args.state.now c.requires.state_value.0 c.requires.state_value.1 c.requires.asks c.fits.ensures c.if-not-fits.true
 
 -- of an array of structs the length is told by way of its elements' values
 length-mapped : (X Y : Type 0) (f : X → Y) (l : List X) (n : ℕ) → length (map f l) ≡ n → length l ≡ n
@@ -36,17 +29,18 @@ paired c =
 
 pub judge-course-requires : goal.judge-course-requires
 judge-course-requires c =
-    let told = c.fits in
-    granted_stands c.args.state.now c.requires.state_value.0 c.requires.state_value.1 c.requires.asks told.ensures (not-false told.result c.if-not-fits.false-raw) c.stands-stand.ensures (paired (goal.at.judge-course-requires c).Start)
+    granted_stands c.args.state.now c.requires.state_value.0 c.requires.state_value.1 c.requires.asks c.fits.ensures c.if-not-fits.false
+    c.stands-stand.ensures (paired (goal.at.judge-course-requires c).Start)
 
-pub act-requires : goal.act-requires
-act-requires c =
-    let told = c.fits in
-    record { state_value = (c.requires.state_value.0, granted_acts c.args.state.now c.requires.state_value.0 c.requires.state_value.1 c.requires.asks told.ensures (not-false told.result c.if-not-fits.false-raw) c.stands-stand.ensures (paired (goal.at.act-requires c).Start)); ready = c.judge-course.ensures.ready }
+pub act-requires-clause-state_value : goal.act-requires-clause-state_value
+act-requires-clause-state_value c =
+    let may = c.requires.state_value in
+    let halves = paired (goal.at.act-requires-clause-state_value c).Start in
+    (may.0, granted_acts c.args.state.now may.0 may.1 c.requires.asks c.fits.ensures c.if-not-fits.false c.stands-stand.ensures halves)
 
 pub returns : goal.returns
 returns c =
-    let told = c.fits in
     let found = c.judge-course in
-    granted_leaves c.args.state.now c.requires.state_value.0 c.requires.state_value.1 c.requires.asks told.ensures (not-false told.result c.if-not-fits.false-raw) c.stands-stand.ensures (paired (goal.at.returns c).Start)
+    granted_leaves c.args.state.now c.requires.state_value.0 c.requires.state_value.1 c.requires.asks c.fits.ensures c.if-not-fits.false
+    c.stands-stand.ensures (paired (goal.at.returns c).Start)
     found.result found.ensures.result_value c.act.ensures

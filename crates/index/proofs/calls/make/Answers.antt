@@ -1,7 +1,6 @@
 -- The state is cleared; by the test of the pool, making refuses or writes the fresh pool.
 use Rattle.index.proofs.MakeLaws.{make_refuses, pool_small, pool_some, make_done}
 use Rattle.ground.specs.Limits.{largest_k, largest_n}
-use borrow.Author.Tests.{not-true, not-false}
 use native.Mathlib.Omega.{arith}
 use mathlib.Core.Path.{sym, ◌∙◌}
 use Prim.Native.Nat.{◌≤◌}
@@ -10,13 +9,11 @@ use Rattle.index.proofs.calls.make.Goals as goal
 
 pub returns-then-not-is_pool : goal.returns-then-not-is_pool
 returns-then-not-is_pool c =
-    let told = c.is_pool in
-    make_refuses c.args.state.now c.sized.ensures c.clear.ensures c.args.k c.args.n c.args.words.now (sym told.ensures ∙ not-true told.result c.if-not-is_pool.true-raw)
+    make_refuses c.args.state.now c.sized.ensures c.clear.ensures c.args.k c.args.n c.args.words.now (sym c.is_pool.ensures ∙ c.if-not-is_pool.true)
 
 small : (c : Else-not-is_pool) → (c.args.k ≤ largest_k) × (c.args.n ≤ largest_n)
 small c =
-    let told = c.is_pool in
-    pool_small c.args.k c.args.n c.args.words.now (sym told.ensures ∙ not-false told.result c.if-not-is_pool.false-raw)
+    pool_small c.args.k c.args.n c.args.words.now (sym c.is_pool.ensures ∙ c.if-not-is_pool.false)
 
 pub overflow_cast-state : goal.overflow_cast-state
 unfolding largest_k
@@ -28,10 +25,9 @@ overflow_cast-state-2 c = omega (arith, (small (goal.at.overflow_cast-state-2 c)
 
 pub make_fresh-requires : goal.make_fresh-requires
 make_fresh-requires c =
-    let told = c.is_pool in
-    pool_some c.args.k c.args.n c.args.words.now (sym told.ensures ∙ not-false told.result c.if-not-is_pool.false-raw)
+    pool_some c.args.k c.args.n c.args.words.now (sym c.is_pool.ensures ∙ c.if-not-is_pool.false)
 
 pub returns : goal.returns
 returns c =
-    let told = c.is_pool in
-    make_done c.args.state.now c.sized.ensures c.clear.ensures c.args.k c.args.n c.args.words.now (sym told.ensures ∙ not-false told.result c.if-not-is_pool.false-raw) c.make_fresh.ensures
+    make_done c.args.state.now c.sized.ensures c.clear.ensures c.args.k c.args.n c.args.words.now (sym c.is_pool.ensures ∙ c.if-not-is_pool.false)
+    c.make_fresh.ensures

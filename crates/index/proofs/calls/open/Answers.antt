@@ -1,50 +1,43 @@
 -- The state is cleared; by the test of the pool and by the check, opening refuses or lays k and n.
-use Rattle.index.proofs.MakeLaws.{pool_small, open_refuses, open_names, open_none, open_done, open_handed}
+use Rattle.index.proofs.MakeLaws.{pool_small, open_refuses, open_names, open_none, open_done}
+use Rattle.opening.specs.declared.checking.Fault.{Fault}
+use Rattle.std.specs.Prelude.{Err}
 use Rattle.ground.specs.Limits.{largest_k, largest_n}
-use borrow.Author.Tests.{not-true, not-false}
 use native.Mathlib.Omega.{arith}
-use mathlib.Core.Path.{sym, ◌∙◌}
+use mathlib.Core.Path.{sym, ap, ◌∙◌}
 use Prim.Native.Nat.{◌≤◌}
 use Rattle.index.proofs.calls.open.Goals.{Else-not-is_pool}
 use Rattle.index.proofs.calls.open.Goals as goal
 
 pub returns-then-not-is_pool : goal.returns-then-not-is_pool
 returns-then-not-is_pool c =
-    let told = c.is_pool in
-    open_refuses c.args.state.now c.sized.ensures c.clear.ensures c.args.k c.args.n c.args.words.now (sym told.ensures ∙ not-true told.result c.if-not-is_pool.true-raw)
-
-pub check-found-requires : goal.check-found-requires
-check-found-requires c =
-    let told = c.is_pool in
-    open_handed c.args.state.now c.sized.ensures c.clear.ensures c.args.k c.args.n c.args.words.now (sym told.ensures ∙ not-false told.result c.if-not-is_pool.false-raw)
+    open_refuses c.args.state.now c.sized.ensures c.clear.ensures c.args.k c.args.n c.args.words.now (sym c.is_pool.ensures ∙ c.if-not-is_pool.true)
 
 small : (c : Else-not-is_pool) → (c.args.k ≤ largest_k) × (c.args.n ≤ largest_n)
 small c =
-    let told = c.is_pool in
-    pool_small c.args.k c.args.n c.args.words.now (sym told.ensures ∙ not-false told.result c.if-not-is_pool.false-raw)
+    pool_small c.args.k c.args.n c.args.words.now (sym c.is_pool.ensures ∙ c.if-not-is_pool.false)
 
 pub overflow_cast-state : goal.overflow_cast-state
 unfolding largest_k
 overflow_cast-state c = omega (arith, (small (goal.at.overflow_cast-state c).Else-not-is_pool).0)
 
-pub overflow_cast-state-in-Tree : goal.overflow_cast-state-in-Tree
+pub overflow_cast-state-in-Ok : goal.overflow_cast-state-in-Ok
 unfolding largest_n
-overflow_cast-state-in-Tree c = omega (arith, (small (goal.at.overflow_cast-state-in-Tree c).Else-not-is_pool).1)
+overflow_cast-state-in-Ok c = omega (arith, (small (goal.at.overflow_cast-state-in-Ok c).Else-not-is_pool).1)
 
-pub returns-in-Unsound : goal.returns-in-Unsound
-returns-in-Unsound c =
-    let told = c.is_pool in
+pub returns-in-Err-Unsound : goal.returns-in-Err-Unsound
+returns-in-Err-Unsound c =
     open_names c.args.state.now c.sized.ensures c.clear.ensures c.args.k c.args.n c.args.words.now
-    (sym told.ensures ∙ not-false told.result c.if-not-is_pool.false-raw) (sym c.in-Unsound.is ∙ c.check-found.ensures)
+    (sym c.is_pool.ensures ∙ c.if-not-is_pool.false)
+    (sym (ap (λ (fault : Fault). Err fault) c.in-Err-Unsound.field-0-is) ∙ sym c.in-Err-Unsound.is ∙ c.check.ensures)
 
-pub returns-in-NoTree : goal.returns-in-NoTree
-returns-in-NoTree c =
-    let told = c.is_pool in
+pub returns-in-Err-NoTree : goal.returns-in-Err-NoTree
+returns-in-Err-NoTree c =
     open_none c.args.state.now c.sized.ensures c.clear.ensures c.args.k c.args.n c.args.words.now
-    (sym told.ensures ∙ not-false told.result c.if-not-is_pool.false-raw) (sym c.in-NoTree.is ∙ c.check-found.ensures)
+    (sym c.is_pool.ensures ∙ c.if-not-is_pool.false)
+    (sym (ap (λ (fault : Fault). Err fault) c.in-Err-NoTree.field-0-is) ∙ sym c.in-Err-NoTree.is ∙ c.check.ensures)
 
-pub returns-in-Tree : goal.returns-in-Tree
-returns-in-Tree c =
-    let told = c.is_pool in
+pub returns-in-Ok : goal.returns-in-Ok
+returns-in-Ok c =
     open_done c.args.state.now c.sized.ensures c.clear.ensures c.args.k c.args.n c.args.words.now
-    (sym told.ensures ∙ not-false told.result c.if-not-is_pool.false-raw) (sym c.in-Tree.is ∙ c.check-found.ensures)
+    (sym c.is_pool.ensures ∙ c.if-not-is_pool.false) c.in-Ok.ensures

@@ -13,7 +13,7 @@ use native.Mathlib.Omega.{arith}
 use mathlib.Core.Path.{◌≡◌, sym, ap, ◌∙◌}
 use mathlib.Core.Bool.{Bool}
 use Prim.Native.Nat.{ℕ, ◌*◌, ◌%◌, ◌^◌}
-use Rattle.index.proofs.reporting.holders.Goals.{then-holds_at, else-holds_at}
+use Rattle.index.proofs.reporting.holders.Goals.{then-holds, else-holds}
 use Rattle.index.proofs.reporting.holders.Goals as goal
 
 pub loop-s-init : goal.loop-s-init
@@ -25,10 +25,16 @@ loop-s-preserved c =
     let p = c.args.p in
     let s = c.loop-s.s in
     let inv = c.loop-s.invariant in
-    let said = c.holds_at.ensures ∙ ap (λ (x : Slot). member p (held x)) (sym (slot_read c.args.cells.now s (omega arith))) in
+    let said = c.holds.ensures ∙ ap (λ (x : Slot). member p (held x)) (sym (slot_read c.args.cells.now s (omega arith))) in
     let test : ℕ → Bool = λ (t : ℕ). holds_at st t p in (
       omega arith,
-      elim c.if-holds_at.branch [ then-holds_at w ↦ w.mask-is ∙ ap (λ (m : ℕ). bit_or m (1 * 2 ^ s % 2 ^ 16)) inv.1 ∙ mask_sets test 16 s (omega arith) (sym said ∙ w.if-holds_at.true) | else-holds_at w ↦ w.mask-is ∙ inv.1 ∙ mask_keeps test s (sym said ∙ w.if-holds_at.false) ],
+      elim c.if-holds.branch [
+        | then-holds w ↦
+            w.mask-is
+            ∙ ap (λ (m : ℕ). bit_or m (1 * 2 ^ s % 2 ^ 16)) inv.1
+            ∙ mask_sets test 16 s (omega arith) (sym said ∙ w.if-holds.true)
+        | else-holds w ↦ w.mask-is ∙ inv.1 ∙ mask_keeps test s (sym said ∙ w.if-holds.false)
+      ],
     )
 
 pub returns : goal.returns

@@ -4,11 +4,8 @@ use Rattle.lent.specs.Words.{as_read}
 use Rattle.slots.specs.Report.{mask_below}
 use Rattle.slots.specs.Parts.{holds_at}
 use mathlib.Core.Path.{◌≡◌}
-use Prim.Native.Nat.{ℕ, ◌≤◌, ◌-◌}
+use Prim.Native.Nat.{ℕ, ◌≤◌}
 use Rattle.index.proofs.reporting.holders.Given as goal
 
 abbrev pub invariant-loop-s : goal.invariant-loop-s
 invariant-loop-s l = (l.s ≤ row_length) × (l.mask ≡ mask_below l.s (λ (t : ℕ). holds_at (as_read l.cells) t l.p))
-
-abbrev pub decreases-loop-s : goal.decreases-loop-s
-decreases-loop-s l = row_length - l.s

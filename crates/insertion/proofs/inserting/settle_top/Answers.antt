@@ -1,7 +1,6 @@
 -- With no father held the rule writes the page, or splits it under a new root: so does the code.
 use Prim.Native.Nat.{◌*◌, ◌≤◌}
 use native.Mathlib.Omega.{arith}
-use Rattle.ground.specs.Limits.{largest_k}
 use Rattle.page.specs.Words.{μ}
 use Rattle.pool.specs.Pool.{page_at}
 use Rattle.insertion.proofs.SettleLaws.{held_one, held_other, over_count, over_level, top_done, top_raised}
@@ -13,20 +12,16 @@ place_of-at-requires c = let known = held_one c.requires.held in record { in_poo
 pub count_of-requires : goal.count_of-requires
 count_of-requires c = let known = held_one c.requires.held in record { in_pool = known.in_pool; readable = known.readable }
 
-pub overflow_mul-k : goal.overflow_mul-k
-unfolding largest_k
-overflow_mul-k c = omega (arith, c.requires.held.width)
-
 pub put_in_at-requires : goal.put_in_at-requires
 put_in_at-requires c =
     let known = held_one c.requires.held in
-    record { in_pool = known.in_pool; exact = known.exact; p_bound = (omega (arith, c.count_of.ensures, c.if-count_of-k.true), c.place_of-at.ensures.upper_bound) }
+    record { in_pool = known.in_pool; exact = known.exact; p_bound = (omega (arith, c.count_of.ensures, c.if-count_of-shape.true), c.place_of-at.ensures.upper_bound) }
 
-pub returns-then-count_of-k : goal.returns-then-count_of-k
-returns-then-count_of-k c =
-    top_done c.args.k c.args.x c.args.key c.args.value c.args.p c.args.a (page_at c.args.k c.args.words.now c.args.p)
+pub returns-then-count_of-shape : goal.returns-then-count_of-shape
+returns-then-count_of-shape c =
+    top_done c.args.shape.k c.args.x c.args.key c.args.value c.args.p c.args.a (page_at c.args.shape.k c.args.words.now c.args.p)
     c.place_of-at.result c.count_of.result c.args.words.now c.place_of-at.ensures.value c.count_of.ensures
-    c.args.b (page_at c.args.k c.args.words.now) c.if-count_of-k.true c.put_in_at.ensures
+    c.args.b (page_at c.args.shape.k c.args.words.now) c.if-count_of-shape.true c.put_in_at.ensures
 
 pub over_of-s-requires : goal.over_of-s-requires
 over_of-s-requires c =
@@ -36,11 +31,11 @@ over_of-s-requires c =
 pub split_root-requires : goal.split_root-requires
 split_root-requires c =
     let known = held_one c.requires.held in
-    let over : 2 * c.args.k ≤ μ (page_at c.args.k c.args.words.now c.args.p) = omega (arith, c.count_of.ensures, c.if-count_of-k.false) in
-    let level = over_level c.place_of-at.result c.args.key c.args.value (page_at c.args.k c.args.words.now c.args.p) c.over_of-s.ensures in record { in_pool = (known.in_pool, held_other c.requires.held (c.requires.a_lt_n over).0, held_other c.requires.held (c.requires.a_lt_n over).1); le_k = (c.requires.held.least, over_count c.args.k c.place_of-at.result c.args.key c.args.value (page_at c.args.k c.args.words.now c.args.p) c.over_of-s.ensures (omega (arith, known.facts.room)), omega (arith, level, known.facts.highest)) }
+    let over : 2 * c.args.shape.k ≤ μ (page_at c.args.shape.k c.args.words.now c.args.p) = omega (arith, c.count_of.ensures, c.if-count_of-shape.false) in
+    let level = over_level c.place_of-at.result c.args.key c.args.value (page_at c.args.shape.k c.args.words.now c.args.p) c.over_of-s.ensures in record { in_pool = (known.in_pool, held_other c.requires.held (c.requires.a_lt_n over).0, held_other c.requires.held (c.requires.a_lt_n over).1); le_k = (c.requires.held.least, over_count c.args.shape.k c.place_of-at.result c.args.key c.args.value (page_at c.args.shape.k c.args.words.now c.args.p) c.over_of-s.ensures (omega (arith, known.facts.room)), omega (arith, level, known.facts.highest)) }
 
 pub returns : goal.returns
 returns c =
-    top_raised c.args.k c.args.x c.args.key c.args.value c.args.p c.args.a (page_at c.args.k c.args.words.now c.args.p)
+    top_raised c.args.shape.k c.args.x c.args.key c.args.value c.args.p c.args.a (page_at c.args.shape.k c.args.words.now c.args.p)
     c.place_of-at.result c.count_of.result c.args.words.now c.place_of-at.ensures.value c.count_of.ensures
-    c.args.b (page_at c.args.k c.args.words.now) c.if-count_of-k.false c.over_of-s.ensures c.split_root.ensures
+    c.args.b (page_at c.args.shape.k c.args.words.now) c.if-count_of-shape.false c.over_of-s.ensures c.split_root.ensures

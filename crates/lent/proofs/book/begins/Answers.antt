@@ -25,4 +25,4 @@ returns c =
     ∙ ap₂ (λ (l : List ℕ) (x : Slot). slot_laid l s x)
     (c.join_order.ensures ∙ ap (λ (n : ℕ). order_laid ws (n + 1) (set (order_in ws) n s)) c.waiting_of-waiting.ensures)
     c.fresh_slot.ensures
-    ∙ begins_writes ws s c.sized.ensures c.requires.0 c.args.op
+    ∙ begins_writes ws s c.told-cells c.requires.0 c.args.op

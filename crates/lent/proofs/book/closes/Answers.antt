@@ -21,7 +21,7 @@ pub leave_order-requires : goal.leave_order-requires
 unfolding waiting_order
 leave_order-requires c =
     let w = c.waiting_of-waiting.ensures in (
-      c.sized.ensures,
+      c.told-cells,
       subst (λ (n : ℕ). n ≤ row_length) (sym w) c.requires.1,
       subst (λ (n : ℕ). member c.args.s (take n (order_in c.args.cells.now)) ≡ true) (sym w) c.requires.2,
     )
@@ -46,7 +46,7 @@ returns c =
     c.lay.ensures
     ∙ ap₂ (λ (l : List ℕ) (x : Slot). slot_laid l s x)
     (ap (λ (l : List ℕ). set l 2 (c.waiting_of-waiting.result - 1)) c.leave_order.ensures
-    ∙ fewer_laid ws _ (get_or ws waiting_at 0) (c.waiting_of-waiting.result - 1) c.sized.ensures
+    ∙ fewer_laid ws _ (get_or ws waiting_at 0) (c.waiting_of-waiting.result - 1) c.told-cells
     ∙ ap (λ (n : ℕ). order_laid ws (n - 1) (leaving s (take n (order_in ws)) ++ 0 ∷ drop n (order_in ws))) w)
     c.closed_slot.ensures
-    ∙ closes_writes ws s c.sized.ensures c.requires.0
+    ∙ closes_writes ws s c.told-cells c.requires.0

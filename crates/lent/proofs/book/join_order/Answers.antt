@@ -3,4 +3,4 @@ use Rattle.lent.proofs.WritingLaws.{joined}
 use Rattle.lent.proofs.book.join_order.Goals as goal
 
 pub returns : goal.returns
-returns c = joined c.args.cells.now c.args.waiting c.args.s c.sized.ensures c.requires.0
+returns c = joined c.args.cells.now c.args.waiting c.args.s c.told-cells c.requires.0

@@ -16,7 +16,7 @@ pub leave_order-requires : goal.leave_order-requires
 unfolding waiting_order
 leave_order-requires c =
     let w = c.waiting_of-waiting.ensures in (
-      c.sized.ensures,
+      c.told-cells,
       subst (λ (n : ℕ). n ≤ row_length) (sym w) c.requires.1,
       subst (λ (n : ℕ). member c.args.s (take n (order_in c.args.cells.now)) ≡ true) (sym w) c.requires.2,
     )
@@ -29,4 +29,4 @@ returns c =
     ∙ ap (λ (l : List ℕ). slot_laid l s c.args.slot)
     (c.leave_order.ensures
     ∙ ap (λ (n : ℕ). order_laid ws (get_or ws waiting_at 0) (leaving s (take n (order_in ws)) ++ s ∷ drop n (order_in ws))) c.waiting_of-waiting.ensures)
-    ∙ requeued_writes ws s c.sized.ensures c.requires.0 c.args.slot
+    ∙ requeued_writes ws s c.told-cells c.requires.0 c.args.slot

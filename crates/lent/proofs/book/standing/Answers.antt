@@ -1,25 +1,18 @@
--- The walk: before place i slot s does not stand, and it stands from there on. So where it is found, or at the last place, it stands.
-use Rattle.slots.proofs.MakingLaws.{passed_none, walk_more, walk_found, walk_last, member_some}
-use lib.ListN.{take}
-use native.Mathlib.Omega.{arith}
+-- The first place at which slot s stands in the order. It stands there, so there is one.
+use Rattle.std.proofs.Common.{◌≡◌, ◌≢◌, take, rules}
+use Rattle.std.proofs.lemmas.Iterator.{IsFirst-from_position, YieldsList-from_slice}
+use Rattle.lent.proofs.WritingLaws.{FirstOf, stands_some, stands_at}
+use Rattle.lent.proofs.book.standing.Goals.{After-position}
 use Rattle.lent.proofs.book.standing.Goals as goal
 
-pub loop-i-init : goal.loop-i-init
-loop-i-init c =
-    let cells = c.args.order.now in
-    (member_some c.args.s cells c.args.waiting c.requires.1, passed_none (take c.args.waiting cells) c.requires.1)
+found : (c : After-position) → FirstOf c.args.s (take c.args.waiting c.args.order.now) c.position.result
+found c =
+    let order = take c.args.waiting c.args.order.now in
+    IsFirst-from_position _ _ c.position.result (λ t. t ≡ c.args.s) (λ t. t ≢ c.args.s) c.position.ensures.ran
+    (YieldsList-from_slice order (search rules)) (λ x q k. search rules) (λ x q k. search rules)
 
-pub loop-i-preserved : goal.loop-i-preserved
-loop-i-preserved c =
-    let inv = c.loop-i.invariant in
-    (omega arith, walk_more c.args.s c.args.order.now c.args.waiting c.requires.0 c.loop-i.i inv.0 inv.1 c.if-order-i.false)
+pub unwrap-requires : goal.unwrap-requires
+unwrap-requires c = stands_some c.args.s _ c.position.result c.requires.1 (found (goal.at.unwrap-requires c).After-position)
 
-pub returns-after-loop-i : goal.returns-after-loop-i
-returns-after-loop-i c =
-    let inv = c.loop-i.invariant in
-    (inv.0, walk_last c.args.s c.args.order.now c.args.waiting c.requires.0 c.loop-i.i inv.0 inv.1 (omega arith))
-
-pub returns-then-order-i : goal.returns-then-order-i
-returns-then-order-i c =
-    let inv = c.loop-i.invariant in
-    (inv.0, walk_found c.args.s c.args.order.now c.args.waiting c.requires.0 c.loop-i.i inv.0 inv.1 c.if-order-i.true)
+pub returns : goal.returns
+returns c = stands_at c.args.s c.args.order.now c.args.waiting c.unwrap.result c.requires.0 c.unwrap.ensures (found (goal.at.returns c).After-position)

@@ -14,9 +14,6 @@ use Rattle.lent.proofs.lifting.lay_column.Goals as goal
 pub loop-j-init : goal.loop-j-init
 loop-j-init c = (omega arith, spread_none c.args.cells.now c.args.row c.args.s (hold_words c.args.pages c.args.locks))
 
-pub hold_word-requires : goal.hold_word-requires
-hold_word-requires c = c.requires.2 c.loop-j.j
-
 pub loop-j-preserved : goal.loop-j-preserved
 loop-j-preserved c =
     let j : ℕ = c.loop-j.j in

@@ -9,4 +9,4 @@ unfolding spread
 returns c =
     let ws = c.args.cells.now in
     let s = c.args.s in
-    λ i. set (set (set ws (address kind_row s) (c.kind_of-kind.ensures i)) (address key_row s) (c.key_of-key.ensures i)) (address information_row s) (c.information_of-information.ensures i)
+    λ i. set (set (set ws (address kind_row s) (c.numbers_of-kind.ensures.0 i)) (address key_row s) (c.numbers_of-kind.ensures.1 i)) (address information_row s) (c.numbers_of-kind.ensures.2 i)

@@ -1,47 +1,41 @@
--- The tests are those of `in_shape`, in its order: each that fails makes the whole fail, and the last tells the rest.
-use mathlib.Core.Path.{refl}
-use native.Mathlib.Omega.{arith}
+-- Each of the two parts is the test in words 0 and 1 that `in_shape` asks.
+use mathlib.Core.Bool.{◌&&◌}
+use mathlib.Core.Path.{◌≡◌, refl, sym, ◌∙◌}
+use borrow.Author.Tests.{le-leb, lt-leb}
+use lib.Dec.{leb, eqb}
 use lib.ListN.{get_or}
 use Rattle.ground.specs.Limits.{tallest}
-use Rattle.page.proofs.CheckingLaws.{level_low, level_high, μ_low, μ_high}
+use Rattle.page.specs.Sound.{in_range}
+use Rattle.page.proofs.CheckingLaws.{shape_rewritten}
+use Rattle.page.proofs.ReadingLaws.{view_level}
+use Rattle.page.proofs.checking.in_shape.Goals.{Joined-l-ge1, then-l-ge1, else-l-ge1, Joined-least-m, then-least-m, else-least-m}
 use Rattle.page.proofs.checking.in_shape.Goals as goal
 
-pub level-l-requires : goal.level-l-requires
-level-l-requires c = omega arith
-
-pub returns-then-l-lt1 : goal.returns-then-l-lt1
-returns-then-l-lt1 c =
-    let level = c.level-l in
-    level_low c.args.k c.args.p c.args.w.now level.result (get_or c.args.w.now 1 0) level.ensures refl
-    c.if-l-lt1.true
-
-pub returns-then-l-gt-TALLEST : goal.returns-then-l-gt-TALLEST
+level : (c : Joined-l-ge1) → c.if-l-ge1.level_fits ≡ leb 1 (get_or c.args.w.now 0 0) && leb (get_or c.args.w.now 0 0) tallest
 unfolding tallest
-returns-then-l-gt-TALLEST c =
-    let level = c.level-l in
-    level_high c.args.k c.args.p c.args.w.now level.result (get_or c.args.w.now 1 0) level.ensures refl
-    c.if-l-gt-TALLEST.true
+level c =
+    elim c.if-l-ge1.branch [
+      | then-l-ge1 w ↦ rw (le-leb _ _ w.if-l-ge1.true) w.level_fits-is
+      | else-l-ge1 w ↦ rw (lt-leb _ _ w.if-l-ge1.false) (w.level_fits-is ∙ lt-leb _ _ w.if-l-ge1.false)
+    ]
 
-pub count-m-requires : goal.count-m-requires
-count-m-requires c = omega arith
+count : (c : Joined-least-m) → c.if-least-m.count_fits ≡ in_range c.args.k c.args.p (eqb (get_or c.args.w.now 0 0) 1) (get_or c.args.w.now 1 0)
+count c =
+    elim c.if-least-m.branch [
+      | then-least-m w ↦ rw (← c.least.ensures, le-leb _ _ w.if-least-m.true) w.count_fits-is
+      | else-least-m w ↦ rw (← c.least.ensures, lt-leb _ _ w.if-least-m.false) (w.count_fits-is ∙ lt-leb _ _ w.if-least-m.false)
+    ]
 
-pub least-requires : goal.least-requires
-least-requires c = omega arith
+pub returns-then-level_fits : goal.returns-then-level_fits
+returns-then-level_fits c =
+    count (goal.at.returns-then-level_fits c).Joined-least-m
+    ∙ sym
+    (shape_rewritten c.args.k c.args.p c.args.w.now (get_or c.args.w.now 0 0) (get_or c.args.w.now 1 0) (sym (view_level c.args.w.now)) refl
+    ∙ rw (sym (level (goal.at.returns-then-level_fits c).Joined-l-ge1) ∙ c.if-level_fits.true) refl)
 
-pub returns-then-m-least : goal.returns-then-m-least
-returns-then-m-least c =
-    let level = c.level-l in
-    let count = c.count-m in
-    μ_low c.args.k c.args.p c.args.w.now level.result count.result level.ensures count.ensures
-    (rw (← c.least.ensures) c.if-m-least.true)
-
-pub overflow_mul-result : goal.overflow_mul-result
-overflow_mul-result c = omega arith
-
-pub returns : goal.returns
-unfolding tallest
-returns c =
-    let level = c.level-l in
-    let count = c.count-m in
-    μ_high c.args.k c.args.p c.args.w.now level.result count.result level.ensures count.ensures
-    c.if-l-lt1.false c.if-l-gt-TALLEST.false (rw (← c.least.ensures) c.if-m-least.false)
+pub returns-else-level_fits : goal.returns-else-level_fits
+returns-else-level_fits c =
+    c.if-level_fits.false
+    ∙ sym
+    (shape_rewritten c.args.k c.args.p c.args.w.now (get_or c.args.w.now 0 0) (get_or c.args.w.now 1 0) (sym (view_level c.args.w.now)) refl
+    ∙ rw (sym (level (goal.at.returns-else-level_fits c).Joined-l-ge1) ∙ c.if-level_fits.false) refl)

@@ -8,10 +8,10 @@ use Rattle.pool.proofs.pages.stretch_of.Goals as goal
 pub overflow_add-result : goal.overflow_add-result
 unfolding largest_k largest_n
 overflow_add-result c =
-    let few = start_few c.args.k c.args.p (omega arith) (omega arith) in
+    let few = start_few c.args.shape.k c.args.p (omega arith) (omega arith) in
     omega arith
 
 pub returns : goal.returns
 returns c =
-    let inside = ends_in_pool c.args.k c.args.n c.args.p (omega arith) in
+    let inside = ends_in_pool c.args.shape.k c.args.shape.n c.args.p (omega arith) in
     omega arith

@@ -1,14 +1,7 @@
 -- `first_of` tests for a leaf as the rule does.
-use native.Mathlib.Omega.{arith}
 use borrow.Author.Tests.{eq-eqb, ne_eqb}
 use Rattle.page.specs.Words.{view}
 use Rattle.sheet.proofs.sheets.first_of.Goals as goal
-
-pub bounds-w-0 : goal.bounds-w-0
-bounds-w-0 c = omega arith
-
-pub bounds-w-2 : goal.bounds-w-2
-bounds-w-2 c = omega arith
 
 pub returns-then-w-eq1 : goal.returns-then-w-eq1
 unfolding view

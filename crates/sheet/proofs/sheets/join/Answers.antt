@@ -1,6 +1,6 @@
 -- `join` gathers the pairs of the left page, above the leaves the father's key with the right page's p0, and the pairs of the
 -- right page.
-use mathlib.Core.Path.{sym, ◌∙◌}
+use mathlib.Core.Path.{refl, ◌∙◌}
 use native.Mathlib.Omega.{arith}
 use lib.ListN.{replicate, length-set}
 use Rattle.sheet.proofs.WritingLaws.{Bounds, bounds}
@@ -14,80 +14,29 @@ left c = bounds c.requires.exact.0
 right : (c : Start) → Bounds c.args.k c.args.w.now
 right c = bounds c.requires.exact.1
 
-pub bounds-l-1 : goal.bounds-l-1
-bounds-l-1 c = omega (arith, left (goal.at.bounds-l-1 c).Start, right (goal.at.bounds-l-1 c).Start)
-
-pub bounds-w-1 : goal.bounds-w-1
-bounds-w-1 c = omega (arith, left (goal.at.bounds-w-1 c).Start, right (goal.at.bounds-w-1 c).Start)
-
-pub bounds-l-0 : goal.bounds-l-0
-bounds-l-0 c = omega (arith, left (goal.at.bounds-l-0 c).Start, right (goal.at.bounds-l-0 c).Start)
-
-pub overflow_mul-c : goal.overflow_mul-c
-overflow_mul-c c = omega (arith, left (goal.at.overflow_mul-c c).Start, right (goal.at.overflow_mul-c c).Start)
-
 pub copy_words-requires : goal.copy_words-requires
 copy_words-requires c = omega (arith, left (goal.at.copy_words-requires c).Start, right (goal.at.copy_words-requires c).Start)
-
-pub slice_bounds-copy_words-end-then-level-eq1 : goal.slice_bounds-copy_words-end-then-level-eq1
-slice_bounds-copy_words-end-then-level-eq1 c = sym c.copy_words.auto.dst
-
-pub overflow_mul-n : goal.overflow_mul-n
-overflow_mul-n c = omega (arith, left (goal.at.overflow_mul-n c).Start, right (goal.at.overflow_mul-n c).Start)
 
 pub copy_words-requires-then-level-eq1 : goal.copy_words-requires-then-level-eq1
 copy_words-requires-then-level-eq1 c = omega (arith, left (goal.at.copy_words-requires-then-level-eq1 c).Start, right (goal.at.copy_words-requires-then-level-eq1 c).Start)
 
-pub overflow_add-result : goal.overflow_add-result
-overflow_add-result c = omega (arith, left (goal.at.overflow_add-result c).Start, right (goal.at.overflow_add-result c).Start)
-
 pub returns-then-level-eq1 : goal.returns-then-level-eq1
 returns-then-level-eq1 c =
-    join_leaves c.requires.exact.0 c.requires.exact.1 c.requires.l_value.0 c.args.r (replicate 100 0) c.pairs_from.ensures c.wide-m.ensures
-    c.wide-n.ensures c.copy_words.ensures c.if-level-eq1.true c.copy_words-then-level-eq1.ensures
+    join_leaves c.requires.exact.0 c.requires.exact.1 c.requires.l_value.0 c.args.r (replicate 100 0) c.pairs_from.ensures refl
+    refl c.copy_words.ensures c.if-level-eq1.true c.copy_words-then-level-eq1.ensures
     (c.copy_words-then-level-eq1.auto.dst ∙ c.copy_words.auto.dst)
-
-pub offset_bounds-pairs-c : goal.offset_bounds-pairs-c
-offset_bounds-pairs-c c = omega (arith, left (goal.at.offset_bounds-pairs-c c).Start, right (goal.at.offset_bounds-pairs-c c).Start)
 
 pub bounds-pairs-c : goal.bounds-pairs-c
 bounds-pairs-c c = omega (arith, left (goal.at.bounds-pairs-c c).Start, right (goal.at.bounds-pairs-c c).Start)
 
-pub bounds-w-2 : goal.bounds-w-2
-bounds-w-2 c = omega (arith, left (goal.at.bounds-w-2 c).Start, right (goal.at.bounds-w-2 c).Start)
-
-pub overflow_add-pairs : goal.overflow_add-pairs
-overflow_add-pairs c = omega (arith, left (goal.at.overflow_add-pairs c).Start, right (goal.at.overflow_add-pairs c).Start)
-
-pub offset_bounds-pairs-c-2 : goal.offset_bounds-pairs-c-2
-offset_bounds-pairs-c-2 c = omega (arith, left (goal.at.offset_bounds-pairs-c-2 c).Start, right (goal.at.offset_bounds-pairs-c-2 c).Start)
-
 pub bounds-pairs-c-2 : goal.bounds-pairs-c-2
 bounds-pairs-c-2 c = omega (arith, left (goal.at.bounds-pairs-c-2 c).Start, right (goal.at.bounds-pairs-c-2 c).Start)
-
-pub slice_bounds-copy_words-end-2 : goal.slice_bounds-copy_words-end-2
-slice_bounds-copy_words-end-2 c = simp length-set (sym c.copy_words.auto.dst)
-
-pub overflow_add-c : goal.overflow_add-c
-overflow_add-c c = omega (arith, left (goal.at.overflow_add-c c).Start, right (goal.at.overflow_add-c c).Start)
-
-pub overflow_mul-n-2 : goal.overflow_mul-n-2
-overflow_mul-n-2 c = omega (arith, left (goal.at.overflow_mul-n-2 c).Start, right (goal.at.overflow_mul-n-2 c).Start)
 
 pub copy_words-requires-2 : goal.copy_words-requires-2
 copy_words-requires-2 c = simp length-set (omega (arith, left (goal.at.copy_words-requires-2 c).Start, right (goal.at.copy_words-requires-2 c).Start))
 
-pub bounds-l-2 : goal.bounds-l-2
-bounds-l-2 c = omega (arith, left (goal.at.bounds-l-2 c).Start, right (goal.at.bounds-l-2 c).Start)
-
-pub overflow_add-result-2 : goal.overflow_add-result-2
-overflow_add-result-2 c = omega (arith, left (goal.at.overflow_add-result-2 c).Start, right (goal.at.overflow_add-result-2 c).Start)
-
-pub overflow_add-result-3 : goal.overflow_add-result-3
-overflow_add-result-3 c = omega (arith, left (goal.at.overflow_add-result-3 c).Start, right (goal.at.overflow_add-result-3 c).Start)
-
 pub returns : goal.returns
 returns c =
-    join_uppers c.requires.exact.0 c.requires.exact.1 c.requires.l_value.0 c.args.r (replicate 100 0) c.pairs_from.ensures c.wide-m.ensures
-    c.wide-n.ensures c.copy_words.ensures c.if-level-eq1.false (omega (arith, left (goal.at.returns c).Start, right (goal.at.returns c).Start)) c.copy_words-2.ensures
+    join_uppers c.requires.exact.0 c.requires.exact.1 c.requires.l_value.0 c.args.r (replicate 100 0) c.pairs_from.ensures refl
+    refl c.copy_words.ensures c.if-level-eq1.false (omega (arith, left (goal.at.returns c).Start, right (goal.at.returns c).Start)) c.copy_words-2.ensures
     (c.copy_words-2.auto.dst ∙ simp length-set c.copy_words.auto.dst)

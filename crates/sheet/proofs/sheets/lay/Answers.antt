@@ -5,6 +5,3 @@ use Rattle.sheet.proofs.sheets.lay.Goals as goal
 
 pub lay_run-requires : goal.lay_run-requires
 lay_run-requires c = omega (arith, small_k c.requires.2)
-
-pub returns : goal.returns
-returns c = c.lay_run.ensures

@@ -1,6 +1,6 @@
 -- `over` gathers the pairs before place i, the new pair, and the others.
 use Prim.Native.Nat.{◌≤◌}
-use mathlib.Core.Path.{refl, sym, ◌∙◌}
+use mathlib.Core.Path.{refl, ◌∙◌}
 use native.Mathlib.Omega.{arith}
 use lib.ListN.{replicate, length-set}
 use Rattle.sheet.proofs.WritingLaws.{Bounds, bounds, small_k}
@@ -13,12 +13,6 @@ near c = bounds c.requires.exact
 
 small : (c : Start) → c.args.k ≤ 16
 small c = small_k c.requires.k_le_largest_k.0
-
-pub bounds-w-1 : goal.bounds-w-1
-bounds-w-1 c = omega (arith, near (goal.at.bounds-w-1 c).Start)
-
-pub bounds-w-0 : goal.bounds-w-0
-bounds-w-0 c = omega (arith, near (goal.at.bounds-w-0 c).Start)
 
 pub overflow_mul-c : goal.overflow_mul-c
 overflow_mul-c c = omega (arith, near (goal.at.overflow_mul-c c).Start, small (goal.at.overflow_mul-c c).Start)
@@ -44,14 +38,8 @@ bounds-pairs-c-2 c = omega (arith, near (goal.at.bounds-pairs-c-2 c).Start, smal
 pub overflow_add-at : goal.overflow_add-at
 overflow_add-at c = omega (arith, near (goal.at.overflow_add-at c).Start, small (goal.at.overflow_add-at c).Start)
 
-pub slice_bounds-copy_words-end-2 : goal.slice_bounds-copy_words-end-2
-slice_bounds-copy_words-end-2 c = simp length-set (sym c.copy_words.auto.dst)
-
 pub overflow_add-c : goal.overflow_add-c
 overflow_add-c c = omega (arith, near (goal.at.overflow_add-c c).Start, small (goal.at.overflow_add-c c).Start)
-
-pub overflow_mul-m : goal.overflow_mul-m
-overflow_mul-m c = omega (arith, near (goal.at.overflow_mul-m c).Start, small (goal.at.overflow_mul-m c).Start)
 
 pub overflow_sub-m : goal.overflow_sub-m
 overflow_sub-m c = omega (arith, near (goal.at.overflow_sub-m c).Start, small (goal.at.overflow_sub-m c).Start)
@@ -59,17 +47,8 @@ overflow_sub-m c = omega (arith, near (goal.at.overflow_sub-m c).Start, small (g
 pub copy_words-requires-2 : goal.copy_words-requires-2
 copy_words-requires-2 c = simp length-set (omega (arith, near (goal.at.copy_words-requires-2 c).Start, small (goal.at.copy_words-requires-2 c).Start))
 
-pub bounds-w-0-2 : goal.bounds-w-0-2
-bounds-w-0-2 c = omega (arith, near (goal.at.bounds-w-0-2 c).Start)
-
-pub first_of-requires : goal.first_of-requires
-first_of-requires c = omega (arith, near (goal.at.first_of-requires c).Start)
-
-pub overflow_add-result : goal.overflow_add-result
-overflow_add-result c = omega (arith, near (goal.at.overflow_add-result c).Start, small (goal.at.overflow_add-result c).Start)
-
 pub returns : goal.returns
 returns c =
     over_exact c.requires.exact c.args.i c.args.x c.args.v (replicate 100 0) (small (goal.at.returns c).Start) c.requires.k_le_largest_k.1 c.pairs_from-at.ensures
-    c.wide-m.ensures c.first_of.ensures refl c.copy_words.ensures c.copy_words-2.ensures
+    refl c.first_of.ensures refl c.copy_words.ensures c.copy_words-2.ensures
     (c.copy_words-2.auto.dst ∙ simp length-set c.copy_words.auto.dst)

@@ -7,9 +7,6 @@ use Rattle.sheet.proofs.writing.rekey.Goals as goal
 near : (c : Start) → Bounds c.args.k c.args.w.now
 near c = bounds c.requires.exact
 
-pub bounds-w-0 : goal.bounds-w-0
-bounds-w-0 c = omega (arith, near (goal.at.bounds-w-0 c).Start)
-
 pub overflow_mul-w : goal.overflow_mul-w
 overflow_mul-w c = omega (arith, near (goal.at.overflow_mul-w c).Start)
 

@@ -1,32 +1,14 @@
--- The slots passed are marked as their kinds tell.
-use Rattle.soundness.proofs.CheckingLawsOrder.{marks_on}
-use Rattle.soundness.specs.Checking.{open_kind}
-use Rattle.lent.specs.Layout.{kind_row}
-use Rattle.lent.specs.Words.{cell}
-use lib.ListN.{length-set}
+-- Each slot is marked as its kind tells.
+use Rattle.std.proofs.Common.{rules, ℕ, Bool, false}
 use native.Mathlib.Omega.{arith}
-use mathlib.Core.Path.{ap, ◌∙◌}
-use Prim.Native.Nat.{ℕ}
-use borrow.Author.Rules.{rules}
+use Rattle.soundness.proofs.MadeLaws.{made_at}
+use Rattle.soundness.specs.Checking.{open_kind}
+use Rattle.lent.specs.Layout.{row_length, kind_row}
+use Rattle.lent.specs.Words.{cell}
 use Rattle.soundness.proofs.checking.busy_of.Goals as goal
-
-pub loop-s-init : goal.loop-s-init
-loop-s-init c = (omega arith, search rules, λ t h. absurd (omega arith))
-
-pub kind_at-kind-requires : goal.kind_at-kind-requires
-kind_at-kind-requires c = omega arith
-
-pub loop-s-preserved : goal.loop-s-preserved
-loop-s-preserved c =
-    let ws = c.args.cells.now in
-    let inv = c.loop-s.invariant in
-    let s : ℕ = c.loop-s.s in (
-      omega arith,
-      length-set c.loop-s.busy s _ ∙ inv.1,
-      marks_on (λ (t : ℕ). open_kind (cell ws kind_row t)) c.loop-s.busy s _ (omega arith) inv.2 (ap open_kind c.kind_at-kind.ensures),
-    )
 
 pub returns : goal.returns
 returns c =
-    let inv = c.loop-s.invariant in
-    (inv.1, λ t h. inv.2 t (omega arith))
+    let made = c.from_fn.ensures.items in
+    let open' : ℕ → Bool = λ s. open_kind (cell c.args.cells.now kind_row s) in
+    (made.long, λ s h. made_at _ _ open' (λ i y q k. search rules) c.from_fn.result false 0 row_length made.each s (omega arith) (omega arith))

@@ -1,11 +1,9 @@
 -- The mask has a bit for each of the slots passed that holds under ξ or α.
 use Rattle.soundness.proofs.MaskLaws.{mask_none, mask_sets, mask_keeps}
 use Rattle.soundness.specs.Checking.{excludes_kind, excludes}
-use Rattle.slots.specs.Report.{mask_below}
 use lib.Bits.{bit_or}
-use Rattle.lent.specs.Layout.{row_length}
 use native.Mathlib.Omega.{arith}
-use mathlib.Core.Path.{◌≡◌, sym, ap, ◌∙◌}
+use mathlib.Core.Path.{sym, ap, ◌∙◌}
 use Prim.Native.Nat.{ℕ, ◌*◌, ◌%◌, ◌^◌}
 use Rattle.soundness.proofs.checking.excluding.Goals.{then-is_exclusive, else-is_exclusive}
 use Rattle.soundness.proofs.checking.excluding.Goals as goal
@@ -13,14 +11,11 @@ use Rattle.soundness.proofs.checking.excluding.Goals as goal
 pub loop-s-init : goal.loop-s-init
 loop-s-init c = (omega arith, sym (mask_none (excludes c.args.cells.now)))
 
-pub kind_at-requires : goal.kind_at-requires
-kind_at-requires c = omega arith
-
 pub loop-s-preserved : goal.loop-s-preserved
 loop-s-preserved c =
     let ws = c.args.cells.now in
     let l = c.loop-s in
-    let said = c.is_exclusive.ensures ∙ ap excludes_kind c.kind_at.ensures in (
+    let said = c.is_exclusive.ensures ∙ ap excludes_kind c.kind.ensures in (
       omega arith,
       elim c.if-is_exclusive.branch [
         | then-is_exclusive w ↦
@@ -28,9 +23,3 @@ loop-s-preserved c =
         | else-is_exclusive w ↦ w.mask-is ∙ l.invariant.1 ∙ mask_keeps (excludes ws) l.s (sym said ∙ w.if-is_exclusive.false)
       ],
     )
-
-pub returns : goal.returns
-returns c =
-    let ws = c.args.cells.now in
-    let end : c.loop-s.s ≡ row_length = omega arith in
-    c.loop-s.invariant.1 ∙ ap (λ (n : ℕ). mask_below n (excludes ws)) end

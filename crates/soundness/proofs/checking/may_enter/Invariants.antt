@@ -5,11 +5,8 @@ use Rattle.lent.specs.Words.{column}
 use lib.ListN.{take}
 use mathlib.Core.Path.{◌≡◌}
 use mathlib.Core.Bool.{true}
-use Prim.Native.Nat.{◌≤◌, ◌-◌}
+use Prim.Native.Nat.{◌≤◌}
 use Rattle.soundness.proofs.checking.may_enter.Given as goal
 
 abbrev pub invariant-loop-i : goal.invariant-loop-i
-invariant-loop-i l = (l.i ≤ l.count) × (may_enter l.n l.other (take l.own (column l.cells path_row l.s)) (take l.i (column l.cells l.row l.s)) ≡ true)
-
-abbrev pub decreases-loop-i : goal.decreases-loop-i
-decreases-loop-i l = l.count - l.i
+invariant-loop-i l = (l.i ≤ l.count) × (may_enter l.n l.other (take l.own (column l.slot.cells.now path_row l.slot.s)) (take l.i (column l.slot.cells.now l.row l.slot.s)) ≡ true)

@@ -5,11 +5,8 @@ use Rattle.lent.specs.Layout.{row_length}
 use Rattle.lent.specs.Words.{order_in}
 use lib.ListN.{length}
 use mathlib.Core.Path.{◌≡◌}
-use Prim.Native.Nat.{◌≤◌, ◌-◌}
+use Prim.Native.Nat.{◌≤◌}
 use Rattle.soundness.proofs.checking.order_sound.Given as goal
 
 abbrev pub invariant-loop-i : goal.invariant-loop-i
 invariant-loop-i l = (l.i ≤ l.waiting) × (l.waiting ≤ row_length) × (length l.unnamed ≡ row_length) × Naming l.initial.unnamed l.unnamed (order_in l.cells) l.i
-
-abbrev pub decreases-loop-i : goal.decreases-loop-i
-decreases-loop-i l = l.waiting - l.i

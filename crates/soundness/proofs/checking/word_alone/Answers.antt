@@ -9,10 +9,10 @@ use Rattle.soundness.proofs.checking.word_alone.Goals as goal
 
 pub returns : goal.returns
 returns c =
-    let ws = c.args.cells.now in
+    let ws = c.args.slot.cells.now in
     let row = c.row_of in
     ap not
     (c.others_hold.ensures
-    ∙ ap (others_hold ws c.args.s row.result) c.page_in.ensures
-    ∙ same_rows ws c.args.s (page_in c.args.word) (number_in c.args.word) row.result
+    ∙ ap (others_hold ws c.args.slot.s row.result) c.page_in.ensures
+    ∙ same_rows ws c.args.slot.s (page_in c.args.word) (number_in c.args.word) row.result
     (subst (λ (i : ℕ). RowOf i row.result) c.number_in.ensures row.ensures))

@@ -9,28 +9,12 @@ use Rattle.talk.proofs.answering.answer_lines.Goals as goal
 pub loop-at-init : goal.loop-at-init
 loop-at-init c = (going_start _ _ _ _, refl, refl)
 
-pub write_bad_line-requires : goal.write_bad_line-requires
-write_bad_line-requires c =
-    omega (
-      arith,
-      c.loop-at.invariant.0.room,
-      c.loop-at.invariant.2,
-    )
-
 pub returns-then-stop-input : goal.returns-then-stop-input
 returns-then-stop-input c =
     going_last _ _ _ c.loop-at.invariant.0
     c.loop-at-test.true
     (sym c.line_end-stop.ensures.0 ∙ c.if-stop-input.true)
     c.write_bad_line.ensures.0 c.write_bad_line.ensures.1
-
-pub obey-end-requires : goal.obey-end-requires
-obey-end-requires c =
-    omega (
-      arith,
-      c.loop-at.invariant.0.room,
-      c.loop-at.invariant.2,
-    )
 
 pub loop-at-preserved : goal.loop-at-preserved
 loop-at-preserved c = (

@@ -1,9 +1,0 @@
--- `fill` goes over the words one by one.
-use Rattle.std.proofs.Common.{length, ◌-◌, ◌≤◌}
-use Rattle.drive.proofs.obeying.fill.Given as goal
-
-abbrev pub invariant-loop-i : goal.invariant-loop-i
-invariant-loop-i l = l.i ≤ length l.words
-
-abbrev pub decreases-loop-i : goal.decreases-loop-i
-decreases-loop-i l = length l.words - l.i

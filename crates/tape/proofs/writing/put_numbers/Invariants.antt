@@ -1,9 +1,0 @@
--- `put_numbers` goes over its words one by one.
-use Rattle.std.proofs.Common.{length, ◌-◌, ◌≤◌}
-use Rattle.tape.proofs.writing.put_numbers.Given as goal
-
-abbrev pub invariant-loop-i : goal.invariant-loop-i
-invariant-loop-i g l = l.i ≤ length l.words
-
-abbrev pub decreases-loop-i : goal.decreases-loop-i
-decreases-loop-i g l = length l.words - l.i
