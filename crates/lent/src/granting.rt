@@ -206,7 +206,7 @@ impl Column<'_> {
         let want = self.want();
         let waiting = waiting_of(cells);
         let mut i = 0;
-        // Stays: by a rule of the project a walk gives what it finds by `break`.
+        // Stays: a rule of the project: the walk of older wants is left from inside, and yields what it found by `break`.
         loop {
             if waiting <= i {
                 break true;

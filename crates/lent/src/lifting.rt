@@ -41,7 +41,7 @@ impl Column<'_> {
         ensures { result ≡ column self.entry.cells.now row self.entry.s }
     {
         let mut pages = [0u32; HELD];
-        // Stays: for both columns, since the proof of the kinds does not close where the array is made by `from_fn`.
+        // Stays: no plainer by `from_fn`, beside the kinds below, whose proof does not close so.
         for j in 0..HELD {
             pages[j] = page_in(self.word(row + j));
         }
@@ -67,7 +67,8 @@ impl Column<'_> {
         task_of(self.kind(), self.word(KEY), self.word(INFORMATION))
     }
 
-    // The slot.
+    // The slot. Lifted in one place, it is handed on whole; taken apart by the compiler, its forty numbers would be copied one by one.
+    #[inline(never)]
     pub fn slot(self) -> Slot
         ensures { result ≡ slot_in self.entry.cells.now self.entry.s }
     {

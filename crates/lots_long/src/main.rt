@@ -1,5 +1,5 @@
 // A listed run of the little program: one byte too many.
-// Stays: a crate of its own with the same `main`, since a crate has one input and one output.
+// Stays: what may not change: the program on an input and an output of its own, of which a crate has one each.
 #![tactic(auto)]
 
 use std::io;

@@ -251,7 +251,14 @@ fn busy_of(cells: &[u32; STATE]) -> [bool; SLOTS]
 fn marked(marks: [bool; SLOTS]) -> usize
     ensures { result ≡ count_below slot_count (λ (s : ℕ). get_or marks s false) }
 {
-    marks.iter().filter(|&&mark| mark).count()
+    let mut count = 0;
+    // Stays: a loop of its own: of the chain's `count` the compiler makes no vector code, and the test of a state takes a tenth longer.
+    for s in 0..SLOTS {
+        if marks[s] {
+            count += 1;
+        }
+    }
+    count
 }
 
 // The waiting order names each open slot once and no other. As many slots must be open as wait: then an order that names
@@ -339,7 +346,7 @@ fn no_clashes(cells: &[u32; STATE]) -> bool
 {
     let table = lock_table();
     let mut left = excluding(cells);
-    // Stays: a range would go over all sixteen slots, and so ask of each again what the mask tells of all in one go.
+    // Stays: no plainer by a range: that goes over all sixteen slots, and asks of each again what the mask has told.
     while left != 0 {
         let s = left.trailing_zeros() as usize;
         if !is_alone(Column { cells, s }, table) {

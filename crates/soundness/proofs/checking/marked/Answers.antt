@@ -1,40 +1,38 @@
--- The marks that the chain counts are counted by their numbers.
-use Rattle.std.proofs.Common.{rules, ℕ, ◌≤◌, ◌≡◌, length, get_or, take, false, Bool, List, count_by}
-use Rattle.std.proofs.lemmas.List.Sums.{count_by_more_no, count_by_more_yes}
-use Rattle.std.proofs.Math.Seq.{take-length}
+-- The marks passed are counted.
+use Rattle.ground.proofs.Tests.{count_below_none, count_below_passes, count_below_skips}
 use Rattle.ground.specs.Limits.{slot_count}
 use Rattle.ground.specs.Tests.{count_below}
-use Rattle.ground.proofs.Tests.{count_below_none, count_below_passes, count_below_skips}
-use Rattle.ground.proofs.Bools.{true_or_false}
 use Rattle.lent.specs.Layout.{row_length}
 use native.Mathlib.Numerals.{add-one}
 use native.Mathlib.Omega.{arith}
-use mathlib.Core.Path.{sym, ap, ◌∙◌}
-use mathlib.Core.Logic.{⊎_elim}
-use Prim.Native.Nat.{zero, suc}
+use mathlib.Core.Bool.{Bool}
+use mathlib.Core.Path.{◌≡◌, sym, ap, ◌∙◌}
+use Prim.Native.Nat.{ℕ, suc, ◌+◌}
+use Rattle.soundness.proofs.checking.marked.Invariants.{passed}
+use Rattle.soundness.proofs.checking.marked.Goals.{then-marks-s, else-marks-s}
 use Rattle.soundness.proofs.checking.marked.Goals as goal
 
-abbrev mark_at : List Bool → ℕ → Bool
-mark_at marks s = get_or marks s false
+pub loop-s-init : goal.loop-s-init
+loop-s-init c = (omega arith, omega arith, sym (count_below_none (passed c.args.marks)))
 
--- so of the first n
-among : (marks : List Bool) (n : ℕ) → n ≤ length marks → count_by (λ (mark : Bool). mark) (take n marks) ≡ count_below n (mark_at marks)
-among marks zero h = sym (count_below_none (mark_at marks))
-among marks (suc n) h =
-    let before = among marks n (omega arith) in
-    ap (λ (m : ℕ). count_by (λ (mark : Bool). mark) (take m marks)) (sym (add-one n))
-    ∙ ⊎_elim
-    (λ t. count_by_more_yes (λ (mark : Bool). mark) marks n false (omega arith) t ∙ omega (arith, before, count_below_passes (mark_at marks) n t))
-    (λ f. count_by_more_no (λ (mark : Bool). mark) marks n false (omega arith) f ∙ before ∙ sym (count_below_skips (mark_at marks) n f))
-    (true_or_false (mark_at marks n))
+pub overflow_add-count : goal.overflow_add-count
+overflow_add-count c = omega arith
+
+pub loop-s-preserved : goal.loop-s-preserved
+loop-s-preserved c =
+    let test : ℕ → Bool = passed c.args.marks in
+    let l = c.loop-s in
+    let more : count_below (l.s + 1) test ≡ count_below (suc l.s) test = ap (λ (n : ℕ). count_below n test) (add-one l.s) in (
+      omega arith,
+      elim c.if-marks-s.branch [ then-marks-s w ↦ omega arith | else-marks-s w ↦ omega arith ],
+      elim c.if-marks-s.branch [
+        | then-marks-s w ↦ w.count-is ∙ omega (arith, l.invariant.2, count_below_passes test l.s w.if-marks-s.true, more)
+        | else-marks-s w ↦ w.count-is ∙ l.invariant.2 ∙ sym (more ∙ count_below_skips test l.s w.if-marks-s.false)
+      ],
+    )
 
 pub returns : goal.returns
 unfolding slot_count
 returns c =
-    let marks : List Bool = c.args.marks in
-    let long : length marks ≡ row_length = search rules in
-    let counted : c.count.result ≡ count_by (λ (mark : Bool). mark) marks = search rules in
-    counted
-    ∙ ap (count_by (λ (mark : Bool). mark)) (sym (take-length marks))
-    ∙ among marks (length marks) (omega arith)
-    ∙ ap (λ (n : ℕ). count_below n (mark_at marks)) long
+    let end : c.loop-s.s ≡ row_length = omega arith in
+    c.loop-s.invariant.2 ∙ ap (λ (n : ℕ). count_below n (passed c.args.marks)) end
