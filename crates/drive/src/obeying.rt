@@ -1,5 +1,6 @@
 // What a line asks for, and what it is answered.
-ghost use Rattle.std.specs.Prelude.{◌≡◌, ◌≤◌, length, take};
+ghost use Rattle.std.specs.Prelude.{◌≡◌, ◌≤◌, length, take, replicate};
+ghost use Rattle.lent.specs.Layout.{state_length};
 
 use embed::calls::{
     ghazfulit_begin, ghazfulit_make, ghazfulit_open, ghazfulit_report, ghazfulit_step,
@@ -9,7 +10,7 @@ use std::io::{self, Print};
 use tape::writing::{Output, sum};
 
 // Room for a pool's words: the largest pool has 1,024 pages of 67 words, and a pool may be given some more.
-const ROOM: usize = 70000;
+pub const ROOM: usize = 70000;
 
 // How much is written of an outcome.
 #[derive(Clone, Copy)]
@@ -24,8 +25,8 @@ enum Telling {
 // What the calls are made on: a state, and a pool with room for more words than it has.
 #[derive(Drop)]
 pub struct Bench {
-    state: [u32; STATE],
     words: [u32; ROOM],
+    state: [u32; STATE],
     // how many words the pool has
     length: usize,
     telling: Telling,
@@ -56,10 +57,13 @@ pub fn bad_line(out: &mut Output<impl Print>) -> io::Result<()> {
 
 impl Bench {
     // Every word of the state is 0, and the pool has none.
-    pub fn new() -> Self {
+    pub fn new() -> Self
+        ensures state { result.state ≡ replicate state_length 0 }
+        ensures length { result.length ≡ 0 }
+    {
         Bench {
-            state: [0; STATE],
             words: [0; ROOM],
+            state: [0; STATE],
             length: 0,
             telling: Telling::Answer,
         }

@@ -17,6 +17,7 @@ use lib.Seq.{length-take-le, get_or-take, take_at, take_all}
 use Rattle.ground.specs.Limits.{path_holds}
 use Rattle.ground.specs.Tests.{all, member, padded, filled}
 use Rattle.ground.proofs.Bools.{not_both, and_both, and_first_fails, and_second_fails, or_first, or_second}
+use Rattle.ground.proofs.Padded.{next_cell}
 use Rattle.ground.proofs.Tests.{member_from, member_append, member_here, member_there, member_last}
 use Rattle.page.specs.Words.{Entry, Page}
 use Rattle.page.specs.Place.{has, information}
@@ -116,6 +117,31 @@ regrade_safe k P {x = x} {v} {way} e = ap (λ (o : Op). is_safe o k P) e ∙ by_
 -- the page is not safe for the operation
 abbrev pub unsafe : Op → ℕ → (ℕ → Page) → ℕ → Bool
 unsafe op k memory p = not (is_safe op k (memory p))
+
+module _ (op : Op) (k : ℕ) (memory : ℕ → Page) (path : List ℕ) (depth : ℕ) (long : depth ≤ length path) where
+  -- none of the pages from index i on is safe
+  abbrev unsafe_from : ℕ → Bool
+  unsafe_from i = all (unsafe op k memory) (drop i (take depth path))
+
+  -- nothing is held
+  pub kept_none : (want : ℕ) → depth ≡ 0 → eqb want 0 ≡ rightly_kept op k memory (take depth path) want
+  kept_none want e = sym (ap (λ (d : ℕ). rightly_kept op k memory (take d path) want) e)
+
+  -- the top page and the others
+  by_top : (want : ℕ) → 0 < depth
+      → rightly_kept op k memory (take depth path) want
+      ≡ (eqb (get_or path 0 0) 0 || is_safe op k (memory (get_or path 0 0))) && unsafe_from 1
+  by_top want some = ap (λ (pages : List ℕ). rightly_kept op k memory pages want) (next_cell path depth 0 long some)
+
+  -- the top page is page 0 or safe: it is the others that count
+  pub kept_top : (want : ℕ) → 0 < depth → eqb (get_or path 0 0) 0 || is_safe op k (memory (get_or path 0 0)) ≡ true
+      → rightly_kept op k memory (take depth path) want ≡ unsafe_from 1
+  kept_top want some t = by_top want some ∙ ap (λ (b : Bool). b && unsafe_from 1) t
+
+  -- it is neither
+  pub kept_stops_top : (want : ℕ) → 0 < depth → eqb (get_or path 0 0) 0 || is_safe op k (memory (get_or path 0 0)) ≡ false
+      → false ≡ rightly_kept op k memory (take depth path) want
+  kept_stops_top want some f = sym (by_top want some ∙ ap (λ (b : Bool). b && unsafe_from 1) f)
 
 -- where the top page is page 0 or safe it is the others that count
 pub kept_by : (op : Op) (k : ℕ) (memory : ℕ → Page) (pages : List ℕ) (want : ℕ) → 1 ≤ length pages

@@ -6,13 +6,13 @@ use Rattle.std.specs.Slice.Iter.{windows_rest, windows_size, windows_steps}
 use Rattle.std.specs.declared.slice.Windows.{Windows}
 use Rattle.std.proofs.lemmas.Iterator.{YieldsList}
 use Prim.Native.Nat.{ℕ, suc, zero, ◌+◌, ◌≤◌, ◌<◌}
-use mathlib.Core.Bool.{Bool, true, false, cond, ◌&&◌, ◌||◌, and-true, and_assoc, or-false}
+use mathlib.Core.Bool.{Bool, true, false, not, cond, ◌&&◌, ◌||◌, and-true, and_assoc, or-false}
 use mathlib.Core.List.{List, [], ◌∷◌, ◌++◌, reverse, reverse_aux}
 use mathlib.Core.Logic.{◌≢◌, ⊎_elim}
 use mathlib.Core.Path.{◌≡◌, refl, sym, ap, ap₂, ◌∙◌, subst}
 use native.Mathlib.Nat.{not-suc-le-zero, le_of_suc-le-suc}
 use native.Mathlib.Omega.{arith}
-use borrow.Author.Tests.{eqb-true, eq-eqb, ne_eqb, leb-true}
+use borrow.Author.Tests.{eqb-true, eq-eqb, ne_eqb, leb-true, not-true, not-false}
 use lib.Dec.{eqb, leb, ltb}
 use lib.ListN.{length, get_or, take, drop}
 use lib.Seq.{length-take-le}
@@ -63,6 +63,17 @@ module _ (memory : ℕ → Page) (names : Page → ℕ) (p q : ℕ) where
   -- the test of the levels
   abbrev level_below : Bool
   level_below = eqb (memory p).level ((memory q).level + 1)
+
+  module _ {answer : Bool} (said : answer ≡ level_below) where
+    -- where the levels are wrong it is not so
+    pub below_astray : not answer ≡ true → false ≡ names_below memory names p q
+    below_astray f = sym (and_second_fails (eqb (names (memory p)) q) (told_false said (not-true answer f)))
+
+    -- where they are right the page that is named tells
+    pub below_named : not answer ≡ false → {named : ℕ} → named ≡ names (memory p) → eqb named q ≡ names_below memory names p q
+    below_named t e =
+        ap (λ (r : ℕ). eqb r q) e
+        ∙ sym (ap (λ (b : Bool). eqb (names (memory p)) q && b) (told_true said (not-false answer t)) ∙ and-true (eqb (names (memory p)) q))
 
   pub below_level : names_below memory names p q ≡ true → (memory p).level ≡ (memory q).level + 1
   below_level t = eqb-true (memory p).level ((memory q).level + 1) (and_second (eqb (names (memory p)) q) level_below t)
@@ -357,6 +368,14 @@ module _ {k n : ℕ} {ws : List ℕ} {op : Op} {slot : Slot} (h : Asks k n ws op
       held_front (path_of slot) (beside_of slot) (held_front (held slot) (slot.want ∷ []) (asks_held said t))
 
 -- ---- the kind of lock that is due
+
+-- ξ is due to who goes by the second way, from level 2
+pub below_leaf : (op : Op) (P : Page) {level : ℕ} → is_second op ≡ true → level ≡ P.level → eqb level 2 ≡ true → lock_below op P ≡ Xi
+below_leaf op P second read two = cond-true Xi (held_lock op) (and_both second (ap (λ (l : ℕ). eqb l 2) (sym read) ∙ two))
+
+-- from another level, and to everybody else, the kind under which the operation holds
+pub below_higher : (op : Op) (P : Page) {level : ℕ} → level ≡ P.level → eqb level 2 ≡ false → lock_below op P ≡ held_lock op
+below_higher op P read other = cond-false Xi (held_lock op) (and_second_fails (is_second op) (ap (λ (l : ℕ). eqb l 2) (sym read) ∙ other))
 
 -- to who does not go by the second way it is the kind under which the operation holds
 pub below_first : (op : Op) (P : Page) → is_second op ≡ false → lock_below op P ≡ held_lock op

@@ -8,7 +8,7 @@ use borrow.Author.Tests.{leb-true, eqb-true}
 use lib.Dec.{leb, eqb}
 use lib.ListN.{length, set, replicate}
 use Rattle.ground.specs.Limits.{largest_k, k_in_range, largest_n, n_in_range}
-use Rattle.ground.proofs.Bools.{and_first, and_second}
+use Rattle.ground.proofs.Bools.{and_first, and_second, and_first_fails}
 use Rattle.ground.proofs.Choice.{cond-true, cond-false}
 use Rattle.pool.specs.Pool.{pool_length, start, fresh}
 use Rattle.pool.proofs.StretchLaws.{pool_length_start, ends_in_pool}
@@ -35,6 +35,9 @@ is_pool k n ws = k_in_range k && n_in_range n && eqb (length ws) (pool_length k 
 
 -- the numbers were tested
 module _ (k n : ℕ) (ws : List ℕ) {r : Bool} (in_range : r ≡ k_in_range k && n_in_range n) where
+  pub range_fails : r ≡ false → false ≡ is_pool k n ws
+  range_fails f = sym (and_first_fails (eqb (length ws) (pool_length k n)) (sym in_range ∙ f))
+
   pub range_most : r ≡ true → (k ≤ largest_k) × (n ≤ largest_n)
   range_most t =
       let both = sym in_range ∙ t in (

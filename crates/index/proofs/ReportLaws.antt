@@ -73,3 +73,8 @@ held_told ws s p number inside t =
     let kind : Lock = lock_named number in
     lock_held_lem (slot_in ws s) p kind (names number t).lock
     ∙ ap (λ (slot : Slot). member p (held slot) && same_lock (lock_held slot p) kind) (sym (slot_read ws s inside))
+
+-- the number of the lock that is found at slot s is the one looked for, if the slot holds page p under that kind
+pub under_told : (ws : List ℕ) (s p found number : ℕ) → s < row_length → is_lock_number number ≡ true
+    → lock_named found ≡ lock_held (slot_in ws s) p → eqb found number ≡ under_at (as_read ws) p (lock_named number) s
+under_told ws s p found number inside t told = number_told found number (lock_held (slot_in ws s) p) t told ∙ held_told ws s p number inside t

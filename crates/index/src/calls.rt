@@ -21,7 +21,7 @@ use soundness::checking::{is_sound, numbers_in_range};
 fn is_pool(words: &[u32], k: usize, n: usize) -> bool
     ensures { result ≡ k_in_range k && n_in_range n && eqb (length words.now) (pool_length k n) }
 {
-    numbers_in_range(k, n) && words.len() == start_of(Shape { k, n }, n)
+    numbers_in_range(k, n) && words.len() == start_of(k, n)
 }
 
 // Makes a fresh pool of n pages of width k in the lent words, and an idle state beside it.

@@ -137,6 +137,21 @@ below_halves pages below i =
     (λ e. below (get_or pages i 0) (member_from (get_or pages i 0) pages i 0 (ltb-true i (length pages) e) refl))
     (λ e. subst (λ (p : ℕ). p < page_range) (sym (get_or-eq_default pages 0 (ltb-false i (length pages) e))) (omega arith))
 
+-- a slot as it was read
+pub read_halves : (ws : List ℕ) (s : ℕ) → InHalves (slot_in ws s)
+read_halves ws s = record {
+  path = column_halves path_row;
+  beside = column_halves beside_row;
+}
+  where
+    column_halves : (r i : ℕ) → get_or (column ws r s) i 0 < page_range
+    column_halves r i =
+        by_test (ltb i column_length)
+        (λ e. subst (λ (p : ℕ). p < page_range) (sym (column_cell ws r s i (ltb-true i column_length e))) (omega arith))
+        (λ e.
+        let over = ltb-false i column_length e in
+        subst (λ (p : ℕ). p < page_range) (sym (get_or-eq_default (column ws r s) 0 (omega (arith, length_column ws r s)))) (omega arith))
+
 -- one that stands somewhere
 pub stand_halves : (z : Stand) → ((i : ℕ) → get_or z.path i 0 < page_range) → ((i : ℕ) → get_or z.beside i 0 < page_range) → InHalves (slot_of z)
 stand_halves z path beside = record {

@@ -61,7 +61,7 @@ impl Column<'_> {
     }
 
     // The task of the slot.
-    fn task(self) -> Task
+    pub fn task(self) -> Task
         ensures { result ≡ (slot_in self.entry.cells.now self.entry.s).task }
     {
         task_of(self.kind(), self.word(KEY), self.word(INFORMATION))

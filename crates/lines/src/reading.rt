@@ -12,9 +12,9 @@ pub const LARGEST: u64 = 4294967295;
 
 // The digits at the front: what they are worth, if that is at most LARGEST, and where they end.
 #[derive(Clone, Copy)]
-struct Digits {
-    worth: u64,
-    end: usize,
+pub struct Digits {
+    pub worth: u64,
+    pub end: usize,
 }
 
 // The position of the first line feed at or behind `from`, or the length.

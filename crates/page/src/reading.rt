@@ -1,6 +1,6 @@
 // Reading a page's words: its level, its number of pairs, where a key stands in it, what is at or above it and where it leads.
 // A `Page` has the words that are read; the methods that look for a key ask also that the keys rise.
-ghost use Rattle.std.specs.Prelude.{◌<◌, ◌≤◌, get_or, true, false, ◌≡◌};
+ghost use Rattle.std.specs.Prelude.{◌<◌, ◌≤◌, length, get_or, true, false, ◌≡◌};
 ghost use Rattle.page.specs.Place.{place as place_of, pointer as pointer_of, route as route_of, at_or_above};
 ghost use Rattle.page.specs.Reading.{Readable, FirstFrom, looked, nearest};
 ghost use Rattle.page.specs.Short.{neighbour as neighbour_of, has_right, between_at};
@@ -15,6 +15,30 @@ pub fn pairs_from(level: u32) -> usize
     if level == 1 { 2 } else { 3 }
 }
 
+// Word 0, of words of which no more is known than that they have a level and a number.
+pub fn level(w: &[u32]) -> u32
+    requires { 3 ≤ length w.now }
+    ensures { result ≡ (view w.now).level }
+{
+    w[0]
+}
+
+// Word 1, the number μ, likewise.
+pub fn count(w: &[u32]) -> usize
+    requires { 3 ≤ length w.now }
+    ensures { result ≡ get_or w.now 1 0 }
+{
+    w[1] as usize
+}
+
+// A leaf is level 1.
+pub fn is_leaf(w: &[u32]) -> bool
+    requires { 3 ≤ length w.now }
+    ensures { result ≡ is_leaf (view w.now) }
+{
+    level(w) == 1
+}
+
 // A page, read where its words lie.
 #[derive(Clone, Copy)]
 pub struct Page<'a> {
@@ -27,21 +51,21 @@ impl Page<'_> {
     pub fn level(self) -> u32
         ensures { result ≡ (view self.entry.words.now).level }
     {
-        self.words[0]
+        level(self.words)
     }
 
     // Word 1, the number μ.
     pub fn count(self) -> usize
         ensures { result ≡ get_or self.entry.words.now 1 0 }
     {
-        self.words[1] as usize
+        count(self.words)
     }
 
     // A leaf is level 1.
     pub fn is_leaf(self) -> bool
         ensures { result ≡ is_leaf (view self.entry.words.now) }
     {
-        self.level() == 1
+        is_leaf(self.words)
     }
 
     // Where its pairs begin.

@@ -11,18 +11,19 @@ ghost use Rattle.pool.specs.Scan.{Scanned};
 use ground::{NEW, Shape};
 
 // A page is 4k+3 words.
-pub fn page_size(shape: Shape) -> usize
-    ensures { result ≡ size shape.k }
+pub fn page_size(k: usize) -> usize
+    requires { k ≤ largest_k }
+    ensures { result ≡ size k }
 {
-    4 * shape.k + 3
+    4 * k + 3
 }
 
 // Where page p starts; for p = n this is the pool's number of words.
-pub fn start_of(shape: Shape, p: usize) -> usize
-    requires { p ≤ largest_n }
-    ensures { result ≡ start shape.k p }
+pub fn start_of(k: usize, p: usize) -> usize
+    requires { (k ≤ largest_k) × (p ≤ largest_n) }
+    ensures { result ≡ start k p }
 {
-    p * page_size(shape)
+    p * page_size(k)
 }
 
 // The lowest-numbered free page that is not below `from`, or n where there is none.
@@ -30,9 +31,9 @@ fn next_free(words: &[u32], shape: Shape, from: usize) -> usize
     requires { (length words.now ≡ pool_length shape.k shape.n) × (1 ≤ from) × (from ≤ shape.n) }
     ensures { result ≡ first_below shape.n (free_from shape.k words.now from) }
 {
-    let size = page_size(shape);
+    let size = page_size(shape.k);
     let mut p = from;
-    let mut at = start_of(shape, from);
+    let mut at = start_of(shape.k, from);
     // Stays: a rule of the project: the scan for the lowest free page yields the page's number by `break` out of a `loop`.
     loop {
         if p == shape.n {

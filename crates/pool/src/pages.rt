@@ -18,7 +18,7 @@ ghost use Rattle.pool.specs.Wrapped.{InPool, Lies};
 use crate::lying::{page_size, start_of};
 use ground::Shape;
 use page::checking;
-use page::reading::Page;
+use page::reading::{Page, level};
 use sheet::sheets::Sheet;
 use sheet::{sheets, writing};
 use std::ops::Range;
@@ -28,8 +28,8 @@ fn stretch_of(shape: Shape, p: u32) -> Range<usize>
     requires { p < shape.n }
     ensures { Lies shape.k shape.n p result }
 {
-    let start = start_of(shape, p as usize);
-    start..start + page_size(shape)
+    let start = start_of(shape.k, p as usize);
+    start..start + page_size(shape.k)
 }
 
 // Its words.
@@ -56,7 +56,7 @@ pub fn level_of(words: &[u32], shape: Shape, p: u32) -> u32
     requires { InPool shape.k shape.n p words.now }
     ensures { result ≡ (page_at shape.k words.now p).level }
 {
-    page_words(words, shape, p)[0]
+    level(page_words(words, shape, p))
 }
 
 // It is a leaf.

@@ -6,7 +6,7 @@ use mathlib.Core.List.{List, [], ◌∷◌}
 use native.Mathlib.Omega.{arith}
 use native.Mathlib.Numerals.{add-one}
 use lib.ListN.{length, get_or, take, drop, drop_of_length-le}
-use lib.Seq.{drop-cons, get_or-take}
+use lib.Seq.{drop-cons, take_all, get_or-take}
 use borrow.Author.Tests.{eq-eqb, ne_eqb}
 use Rattle.ground.specs.Limits.{slot_count}
 use Rattle.ground.specs.Tests.{all, member}
@@ -28,6 +28,12 @@ among_more p cells i h none other =
     ap (λ (n : ℕ). member p (take n cells)) (add-one i)
     ∙ member_more p cells i 0 h
     ∙ or_none none (ne_eqb p (get_or cells i 0) (λ e. other (sym e)))
+
+-- behind the last cell there is none
+pub among_all : (p : ℕ) (cells : List ℕ) (count i : ℕ) → length cells ≤ i → length cells ≤ count → member p (take i cells) ≡ false
+    → false ≡ member p (take count cells)
+among_all p cells count i h l none =
+    sym (ap (member p) (take_all count cells l ∙ sym (take_all i cells h)) ∙ none)
 
 -- ---- the walk over older wants
 

@@ -328,7 +328,10 @@ is_xi Xi e = refl
 is_xi UpdaterRho e = not_both e refl
 is_xi Alpha e = not_both e refl
 
--- ξ is another kind than ρ and updater's ρ
+-- ξ is another kind than none, ρ and updater's ρ
+pub none_not_xi : None ≡ Xi → ⊥
+none_not_xi e = let z : ◌≡◌ {A = ℕ} 0 2 = ap lock_number e in omega arith
+
 pub rho_not_xi : Rho ≡ Xi → ⊥
 rho_not_xi e = let z : ◌≡◌ {A = ℕ} 1 2 = ap lock_number e in omega arith
 
@@ -410,6 +413,10 @@ can_want_lem op lock e =
 pub wants_held : (op : Op) (lock : Lock) → is_second op ≡ false → is_third op ≡ false → can_want op lock ≡ true → lock ≡ held_lock op
 wants_held op lock first only e =
     ⊎_elim (λ h. h) (λ h. not_both h.0 (or_none first only)) (can_want_lem op lock e)
+
+-- what can be wanted is a lock
+pub can_want_locks : (op : Op) (lock : Lock) → can_want op lock ≡ true → is_lock lock ≡ true
+can_want_locks op lock e = ⊎_elim (λ h. ap is_lock h ∙ op_locks op) (λ h. ap is_lock h.1) (can_want_lem op lock e)
 
 -- ---- one page and the other slots
 

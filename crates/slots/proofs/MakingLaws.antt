@@ -13,8 +13,7 @@ use Rattle.ground.specs.Tests.{member, filled}
 use Rattle.slots.specs.declared.Lock.TheVariants.{None}
 use Rattle.slots.specs.declared.Under.{Under}
 use Rattle.slots.specs.Parts.{under, xi_on, with_xi}
-use Rattle.ground.proofs.Padded.{filled_set}
-pub use Rattle.ground.proofs.Padded.{padded_more}
+pub use Rattle.ground.proofs.Padded.{padded_more, filled_set, filled_add, filled_more}
 use Rattle.slots.proofs.LockLaws.{xi_snoc, length_xi}
 
 -- one page more behind the first i cells

@@ -34,10 +34,17 @@ kind_within (Regrade x v First) = omega arith
 kind_within (Regrade x v Second) = omega arith
 kind_within (Regrade x v Third) = omega arith
 
--- by the first way the key is the same
+-- by the first way the key and the information are the same
 pub first_key : (op : Op) → key_of (first_way op) ≡ key_of op
 first_key (Search x) = refl
 first_key (Insert x v way) = refl
 first_key (Delete x way) = refl
 first_key (Next x) = refl
 first_key (Regrade x v way) = refl
+
+pub first_information : (op : Op) → information_of (first_way op) ≡ information_of op
+first_information (Search x) = refl
+first_information (Insert x v way) = refl
+first_information (Delete x way) = refl
+first_information (Next x) = refl
+first_information (Regrade x v way) = refl

@@ -8,7 +8,7 @@ use native.Mathlib.Omega.{arith}
 use lib.Dec.{eqb, ltb}
 use lib.ListN.{take}
 use Rattle.ground.specs.Tests.{all, member, distinct, apart}
-use Rattle.ground.proofs.Bools.{and_both, and_first, and_second, and_first_fails, or_first_fails, or_second_fails, or_none, not_both, not_of_false, false_if_not_true, same_if_true_together}
+use Rattle.ground.proofs.Bools.{and_both, and_first, and_second, and_first_fails, and_second_fails, or_first_fails, or_second_fails, or_none, not_both, not_of_false, false_if_not_true, same_if_true_together}
 use Rattle.ground.proofs.Choice.{by_test, cond-true, cond-false}
 use Rattle.ground.proofs.Tests.{all_append, all_member, all_from_members, member_none, member_append, distinct_front, distinct_back, distinct_apart, distinct_join, apart_member, apart_from, apart_swap}
 use Rattle.slots.specs.declared.Lock.{Lock}
@@ -183,6 +183,9 @@ module _ (ws : List ℕ) (n s : ℕ) {want : ℕ} (read : want ≡ cell ws want_
           cond-true (same_lock (lock_held slot (cell ws want_row s)) Alpha) (not (member (cell ws want_row s) (held slot))) (sym said ∙ t)
           ∙ ap (λ (l : Lock). same_lock l Alpha) (ap (lock_held slot) (sym read) ∙ sym named)
           ∙ sym (same_number Alpha refl number)
+
+      pub pages_other : (number ≡ lock_number Alpha → ⊥) → false ≡ pages_fine ws n s
+      pages_other o = sym (and_second_fails (below_and_once n slot) (converts_is ∙ ne_eqb number (lock_number Alpha) o))
 
       pub pages_converted : number ≡ lock_number Alpha → {q : Bool} → q ≡ held_once n n slot → q ≡ pages_fine ws n s
       pages_converted a e =

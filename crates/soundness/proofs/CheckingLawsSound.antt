@@ -147,6 +147,27 @@ module _ (ws : List ℕ) where
       (and_first_fails alones (and_first_fails deeps (and_first_fails names (and_second_fails numbers none)))))
       (true_or_false (known ws))
 
+  -- test by test
+  pub sound_numbers : {n : Bool} → n ≡ numbers → n ≡ false → false ≡ sound (state_of ws)
+  sound_numbers e f = sym (whole ∙ and_first_fails alones (and_first_fails deeps (and_first_fails names (and_first_fails rows (sym e ∙ f)))))
+
+  pub sound_rows : {r : Bool} → r ≡ rows → r ≡ false → false ≡ sound (state_of ws)
+  sound_rows e f = sym (whole ∙ and_first_fails alones (and_first_fails deeps (and_first_fails names (and_second_fails numbers (sym e ∙ f)))))
+
+  pub sound_order : {w : Bool} → w ≡ names → w ≡ false → false ≡ sound (state_of ws)
+  sound_order e f = sym (whole ∙ and_first_fails alones (and_first_fails deeps (and_second_fails (numbers && rows) (sym e ∙ f))))
+
+  pub sound_deep : {d : Bool} → d ≡ deeps → d ≡ false → false ≡ sound (state_of ws)
+  sound_deep e f = sym (whole ∙ and_first_fails alones (and_second_fails (numbers && rows && names) (sym e ∙ f)))
+
+  pub sound_alone : {n r w d a : Bool} → n ≡ numbers → n ≡ true → r ≡ rows → r ≡ true → w ≡ names → w ≡ true → d ≡ deeps → d ≡ true → a ≡ alones → a ≡ sound (state_of ws)
+  sound_alone en tn er tr ew tw ed td ea =
+      ea
+      ∙ sym
+      (whole
+      ∙ ap₂ (λ (x y : Bool). x && y && names && deeps && alones) (sym en ∙ tn) (sym er ∙ tr)
+      ∙ ap₂ (λ (x y : Bool). x && y && alones) (sym ew ∙ tw) (sym ed ∙ td))
+
   -- the rows of a sound state are fine
   sound_rows_fine : sound (state_of ws) ≡ true → rows ≡ true
   sound_rows_fine e =

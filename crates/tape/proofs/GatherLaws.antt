@@ -1,7 +1,9 @@
 -- Bytes gathered one after another.
 use Rattle.std.proofs.Common.{◌≡◌, ℕ, ◌+◌, ◌<◌, ◌≤◌, cond, ltb, List, [], ◌∷◌, ◌++◌, length, take, drop, get_or, refl, sym, ◌∙◌, ap, arith, suc, set, add-one, drop-cons}
+use lib.ListN.{length-set}
 use Rattle.std.proofs.lemmas.List.{drop_all, take_more_set, length-take-le}
 use Rattle.lines.specs.Decimal.{decimal}
+use Rattle.lines.proofs.Decimals.{decimal_one}
 use Rattle.tape.specs.Gathered.{one_more, gather, spelled}
 
 -- bytes after bytes
@@ -49,6 +51,19 @@ unfolding gather
 gather_first before row full end b long used also none =
     let out : take end row ≡ cond (ltb (length (take full before)) 65536) (take full before) [] = grind (arith, length-take-le) in
     take_more_set row end b (omega arith) ∙ ap (λ bs. bs ++ b ∷ []) out
+
+-- a space and a digit put behind those that are there, where there is room for both
+pub gather_digit : (row : List ℕ) (end n : ℕ) → length row ≡ 65536 → end + 2 ≤ 65536 → n < 10
+    → take (end + 2) (set (set row end 32) (end + 1) (48 + n)) ≡ gather (gather (take end row) (32 ∷ [])) (decimal n)
+gather_digit row end n long room small =
+    let spaced : List ℕ = set row end 32 in
+    ap (λ (m : ℕ). take m (set spaced (end + 1) (48 + n))) two
+    ∙ gather_put spaced (end + 1) (48 + n) (length-set row end 32 ∙ long) (omega arith)
+    ∙ ap (λ (l : List ℕ). gather l ((48 + n) ∷ [])) (gather_put row end 32 long (omega arith))
+    ∙ ap (gather (gather (take end row) (32 ∷ []))) (sym (decimal_one n small))
+  where
+    two : end + 2 ≡ end + 1 + 1
+    two = omega arith
 
 -- none is left
 pub gather_done : (now held word : List ℕ) (i : ℕ) → length word ≤ i → gather now (drop i word) ≡ held → now ≡ held

@@ -1,5 +1,5 @@
 -- Bytes that are gathered, and numbers written out.
-use Rattle.std.specs.Prelude.{ℕ, cond, List, [], ◌∷◌, ◌++◌, ltb, length}
+use Rattle.std.specs.Prelude.{ℕ, ◌+◌, ◌*◌, ◌^◌, ◌%◌, cond, List, [], ◌∷◌, ◌++◌, ltb, length}
 use Rattle.lines.specs.Decimal.{decimal}
 
 -- one byte more behind those that are gathered; if there is no room, they have gone out first
@@ -15,3 +15,7 @@ gather held (b ∷ bs) = gather (one_more held b) bs
 unfoldable pub spelled : List ℕ → List ℕ
 spelled [] = []
 spelled (n ∷ ns) = 32 ∷ decimal n ++ spelled ns
+
+-- a sum with one word more: it counts as 33 of those behind it, in the 32 bits of a word
+abbrev pub summed : ℕ → ℕ → ℕ
+summed sum word = (sum * 33 + word) % 2 ^ 32

@@ -7,7 +7,7 @@ ghost use Rattle.tape.specs.Grammar.{is_over, fits, stand_behind, letter_behind,
 use lines::{LARGEST, grown};
 
 // A line has at most so many numbers: a place, and a row of 16.
-const MOST: usize = 17;
+pub const MOST: usize = 17;
 
 // How far a line is read.
 #[derive(Clone, Copy, PartialEq, Eq)]
@@ -29,15 +29,15 @@ pub enum Stand {
 }
 
 // A line as far as it is read.
-#[derive(Drop)]
+#[derive(Clone, Copy)]
 pub struct Reading {
-    stand: Stand,
-    letter: u8,
+    pub stand: Stand,
+    pub letter: u8,
     numbers: [u32; MOST],
     // how many numbers are read
-    count: usize,
+    pub count: usize,
     // what the digits of the next number are worth
-    worth: u64,
+    pub worth: u64,
     ghost room: { count ≤ 17 },
 }
 

@@ -1,19 +1,19 @@
 // Bytes to be written are gathered, and go out when the room is used up or when `flush` is called.
-ghost use Rattle.std.specs.Prelude.{◌≡◌, ◌≤◌, [], ◌∷◌, take, OnOk};
+ghost use Rattle.std.specs.Prelude.{◌≡◌, ◌+◌, ◌≤◌, ◌<◌, [], ◌∷◌, take, fold, OnOk};
 ghost use Rattle.lines.specs.Decimal.{decimal};
-ghost use Rattle.tape.specs.Gathered.{gather, spelled};
+ghost use Rattle.tape.specs.Gathered.{gather, spelled, summed};
 
 use answers::write_number;
 use std::io::{self, Print};
 
-const ROOM: usize = 65536;
+pub const OUT: usize = 65536;
 
 // The most digits of a number.
 const DIGITS: usize = 10;
 
 pub struct Output<'a, R: Print> {
     rt: &'a R,
-    gathered: [u8; ROOM],
+    gathered: [u8; OUT],
     // how many bytes are gathered
     end: usize,
     ghost room: { end ≤ 65536 },
@@ -35,7 +35,7 @@ impl<'a, R: Print> Output<'a, R> {
     {
         Output {
             rt,
-            gathered: [0; ROOM],
+            gathered: [0; OUT],
             end: 0,
         }
     }
@@ -53,7 +53,7 @@ impl<'a, R: Print> Output<'a, R> {
     pub fn byte(&mut self, b: u8) -> io::Result<()>
         ensures { OnOk result (take self.new.end self.new.gathered ≡ gather (take self.old.end self.old.gathered) (b ∷ [])) }
     {
-        if self.end == ROOM {
+        if self.end == OUT {
             self.flush()?;
         }
         self.gathered[self.end] = b;
@@ -81,11 +81,26 @@ impl<'a, R: Print> Output<'a, R> {
         self.word(&digits[..count])
     }
 
-    // A space and a number, for each of some words.
+    // A space and a number of one digit, where there is room for both.
+    fn digit(&mut self, n: u32)
+        requires { (self.old.end + 2 ≤ 65536) × (n < 10) }
+        ensures { take self.new.end self.new.gathered ≡ gather (gather (take self.old.end self.old.gathered) (32 ∷ [])) (decimal n) }
+    {
+        let end = self.end;
+        self.gathered[end] = b' ';
+        self.gathered[end + 1] = b'0' + n as u8;
+        self.end = end + 2;
+    }
+
+    // A space and a number, for each of some words. Most of them are 0.
     pub fn numbers(&mut self, words: &[u32]) -> io::Result<()>
         ensures { OnOk result (take self.new.end self.new.gathered ≡ gather (take self.old.end self.old.gathered) (spelled words.now)) }
     {
         for word in words {
+            if *word < 10 && self.end <= OUT - 2 {
+                self.digit(*word);
+                continue;
+            }
             self.byte(b' ')?;
             self.number(*word)?;
         }
@@ -94,6 +109,8 @@ impl<'a, R: Print> Output<'a, R> {
 }
 
 // The sum of some words: each one counts as 33 of those behind it.
-pub fn sum(words: &[u32]) -> u32 {
+pub fn sum(words: &[u32]) -> u32
+    ensures { result ≡ fold summed 0 words.now }
+{
     words.iter().fold(0, |sum: u32, word| sum.wrapping_mul(33).wrapping_add(*word))
 }

@@ -1,23 +1,47 @@
--- The slots are asked one behind the other.
-use Rattle.std.proofs.Common.{◌∙◌, refl, rules, ℕ, Bool}
-use Rattle.std.proofs.lemmas.Iterator.{YieldsList-from_range}
-use Rattle.std.proofs.lemmas.Iterator.Search.{any_from_yields_List}
-use Rattle.lent.proofs.HoldLaws.{any_in_range}
-use Rattle.index.proofs.ReportLaws.{under_at, number_told, held_told}
-use Rattle.lent.specs.Layout.{row_length}
-use Rattle.lent.specs.Words.{slot_in, as_read}
-use Rattle.slots.specs.Heard.{lock_named}
-use Rattle.slots.specs.Locks.{lock_held, same_lock}
+-- None of the slots passed holds the page under this kind.
+use Prim.Native.Nat.{ℕ}
+use mathlib.Core.Bool.{Bool}
+use mathlib.Core.Path.{◌≡◌, sym, ap, ◌∙◌}
+use native.Mathlib.Omega.{arith}
+use borrow.Author.Tests.{eq-eqb, ne_eqb}
 use Rattle.ground.specs.Limits.{slot_count}
-use Rattle.ground.proofs.Tests.{any_below_same}
+use Rattle.ground.specs.Tests.{any_below}
+use Rattle.ground.proofs.Bools.{or_none}
+use Rattle.ground.proofs.Tests.{any_below_none, any_below_from}
+use Rattle.slots.specs.Heard.{lock_named}
+use Rattle.lent.specs.Layout.{row_length}
+use Rattle.lent.specs.Words.{as_read}
+use Rattle.lent.proofs.HoldLaws.{any_on}
+use Rattle.index.proofs.ReportLaws.{under_at, under_told}
 use Rattle.index.proofs.reporting.held_under.Goals as goal
+
+pub loop-s-init : goal.loop-s-init
+loop-s-init c = any_below_none (under_at (as_read c.args.cells.now) c.args.p (lock_named c.args.lock))
+
+pub returns-then-held_lock-lock : goal.returns-then-held_lock-lock
+unfolding slot_count
+returns-then-held_lock-lock c =
+    let ws = c.args.cells.now in
+    let s : ℕ = c.loop-s.s in
+    let told = c.held_lock in
+    let here = under_told ws s c.args.p told.result c.args.lock (omega arith) c.requires.1 told.ensures in
+    sym
+    (any_below_from (under_at (as_read ws) c.args.p (lock_named c.args.lock)) row_length s (omega arith)
+    (sym here ∙ eq-eqb told.result c.args.lock c.if-held_lock-lock.true))
+
+pub loop-s-preserved : goal.loop-s-preserved
+unfolding slot_count
+loop-s-preserved c =
+    let ws = c.args.cells.now in
+    let s : ℕ = c.loop-s.s in
+    let told = c.held_lock in
+    let here = under_told ws s c.args.p told.result c.args.lock (omega arith) c.requires.1 told.ensures in
+    any_on (under_at (as_read ws) c.args.p (lock_named c.args.lock)) s
+    ∙ or_none c.loop-s.invariant (sym here ∙ ne_eqb told.result c.args.lock c.if-held_lock-lock.false)
 
 pub returns : goal.returns
 unfolding slot_count
 returns c =
-    let ws = c.args.cells.now in
-    let found : ℕ → Bool = λ s. same_lock (lock_held (slot_in ws s) c.args.p) (lock_named c.args.lock) in
-    any_from_yields_List found _ _ c.any.result c.any.ensures.ran (YieldsList-from_range 0 row_length row_length refl refl)
-    (λ s b q k. search (rules, number_told))
-    ∙ any_in_range found row_length
-    ∙ any_below_same found (under_at (as_read ws) c.args.p (lock_named c.args.lock)) row_length (λ s h. held_told ws s c.args.p c.args.lock h c.requires.1)
+    let under : ℕ → Bool = under_at (as_read c.args.cells.now) c.args.p (lock_named c.args.lock) in
+    let end : c.loop-s.s ≡ row_length = omega arith in
+    sym (ap (λ (n : ℕ). any_below n under) (sym end) ∙ c.loop-s.invariant)

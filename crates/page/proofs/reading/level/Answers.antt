@@ -1,7 +1,7 @@
 -- The level of the page that the words stand for is word 0.
 use native.Mathlib.Omega.{arith}
 use Rattle.page.specs.Words.{view}
-use Rattle.page.proofs.reading.Page.level.Goals as goal
+use Rattle.page.proofs.reading.level.Goals as goal
 
 pub returns : goal.returns
 unfolding view
